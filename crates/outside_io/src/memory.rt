@@ -1,0 +1,185 @@
+ghost use Rattle.std.specs.Prelude.{◌≡◌, ◌⊎◌, ◌<◌, ◌≤◌, ◌↔◌, ◌-◌, [], ◌++◌, length, take, drop, min, Some, Contains, IsTrue, IsErr, IfOk, OnErr};
+ghost use Rattle.std.specs.Io.KnownBytes.{append_known, prepend_known, IsAtEnd};
+ghost use Rattle.outside_io.specs.Faults.{one_more, Rose};
+ghost use Rattle.outside_io.specs.Memory.{IsFailingTake, IsFailingPut};
+
+use crate::traits::{ByteSink, ByteSource, Failed};
+use std::alloc::{AllocError, Global};
+use std::marker::Model;
+
+/// A source of octets in memory, whose calls of chosen numbers fail.
+#[derive(Drop)]
+pub struct MemSource {
+    bytes: Vec<u8>,
+    at: usize,
+    fail: Vec<u32>,
+    calls: u64,
+    faults: u64,
+}
+
+impl Model for MemSource {
+    ghost use Rattle.std.specs.Prelude.{◌≤◌, vec_len, drop};
+    ghost use Rattle.outside_io.specs.Memory.{SourceState};
+
+    ghost Value = { SourceState };
+
+    ghost view = { λ source. record {
+      left = drop source.at source.bytes.items;
+      fail = source.fail.items;
+      calls = source.calls;
+      faults = source.faults;
+    } };
+
+    ghost invariant = { λ source. source.at ≤ vec_len source.bytes };
+}
+
+impl MemSource {
+    /// A source of these octets. The calls of `take` whose numbers are in `fail` fail, and the first has number 0.
+    pub fn new(alloc: Global, bytes: &[u8], fail: &[u32]) -> Result<MemSource, AllocError>
+        ensures { IfOk result (λ source.
+            source ≡ record { left = bytes.now; fail = fail.now; calls = 0; faults = 0 }) }
+    {
+        Ok(MemSource {
+            bytes: Vec::from_slice(alloc, bytes)?,
+            at: 0,
+            fail: Vec::from_slice(alloc, fail)?,
+            calls: 0,
+            faults: 0,
+        })
+    }
+}
+
+impl ByteSource for MemSource {
+    ghost left = { λ source. Some source.left };
+
+    ghost faults = { λ source. source.faults };
+
+    fn take(&mut self, buf: &mut [u8]) -> Result<usize, Failed>
+        ensures never_falls { self.old.faults ≤ self.new.faults }
+        ensures fails { IsErr result ↔ IsFailingTake self.old }
+        ensures count { IfOk result (λ n. n ≡ min (length buf.old) (length self.old.left)) }
+        ensures filled { IfOk result (λ n. buf.new ≡ take n self.old.left ++ drop n buf.old) }
+        ensures after { IfOk result (λ n. self.new ≡ record self.old {
+          left = drop n self.old.left;
+          calls = one_more self.old.calls;
+        }) }
+        ensures after_fault { OnErr result (self.new ≡ record self.old {
+          calls = one_more self.old.calls;
+          faults = one_more self.old.faults;
+        }) }
+        ensures untouched { OnErr result (buf.new ≡ buf.old) }
+    {
+        let fails = is_among(&self.fail, self.calls);
+        self.calls = self.calls.saturating_add(1);
+        if fails {
+            self.faults = self.faults.saturating_add(1);
+            return Err(Failed);
+        }
+        let n = copy_front(&self.bytes[self.at..], buf);
+        self.at += n;
+        Ok(n)
+    }
+}
+
+/// A sink of octets in memory, of limited room, whose calls of chosen numbers fail.
+#[derive(Drop)]
+pub struct MemSink {
+    bytes: Vec<u8>,
+    room: usize,
+    fail: Vec<u32>,
+    calls: u64,
+    faults: u64,
+}
+
+impl Model for MemSink {
+    ghost use Rattle.std.specs.Prelude.{◌≤◌, ◌+◌, vec_len, vec_capacity};
+    ghost use Rattle.outside_io.specs.Memory.{SinkState};
+
+    ghost Value = { SinkState };
+
+    ghost view = { λ sink. record {
+      written = sink.bytes.items;
+      room = sink.room;
+      fail = sink.fail.items;
+      calls = sink.calls;
+      faults = sink.faults;
+    } };
+
+    ghost invariant = { λ sink. vec_len sink.bytes + sink.room ≤ vec_capacity sink.bytes };
+}
+
+impl MemSink {
+    /// An empty sink with room for so many octets, all of which is taken now. The calls of `put` whose numbers are
+    /// in `fail` fail, and the first has number 0; so does a call with a piece that isn't empty where no room is left.
+    pub fn new(alloc: Global, room: usize, fail: &[u32]) -> Result<MemSink, AllocError>
+        ensures { IfOk result (λ sink.
+            sink ≡ record { written = []; room = room; fail = fail.now; calls = 0; faults = 0 }) }
+    {
+        Ok(MemSink {
+            bytes: Vec::with_capacity(alloc, room)?,
+            room,
+            fail: Vec::from_slice(alloc, fail)?,
+            calls: 0,
+            faults: 0,
+        })
+    }
+
+    /// The octets that are written.
+    pub fn bytes(&self) -> &[u8]
+        ensures { result.now ≡ self.now.written }
+    {
+        self.bytes.as_slice()
+    }
+}
+
+impl ByteSink for MemSink {
+    ghost written = { λ sink. Some sink.written };
+
+    ghost faults = { λ sink. sink.faults };
+
+    fn put(&mut self, piece: &[u8]) -> Result<usize, Failed>
+        ensures never_falls { self.old.faults ≤ self.new.faults }
+        ensures fails { IsErr result ↔ IsFailingPut self.old piece.now }
+        ensures count { IfOk result (λ n. n ≡ min (length piece.now) self.old.room) }
+        ensures after { IfOk result (λ n. self.new ≡ record self.old {
+          written = self.old.written ++ take n piece.now;
+          room = self.old.room - n;
+          calls = one_more self.old.calls;
+        }) }
+        ensures after_fault { OnErr result (self.new ≡ record self.old {
+          calls = one_more self.old.calls;
+          faults = one_more self.old.faults;
+        }) }
+    {
+        let fails = is_among(&self.fail, self.calls) || (self.room == 0 && !piece.is_empty());
+        self.calls = self.calls.saturating_add(1);
+        if fails {
+            self.faults = self.faults.saturating_add(1);
+            return Err(Failed);
+        }
+        let n = piece.len().min(self.room);
+        match self.bytes.extend_from_slice(&piece[..n]) {
+            Ok(()) => {
+                self.room -= n;
+                Ok(n)
+            }
+            Err(_) => unreachable!(),
+        }
+    }
+}
+
+fn is_among(numbers: &[u32], call: u64) -> bool
+    ensures { IsTrue result ↔ Contains numbers.now call }
+{
+    numbers.iter().any(|&number| u64::from(number) == call)
+}
+
+fn copy_front(from: &[u8], to: &mut [u8]) -> usize
+    ensures count { result ≡ min (length to.old) (length from.now) }
+    ensures filled { to.new ≡ take result from.now ++ drop result to.old }
+    ensures moved { from.now ≡ take result to.new ++ drop result from.now }
+{
+    let n = from.len().min(to.len());
+    to[..n].copy_from_slice(&from[..n]);
+    n
+}

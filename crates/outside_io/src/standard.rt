@@ -1,0 +1,177 @@
+ghost use Rattle.std.specs.Prelude.{◌≡◌, ◌<◌, ◌≤◌, length, IfOk, OnOk, OnErr};
+ghost use Rattle.outside_io.specs.Faults.{one_more};
+
+use crate::traits::{ByteSink, ByteSource, Failed};
+use std::io::{Read, Write};
+use std::marker::Model;
+
+/// A source over a reader of the standard library. It counts the faults of its reads, and tells no content.
+#[derive(Drop)]
+pub struct StdSource<R> {
+    inner: R,
+    faults: u64,
+}
+
+impl<R> Model for StdSource<R> {
+    ghost use Rattle.std.specs.Prelude.{ℕ};
+
+    ghost Value = { ℕ };
+
+    ghost view = { λ source. source.faults };
+}
+
+impl<R> StdSource<R> {
+    /// A source that counted no fault yet.
+    pub fn new(inner: R) -> StdSource<R>
+        ensures { result ≡ 0 }
+    {
+        StdSource { inner, faults: 0 }
+    }
+}
+
+impl<R: Read> ByteSource for StdSource<R> {
+    ghost faults = { λ faults. faults };
+
+    fn take(&mut self, buf: &mut [u8]) -> Result<usize, Failed>
+        ensures bound { IfOk result (λ n. n ≤ length buf.new) }
+        ensures never_falls { self.old ≤ self.new }
+        ensures ok { OnOk result (self.new ≡ self.old) }
+        ensures err { OnErr result (self.new ≡ one_more self.old) }
+    {
+        match self.inner.read(buf) {
+            Ok(n) => Ok(n),
+            Err(_) => {
+                self.faults = self.faults.saturating_add(1);
+                Err(Failed)
+            }
+        }
+    }
+}
+
+/// A sink over a writer of the standard library, which should keep no buffer, since nothing is flushed. It counts
+/// the faults of its writes, also a write that takes nothing of a piece, and tells no content.
+#[derive(Drop)]
+pub struct StdSink<W> {
+    inner: W,
+    faults: u64,
+}
+
+impl<W> Model for StdSink<W> {
+    ghost use Rattle.std.specs.Prelude.{ℕ};
+
+    ghost Value = { ℕ };
+
+    ghost view = { λ sink. sink.faults };
+}
+
+impl<W> StdSink<W> {
+    /// A sink that counted no fault yet.
+    pub fn new(inner: W) -> StdSink<W>
+        ensures { result ≡ 0 }
+    {
+        StdSink { inner, faults: 0 }
+    }
+}
+
+impl<W: Write> ByteSink for StdSink<W> {
+    ghost faults = { λ faults. faults };
+
+    fn put(&mut self, piece: &[u8]) -> Result<usize, Failed>
+        ensures bound { IfOk result (λ n. n ≤ length piece.now) }
+        ensures moves { IfOk result (λ n. 0 < length piece.now → 0 < n) }
+        ensures never_falls { self.old ≤ self.new }
+        ensures ok { OnOk result (self.new ≡ self.old) }
+        ensures err { OnErr result (self.new ≡ one_more self.old) }
+    {
+        match self.inner.write(piece) {
+            Ok(n) if n > 0 || piece.is_empty() => Ok(n),
+            _ => {
+                self.faults = self.faults.saturating_add(1);
+                Err(Failed)
+            }
+        }
+    }
+}
+
+#[cfg(test)]
+mod tests {
+    use super::*;
+    use crate::{put_all, read_all};
+    use std::io;
+    use std::test::Fail;
+
+    /// Moves at most two octets in a call, and fails once so many calls were made.
+    #[derive(Drop)]
+    struct Trickle {
+        octets: Vec<u8>,
+        calls_left: u8,
+    }
+
+    impl Trickle {
+        fn new(octets: Vec<u8>, calls_left: u8) -> Trickle {
+            Trickle { octets, calls_left }
+        }
+
+        fn call(&mut self) -> io::Result<()> {
+            if self.calls_left == 0 {
+                return Err(io::Error::from(io::ErrorKind::BrokenPipe));
+            }
+            self.calls_left -= 1;
+            Ok(())
+        }
+    }
+
+    impl Read for Trickle {
+        fn read(&mut self, buf: &mut [u8]) -> io::Result<usize> {
+            self.call()?;
+            let n = buf.len().min(self.octets.len()).min(2);
+            for slot in &mut buf[..n] {
+                *slot = self.octets.pop().unwrap_or(0);
+            }
+            Ok(n)
+        }
+    }
+
+    impl Write for Trickle {
+        fn write(&mut self, buf: &[u8]) -> io::Result<usize> {
+            self.call()?;
+            let n = buf.len().min(2);
+            self.octets.extend_from_slice(&buf[..n])?;
+            Ok(n)
+        }
+
+        fn flush(&mut self) -> io::Result<()> {
+            Ok(())
+        }
+    }
+
+    #[test]
+    fn reads_and_counts_faults(rt: HostRuntime) -> Result<(), Fail> {
+        let mut source = StdSource::new(Trickle::new(b"emarf".to_vec(rt.alloc())?, 4));
+        let text = read_all(rt.alloc(), &mut source, 5)?;
+        assert_eq!(rt; text.as_slice(), b"frame".as_slice());
+        assert_eq!(rt; source.faults, 0);
+        assert_eq!(rt; source.take(&mut [0u8; 4]), Err(Failed));
+        assert_eq!(rt; source.faults, 1);
+        Ok(())
+    }
+
+    #[test]
+    fn writes_and_counts_faults(rt: HostRuntime) -> Result<(), Fail> {
+        let mut sink = StdSink::new(Trickle::new(Vec::new(rt.alloc()), 4));
+        assert_eq!(rt; put_all(&mut sink, b"frame"), Ok(()));
+        assert_eq!(rt; sink.faults, 0);
+        assert_eq!(rt; put_all(&mut sink, b"fill"), Err(Failed));
+        assert_eq!(rt; sink.faults, 1);
+        assert_eq!(rt; sink.inner.octets.as_slice(), b"framefi".as_slice());
+
+        let mut room = [0u8; 3];
+        let mut sink = StdSink::new(&mut room[..]);
+        assert_eq!(rt; sink.put(b"frame"), Ok(3));
+        assert_eq!(rt; sink.put(b"me"), Err(Failed));
+        assert_eq!(rt; sink.faults, 1);
+        assert_eq!(rt; sink.put(b""), Ok(0));
+        assert_eq!(rt; sink.faults, 1);
+        Ok(())
+    }
+}

@@ -1,0 +1,6 @@
+pub mod XorLaws
+pub mod DivisionLaws
+pub mod RemainderLaws
+pub mod BitLaws
+pub mod OctetLaws
+pub mod TableLaws

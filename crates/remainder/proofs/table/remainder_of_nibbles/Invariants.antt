@@ -1,0 +1,12 @@
+use Rattle.std.proofs.Common.{◌≡◌, ◌^◌, ◌<◌, Bool, List, length, take}
+use Rattle.remainder.specs.Bits.{bits}
+use Rattle.remainder.specs.Remainder.{remainder}
+use Rattle.remainder.specs.Table.{IsTable, nibble_bits}
+use Rattle.remainder.proofs.table.remainder_of_nibbles.Given as goal
+
+abbrev pub invariant-loop-nibble : goal.invariant-loop-nibble
+invariant-loop-nibble g l = record {
+  within : l.register < 2 ^ g.row.DEGREE;
+  remainder : (lower : List Bool) → length lower ≡ g.row.DEGREE → IsTable lower l.table →
+      bits g.row.DEGREE l.register ≡ remainder lower (nibble_bits (take l.nibble-index l.nibbles));
+}

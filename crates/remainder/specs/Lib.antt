@@ -1,0 +1,3 @@
+pub mod Bits
+pub mod Remainder
+pub mod Table
