@@ -1,0 +1,7 @@
+pub mod ScrambleLaws
+pub mod ScrambledOctets
+pub mod CutLaws
+pub mod CoreLaws
+pub mod AreaLaws
+pub mod StreamLaws
+pub mod OctetsOfHeader

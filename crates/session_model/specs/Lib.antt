@@ -1,0 +1,9 @@
+pub mod Scramble
+pub mod Core
+pub mod TypeHeader
+pub mod Piece
+pub mod Hunt
+pub mod Run
+pub mod Outcome
+pub mod Delivery
+pub mod Decode

@@ -1,0 +1,13 @@
+-- The CRC-8 of a control packet: the remainder by x^8 + x^2 + x + 1 over nibbles.
+use Rattle.std.specs.Prelude.{ℕ, Bool, List}
+use Rattle.remainder.specs.Bits.{bits, number}
+use Rattle.remainder.specs.Remainder.{remainder}
+use Rattle.remainder.specs.Table.{nibble_bits}
+
+-- the lower bits of the generator
+abbrev pub crc8_lower : List Bool
+crc8_lower = bits 8 0x07
+
+-- the check over nibbles, each most significant bit first
+unfoldable pub crc8_of : List ℕ → ℕ
+crc8_of nibbles = number (remainder crc8_lower (nibble_bits nibbles))
