@@ -1,0 +1,212 @@
+//! The multiframe of virtual concatenation (G.707): the H4 octet, and the lock of a line on it.
+#![tactic(auto)]
+
+ghost use Rattle.std.specs.Prelude.{◌≡◌, ℕ, ◌+◌, ◌*◌, ◌%◌, ◌<◌, List, [], ◌∷◌, ◌++◌, length, Option, Some, None};
+ghost use Rattle.h4_multiframe.specs.Place.{IsPlace};
+ghost use Rattle.h4_multiframe.specs.Stands.{Stands};
+
+use std::marker::Model;
+use vc_bits::{join_nibbles, nibble_hi, nibble_lo};
+
+/// The H4 octet of a frame: the nibble of its control packet in the upper half, and MFI1 in the lower half.
+pub fn h4(t: u64, nibble: u8) -> u8
+    requires { nibble < 16 }
+    ensures { result ≡ 16 * nibble + t % 16 }
+{
+    join_nibbles(nibble, (t % 16) as u8)
+}
+
+/// What a good cell is to the lock of its line. The numbers are those of its frame, modulo 4,096.
+#[derive(Clone, Copy, Debug, PartialEq, Eq)]
+pub enum Place {
+    /// The line is not locked behind this cell.
+    Unknown,
+    /// This cell locks the line.
+    Locks(u16),
+    /// The line is locked.
+    At(u16),
+}
+
+/// What the lock knows behind the last cell.
+#[derive(Clone, Copy)]
+enum State {
+    /// The line is not locked, and the next cell can't lock it.
+    Unlocked,
+    /// The line is not locked, and the last cell was a good one with MFI1 0 and this H4 octet.
+    Begun { octet: u8 },
+    /// The line is locked, and the last cell had this number.
+    Locked { number: u16 },
+}
+
+/// The lock of a line on the multiframe.
+#[derive(Clone, Copy)]
+pub struct MfiLock {
+    state: State,
+}
+
+impl Model for MfiLock {
+    ghost use Rattle.h4_multiframe.specs.declared.State.{State};
+
+    ghost Value = { State };
+
+    ghost view = { λ lock. lock.state };
+
+    ghost inverse = { λ state. record { state = state } };
+}
+
+impl Default for MfiLock {
+    ghost is_default = { λ lock. Stands lock [] };
+
+    fn default() -> MfiLock {
+        MfiLock::new()
+    }
+}
+
+impl MfiLock {
+    /// The lock of a line of which no cell has come.
+    pub fn new() -> MfiLock
+        ensures { Stands result [] }
+    {
+        MfiLock {
+            state: State::Unlocked,
+        }
+    }
+
+    /// Takes a cell that is not good.
+    pub fn fail(&mut self)
+        ensures { (cells : List (Option ℕ)) → Stands self.old cells → Stands self.new (cells ++ None ∷ []) }
+    {
+        self.state = State::Unlocked;
+    }
+
+    /// Takes the H4 octet of a good cell.
+    pub fn good(&mut self, h4: u8) -> Place
+        ensures stands { (cells : List (Option ℕ)) → Stands self.old cells → Stands self.new (cells ++ Some h4 ∷ []) }
+        ensures place { (cells : List (Option ℕ)) → Stands self.old cells →
+            IsPlace (cells ++ Some h4 ∷ []) (length cells) result }
+    {
+        let place = place_of(self.state, h4);
+        self.state = state_behind(place, h4);
+        place
+    }
+}
+
+/// What a good cell with this H4 octet is, behind this state.
+fn place_of(state: State, h4: u8) -> Place
+    ensures { (cells : List (Option ℕ)) → Stands state cells → IsPlace (cells ++ Some h4 ∷ []) (length cells) result }
+{
+    let mfi1 = nibble_lo(h4);
+    match state {
+        State::Unlocked => Place::Unknown,
+        State::Begun { octet } => {
+            if mfi1 == 1 {
+                let mfi2 = join_nibbles(nibble_hi(octet), nibble_hi(h4));
+                Place::Locks(16 * u16::from(mfi2) + 1)
+            } else {
+                Place::Unknown
+            }
+        }
+        State::Locked { number } => {
+            let next = number_after(number);
+            if u16::from(mfi1) == next % 16 {
+                Place::At(next)
+            } else {
+                Place::Unknown
+            }
+        }
+    }
+}
+
+/// The number of the next frame.
+fn number_after(number: u16) -> u16
+    ensures { result ≡ (number + 1) % 4096 }
+{
+    number.wrapping_add(1) % 4096
+}
+
+/// The state behind a good cell with this H4 octet, from what the cell is.
+fn state_behind(place: Place, h4: u8) -> State
+    ensures { (cells : List (Option ℕ)) → IsPlace (cells ++ Some h4 ∷ []) (length cells) place →
+        Stands result (cells ++ Some h4 ∷ []) }
+{
+    match place {
+        Place::Locks(number) | Place::At(number) => State::Locked { number },
+        Place::Unknown => {
+            if nibble_lo(h4) == 0 {
+                State::Begun { octet: h4 }
+            } else {
+                State::Unlocked
+            }
+        }
+    }
+}
+
+#[cfg(test)]
+mod tests {
+    use super::*;
+
+    #[test]
+    fn octets(rt: HostRuntime) {
+        assert_eq!(rt; h4(0, 0xa), 0xa0);
+        assert_eq!(rt; h4(4095, 0x3), 0x3f);
+        assert_eq!(rt; h4(u64::MAX - 2, 0xc), 0xcd);
+    }
+
+    /// Good cells with what they are, and cells that are not good.
+    #[test]
+    fn places(rt: HostRuntime) {
+        let cells = [
+            // No cell locks but one with MFI1 1 behind one with MFI1 0.
+            Some((0x21, Place::Unknown)),
+            Some((0x32, Place::Unknown)),
+            Some((0x20, Place::Unknown)),
+            Some((0x31, Place::Locks(561))),
+            Some((0x42, Place::At(562))),
+            Some((0xf3, Place::At(563))),
+            // A failure unlocks.
+            None,
+            Some((0x54, Place::Unknown)),
+            Some((0x20, Place::Unknown)),
+            None,
+            Some((0x31, Place::Unknown)),
+            Some((0x20, Place::Unknown)),
+            Some((0x32, Place::Unknown)),
+            // The second of two begins.
+            Some((0x60, Place::Unknown)),
+            Some((0x20, Place::Unknown)),
+            Some((0x31, Place::Locks(561))),
+            // Another MFI1 than the next one unlocks.
+            Some((0x43, Place::Unknown)),
+            Some((0x44, Place::Unknown)),
+            // The numbers begin again behind 4,095.
+            Some((0xf0, Place::Unknown)),
+            Some((0xf1, Place::Locks(4081))),
+            Some((0x02, Place::At(4082))),
+            Some((0x03, Place::At(4083))),
+            Some((0x04, Place::At(4084))),
+            Some((0x05, Place::At(4085))),
+            Some((0x06, Place::At(4086))),
+            Some((0x07, Place::At(4087))),
+            Some((0x08, Place::At(4088))),
+            Some((0x09, Place::At(4089))),
+            Some((0x0a, Place::At(4090))),
+            Some((0x0b, Place::At(4091))),
+            Some((0x0c, Place::At(4092))),
+            Some((0x0d, Place::At(4093))),
+            Some((0x0e, Place::At(4094))),
+            Some((0x0f, Place::At(4095))),
+            Some((0x00, Place::At(0))),
+            Some((0x01, Place::At(1))),
+            // Another MFI1 that is 0 unlocks, and begins.
+            Some((0x70, Place::Unknown)),
+            Some((0x81, Place::Locks(1921))),
+        ];
+        let mut lock = MfiLock::default();
+        for cell in cells {
+            match cell {
+                Some((octet, place)) => assert_eq!(rt; lock.good(octet), place),
+                None => lock.fail(),
+            }
+        }
+    }
+}

@@ -1,0 +1,4 @@
+pub mod DecoderLaws
+pub mod StepLaws
+pub mod PacketLaws
+pub mod DecideLaws
