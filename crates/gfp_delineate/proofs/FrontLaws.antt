@@ -1,0 +1,155 @@
+-- The areas in a front of a stream of whole pieces.
+use Rattle.std.proofs.Common.{◌≡◌, ℕ, zero, suc, ◌+◌, ◌-◌, ◌<◌, ◌≤◌, List, [], ◌∷◌, ◌++◌, length, take, drop, All, inl, inr, Some, None, refl, sym, ◌∙◌, ap, ap₂, arith, append_assoc, length-append, length-take}
+use Rattle.std.specs.Prelude.{nat_le, if◌then◌else◌}
+use Rattle.std.specs.List.{flat_map}
+use Rattle.std.proofs.lemmas.List.{take_at, drop_at, append-nil}
+use Rattle.std.proofs.lemmas.List.Elements.{All-nil, All-cons, All-head, All-tail}
+use Rattle.std.proofs.lemmas.Bool.{le-leb, lt-leb, cases_lt}
+use Rattle.session_model.specs.Scramble.{scrambled_octets}
+use Rattle.session_model.specs.Core.{core_header, IsPli}
+use Rattle.session_model.specs.Piece.{cut, with_header, scrambled_areas}
+use Rattle.session_model.specs.Hunt.{header_at}
+use Rattle.session_model.specs.Run.{areas, behind_run}
+use Rattle.session_model.specs.Outcome.{descrambled_areas}
+use Rattle.session_model.proofs.CoreLaws.{length-core_header, head-core_header}
+use Rattle.session_model.proofs.AreaLaws.{scrambled_behind, scrambled_behind-append, scrambled_behind-single, length-scrambled_single, descrambled_areas-scrambled_areas}
+use Rattle.session_model.proofs.StreamLaws.{length-with_header}
+use Rattle.gfp_delineate.proofs.HuntLaws.{no_header}
+use Rattle.gfp_delineate.proofs.RunLaws.{areas-lost, areas-part, areas-whole, behind_run-few, behind_run-part, behind_run-whole}
+use Rattle.gfp_delineate.proofs.StandingLaws.{header_at-window}
+
+-- the front of a list that has its first part whole
+pub take-append : (count : ℕ) (xs ys : List ℕ) → length xs ≤ count → take count (xs ++ ys) ≡ xs ++ take (count - length xs) ys
+take-append count [] ys longer = let all : count ≡ count - 0 = omega arith in ap (λ count. take count ys) all
+take-append zero (x ∷ xs) ys longer = absurd (omega arith)
+take-append (suc count) (x ∷ xs) ys longer =
+    let less : count - length xs ≡ suc count - suc (length xs) = omega arith in
+    ap (λ front. x ∷ front) (take-append count xs ys (omega arith) ∙ ap (λ count. xs ++ take count ys) less)
+
+-- a header in front
+pub header_at-core : (pli : ℕ) (more : List ℕ) → IsPli pli → header_at (core_header pli ++ more) ≡ Some pli
+header_at-core pli more fits = header_at-window (core_header pli) more (length-core_header pli) ∙ head-core_header pli fits
+
+-- the areas that are whole where so many octets have come
+unfoldable pub whole_areas : ℕ → List (List ℕ) → List (List ℕ)
+whole_areas count [] = []
+whole_areas count (area ∷ more) = if nat_le (4 + length area) count then area ∷ whole_areas (count - (4 + length area)) more else []
+
+-- a front that ends in the first piece
+module _ (count : ℕ) (area more : List ℕ) (fits : IsPli (length area)) (short : count < 4 + length area) where
+  front_part : 4 ≤ count → take count (with_header area ++ more) ≡ core_header (length area) ++ take (count - 4) (area ++ more)
+  front_part long =
+      let four : length (core_header (length area)) ≡ 4 = length-core_header (length area) in
+      ap (take count) (append_assoc (core_header (length area)) area more)
+      ∙ take-append count (core_header (length area)) (area ++ more) (omega arith)
+      ∙ ap (λ n. core_header (length area) ++ take (count - n) (area ++ more)) four
+
+  front_size : length (take count (with_header area ++ more)) < 4 + length area
+  front_size = omega (arith, length-take count (with_header area ++ more), short)
+
+  areas-part_front : areas (take count (with_header area ++ more)) ≡ []
+  areas-part_front = elim (cases_lt count 4) [
+    | inl few ↦ areas-lost (take count (with_header area ++ more)) (no_header (take count (with_header area ++ more)) (omega (arith, length-take count (with_header area ++ more), few)))
+    | inr long ↦ areas-part (take count (with_header area ++ more)) (length area) (ap header_at (front_part long) ∙ header_at-core (length area) (take (count - 4) (area ++ more)) fits) front_size
+  ]
+
+  behind-part_front : behind_run (take count (with_header area ++ more)) ≡ None
+  behind-part_front = elim (cases_lt count 4) [
+    | inl few ↦ behind_run-few (take count (with_header area ++ more)) (omega (arith, length-take count (with_header area ++ more), few))
+    | inr long ↦ behind_run-part (take count (with_header area ++ more)) (length area) (ap header_at (front_part long) ∙ header_at-core (length area) (take (count - 4) (area ++ more)) fits) front_size
+  ]
+
+-- a front that has the first piece whole
+module _ (count : ℕ) (area more : List ℕ) (fits : IsPli (length area)) (long : 4 + length area ≤ count) where
+  front_whole : take count (with_header area ++ more) ≡ core_header (length area) ++ (area ++ take (count - (4 + length area)) more)
+  front_whole =
+      let size : length (with_header area) ≡ 4 + length area = length-with_header area in
+      take-append count (with_header area) more (omega arith)
+      ∙ ap (λ n. with_header area ++ take (count - n) more) size
+      ∙ append_assoc (core_header (length area)) area (take (count - (4 + length area)) more)
+
+  areas-whole_front : areas (take count (with_header area ++ more)) ≡ area ∷ areas (take (count - (4 + length area)) more)
+  areas-whole_front =
+      let header : List ℕ = core_header (length area) in
+      let rest : List ℕ = take (count - (4 + length area)) more in
+      let four : length header ≡ 4 = length-core_header (length area) in
+      let both : length (header ++ area) ≡ 4 + length area = omega (arith, length-append header area, four) in
+      let enough : 4 + length area ≤ length (header ++ (area ++ rest)) = omega (arith, length-append header (area ++ rest), length-append area rest, four) in
+      ap areas front_whole
+      ∙ areas-whole (header ++ (area ++ rest)) (length area) (header_at-core (length area) (area ++ rest) fits) enough
+      ∙ ap₂ (λ first octets. first ∷ areas octets)
+      (ap (take (length area)) (drop_at header (area ++ rest) 4 four) ∙ take_at area rest (length area) refl)
+      (ap (drop (4 + length area)) (sym (append_assoc header area rest)) ∙ drop_at (header ++ area) rest (4 + length area) both)
+
+  behind-whole_front : behind_run (take count (with_header area ++ more)) ≡ behind_run (take (count - (4 + length area)) more)
+  behind-whole_front =
+      let header : List ℕ = core_header (length area) in
+      let rest : List ℕ = take (count - (4 + length area)) more in
+      let four : length header ≡ 4 = length-core_header (length area) in
+      let both : length (header ++ area) ≡ 4 + length area = omega (arith, length-append header area, four) in
+      let enough : 4 + length area ≤ length (header ++ (area ++ rest)) = omega (arith, length-append header (area ++ rest), length-append area rest, four) in
+      ap behind_run front_whole
+      ∙ behind_run-whole (header ++ (area ++ rest)) (length area) (header_at-core (length area) (area ++ rest) fits) enough
+      ∙ ap behind_run (ap (drop (4 + length area)) (sym (append_assoc header area rest)) ∙ drop_at (header ++ area) rest (4 + length area) both)
+
+-- in a front of pieces
+take-none : (count : ℕ) → length (take {A = ℕ} count []) < 4
+take-none count = omega (arith, length-take {A = ℕ} count [])
+
+pub areas-front : (count : ℕ) (pieces : List (List ℕ)) → All (λ area. IsPli (length area)) pieces → areas (take count (flat_map with_header pieces)) ≡ whole_areas count pieces
+unfolding whole_areas
+areas-front count [] all = areas-lost (take count []) (no_header (take count []) (take-none count))
+areas-front count (area ∷ pieces) all =
+    let fits = All-head (λ area. IsPli (length area)) area pieces all in
+    elim (cases_lt count (4 + length area)) [
+      | inl short ↦ rw (lt-leb (4 + length area) count short) (areas-part_front count area (flat_map with_header pieces) fits short)
+      | inr long ↦ rw (le-leb (4 + length area) count long)
+          (areas-whole_front count area (flat_map with_header pieces) fits long
+          ∙ ap (λ l. area ∷ l) (areas-front (count - (4 + length area)) pieces (All-tail (λ area. IsPli (length area)) area pieces all)))
+    ]
+
+pub behind_run-front : (count : ℕ) (pieces : List (List ℕ)) → All (λ area. IsPli (length area)) pieces → behind_run (take count (flat_map with_header pieces)) ≡ None
+behind_run-front count [] all = behind_run-few (take count []) (take-none count)
+behind_run-front count (area ∷ pieces) all =
+    let fits = All-head (λ area. IsPli (length area)) area pieces all in
+    elim (cases_lt count (4 + length area)) [
+      | inl short ↦ behind-part_front count area (flat_map with_header pieces) fits short
+      | inr long ↦ behind-whole_front count area (flat_map with_header pieces) fits long
+          ∙ behind_run-front (count - (4 + length area)) pieces (All-tail (λ area. IsPli (length area)) area pieces all)
+    ]
+
+-- whole areas are among the areas
+pub All-whole_areas : (P : List ℕ → Type 0) (count : ℕ) (pieces : List (List ℕ)) → All P pieces → All P (whole_areas count pieces)
+unfolding whole_areas
+All-whole_areas P count [] all = All-nil P
+All-whole_areas P count (area ∷ pieces) all = elim (cases_lt count (4 + length area)) [
+  | inl short ↦ rw (lt-leb (4 + length area) count short) (All-nil P)
+  | inr long ↦ rw (le-leb (4 + length area) count long)
+      (All-cons P area (whole_areas (count - (4 + length area)) pieces) (All-head P area pieces all) (All-whole_areas P (count - (4 + length area)) pieces (All-tail P area pieces all)))
+]
+
+-- areas that are scrambled as one list are whole at the same places
+scrambled_behind-cons : (before area : List ℕ) (pieces : List (List ℕ)) → scrambled_behind before (area ∷ pieces) ≡ drop (length before) (scrambled_octets (before ++ area)) ∷ scrambled_behind (before ++ area) pieces
+scrambled_behind-cons before area pieces =
+    scrambled_behind-append before (area ∷ []) pieces
+    ∙ ap₂ ◌++◌ (scrambled_behind-single before area) (ap (λ l. scrambled_behind (before ++ l) pieces) (append-nil area))
+
+whole_areas-scrambled_behind : (count : ℕ) (before : List ℕ) (pieces : List (List ℕ)) → whole_areas count (scrambled_behind before pieces) ≡ scrambled_behind before (whole_areas count pieces)
+unfolding whole_areas cut
+whole_areas-scrambled_behind count before [] = refl
+whole_areas-scrambled_behind count before (area ∷ pieces) =
+    let size : length (drop (length before) (scrambled_octets (before ++ area))) ≡ length area = length-scrambled_single before area in
+    let first : List ℕ = drop (length before) (scrambled_octets (before ++ area)) in
+    ap (whole_areas count) (scrambled_behind-cons before area pieces)
+    ∙ ap (λ n. if nat_le (4 + n) count then first ∷ whole_areas (count - (4 + n)) (scrambled_behind (before ++ area) pieces) else []) size
+    ∙ elim (cases_lt count (4 + length area)) as (λ _. (if nat_le (4 + length area) count then first ∷ whole_areas (count - (4 + length area)) (scrambled_behind (before ++ area) pieces) else []) ≡ scrambled_behind before (if nat_le (4 + length area) count then area ∷ whole_areas (count - (4 + length area)) pieces else [])) [
+      | inl short ↦ rw (lt-leb (4 + length area) count short) refl
+      | inr long ↦ rw (le-leb (4 + length area) count long)
+          (ap (λ l. first ∷ l) (whole_areas-scrambled_behind (count - (4 + length area)) (before ++ area) pieces) ∙ sym (scrambled_behind-cons before area (whole_areas (count - (4 + length area)) pieces)))
+    ]
+
+-- and descrambled they are what they were
+pub descrambled-whole_areas : (count : ℕ) (pieces : List (List ℕ)) → All (All (λ o. o < 256)) pieces → descrambled_areas (whole_areas count (scrambled_areas pieces)) ≡ whole_areas count pieces
+descrambled-whole_areas count pieces below =
+    ap descrambled_areas (whole_areas-scrambled_behind count [] pieces)
+    ∙ descrambled_areas-scrambled_areas (whole_areas count pieces) (All-whole_areas (All (λ o. o < 256)) count pieces below)

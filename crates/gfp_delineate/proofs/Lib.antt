@@ -1,0 +1,12 @@
+pub mod HuntLaws
+pub mod RunLaws
+pub mod StandingLaws
+pub mod OutcomeLaws
+pub mod Known
+pub mod SearchSteps
+pub mod RunSteps
+pub mod HeaderSteps
+pub mod AreaSteps
+pub mod Frames
+pub mod FrontLaws
+pub mod Delivery

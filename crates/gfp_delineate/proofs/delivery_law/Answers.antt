@@ -1,0 +1,5 @@
+use Rattle.gfp_delineate.proofs.Delivery.{delivered-opening}
+use Rattle.gfp_delineate.proofs.delivery_law.Goals as goal
+
+pub returns : goal.returns
+returns c longest frames idles place fits all within = delivered-opening longest frames idles place fits all

@@ -1,0 +1,5 @@
+pub mod StreamLaws
+pub mod FillLaws
+mod FillerSteps
+mod ScrambleSteps
+mod PieceSteps

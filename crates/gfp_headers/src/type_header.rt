@@ -1,0 +1,95 @@
+ghost use Rattle.std.specs.Prelude.{◌≡◌, ◌≢◌, ◌↔◌, ℕ, ◌+◌, ◌*◌, MatchOption, IsOk};
+ghost use Rattle.hec16.specs.Hec.{hec_of};
+ghost use Rattle.gfp_headers.specs.TypeHeader.{type_header, type_field, type_check, field_fault, type_fault};
+
+use hec16::hec;
+use session_model::TypeFault;
+
+/// The type header of an Ethernet frame, as it is before scrambling.
+pub fn type_bytes() -> [u8; 4]
+    ensures { result ≡ type_header }
+{
+    [0x00, 0x01, 0x10, 0x21]
+}
+
+/// Whether these octets are the type header of an Ethernet frame, and what is wrong with them where they are not: the check
+/// (tHEC), or else the first field that differs.
+pub fn read_type(octets: &[u8; 4]) -> Result<(), TypeFault>
+    ensures value { MatchOption (type_fault octets.now) (result ≡ Ok tt) (λ fault. result ≡ Err fault) }
+    ensures check { (said found : ℕ) → (result ≡ Err (TypeFault.Check said found)) ↔
+        ((said ≡ type_check octets.now) × (found ≡ hec_of (type_field octets.now)) × (said ≢ found)) }
+    ensures ok { IsOk result ↔ (octets.now ≡ type_header) }
+{
+    let [a, b, c, d] = *octets;
+    let field = word(a, b);
+    let said = word(c, d);
+    let found = hec(field);
+    if said != found {
+        return Err(TypeFault::Check { said, found });
+    }
+    match fault_of_field(field) {
+        None => Ok(()),
+        Some(fault) => Err(fault),
+    }
+}
+
+/// The word that two octets are.
+fn word(upper: u8, lower: u8) -> u16
+    ensures { result ≡ 256 * upper + lower }
+{
+    u16::from_be_bytes([upper, lower])
+}
+
+/// The first field of a type field (PTI, PFI, EXI, UPI) that is not that of an Ethernet frame.
+fn fault_of_field(field: u16) -> Option<TypeFault>
+    ensures { result ≡ field_fault field }
+{
+    let pti = (field >> 13) as u8;
+    let exi = ((field >> 8) % 16) as u8;
+    let upi = (field % 256) as u8;
+    if pti != 0 {
+        Some(TypeFault::NotClient { pti })
+    } else if (field >> 12) % 2 != 0 {
+        Some(TypeFault::PayloadFcs)
+    } else if exi != 0 {
+        Some(TypeFault::Extension { exi })
+    } else if upi != 1 {
+        Some(TypeFault::NotEthernet { upi })
+    } else {
+        None
+    }
+}
+
+#[cfg(test)]
+mod tests {
+    use super::*;
+
+    #[test]
+    fn type_headers(rt: HostRuntime) {
+        assert_eq!(rt; read_type(&type_bytes()), Ok(()));
+        let faults = [
+            ([0x20, 0x01, 0x16, 0xc7], TypeFault::NotClient { pti: 1 }),
+            ([0xff, 0xff, 0x1d, 0x0f], TypeFault::NotClient { pti: 7 }),
+            ([0x10, 0x01, 0x13, 0x52], TypeFault::PayloadFcs),
+            ([0x01, 0x01, 0x23, 0x10], TypeFault::Extension { exi: 1 }),
+            ([0x00, 0x02, 0x20, 0x42], TypeFault::NotEthernet { upi: 2 }),
+            (
+                [0x00, 0x01, 0x10, 0x20],
+                TypeFault::Check {
+                    said: 0x1020,
+                    found: 0x1021,
+                },
+            ),
+            (
+                [0x20, 0x01, 0x10, 0x21],
+                TypeFault::Check {
+                    said: 0x1021,
+                    found: 0x16c7,
+                },
+            ),
+        ];
+        for (octets, fault) in faults {
+            assert_eq!(rt; read_type(&octets), Err(fault));
+        }
+    }
+}
