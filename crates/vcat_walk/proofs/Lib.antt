@@ -1,0 +1,11 @@
+pub mod HexText
+pub mod LineLaws
+pub mod FormLaws
+pub mod WordLaws
+pub mod TakeLaws
+pub mod PlaceLaws
+pub mod CarryLaws
+pub mod ReportLaws
+pub mod FoundLaws
+pub mod DecodedLaws
+pub mod HexLineLaws

@@ -1,0 +1,13 @@
+use Rattle.std.proofs.Common.{◌≡◌, ◌≤◌, length, ◌++◌, All}
+use Rattle.vcat_walk.specs.Form.{IsFrame, frame_lines}
+use Rattle.vcat_walk.proofs.form.read_frames.Given as goal
+
+abbrev pub invariant-loop-rest : goal.invariant-loop-rest
+invariant-loop-rest l = record {
+  few : length l.queue ≤ 256;
+  each : All IsFrame l.queue;
+  read : l.fn.text ≡ frame_lines l.queue ++ l.rest;
+}
+
+abbrev pub decreases-loop-rest : goal.decreases-loop-rest
+decreases-loop-rest l = length l.rest

@@ -1,0 +1,13 @@
+use Rattle.std.proofs.Common.{◌+◌, ◌*◌, ◌≤◌, length, vec_len}
+use Rattle.vcat_walk.proofs.HexLineLaws.{IsRead}
+use Rattle.vcat_walk.proofs.hex_lines.read_octets.Given as goal
+
+abbrev pub invariant-loop-line : goal.invariant-loop-line
+invariant-loop-line l = record {
+  read : IsRead l.fn.text l.rest l.number l.octets.items;
+  size : 2 * vec_len l.octets + length l.rest ≤ length l.fn.text;
+  small : l.number + length l.rest ≤ length l.fn.text;
+}
+
+abbrev pub decreases-loop-line : goal.decreases-loop-line
+decreases-loop-line l = length l.rest

@@ -1,0 +1,9 @@
+use Rattle.std.proofs.Common.{ℕ, List, length, arith, ap}
+use Rattle.vcat_walk.proofs.HexLineLaws.{length-behind_spaces, length_end}
+use Rattle.vcat_walk.proofs.hex_lines.trim.Goals as goal
+
+pub returns-clause-shorter : goal.returns-clause-shorter
+returns-clause-shorter c =
+    let front = ap (λ (t : List ℕ). length t) c.trim_start.ensures in
+    let both = ap (λ (t : List ℕ). length t) c.trim_end.ensures in
+    omega (arith, front, both, length_end c.trim_start.result.now, length-behind_spaces c.args.line.now)

@@ -1,0 +1,61 @@
+ghost use Rattle.std.specs.Prelude.{◌≡◌, ℕ, ◌+◌, ◌<◌, ◌≤◌, List, [], ◌∷◌, ◌++◌, length, Option, IfOk, OnOk, OnErr};
+ghost use Rattle.std.specs.Io.KnownBytes.{append_known};
+ghost use Rattle.outside_io.specs.Faults.{Rose};
+ghost use Rattle.outside_io.specs.Transfer.{AppendsPart};
+ghost use Rattle.trace_core.specs.Decoder.{Stands};
+ghost use Rattle.vcat_walk.specs.Decoded.{IsDecoded, HasLines, HasLinesPart};
+
+use crate::report::{FOUND_ROOM, end_line, found_line};
+use outside_io::{ByteSink, Failed, put_all};
+use trace_core::H4Decoder;
+
+/// Gives an H4 octet to the decoder, and writes the line of what it finds. The answer is how many lines that are.
+fn take_h4<K: ByteSink>(
+    h4: u8,
+    decoder: &mut H4Decoder,
+    line: &mut [u8; FOUND_ROOM],
+    out: &mut K,
+) -> Result<u64, Failed>
+    requires { decoder.old.given < 4294967295 }
+    ensures given { decoder.new.given ≡ decoder.old.given + 1 }
+    ensures stands { (before : List ℕ) → Stands decoder.old before → Stands decoder.new (before ++ h4 ∷ []) }
+    ensures ok { (before : List ℕ) (start : Option (List ℕ)) (packets : ℕ) → Stands decoder.old before →
+        HasLines before start (K.written out.old) packets →
+        IfOk result (λ n. HasLines (before ++ h4 ∷ []) start (K.written out.new) (packets + n)) }
+    ensures err { (before : List ℕ) (start : Option (List ℕ)) (packets : ℕ) → Stands decoder.old before →
+        HasLines before start (K.written out.old) packets →
+        OnErr result (HasLinesPart (before ++ h4 ∷ []) start (K.written out.new)) }
+    ensures one { IfOk result (λ n. n ≤ 1) }
+    ensures never_falls { K.faults out.old ≤ K.faults out.new }
+    ensures cause { OnErr result (Rose (K.faults out.old) (K.faults out.new)) }
+{
+    let Some((place, found)) = decoder.octet(h4) else {
+        return Ok(0);
+    };
+    let end = found_line(place, found, line);
+    match put_all(out, &line[..end]) {
+        Ok(()) => Ok(1),
+        Err(Failed) => Err(Failed),
+    }
+}
+
+/// Writes a line for each control packet in the H4 octets of a line, and the last line.
+pub fn write_packets<K: ByteSink>(octets: &[u8], out: &mut K) -> Result<(), Failed>
+    requires { length octets.now ≤ 33554432 }
+    ensures ok { OnOk result ((report : List ℕ) × IsDecoded octets.now report × (K.written out.new ≡ append_known (K.written out.old) report)) }
+    ensures err { OnErr result ((report : List ℕ) × IsDecoded octets.now report × AppendsPart (K.written out.old) (K.written out.new) report) }
+    ensures never_falls { K.faults out.old ≤ K.faults out.new }
+    ensures cause { OnErr result (Rose (K.faults out.old) (K.faults out.new)) }
+{
+    let mut decoder = H4Decoder::new();
+    let mut line = [0u8; FOUND_ROOM];
+    let mut packets = 0;
+    for h4 in octets {
+        match take_h4(*h4, &mut decoder, &mut line, out) {
+            Ok(n) => packets += n,
+            Err(Failed) => return Err(Failed),
+        }
+    }
+    let end = end_line(octets.len(), packets, &mut line);
+    put_all(out, &line[..end])
+}

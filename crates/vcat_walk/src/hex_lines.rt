@@ -1,0 +1,121 @@
+ghost use Rattle.std.specs.Prelude.{◌≡◌, ℕ, ◌≤◌, ◌<◌, ◌+◌, ◌*◌, ◌^◌, ◌∷◌, [], List, reverse, length, vec_len, IfOk, OnOk, IfSome, IfNone};
+ghost use Rattle.std.specs.Str.Lines.{lines, strip_carriage_return};
+ghost use Rattle.hex.specs.Hex.{decode_of};
+ghost use Rattle.vcat_walk.specs.HexLines.{IsHexText, IsFirstFault, behind_spaces, trimmed, line_octets, Takes};
+ghost use Rattle.std.specs.Result.{result_ok};
+
+use crate::lines::first_line;
+use std::alloc::{AllocError, Global};
+
+/// Why a text gives no octets: its first line that is not hexadecimal, counted from 1, or want of memory.
+#[derive(Clone, Copy, Debug, PartialEq, Eq)]
+pub enum HexLinesFault {
+    Line { number: u64 },
+    Memory,
+}
+
+/// A line without the CR at its end.
+fn without_return(line: &[u8]) -> &[u8]
+    ensures { result.now ≡ strip_carriage_return line.now }
+{
+    match line {
+        [front @ .., b'\r'] => front,
+        _ => line,
+    }
+}
+
+/// The first line of a text without its end, and what stands behind it.
+fn next_line(text: &[u8]) -> Option<(&[u8], &[u8])>
+    ensures some { IfSome result (λ parts. lines text.now ≡ parts.0.now ∷ lines parts.1.now) }
+    ensures shorter { IfSome result (λ parts. length parts.0.now + length parts.1.now ≤ length text.now) }
+    ensures moves { IfSome result (λ parts. length parts.1.now < length text.now) }
+    ensures none { IfNone result (lines text.now ≡ []) }
+{
+    if text.is_empty() {
+        return None;
+    }
+    match first_line(text) {
+        Some((line, rest)) => Some((without_return(line), rest)),
+        None => Some((text, &text[text.len()..])),
+    }
+}
+
+/// A text without the spaces at its front.
+fn trim_start(mut text: &[u8]) -> &[u8]
+    ensures { result.now ≡ behind_spaces text.now }
+{
+    while let [first, rest @ ..] = text
+        && *first == b' '
+    {
+        text = rest;
+    }
+    text
+}
+
+/// A text without the spaces at its end.
+fn trim_end(mut text: &[u8]) -> &[u8]
+    ensures { result.now ≡ reverse (behind_spaces (reverse text.now)) }
+{
+    while let [rest @ .., last] = text
+        && *last == b' '
+    {
+        text = rest;
+    }
+    text
+}
+
+/// A line without the spaces at its ends.
+fn trim(line: &[u8]) -> &[u8]
+    ensures value { result.now ≡ trimmed line.now }
+    ensures shorter { length result.now ≤ length line.now }
+{
+    trim_end(trim_start(line))
+}
+
+/// Appends the octets of hexadecimal digits, and says whether they were that.
+fn take_digits(digits: &[u8], octets: &mut Vec<u8>) -> Result<bool, AllocError>
+    requires { vec_len octets.old + length digits.now < 2 ^ 63 }
+    ensures octets { IfOk result (λ sound. Takes sound (result_ok (decode_of digits.now)) octets.old.items octets.new.items) }
+    ensures short { OnOk result (2 * vec_len octets.new ≤ 2 * vec_len octets.old + length digits.now) }
+{
+    let start = octets.len();
+    octets.resize(start + digits.len() / 2, 0)?;
+    Ok(hex::decode_to_slice(digits, &mut octets.as_mut_slice()[start..]).is_ok())
+}
+
+/// Appends the octets of a line, and says whether the line was sound.
+fn take_line(line: &[u8], octets: &mut Vec<u8>) -> Result<bool, AllocError>
+    requires { vec_len octets.old + length line.now < 2 ^ 63 }
+    ensures octets { IfOk result (λ sound. Takes sound (line_octets line.now) octets.old.items octets.new.items) }
+    ensures short { OnOk result (2 * vec_len octets.new ≤ 2 * vec_len octets.old + length line.now) }
+{
+    let word = trim(line);
+    match word {
+        [] | [b'#', ..] => Ok(true),
+        _ => take_digits(word, octets),
+    }
+}
+
+/// The octets that the lines of a text say.
+pub fn read_octets(alloc: Global, text: &[u8]) -> Result<Vec<u8>, HexLinesFault>
+    requires { length text.now ≤ 67108864 }
+    ensures octets { IfOk result (λ octets. IsHexText text.now octets.items) }
+    ensures short { IfOk result (λ octets. 2 * vec_len octets ≤ length text.now) }
+    ensures line { (number : ℕ) → result ≡ Err (HexLinesFault.Line number) → IsFirstFault text.now number }
+{
+    let Ok(mut octets) = Vec::with_capacity(alloc, text.len() / 2) else {
+        return Err(HexLinesFault::Memory);
+    };
+    let mut rest = text;
+    let mut number = 0;
+    while let Some((line, behind)) = next_line(rest) {
+        number += 1;
+        rest = behind;
+        match take_line(line, &mut octets) {
+            Ok(true) => {}
+            Ok(false) => return Err(HexLinesFault::Line { number }),
+            Err(AllocError) => return Err(HexLinesFault::Memory),
+        }
+    }
+    Ok(octets)
+}
