@@ -8,4 +8,5 @@ mod queue;
 mod tests;
 
 pub use filler::Filler;
-pub use queue::{AcceptFault, FrameQueue, MAX_FRAME, MAX_WAITING, MIN_FRAME};
+pub use queue::{FrameQueue, MAX_FRAME, MAX_WAITING, MIN_FRAME};
+pub use session_model::AcceptFault;

@@ -5,6 +5,7 @@ ghost use Rattle.gfp_fill.specs.Queue.{IsFrameLength, IsOtherLength};
 ghost use Rattle.gfp_fill.specs.Store.{IsStore};
 
 use crate::octets::copy_some;
+use session_model::AcceptFault;
 use std::alloc::{AllocError, Global};
 use std::collections::VecDeque;
 use std::marker::Model;
@@ -17,13 +18,6 @@ pub const MAX_FRAME: usize = 9600;
 
 /// How many frames may wait.
 pub const MAX_WAITING: usize = 256;
-
-/// Why a frame is refused: its length in octets, or how many frames wait.
-#[derive(Clone, Copy, Debug, PartialEq, Eq)]
-pub enum AcceptFault {
-    Length { n: u64 },
-    QueueFull { waiting: u16 },
-}
 
 /// The accepted frames that wait, oldest first.
 #[derive(Drop)]

@@ -7,3 +7,11 @@ pub mod Run
 pub mod Outcome
 pub mod Delivery
 pub mod Decode
+pub mod Damage
+pub mod Path
+pub mod Number
+pub mod Scenario
+pub mod Table
+pub mod Source
+pub mod Back
+pub mod Client

@@ -1,5 +1,5 @@
 -- G.7041, frame delineation: what comes of each client frame that lies whole in a run.
-use Rattle.std.specs.Prelude.{ℕ, ◌+◌, ◌&&◌, nat_lt, not, Bool, true, List, [], ◌∷◌, ◌++◌, length, map, take, drop, Option, Some, None, if◌then◌else◌}
+use Rattle.std.specs.Prelude.{ℕ, ◌+◌, ◌&&◌, nat_lt, not, Bool, List, [], ◌∷◌, ◌++◌, length, map, take, drop, Option, Some, None, if◌then◌else◌}
 use Rattle.std.specs.List.{flat_map}
 use Rattle.session_model.specs.declared.Why.{Why}
 use Rattle.session_model.specs.declared.Why.TheVariants.{Unsettled, TooLong, Header}

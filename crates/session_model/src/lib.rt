@@ -1,6 +1,17 @@
 //! The definitions that the contracts of a session speak of, and the types that they name.
 #![tactic(auto)]
 
+mod refusal;
+mod script;
+mod window;
+
+pub use refusal::{AcceptFault, CommandFault};
+pub use script::{
+    Config, Delays, EventLine, EventList, Item, ItemKind, ItemList, LostList, Octets, Script,
+    WindowList, WindowLists,
+};
+pub use window::{Carried, Window};
+
 /// What is wrong with a type header (G.7041): its check, which says one word and was found to be another; or the first field
 /// that is not that of an Ethernet frame, in the order PTI, PFI, EXI, UPI.
 #[derive(Clone, Copy, Debug, PartialEq, Eq)]

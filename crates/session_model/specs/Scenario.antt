@@ -1,0 +1,95 @@
+-- A scenario: what the network, the operator and the client of a group do, as plain lists. It is what a script says of them.
+use Rattle.std.specs.Prelude.{ℕ, ◌+◌, ◌*◌, ◌-◌, ◌/◌, nat_le, nat_lt, ◌&&◌, Bool, List, [], ◌∷◌, map, filter, slice_index_or}
+use Rattle.std.specs.List.{list_any, flat_map}
+use Rattle.session_model.specs.declared.window.Window.{Window}
+use Rattle.session_model.specs.declared.window.Carried.{Carried}
+use Rattle.session_model.specs.declared.script.Script.{Script}
+use Rattle.session_model.specs.declared.script.Item.{Item}
+use Rattle.session_model.specs.declared.script.ItemKind.{ItemKind}
+use Rattle.session_model.specs.declared.script.ItemKind.TheVariants.{Frame, Add, Remove}
+use Rattle.session_model.specs.Damage.{carried, is_readable}
+
+-- what an operator asks for
+pub data Command : Type 0 where
+  add : ℕ → Command
+  remove : ℕ → Command
+
+-- a command, and how many ticks are made when it lands
+pub record Order : Type 0 where
+  pub due : ℕ
+  pub command : Command
+
+-- a frame, and how many ticks are made when it lands
+pub record Offer : Type 0 where
+  pub due : ℕ
+  pub frame : List ℕ
+
+-- the lag in packets; how many ticks there are; the payload octets of a container; the failures of each line; the return packets
+-- that are lost; the commands and the frames in their order
+pub record Scenario : Type 0 where
+  pub lag : ℕ
+  pub ticks : ℕ
+  pub size : ℕ
+  pub windows : List (List Window)
+  pub lost : List (ℕ × ℕ)
+  pub orders : List Order
+  pub offers : List Offer
+
+-- ---- the scenario of a script
+abbrev pub order_of : ℕ → ItemKind → List Order
+order_of due (Frame octets) = []
+order_of due (Add line) = record { due = due; command = add line } ∷ []
+order_of due (Remove line) = record { due = due; command = remove line } ∷ []
+
+abbrev pub offer_of : ℕ → ItemKind → List Offer
+offer_of due (Frame octets) = record { due = due; frame = octets } ∷ []
+offer_of due (Add line) = []
+offer_of due (Remove line) = []
+
+abbrev pub orders_of : List Item → List Order
+orders_of items = flat_map (λ (item : Item). order_of item.due item.kind) items
+
+abbrev pub offers_of : List Item → List Offer
+offers_of items = flat_map (λ (item : Item). offer_of item.due item.kind) items
+
+abbrev pub scenario_of : Script → Scenario
+scenario_of script = record {
+  lag = script.config.lag;
+  ticks = script.config.ticks;
+  size = script.config.size;
+  windows = script.config.windows;
+  lost = script.config.lost;
+  orders = orders_of script.items;
+  offers = offers_of script.items;
+}
+
+-- ---- what is damaged
+-- what comes of container n of a line. A line that isn't configured has no window
+abbrev pub carried_by : Scenario → ℕ → ℕ → Carried
+carried_by scenario line n = carried (slice_index_or scenario.windows line []) n
+
+-- control packet k of a line, sent in frames 16 k + 8 to 16 k + 23, can be read
+abbrev pub is_read : Scenario → ℕ → ℕ → Bool
+is_read scenario line k = is_readable (carried_by scenario line) k
+
+-- some line has a readable packet k
+abbrev pub is_heard : Scenario → ℕ → Bool
+is_heard scenario k = list_any (λ windows. is_readable (carried windows) k) scenario.windows
+
+-- return packet k is lost
+abbrev pub is_lost : Scenario → ℕ → Bool
+is_lost scenario k = list_any (λ window. nat_le window.0 k && nat_lt k window.1) scenario.lost
+
+-- how many return packets there are: packet k is the last one where its row 16 k + 23 is the last one
+abbrev pub packets : Scenario → ℕ
+packets scenario = (scenario.ticks - 8) / 16
+
+-- ---- what lands
+-- the commands that land between decision steps j - 1 and j. Step j is made in the tick of frame 16 j + 8
+abbrev pub orders_at : Scenario → ℕ → List Command
+orders_at scenario j =
+    map (λ order. order.command) (filter (λ order. nat_lt (16 * j) (order.due + 8) && nat_le order.due (16 * j + 8)) scenario.orders)
+
+-- the frames that land before frame t is made
+abbrev pub frames_at : Scenario → ℕ → List (List ℕ)
+frames_at scenario t = map (λ offer. offer.frame) (filter (λ offer. nat_le offer.due t && nat_le t offer.due) scenario.offers)
