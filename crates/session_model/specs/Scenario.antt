@@ -3,16 +3,14 @@ use Rattle.std.specs.Prelude.{ℕ, ◌+◌, ◌*◌, ◌-◌, ◌/◌, nat_le, n
 use Rattle.std.specs.List.{list_any, flat_map}
 use Rattle.session_model.specs.declared.window.Window.{Window}
 use Rattle.session_model.specs.declared.window.Carried.{Carried}
+-- what an operator asks for
+pub use Rattle.session_model.specs.declared.table.Command.{Command}
+pub use Rattle.session_model.specs.declared.table.Command.TheVariants.{Add as add, Remove as remove}
 use Rattle.session_model.specs.declared.script.Script.{Script}
 use Rattle.session_model.specs.declared.script.Item.{Item}
 use Rattle.session_model.specs.declared.script.ItemKind.{ItemKind}
 use Rattle.session_model.specs.declared.script.ItemKind.TheVariants.{Frame, Add, Remove}
 use Rattle.session_model.specs.Damage.{carried, is_readable}
-
--- what an operator asks for
-pub data Command : Type 0 where
-  add : ℕ → Command
-  remove : ℕ → Command
 
 -- a command, and how many ticks are made when it lands
 pub record Order : Type 0 where
