@@ -15,3 +15,6 @@ pub mod Table
 pub mod Source
 pub mod Back
 pub mod Client
+pub mod Line
+pub mod Sign
+pub mod MemberPacket

@@ -1,0 +1,11 @@
+pub mod ListLaws
+pub mod GoodLaws
+pub mod InvariantLaws
+pub mod WindowLaws
+pub mod RunLaws
+pub mod SightLaws
+pub mod StableLaws
+pub mod CountLaws
+pub mod WorkedLaws
+pub mod OctetLaws
+pub mod EndLaws

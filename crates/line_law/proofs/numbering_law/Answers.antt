@@ -1,0 +1,24 @@
+-- The cells of a line, read to their end.
+use Rattle.line_law.proofs.RunLaws.{are_numbered, are_in_step, are_expected}
+use Rattle.line_law.proofs.GoodLaws.{readable-good, good-readable}
+use Rattle.line_law.proofs.OctetLaws.{are_readable}
+use Rattle.line_law.proofs.CountLaws.{are_at}
+use Rattle.line_law.proofs.numbering_law.Goals as goal
+
+pub returns-clause-numbered : goal.returns-clause-numbered
+returns-clause-numbered c = are_numbered
+
+pub returns-clause-at : goal.returns-clause-at
+returns-clause-at c = are_at
+
+pub returns-clause-in_step : goal.returns-clause-in_step
+returns-clause-in_step c = are_in_step
+
+pub returns-clause-due : goal.returns-clause-due
+returns-clause-due c = are_expected
+
+pub returns-clause-packets : goal.returns-clause-packets
+returns-clause-packets c carries k = (readable-good carries k, good-readable carries k)
+
+pub returns-clause-readable : goal.returns-clause-readable
+returns-clause-readable c = are_readable

@@ -1,0 +1,4 @@
+pub mod Numbering
+pub mod Wording
+pub mod Stable
+pub mod Worked
