@@ -15,3 +15,5 @@ pub mod Table
 pub mod Source
 pub mod Back
 pub mod Client
+pub mod Accepted
+pub mod Journal
