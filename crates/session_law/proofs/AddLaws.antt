@@ -1,8 +1,12 @@
 -- How soon a line that was added is in use.
 use Rattle.std.proofs.Common.{◌≡◌, ℕ, suc, ◌+◌, ◌-◌, ◌%◌, ◌<◌, ◌≤◌, Bool, true, false, if◌then◌else◌, inl, List, [], ◌∷◌, ◌++◌, length, Option, Some, None, slice_get, slice_index_or, refl, ◌∙◌, ap, arith}
 use Rattle.std.proofs.lemmas.Option.{none-some, same_Some}
-use Rattle.session_model.specs.Scenario.{Command, add, Scenario}
-use Rattle.session_model.specs.Table.{adding, Member, member_of, Table, Told, carried_out}
+use Rattle.session_model.specs.declared.table.Command.{Command}
+use Rattle.session_model.specs.declared.table.Command.TheVariants.{Add as add}
+use Rattle.session_model.specs.Scenario.{Scenario}
+use Rattle.session_model.specs.declared.table.Standing.TheVariants.{Add as adding}
+use Rattle.session_model.specs.declared.table.Member.{Member}
+use Rattle.session_model.specs.Table.{member_of, Table, Told, carried_out}
 use Rattle.session_model.specs.Source.{Source, change_by, change, cell_at, source_at, told_at, first_of, carried, table_of}
 use Rattle.session_law.specs.Use.{IsAdded, IsUsedBefore, AddsAlone, AllCome, AllRead}
 use Rattle.session_model.specs.Back.{return_packet, cells_before}

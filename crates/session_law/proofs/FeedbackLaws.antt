@@ -2,7 +2,8 @@
 use Rattle.std.proofs.Common.{◌≡◌, ◌↔◌, ℕ, zero, suc, ◌+◌, ◌-◌, ◌%◌, ◌<◌, ◌≤◌, ◌==◌, nat_le, true, false, if◌then◌else◌, List, [], ◌∷◌, length, Option, Some, None, slice_index_or, refl, sym, ◌∙◌, ap, subst, arith}
 use Rattle.std.proofs.lemmas.Option.{none-some}
 use Rattle.std.proofs.lemmas.Bool.{leb-true, eqb-true}
-use Rattle.session_model.specs.Scenario.{Command, Scenario, orders_at, is_heard}
+use Rattle.session_model.specs.declared.table.Command.{Command}
+use Rattle.session_model.specs.Scenario.{Scenario, orders_at, is_heard}
 use Rattle.session_model.specs.declared.refusal.CommandFault.{CommandFault}
 use Rattle.session_model.specs.Table.{Table, Told}
 use Rattle.session_model.specs.Source.{Source, asked, asked_by, asked_all, refusal, after, cell_at, table_of}

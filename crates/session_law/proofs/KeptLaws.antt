@@ -2,8 +2,11 @@
 use Rattle.std.proofs.Common.{◌≡◌, ℕ, zero, suc, ◌+◌, ◌-◌, ◌/◌, ◌%◌, ◌<◌, ◌≤◌, ◌==◌, Bool, true, false, if◌then◌else◌, List, length, slice_index_or, [], ◌∷◌, Option, Some, None, slice_get, refl, sym, ◌∙◌, ap, subst, arith}
 use Rattle.std.proofs.lemmas.Option.{same_Some}
 use Rattle.std.proofs.lemmas.Bool.{eqb-true}
-use Rattle.session_model.specs.Scenario.{Command, add, remove, Scenario}
-use Rattle.session_model.specs.Table.{kept_of, keep, Member, Table, Told, acknowledged_by, heard, told_on, exchange, exchanged}
+use Rattle.session_model.specs.declared.table.Command.{Command}
+use Rattle.session_model.specs.declared.table.Command.TheVariants.{Add as add, Remove as remove}
+use Rattle.session_model.specs.Scenario.{Scenario}
+use Rattle.session_model.specs.declared.table.Member.{Member}
+use Rattle.session_model.specs.Table.{kept_of, keep, Table, Told, acknowledged_by, heard, told_on, exchange, exchanged}
 use Rattle.session_model.specs.Source.{Source, change_by, change, after, cell_at, source_at, told_at}
 use Rattle.session_model.specs.Back.{said, status}
 use Rattle.session_law.specs.Feedback.{WasSaid, table_before}

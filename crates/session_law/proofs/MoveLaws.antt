@@ -5,8 +5,12 @@ use Rattle.std.proofs.lemmas.Option.{slice_get_within}
 use Rattle.std.proofs.Math.Nat.{eq-or-lt_of_le}
 use Rattle.std.proofs.lemmas.List.{length-map, length-append}
 use Rattle.std.proofs.lemmas.Bool.{eqb-true, eqb-false}
-use Rattle.session_model.specs.Scenario.{Command, add, Scenario, is_read}
-use Rattle.session_model.specs.Table.{kept_of, adding, Member, member_of, Table, Told, is_ok, is_fail, admit, told_on, carried_out, exchange, exchanged}
+use Rattle.session_model.specs.declared.table.Command.{Command}
+use Rattle.session_model.specs.declared.table.Command.TheVariants.{Add as add}
+use Rattle.session_model.specs.Scenario.{Scenario, is_read}
+use Rattle.session_model.specs.declared.table.Standing.TheVariants.{Add as adding}
+use Rattle.session_model.specs.declared.table.Member.{Member}
+use Rattle.session_model.specs.Table.{kept_of, member_of, Table, Told, is_ok, is_fail, admit, told_on, carried_out, exchange, exchanged}
 use Rattle.session_model.specs.Source.{Source, change_by, change, source_at, told_at, first_of, carried, table_of}
 use Rattle.session_law.specs.Use.{IsInUse, IsUsedBefore, AddsAlone, AllCome, AllRead, NoneRead}
 use Rattle.session_model.specs.Back.{cells_before}

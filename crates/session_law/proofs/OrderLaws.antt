@@ -3,7 +3,10 @@ use Rattle.std.proofs.Common.{◌≡◌, ◌⊎◌, ℕ, zero, suc, ◌+◌, ◌
 use Rattle.std.specs.Bool.{⊤}
 use Rattle.std.proofs.lemmas.Option.{none-some, same_Some}
 use Rattle.std.proofs.lemmas.Bool.{and_parts}
-use Rattle.session_model.specs.Table.{Standing, adding, normal, unused, Member, member_of, is_add, is_adding, is_ok, is_fail, in_use, admit, turn, turned, take_out, exchange}
+use Rattle.session_model.specs.declared.table.Standing.{Standing}
+use Rattle.session_model.specs.declared.table.Standing.TheVariants.{Add as adding, Norm as normal, Dnu as unused}
+use Rattle.session_model.specs.declared.table.Member.{Member}
+use Rattle.session_model.specs.Table.{member_of, is_add, is_adding, is_ok, is_fail, in_use, admit, turn, turned, take_out, exchange}
 
 -- ---- the members of an order
 abbrev pub Has : List Member → ℕ → ℕ → Standing → Type 0

@@ -3,10 +3,14 @@ use Rattle.std.proofs.Common.{◌≡◌, ℕ, zero, suc, ◌+◌, ◌-◌, ◌%�
 use Rattle.std.specs.Bool.{⊤}
 use Rattle.std.proofs.lemmas.Bool.{cases_lt, leb-false, eqb-true, eq-eqb, eqb-false}
 use Rattle.std.proofs.lemmas.List.{length-replicate, map-append, length-map, length-set, get_or-set_same, get_or-set_other}
-use Rattle.session_model.specs.Scenario.{Command, add, remove, Scenario, orders_at}
+use Rattle.session_model.specs.declared.table.Command.{Command}
+use Rattle.session_model.specs.declared.table.Command.TheVariants.{Add as add, Remove as remove}
+use Rattle.session_model.specs.Scenario.{Scenario, orders_at}
 use Rattle.session_model.specs.declared.refusal.CommandFault.{CommandFault}
 use Rattle.session_model.specs.declared.refusal.CommandFault.TheVariants.{UnknownLine, AlreadyIn, NotIn, TooManyPending}
-use Rattle.session_model.specs.Table.{kept_of, adding, Member, member_of, Table, Told, is_adding, is_ok, is_fail, heard, told_on, changed, carried_out, take_out, exchange, exchanged}
+use Rattle.session_model.specs.declared.table.Standing.TheVariants.{Add as adding}
+use Rattle.session_model.specs.declared.table.Member.{Member}
+use Rattle.session_model.specs.Table.{kept_of, member_of, Table, Told, is_adding, is_ok, is_fail, heard, told_on, changed, carried_out, take_out, exchange, exchanged}
 use Rattle.session_model.specs.Source.{Source, planned_of, accepted, opening, line_of, is_add, refusal, asked, asked_by, asked_all, change_by, change, decide, cell_at, after}
 use Rattle.session_law.specs.Feedback.{lines_of}
 use Rattle.session_law.proofs.TableLaws.{told_on-lines, heard-order}

@@ -2,8 +2,11 @@
 use Rattle.std.proofs.Common.{◌≡◌, ℕ, zero, suc, ◌+◌, ◌-◌, ◌/◌, ◌%◌, ◌<◌, ◌==◌, Bool, true, false, if◌then◌else◌, List, [], ◌∷◌, length, replicate, Option, Some, None, slice_get, slice_index_or, refl, sym, ◌∙◌, ap, subst, arith}
 use Rattle.std.proofs.lemmas.Option.{none-some}
 use Rattle.std.proofs.lemmas.List.{length-replicate}
-use Rattle.session_model.specs.Scenario.{Command, add, remove, Scenario, orders_at}
-use Rattle.session_model.specs.Table.{Member, Table, Told, kept_of, is_for, keep, none_kept, acknowledged_by, heard, told_on, exchange, exchanged}
+use Rattle.session_model.specs.declared.table.Command.{Command}
+use Rattle.session_model.specs.declared.table.Command.TheVariants.{Add as add, Remove as remove}
+use Rattle.session_model.specs.Scenario.{Scenario, orders_at}
+use Rattle.session_model.specs.declared.table.Member.{Member}
+use Rattle.session_model.specs.Table.{Table, Told, kept_of, is_for, keep, none_kept, acknowledged_by, heard, told_on, exchange, exchanged}
 use Rattle.session_model.specs.Source.{Source, change_by, change, asked_all, cell_at, after}
 use Rattle.session_law.specs.Feedback.{table_before}
 use Rattle.session_law.proofs.FeedbackLaws.{asked_all-table}

@@ -1,7 +1,9 @@
 -- What a decision step does to the count of changes and to the lines of the order.
 use Rattle.std.proofs.Common.{◌≡◌, ℕ, ◌+◌, ◌-◌, ◌≤◌, not, Bool, true, false, if◌then◌else◌, List, [], ◌∷◌, Option, Some, None, refl, ◌∙◌, ap, subst, arith}
-use Rattle.session_model.specs.Scenario.{Command, add, remove}
-use Rattle.session_model.specs.Table.{kept_of, Member, Table, Told, is_adding, is_ok, in_use, is_for, acknowledged_by, heard, admit, turned, told_on, changed, exchange, exchanged}
+use Rattle.session_model.specs.declared.table.Command.{Command}
+use Rattle.session_model.specs.declared.table.Command.TheVariants.{Add as add, Remove as remove}
+use Rattle.session_model.specs.declared.table.Member.{Member}
+use Rattle.session_model.specs.Table.{kept_of, Table, Told, is_adding, is_ok, in_use, is_for, acknowledged_by, heard, admit, turned, told_on, changed, exchange, exchanged}
 use Rattle.session_model.specs.Source.{Source, change_by, change, decide}
 use Rattle.session_law.specs.Feedback.{lines_of}
 

@@ -2,8 +2,11 @@
 use Rattle.std.proofs.Common.{◌≡◌, ◌⊎◌, ℕ, zero, suc, ◌+◌, ◌-◌, ◌*◌, ◌/◌, ◌%◌, ◌<◌, ◌≤◌, ◌==◌, Bool, true, false, if◌then◌else◌, inl, inr, List, [], ◌∷◌, map, length, Option, Some, None, slice_get, slice_index_or, option_map, refl, sym, ◌∙◌, ap, subst, arith}
 use Rattle.std.proofs.lemmas.Bool.{cases_lt, eqb-true, eq-eqb, eqb-false, le-leb}
 use Rattle.std.proofs.lemmas.Option.{none-some, slice_get-map}
-use Rattle.session_model.specs.Scenario.{Command, Scenario, orders_at, is_read, is_heard}
-use Rattle.session_model.specs.Table.{kept_of, adding, normal, Member, member_of, Table, Told, is_ok, is_fail, is_for, acknowledged_by, heard, admit, told_on, changed, exchange, exchanged}
+use Rattle.session_model.specs.declared.table.Command.{Command}
+use Rattle.session_model.specs.Scenario.{Scenario, orders_at, is_read, is_heard}
+use Rattle.session_model.specs.declared.table.Standing.TheVariants.{Add as adding, Norm as normal}
+use Rattle.session_model.specs.declared.table.Member.{Member}
+use Rattle.session_model.specs.Table.{kept_of, member_of, Table, Told, is_ok, is_fail, is_for, acknowledged_by, heard, admit, told_on, changed, exchange, exchanged}
 use Rattle.session_model.specs.Source.{Source, change_by, change, after, cell_at, source_at, told_at, first_of, carried, table_of}
 use Rattle.session_law.specs.Use.{IsInUse, IsUsedBefore}
 use Rattle.session_model.specs.Back.{said_before, said, status_by, status, return_packet}

@@ -3,8 +3,10 @@ use Rattle.std.proofs.Common.{◌≡◌, ℕ, zero, suc, ◌+◌, ◌*◌, ◌<�
 use Rattle.std.proofs.lemmas.Bool.{cases_lt}
 use Rattle.std.proofs.lemmas.Option.{slice_get_within, none-some, slice_get-map}
 use Rattle.std.proofs.lemmas.List.{length-append}
-use Rattle.session_model.specs.Scenario.{add, Scenario, packets}
-use Rattle.session_model.specs.Table.{adding, member_of, Told, carried_out}
+use Rattle.session_model.specs.declared.table.Command.TheVariants.{Add as add}
+use Rattle.session_model.specs.Scenario.{Scenario, packets}
+use Rattle.session_model.specs.declared.table.Standing.TheVariants.{Add as adding}
+use Rattle.session_model.specs.Table.{member_of, Told, carried_out}
 use Rattle.session_model.specs.Source.{after, told_at, carried, table_of}
 use Rattle.session_model.specs.Back.{session_cells}
 use Rattle.session_law.specs.Feedback.{lines_of}

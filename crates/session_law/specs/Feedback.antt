@@ -1,7 +1,8 @@
 -- G.7042, what the source may conclude from a return packet.
 use Rattle.std.specs.Prelude.{◌≡◌, ℕ, ◌+◌, ◌%◌, ◌<◌, ◌≤◌, Bool, List, map, Option, Some, None, slice_index_or}
 use Rattle.session_model.specs.Scenario.{Scenario}
-use Rattle.session_model.specs.Table.{Member, Table, Told}
+use Rattle.session_model.specs.declared.table.Member.{Member}
+use Rattle.session_model.specs.Table.{Table, Told}
 use Rattle.session_model.specs.Source.{after, table_of}
 use Rattle.session_model.specs.Back.{said, status}
 

@@ -1,7 +1,10 @@
 -- G.7042: when a line that was added carries payload.
 use Rattle.std.specs.Prelude.{◌≡◌, ℕ, ◌+◌, ◌*◌, ◌<◌, ◌≤◌, true, false, List, Option, Some, length, slice_get}
-use Rattle.session_model.specs.Scenario.{Command, add, Scenario, is_read, is_lost}
-use Rattle.session_model.specs.Table.{normal, adding, member_of, Table, Told}
+use Rattle.session_model.specs.declared.table.Command.{Command}
+use Rattle.session_model.specs.declared.table.Command.TheVariants.{Add as add}
+use Rattle.session_model.specs.Scenario.{Scenario, is_read, is_lost}
+use Rattle.session_model.specs.declared.table.Standing.TheVariants.{Norm as normal, Add as adding}
+use Rattle.session_model.specs.Table.{member_of, Table, Told}
 use Rattle.session_model.specs.Source.{carried, table_of}
 use Rattle.session_model.specs.Back.{session_cells}
 

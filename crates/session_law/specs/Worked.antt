@@ -1,8 +1,12 @@
 -- Worked sessions, computed.
 use Rattle.std.specs.Prelude.{ℕ, ◌%◌, List, [], ◌∷◌, Option, Some, None}
 use Rattle.session_model.specs.declared.window.Window.{Window}
-use Rattle.session_model.specs.Scenario.{Command, add, remove, Order, Scenario}
-use Rattle.session_model.specs.Table.{adding, normal, unused, Member, member_of}
+use Rattle.session_model.specs.declared.table.Command.{Command}
+use Rattle.session_model.specs.declared.table.Command.TheVariants.{Add as add, Remove as remove}
+use Rattle.session_model.specs.Scenario.{Order, Scenario}
+use Rattle.session_model.specs.declared.table.Standing.TheVariants.{Add as adding, Norm as normal, Dnu as unused}
+use Rattle.session_model.specs.declared.table.Member.{Member}
+use Rattle.session_model.specs.Table.{member_of}
 use Rattle.session_model.specs.Source.{table_of}
 use Rattle.session_model.specs.Back.{session_cells}
 
