@@ -1,16 +1,21 @@
-ghost use Rattle.std.specs.Prelude.{◌≡◌, ℕ, ◌≤◌, ◌⊎◌, ◌↔◌, Bool, true, false, List, [], ◌∷◌, ◌++◌, length, IsTrue};
-ghost use Rattle.session_model.specs.Scramble.{descrambled_octets};
-ghost use Rattle.gfp_scramble.specs.Descrambler.{Stands};
+//! The descrambler, by octets, words and areas.
 
+ghost use Rattle.std.specs.Prelude.{◌≡◌, ℕ, ◌%◌, ◌↔◌, Bool, true, false, List, [], ◌∷◌, length, IsTrue};
+ghost use Rattle.std.specs.Int.{to_be_bytes, w64};
+ghost use Rattle.gfp_scramble.specs.Descrambler.{Stands, IsKnown, Continues, DescramblesTo};
+
+use crate::scrambler::{octets_of_word, word_of};
 use std::marker::Model;
 
-/// So many octets have the 43 bits that a descrambler looks back on.
+// How many octets have the 43 bits that a descrambler looks back on.
 const SETTLED: u8 = 6;
 
-/// Descrambles a list of octets, octet by octet.
+/// Descrambles a list of octets, in pieces of any length.
 #[derive(Clone, Copy, Debug)]
 pub struct Descrambler {
+    // The last 43 bits that were given.
     register: u64,
+    // How many octets were given since it forgot, up to SETTLED.
     given: u8,
 }
 
@@ -43,14 +48,11 @@ impl Descrambler {
         }
     }
 
-    /// The next octet, descrambled. Where the descrambler is not settled, the first six octets are not those that were scrambled.
+    /// The next octet, descrambled. Where the descrambler isn't settled, the first six octets are not those that were scrambled.
     #[inline]
     pub fn byte(&mut self, o: u8) -> u8
-        ensures stands { (settled : Bool) (octets : List ℕ) → Stands self.old settled octets →
-            Stands self.new settled (octets ++ o ∷ []) }
-        ensures answer { (settled : Bool) (octets : List ℕ) → Stands self.old settled octets →
-            ((settled ≡ true) ⊎ (6 ≤ length octets)) →
-            descrambled_octets (octets ++ o ∷ []) ≡ descrambled_octets octets ++ result ∷ [] }
+        ensures stands { Continues self.old self.new (o ∷ []) }
+        ensures answer { DescramblesTo self.old (o ∷ []) (result ∷ []) }
     {
         let descrambled = o ^ (self.register >> 35) as u8;
         self.register = self.register % (1 << 35) * 256 + u64::from(o);
@@ -58,10 +60,65 @@ impl Descrambler {
         descrambled
     }
 
+    /// The next eight octets, descrambled. The first one is the most significant of the word.
+    #[inline]
+    pub fn word(&mut self, w: u64) -> u64
+        ensures stands { Continues self.old self.new (to_be_bytes w64 w) }
+        ensures answer { DescramblesTo self.old (to_be_bytes w64 w) (to_be_bytes w64 result) }
+    {
+        let descrambled = w ^ (self.register * (1 << 21) + (w >> 43));
+        self.register = w % (1 << 43);
+        self.given = SETTLED;
+        descrambled
+    }
+
+    /// The next octets, descrambled in place.
+    pub fn area(&mut self, area: &mut [u8])
+        ensures stands { Continues self.old self.new area.old }
+        ensures answer { DescramblesTo self.old area.old area.new }
+    {
+        let whole = area.len() / 8 * 8;
+        let (words, rest) = area.split_at_mut(whole);
+        let mut local = *self;
+        local.words(words);
+        local.octets(rest);
+        *self = local;
+    }
+
+    #[inline]
+    fn words(&mut self, area: &mut [u8])
+        requires { length area.old % 8 ≡ 0 }
+        ensures stands { Continues self.old self.new area.old }
+        ensures answer { DescramblesTo self.old area.old area.new }
+    {
+        for i in 0..area.len() / 8 {
+            self.eight(&mut area[8 * i..8 * i + 8]);
+        }
+    }
+
+    #[inline]
+    fn eight(&mut self, area: &mut [u8])
+        requires { length area.old ≡ 8 }
+        ensures stands { Continues self.old self.new area.old }
+        ensures answer { DescramblesTo self.old area.old area.new }
+    {
+        let descrambled = self.word(word_of(area));
+        area.copy_from_slice(&octets_of_word(descrambled));
+    }
+
+    #[inline]
+    fn octets(&mut self, area: &mut [u8])
+        ensures stands { Continues self.old self.new area.old }
+        ensures answer { DescramblesTo self.old area.old area.new }
+    {
+        for octet in area.iter_mut() {
+            *octet = self.byte(*octet);
+        }
+    }
+
     /// Whether the octets that come are those that were scrambled.
     pub fn known(&self) -> bool
-        ensures { (settled : Bool) (octets : List ℕ) → Stands self.now settled octets →
-            IsTrue result ↔ ((settled ≡ true) ⊎ (6 ≤ length octets)) }
+        ensures { (settled : Bool) (octets : List ℕ) → Stands self.now settled octets → IsTrue result ↔ IsKnown settled octets }
     {
         self.given == SETTLED
     }

@@ -55,20 +55,6 @@ stream_before scenario cells zero = record { pieces = idle ∷ idle ∷ []; wait
 stream_before scenario cells (suc t) =
     reaching (place_of scenario cells (suc t)) (place_of scenario cells (suc t)) (fold offered (stream_before scenario cells t) (frames_at scenario t))
 
--- the frames that are accepted of those that land one after the other
-abbrev pub keep_frame : Option AcceptFault → List ℕ → List (List ℕ) → List (List ℕ)
-keep_frame None frame frames = frame ∷ frames
-keep_frame (Some why) frame frames = frames
-
-abbrev pub accepted_frames : List (List ℕ) → Stream → List (List ℕ)
-accepted_frames [] stream = []
-accepted_frames (frame ∷ frames) stream = keep_frame (frame_refusal frame stream) frame (accepted_frames frames (offered stream frame))
-
--- the frames that are accepted before frame t is made
-unfoldable pub frames_before : Scenario → List (Option Told) → ℕ → List (List ℕ)
-frames_before scenario cells zero = []
-frames_before scenario cells (suc t) = frames_before scenario cells t ++ accepted_frames (frames_at scenario t) (stream_before scenario cells t)
-
 -- the frames among pieces
 abbrev pub frame_in : Piece → List (List ℕ)
 frame_in idle = []

@@ -18,3 +18,5 @@ pub mod Client
 pub mod Line
 pub mod Sign
 pub mod MemberPacket
+pub mod Accepted
+pub mod Journal

@@ -3,16 +3,14 @@ use Rattle.std.specs.Prelude.{ℕ, ◌+◌, ◌*◌, ◌-◌, ◌/◌, nat_le, n
 use Rattle.std.specs.List.{list_any, flat_map}
 use Rattle.session_model.specs.declared.window.Window.{Window}
 use Rattle.session_model.specs.declared.window.Carried.{Carried}
+-- what an operator asks for
+pub use Rattle.session_model.specs.declared.table.Command.{Command}
+pub use Rattle.session_model.specs.declared.table.Command.TheVariants.{Add as add, Remove as remove}
 use Rattle.session_model.specs.declared.script.Script.{Script}
 use Rattle.session_model.specs.declared.script.Item.{Item}
 use Rattle.session_model.specs.declared.script.ItemKind.{ItemKind}
 use Rattle.session_model.specs.declared.script.ItemKind.TheVariants.{Frame, Add, Remove}
 use Rattle.session_model.specs.Damage.{carried, is_readable}
-
--- what an operator asks for
-pub data Command : Type 0 where
-  add : ℕ → Command
-  remove : ℕ → Command
 
 -- a command, and how many ticks are made when it lands
 pub record Order : Type 0 where
@@ -85,11 +83,18 @@ abbrev pub packets : Scenario → ℕ
 packets scenario = (scenario.ticks - 8) / 16
 
 -- ---- what lands
--- the commands that land between decision steps j - 1 and j. Step j is made in the tick of frame 16 j + 8
+-- an order lands between decision steps j - 1 and j. Step j is made in the tick of frame 16 j + 8
+abbrev pub lands_at : ℕ → Order → Bool
+lands_at j order = nat_lt (16 * j) (order.due + 8) && nat_le order.due (16 * j + 8)
+
+-- the commands that land between decision steps j - 1 and j
 abbrev pub orders_at : Scenario → ℕ → List Command
-orders_at scenario j =
-    map (λ order. order.command) (filter (λ order. nat_lt (16 * j) (order.due + 8) && nat_le order.due (16 * j + 8)) scenario.orders)
+orders_at scenario j = map (λ order. order.command) (filter (lands_at j) scenario.orders)
+
+-- an offer lands when t ticks are made, so before frame t is
+abbrev pub comes_at : ℕ → Offer → Bool
+comes_at t offer = nat_le offer.due t && nat_le t offer.due
 
 -- the frames that land before frame t is made
 abbrev pub frames_at : Scenario → ℕ → List (List ℕ)
-frames_at scenario t = map (λ offer. offer.frame) (filter (λ offer. nat_le offer.due t && nat_le t offer.due) scenario.offers)
+frames_at scenario t = map (λ offer. offer.frame) (filter (comes_at t) scenario.offers)

@@ -1,16 +1,10 @@
 -- G.7042, the source's table of lines: what a decision step does with a return packet.
 use Rattle.std.specs.Prelude.{ℕ, ◌+◌, ◌/◌, ◌%◌, ◌==◌, ◌&&◌, not, Bool, true, false, if◌then◌else◌, List, [], ◌∷◌, ◌++◌, map, filter, Option, Some, None, option_map, slice_get, slice_index_or, replicate}
+-- a line that has a sequence number is in ADD, NORM or DNU
+pub use Rattle.session_model.specs.declared.table.Standing.{Standing}
+pub use Rattle.session_model.specs.declared.table.Standing.TheVariants.{Add as adding, Norm as normal, Dnu as unused}
+pub use Rattle.session_model.specs.declared.table.Member.{Member}
 use Rattle.session_model.specs.Scenario.{Command, add, remove}
-
--- a line that is in ADD, NORM or DNU
-pub data Standing : Type 0 where
-  adding : Standing
-  normal : Standing
-  unused : Standing
-
-pub record Member : Type 0 where
-  pub line : ℕ
-  pub standing : Standing
 
 abbrev pub member_of : ℕ → Standing → Member
 member_of line standing = record { line = line; standing = standing }

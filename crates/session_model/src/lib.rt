@@ -3,6 +3,7 @@
 
 mod refusal;
 mod script;
+mod table;
 mod window;
 
 pub use refusal::{AcceptFault, CommandFault};
@@ -10,6 +11,7 @@ pub use script::{
     Config, Delays, EventLine, EventList, Item, ItemKind, ItemList, LostList, Octets, Script,
     WindowList, WindowLists,
 };
+pub use table::{Command, Member, SinkState, SourceState, Standing};
 pub use window::{Carried, Window};
 
 /// What is wrong with a type header (G.7041): its check, which says one word and was found to be another; or the first field

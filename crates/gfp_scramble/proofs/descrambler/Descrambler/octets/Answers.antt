@@ -1,0 +1,24 @@
+-- One octet more is descrambled.
+use Rattle.std.proofs.Common.{◌++◌, take, subst, arith}
+use Rattle.session_model.specs.Scramble.{descrambled_octets}
+use Rattle.gfp_scramble.specs.Descrambler.{Stands}
+use Rattle.gfp_scramble.proofs.AreaSteps.{back_more, given_more, front_more, still_known, front_all}
+use Rattle.gfp_scramble.proofs.descrambler.Descrambler.octets.Goals as goal
+
+pub loop-octet-preserved : goal.loop-octet-preserved
+loop-octet-preserved c =
+    let i = c.loop-octet.octet-index in
+    let was = c.args.area.now in
+    let area = c.loop-octet.area in
+    let fits = c.loop-octet-test.true in
+    let size = c.loop-octet.auto.area in
+    let so_far = c.loop-octet.invariant in
+    record {
+      stands = λ settled octets stands. subst (Stands c.byte.new.self settled) (given_more i was area fits size so_far.back octets) (c.byte.ensures.stands settled (octets ++ take i was) (so_far.stands settled octets stands));
+      front = λ settled octets stands known. front_more i was area fits size so_far.back descrambled_octets octets c.byte.result (so_far.front settled octets stands known) (c.byte.ensures.answer settled (octets ++ take i was) (so_far.stands settled octets stands) (still_known settled octets (take i was) known));
+      back = back_more i was area fits size so_far.back c.byte.result;
+    }
+
+pub returns-clause-answer : goal.returns-clause-answer
+returns-clause-answer c settled octets stands known =
+    front_all descrambled_octets octets c.args.area.now c.loop-octet.area c.loop-octet.octet-index (omega (arith, c.requires, c.loop-octet-test.false)) c.loop-octet.auto.area (c.loop-octet.invariant.front settled octets stands known)

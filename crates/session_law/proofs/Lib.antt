@@ -1,0 +1,16 @@
+pub mod TableLaws
+pub mod FeedbackLaws
+pub mod SessionLaws
+pub mod StatusLaws
+pub mod OrderLaws
+pub mod UseLaws
+pub mod KeptLaws
+pub mod AddLaws
+pub mod MoveLaws
+pub mod PlanLaws
+pub mod UseTheorems
+pub mod DamageLaws
+pub mod AcceptedLaws
+pub mod LandingLaws
+pub mod ClientLaws
+pub mod JournalLaws

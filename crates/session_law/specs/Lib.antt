@@ -1,0 +1,5 @@
+pub mod Session
+pub mod Feedback
+pub mod Use
+pub mod Landing
+pub mod Worked

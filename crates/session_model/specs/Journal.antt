@@ -1,0 +1,54 @@
+-- What a session has accepted, and the session of that alone.
+use Rattle.std.specs.Prelude.{ℕ, zero, suc, ◌+◌, ◌/◌, List, [], ◌++◌, map, filter, length, Option}
+use Rattle.session_model.specs.Scenario.{Order, Offer, Scenario, lands_at, comes_at}
+use Rattle.session_model.specs.Table.{Told}
+use Rattle.session_model.specs.Accepted.{accepted_of}
+use Rattle.session_model.specs.Source.{Source, refusal, asked, after}
+use Rattle.session_model.specs.Client.{Stream, frame_refusal, offered, stream_before}
+
+-- of orders that land one after the other those that are accepted
+abbrev pub accepted_orders : ℕ → Source → List Order → List Order
+accepted_orders lines source orders =
+    accepted_of (λ order source. refusal lines order.command source) (λ source order. asked lines source order.command) source orders
+
+-- of offers that land one after the other those that are accepted
+abbrev pub accepted_offers : Stream → List Offer → List Offer
+accepted_offers stream offers =
+    accepted_of (λ offer stream. frame_refusal offer.frame stream) (λ stream offer. offered stream offer.frame) stream offers
+
+-- the orders that are accepted before decision step j
+unfoldable pub orders_before : Scenario → List (Option Told) → ℕ → List Order
+orders_before scenario cells zero = []
+orders_before scenario cells (suc j) =
+    orders_before scenario cells j
+    ++ accepted_orders (length scenario.windows) (after scenario cells j) (filter (lands_at j) scenario.orders)
+
+-- the offers that are accepted before frame t is made
+unfoldable pub offers_before : Scenario → List (Option Told) → ℕ → List Offer
+offers_before scenario cells zero = []
+offers_before scenario cells (suc t) =
+    offers_before scenario cells t ++ accepted_offers (stream_before scenario cells t) (filter (comes_at t) scenario.offers)
+
+-- their frames
+abbrev pub frames_before : Scenario → List (Option Told) → ℕ → List (List ℕ)
+frames_before scenario cells t = map (λ offer. offer.frame) (offers_before scenario cells t)
+
+-- the session of other orders and offers
+abbrev pub with_items : Scenario → List Order → List Offer → Scenario
+with_items scenario orders offers = record {
+  lag = scenario.lag;
+  ticks = scenario.ticks;
+  size = scenario.size;
+  windows = scenario.windows;
+  lost = scenario.lost;
+  orders = orders;
+  offers = offers;
+}
+
+-- how many decision steps are made in t ticks: step j is made in the tick of frame 16 j + 8
+abbrev pub steps_in : ℕ → ℕ
+steps_in t = (t + 7) / 16
+
+-- the session of what is accepted in t ticks alone
+abbrev pub replayed : Scenario → List (Option Told) → ℕ → Scenario
+replayed scenario cells t = with_items scenario (orders_before scenario cells (steps_in t)) (offers_before scenario cells t)
