@@ -6,4 +6,5 @@ pub mod Hunt
 pub mod Run
 pub mod Outcome
 pub mod Delivery
+pub mod Packet
 pub mod Decode

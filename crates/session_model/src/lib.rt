@@ -1,6 +1,10 @@
 //! The definitions that the contracts of a session speak of, and the types that they name.
 #![tactic(auto)]
 
+mod packet;
+
+pub use packet::{Packet, PacketFault};
+
 /// What is wrong with a type header (G.7041): its check, which says one word and was found to be another; or the first field
 /// that is not that of an Ethernet frame, in the order PTI, PFI, EXI, UPI.
 #[derive(Clone, Copy, Debug, PartialEq, Eq)]
