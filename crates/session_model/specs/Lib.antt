@@ -6,6 +6,7 @@ pub mod Hunt
 pub mod Run
 pub mod Outcome
 pub mod Delivery
+pub mod Packet
 pub mod Decode
 pub mod Damage
 pub mod Path

@@ -1,11 +1,13 @@
 //! The definitions that the contracts of a session speak of, and the types that they name.
 #![tactic(auto)]
 
+mod packet;
 mod refusal;
 mod script;
 mod table;
 mod window;
 
+pub use packet::{Packet, PacketFault};
 pub use refusal::{AcceptFault, CommandFault};
 pub use script::{
     Config, Delays, EventLine, EventList, Item, ItemKind, ItemList, LostList, Octets, Script,

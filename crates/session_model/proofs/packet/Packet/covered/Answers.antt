@@ -1,8 +1,8 @@
 -- The fields are octets, so each half of one is a nibble.
 use Rattle.std.proofs.Common.{rules, ◌≡◌, ◌<◌, ℕ, List, [], ◌∷◌, All, sym, subst, arith}
-use Rattle.lcas_packet.specs.Packet.{IsPacket, covered_nibbles}
-use Rattle.lcas_packet.proofs.PacketLaws.{covered_nibbles_below}
-use Rattle.lcas_packet.proofs.Packet.covered.Goals as goal
+use Rattle.session_model.specs.Packet.{IsPacket, covered_nibbles}
+use Rattle.session_model.proofs.PacketLaws.{covered_nibbles_below}
+use Rattle.session_model.proofs.packet.Packet.covered.Goals as goal
 
 pub returns-clause-below : goal.returns-clause-below
 returns-clause-below c =
