@@ -5,3 +5,4 @@ pub mod MoveLaws
 pub mod StallLaws
 pub mod ReachLaws
 pub mod MeasureLaws
+pub mod LineLaws

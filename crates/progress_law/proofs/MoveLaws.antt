@@ -1,12 +1,13 @@
 -- Some event moves, and rounds end.
 use Rattle.std.proofs.Common.{◌≡◌, ℕ, zero, suc, ◌+◌, ◌*◌, ◌<◌, ◌≤◌, nat_le, true, false, ◌⊎◌, inl, inr, List, [], ◌∷◌, ◌++◌, length, replicate, slice_get, Some, None, refl, sym, ◌∙◌, ap, subst, arith}
 use Rattle.std.proofs.lemmas.Bool.{leb-true, leb-false, cases_Bool, cases_lt}
-use Rattle.std.proofs.lemmas.Option.{slice_get_within}
+use Rattle.std.specs.List.Sorted.{IsNonDecreasing}
+use Rattle.std.proofs.lemmas.Option.{slice_get_within, same_Some}
 use Rattle.session_model.specs.declared.walk.Event.{Event}
 use Rattle.session_model.specs.declared.walk.Event.TheVariants.{Accept, Command, Tick, Carry, Back, Take}
 use Rattle.session_model.specs.Scenario.{packets_in}
 use Rattle.session_model.specs.Counts.{Due, frame_due, command_due, frame_dues, command_dues, bound, LinePath, LineCounts, Plan, Counts, in_send, in_inbox, held, full, step, run, begin, carries_from, round, drain}
-use Rattle.progress_law.specs.Progress.{IsSound, InOrder, IsPlanOf, IsPlan, AllPaths, Each, LineFits, Fits, made, HasLine, IsReached}
+use Rattle.progress_law.specs.Progress.{IsSound, IsPlanOf, IsPlan, AllPaths, Each, LineFits, Fits, made, HasLine, IsReached}
 use Rattle.progress_law.proofs.EachLaws.{each-map, each-with, each-at, each-some, sum-bounded}
 use Rattle.progress_law.proofs.StepLaws.{Kept, NotLanded, accept-kept, command-kept, back-kept, IsMissing, TickWhy, done, waits, fills, misses, tick-kept, CarryWhy, ended, empty, NoCarry, carry-kept}
 use Rattle.progress_law.proofs.StepLaws as steps
@@ -104,38 +105,48 @@ module _ (slow fast slip : ℕ) (plan : Plan) (is : IsPlanOf slow fast slip plan
           (carries, omega (arith, left, carries, pops))
 
 -- ---- an item that holds a tick can land
-held-none : (ticks a b i from : ℕ) (items : List Due) → InOrder from items → ticks < from → held ticks a b i items ≡ None
-unfolding held InOrder
-held-none ticks a b i from [] order_ late = refl
-held-none ticks zero b i from (frame_due due ∷ items) order_ late =
-    let d = order_.0 in let e : nat_le due ticks ≡ false = grind (arith, d, late) in
-    rw e (held-none ticks zero b (suc i) due items order_.1 (omega (arith, d, late)))
-held-none ticks (suc a) b i from (frame_due due ∷ items) order_ late = let d = order_.0 in held-none ticks a b (suc i) due items order_.1 (omega (arith, d, late))
-held-none ticks a zero i from (command_due due ∷ items) order_ late =
-    let d = order_.0 in let e : nat_le due ticks ≡ false = grind (arith, d, late) in
-    rw e (held-none ticks a zero (suc i) due items order_.1 (omega (arith, d, late)))
-held-none ticks a (suc b) i from (command_due due ∷ items) order_ late = let d = order_.0 in held-none ticks a b (suc i) due items order_.1 (omega (arith, d, late))
-
-abbrev Lands : ℕ → List ℕ → ℕ → Type 0
+abbrev pub Lands : ℕ → List ℕ → ℕ → Type 0
 Lands ticks dues a = (due : ℕ) × (slice_get dues a ≡ Some due) × (due ≤ ticks)
 
-held-lands : (ticks a b i from item : ℕ) (items : List Due) → InOrder from items → held ticks a b i items ≡ Some item → Lands ticks (frame_dues items) a ⊎ Lands ticks (command_dues items) b
-unfolding held InOrder frame_dues command_dues
-held-lands ticks a b i from item [] order_ is = absurd cc
-held-lands ticks zero b i from item (frame_due due ∷ items) order_ is =
+rest-in_order : (due : ℕ) (dues : List ℕ) → IsNonDecreasing (due ∷ dues) → IsNonDecreasing dues
+rest-in_order due dues order i j d low high = order (suc i) (suc j) d (omega arith) (omega arith)
+
+-- where the first isn't due, no later one is
+none_lands : (ticks due : ℕ) (dues : List ℕ) → IsNonDecreasing (due ∷ dues) → ticks < due → Lands ticks dues zero → ⊥
+none_lands ticks due [] order late lands = absurd (let e : None ≡ Some lands.0 = lands.1 in cc)
+none_lands ticks due (next ∷ dues) order late lands =
+    let same : next ≡ lands.0 = same_Some next lands.0 lands.1 in
+    let above : due ≤ next = order zero (suc zero) due (omega arith) (omega arith) in
+    let now = lands.2 in
+    omega arith
+
+-- the next of its kind is due where some item is
+held-lands : (ticks a b i item : ℕ) (items : List Due) → IsNonDecreasing (frame_dues items) → IsNonDecreasing (command_dues items) → held ticks a b i items ≡ Some item →
+    Lands ticks (frame_dues items) a ⊎ Lands ticks (command_dues items) b
+unfolding held frame_dues command_dues
+held-lands ticks a b i item [] frames commands is = absurd cc
+held-lands ticks zero b i item (frame_due due ∷ items) frames commands is =
     elim (cases_Bool (nat_le due ticks)) [
       | inl e ↦ inl (due, refl, leb-true due ticks e)
-      | inr e ↦ let none = held-none ticks zero b (suc i) due items order_.1 (leb-false due ticks e) in
-          absurd (let f : None ≡ Some item = sym none ∙ rw e at is in cc)
+      | inr e ↦
+          elim (held-lands ticks zero b (suc i) item items (rest-in_order due (frame_dues items) frames) commands (rw e at is)) [
+            | inl lands ↦ absurd (none_lands ticks due (frame_dues items) frames (leb-false due ticks e) lands)
+            | inr lands ↦ inr lands
+          ]
     ]
-held-lands ticks (suc a) b i from item (frame_due due ∷ items) order_ is = held-lands ticks a b (suc i) due item items order_.1 is
-held-lands ticks a zero i from item (command_due due ∷ items) order_ is =
+held-lands ticks (suc a) b i item (frame_due due ∷ items) frames commands is =
+    held-lands ticks a b (suc i) item items (rest-in_order due (frame_dues items) frames) commands is
+held-lands ticks a zero i item (command_due due ∷ items) frames commands is =
     elim (cases_Bool (nat_le due ticks)) [
       | inl e ↦ inr (due, refl, leb-true due ticks e)
-      | inr e ↦ let none = held-none ticks a zero (suc i) due items order_.1 (leb-false due ticks e) in
-          absurd (let f : None ≡ Some item = sym none ∙ rw e at is in cc)
+      | inr e ↦
+          elim (held-lands ticks a zero (suc i) item items frames (rest-in_order due (command_dues items) commands) (rw e at is)) [
+            | inl lands ↦ inl lands
+            | inr lands ↦ absurd (none_lands ticks due (command_dues items) commands (leb-false due ticks e) lands)
+          ]
     ]
-held-lands ticks a (suc b) i from item (command_due due ∷ items) order_ is = held-lands ticks a b (suc i) due item items order_.1 is
+held-lands ticks a (suc b) i item (command_due due ∷ items) frames commands is =
+    held-lands ticks a b (suc i) item items frames (rest-in_order due (command_dues items) commands) is
 
 -- ---- a line whose send ring is full
 pub record IsFull (total ticks : ℕ) (lines : List LineCounts) : Type 0 where
@@ -276,7 +287,7 @@ module _ (slow fast slip : ℕ) (plan : Plan) (is : IsPlanOf slow fast slip plan
       where
         by : TickWhy plan s → Moves plan s
         by (done e) = absurd (omega (arith, e, starved, short))
-        by (waits item e) = lands (held-lands s.ticks s.frames s.commands 0 0 item plan.items is.items e)
+        by (waits item e) = lands (held-lands s.ticks s.frames s.commands 0 item plan.items is.frames is.commands e)
         by (fills m e) = full_moves (full-at plan.ticks s.ticks 0 m s.lines e)
         by (misses e) = missing_moves e
 

@@ -1,9 +1,10 @@
 -- That a walk in numbers is never stuck: what is asked of its lines, within which bounds its counts stay, and what progress is.
 use Rattle.std.specs.Prelude.{◌≡◌, ◌⊎◌, ℕ, suc, ◌+◌, ◌-◌, ◌*◌, ◌<◌, ◌≤◌, min, List, [], ◌∷◌, length, sum_by, Option, Some, None, IfSome}
+use Rattle.std.specs.List.Sorted.{IsNonDecreasing}
 use Rattle.session_model.specs.declared.walk.Event.{Event}
 use Rattle.session_model.specs.declared.walk.Event.TheVariants.{Accept, Command, Tick, Carry, Back, Take}
 use Rattle.session_model.specs.Scenario.{packets_in}
-use Rattle.session_model.specs.Counts.{Due, frame_due, command_due, frame_dues, command_dues, LinePath, Plan, LineCounts, Counts, used_in, step, run, begin}
+use Rattle.session_model.specs.Counts.{frame_dues, command_dues, LinePath, Plan, LineCounts, Counts, used_in, step, run, begin}
 
 -- ---- what is asked of a plan
 -- a line that has some slip: its cells are never further after its containers than the slip, beyond the delay
@@ -33,17 +34,13 @@ pub record IsSound (total slow fast slip : ℕ) (path : LinePath) : Type 0 where
   pub most : path.delay ≤ slow
   pub least : fast ≤ path.delay
 
--- the due ticks never fall
-unfoldable pub InOrder : ℕ → List Due → Type 0
-InOrder from [] = Unit {0}
-InOrder from (frame_due due ∷ items) = (from ≤ due) × InOrder due items
-InOrder from (command_due due ∷ items) = (from ≤ due) × InOrder due items
-
--- the greatest and the least delay, the greatest slip and the lag fit the rings
+-- the due ticks of frames never fall, nor those of commands; the greatest and the least delay, the greatest slip and the lag fit the
+-- rings
 pub record IsPlanOf (slow fast slip : ℕ) (plan : Plan) : Type 0 where
   pub some : 0 < length plan.paths
   pub paths : AllPaths (IsSound plan.ticks slow fast slip) plan.paths
-  pub items : InOrder 0 plan.items
+  pub frames : IsNonDecreasing (frame_dues plan.items)
+  pub commands : IsNonDecreasing (command_dues plan.items)
   pub ring : 0 < plan.ring
   pub spread : slow + slip + 1 ≤ fast + plan.ring
   pub lag : 16 + slow + slip ≤ 16 * plan.lag

@@ -13,9 +13,9 @@ fine total delay = record { delay = delay; given = λ x. min (x - delay) (total 
 abbrev pub one_line : ℕ → List Due → Plan
 one_line lag items = record { ticks = 41; ring = 1; lag = lag; items = items; paths = fine 41 0 ∷ [] }
 
--- a command that is due at once, and a frame that is due later
+-- a frame, and after it a command that is due earlier
 abbrev pub two_items : List Due
-two_items = command_due 0 ∷ frame_due 5 ∷ []
+two_items = frame_due 5 ∷ command_due 0 ∷ []
 
 -- why an event stalls after others
 abbrev pub cause_after : Plan → List Event → Event → Option StallCause

@@ -54,7 +54,7 @@ pub fn use_law()
 
 /// What of a line arrives whole. A container is good, and a packet can be read, exactly where each container on the way to it is
 /// whole; a packet is heard where some line has it.
-pub fn damage_law()
+pub fn readable_law()
     ensures good { (carries : ℕ → Carried) (t : ℕ) →
         (is_good carries t ≡ true) ↔ ((2 ≤ t) × AreWhole carries (16 * ((t - 2) / 16)) (t + 1)) }
     ensures readable { (carries : ℕ → Carried) (k : ℕ) →

@@ -1,7 +1,8 @@
 -- Worked walks, computed.
-use Rattle.std.proofs.Common.{ℕ, refl, arith}
+use Rattle.std.proofs.Common.{ℕ, [], ◌∷◌, refl, arith}
+use Rattle.std.proofs.lemmas.List.Sorted.{IsNonDecreasingBy-short}
 use Rattle.session_model.specs.Counts.{frame_dues, command_dues, held, full, pop, pop_lines, run, carries_from, drain, sum_delays}
-use Rattle.progress_law.specs.Progress.{IsPath, AllPaths, InOrder, IsPlanOf}
+use Rattle.progress_law.specs.Progress.{IsPath, AllPaths, IsPlanOf}
 use Rattle.progress_law.specs.Worked.{fine, one_line, two_items}
 use Rattle.progress_law.proofs.worked_law.Goals as goal
 
@@ -17,11 +18,12 @@ fine-path total delay = record {
 }
 
 one_line-plan : IsPlanOf 0 0 0 (one_line 1 two_items)
-unfolding AllPaths InOrder
+unfolding AllPaths frame_dues command_dues
 one_line-plan = record {
   some = omega arith;
   paths = (record { is_path = fine-path 41 0; most = omega arith; least = omega arith }, tt);
-  items = (omega arith, (omega arith, tt));
+  frames = IsNonDecreasingBy-short (λ due. due) (5 ∷ []) (omega arith);
+  commands = IsNonDecreasingBy-short (λ due. due) (0 ∷ []) (omega arith);
   ring = omega arith;
   spread = omega arith;
   lag = omega arith;

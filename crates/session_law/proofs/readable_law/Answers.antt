@@ -1,6 +1,6 @@
 -- What arrives whole.
 use Rattle.session_law.proofs.DamageLaws.{good-whole, readable-whole, heard-line}
-use Rattle.session_law.proofs.damage_law.Goals as goal
+use Rattle.session_law.proofs.readable_law.Goals as goal
 
 pub returns-clause-good : goal.returns-clause-good
 returns-clause-good c = good-whole
