@@ -21,3 +21,4 @@ pub mod Sign
 pub mod MemberPacket
 pub mod Accepted
 pub mod Journal
+pub mod Rows
