@@ -6,12 +6,12 @@
 ghost use Rattle.std.specs.Prelude.{◌≡◌, ◌↔◌, ◌<◌, ◌≤◌, ◌++◌, ◌+◌, ◌-◌, ◌*◌, ◌/◌, ℕ, Bool, true, List, Option, Some, take, map, filter, suc, length};
 ghost use Rattle.session_model.specs.declared.window.Carried.{Carried};
 ghost use Rattle.session_model.specs.Damage.{is_good, is_readable};
-ghost use Rattle.session_model.specs.Scenario.{Scenario, Order, Offer, is_read, is_heard, lands_at, comes_at};
+ghost use Rattle.session_model.specs.Scenario.{Scenario, Order, Offer, steps_in, is_read, is_heard, lands_at, comes_at};
 ghost use Rattle.session_model.specs.Table.{kept_of, Told};
 ghost use Rattle.session_model.specs.Source.{after, table_of, told_at};
 ghost use Rattle.session_model.specs.Back.{cells_before};
 ghost use Rattle.session_model.specs.Client.{size, place_of, stream_before, frames_in, IsFewest};
-ghost use Rattle.session_model.specs.Journal.{orders_before, offers_before, frames_before, steps_in, replayed};
+ghost use Rattle.session_model.specs.Journal.{orders_before, offers_before, frames_before, replayed};
 ghost use Rattle.session_law.specs.Session.{IsReturned, AgreeBefore, AreWhole};
 ghost use Rattle.session_law.specs.Feedback.{Takes, Acknowledges, TellsOf, SameLines, WasSaid};
 ghost use Rattle.session_law.specs.Use.{IsUsedBy, AddsUndamaged, AddsAmongSilent};

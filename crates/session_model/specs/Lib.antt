@@ -22,3 +22,4 @@ pub mod MemberPacket
 pub mod Accepted
 pub mod Journal
 pub mod Rows
+pub mod Counts

@@ -5,6 +5,7 @@ mod packet;
 mod refusal;
 mod script;
 mod table;
+mod walk;
 mod window;
 
 pub use packet::{Packet, PacketFault};
@@ -14,6 +15,7 @@ pub use script::{
     WindowList, WindowLists,
 };
 pub use table::{Command, Member, SinkState, SourceState, Standing};
+pub use walk::{Event, StallCause};
 pub use window::{Carried, Window};
 
 /// What is wrong with a type header (G.7041): its check, which says one word and was found to be another; or the first field

@@ -1,0 +1,7 @@
+pub mod EachLaws
+pub mod StepLaws
+pub mod TakeLaws
+pub mod MoveLaws
+pub mod StallLaws
+pub mod ReachLaws
+pub mod MeasureLaws
