@@ -5,3 +5,4 @@ pub mod CoreLaws
 pub mod AreaLaws
 pub mod StreamLaws
 pub mod OctetsOfHeader
+pub mod ReachLaws
