@@ -6,3 +6,4 @@ pub mod CoreLaws
 pub mod AreaLaws
 pub mod StreamLaws
 pub mod OctetsOfHeader
+pub mod ReachLaws

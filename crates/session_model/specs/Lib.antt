@@ -21,5 +21,6 @@ pub mod Sign
 pub mod MemberPacket
 pub mod Accepted
 pub mod Journal
+pub mod Rows
 pub mod Counts
 pub mod Plan
