@@ -14,6 +14,7 @@ pub mod Number
 pub mod Scenario
 pub mod Table
 pub mod Source
+pub mod Course
 pub mod Back
 pub mod Client
 pub mod Line
