@@ -244,7 +244,7 @@ flags-set flags line b l inside =
       | false ↦ λ e. sym (get_or-set_other flags line l b false (eqb-false l line e))
     ] refl
 
-Fits-asked : (lines : ℕ) (source : Source) (command : Command) → Fits lines source → Fits lines (asked lines source command)
+pub Fits-asked : (lines : ℕ) (source : Source) (command : Command) → Fits lines source → Fits lines (asked lines source command)
 Fits-asked lines source command fits =
     elim (refusal lines command source) as (λ r. refusal lines command source ≡ r → Fits lines (asked_by r command source)) [
       | None ↦ λ e.
@@ -363,10 +363,10 @@ change-planned source table =
       | false ↦ refl
     ]
 
-opening-fits : (lines : ℕ) → Fits lines (opening lines)
+pub opening-fits : (lines : ℕ) → Fits lines (opening lines)
 opening-fits lines = ((λ l high. refl, λ l. ap (λ b. if b then 1 else 0) (sym (replicate-at lines false l))), length-replicate lines false)
 
-Fits-decide : (lines group : ℕ) (told : Option Told) (source : Source) → Fits lines source → Fits lines (decide group told source)
+pub Fits-decide : (lines group : ℕ) (told : Option Told) (source : Source) → Fits lines source → Fits lines (decide group told source)
 Fits-decide lines group told source fits =
     let table = told_on (heard group told source.table) in
     let same = told_on-lines (heard group told source.table) ∙ ap lines_of (heard-order group told source.table) in (
@@ -383,11 +383,12 @@ Fits-after scenario cells (suc j) =
     (Fits-asked_all (length scenario.windows) (orders_at scenario j) (after scenario cells j) (Fits-after scenario cells j))
 
 -- the order is no longer than there are lines
-pub order-length : (scenario : Scenario) (cells : List (Option Told)) (j : ℕ) → length (after scenario cells j).table.order ≤ length scenario.windows
-order-length scenario cells j =
-    let fits = Fits-after scenario cells j in
-    let order = (after scenario cells j).table.order in
-    let most = length-at_most (length scenario.windows) (lines_of order) fits.0.0
-    (IsPlan-once (length scenario.windows) (times (lines_of order)) (after scenario cells j).waiting (planned_of (after scenario cells j)) fits.0.1) in
+pub Fits-size : (lines : ℕ) (source : Source) → Fits lines source → length source.table.order ≤ lines
+Fits-size lines source fits =
+    let order = source.table.order in
+    let most = length-at_most lines (lines_of order) fits.0.0 (IsPlan-once lines (times (lines_of order)) source.waiting (planned_of source) fits.0.1) in
     let same = length-map order (λ member. member.line) in
     omega arith
+
+pub order-length : (scenario : Scenario) (cells : List (Option Told)) (j : ℕ) → length (after scenario cells j).table.order ≤ length scenario.windows
+order-length scenario cells j = Fits-size (length scenario.windows) (after scenario cells j) (Fits-after scenario cells j)

@@ -13,7 +13,12 @@ pub mod Path
 pub mod Number
 pub mod Scenario
 pub mod Table
+pub mod Told
+pub mod GroupBit
 pub mod Source
+pub mod Course
+pub mod Forward
+pub mod ReturnPacket
 pub mod Back
 pub mod Client
 pub mod Line
