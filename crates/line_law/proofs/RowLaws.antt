@@ -1,15 +1,16 @@
 -- Packets and rows that are decided: which packets are read, and that more cells change nothing.
-use Rattle.std.proofs.Common.{◌≡◌, ℕ, zero, suc, ◌+◌, ◌-◌, ◌*◌, ◌/◌, ◌%◌, ◌<◌, ◌≤◌, nat_lt, Bool, true, false, inl, inr, List, [], ◌∷◌, ◌++◌, map, length, slice_get, Option, Some, None, refl, sym, ◌∙◌, ap, ap₂, arith}
+use Rattle.std.proofs.Common.{◌≡◌, ℕ, zero, suc, ◌+◌, ◌-◌, ◌*◌, ◌/◌, ◌<◌, ◌≤◌, nat_lt, Bool, true, false, inl, inr, List, [], ◌∷◌, ◌++◌, map, length, slice_get, Option, Some, None, refl, sym, ◌∙◌, ap, ap₂, arith}
 use Rattle.std.specs.Prelude.{IsSome, if◌then◌else◌, ◌==◌}
+use Rattle.std.specs.List.{range_with_len}
 use Rattle.std.specs.Option.{option_map}
 use Rattle.std.proofs.lemmas.Bool.{cases_Bool, ltb-false}
 use Rattle.std.proofs.lemmas.Option.{slice_get_past}
 use Rattle.vc_cell.specs.declared.Container.{Container}
 use Rattle.vc_cell.specs.declared.Cell.{Cell}
-use Rattle.vc_cell.specs.declared.Ctrl.TheVariants.{Idle}
 use Rattle.session_model.specs.declared.packet.Packet.{Packet}
 use Rattle.session_model.specs.Number.{Lock, reading_of, verdict_over, verdict_or, verdict}
-use Rattle.session_model.specs.Rows.{packet_in, read_packet, read_packets, governing, leader, active_of, container_in, container_on, with_first, containers_at, joined, row_by, row_under, statuses_of, change_by, change_before, return_of}
+use Rattle.session_model.specs.Rows.{packet_in, read_packet, read_packets, governing, active_of, container_in, container_on, with_first, containers_at, joined, row_by, row_under}
+use Rattle.session_model.specs.ReturnPacket.{leader, return_of}
 use Rattle.session_model.specs.Damage.{carried, is_readable}
 use Rattle.session_model.specs.Line.{sent_nibbles}
 use Rattle.session_model.specs.Packet.{read_of}
@@ -109,29 +110,13 @@ rows_stay size cells longer t are decided =
     ]
 
 -- ---- return packets
-change-same : (p q : ℕ → List (Option Packet)) (k : ℕ) → ((j : ℕ) → j < k → p j ≡ q j) → change_before p k ≡ change_before q k
-unfolding change_before
-change-same p q zero same = refl
-change-same p q (suc k) same =
-    ap₂ (λ packets change. change_by (leader packets) change) (same k (omega arith)) (change-same p q k (λ j low. same j (omega arith)))
-
-abbrev return_with : List (Option Packet) → Bool → ℕ → Packet
-return_with packets change k = record {
-  mst = statuses_of packets (8 * (k % 16));
-  rs_ack = change;
-  chg = false;
-  sq = 255;
-  mfi2 = (k + 1) % 256;
-  ctrl = Idle;
-  gid = false;
-  act = 0;
-}
-
-return-same : (p q : ℕ → List (Option Packet)) (k : ℕ) → ((j : ℕ) → j ≤ k → p j ≡ q j) → return_of p k ≡ return_of q k
-return-same p q k same =
-    ap₂ (λ packets change. return_with packets change k) (same k (omega arith)) (change-same p q (suc k) (λ j low. same j (omega arith)))
+map-same : {X : Type 0} (f g : ℕ → X) (from count : ℕ) → ((j : ℕ) → j < from + count → f j ≡ g j) → map f (range_with_len from count) ≡ map g (range_with_len from count)
+map-same f g from zero same = refl
+map-same f g from (suc count) same =
+    ap₂ (λ x xs. x ∷ xs) (same from (omega arith)) (map-same f g (from + 1) count (λ j low. same j (omega arith)))
 
 pub returns_stay : ReturnsStay
 returns_stay cells longer k are decided =
-    return-same (read_packets longer) (read_packets cells) k
-    (λ j low. read-stays cells longer j are (decided-before cells (16 * j + 23) (16 * k + 23) (omega arith) decided))
+    ap (λ rows. return_of rows k)
+    (map-same (read_packets longer) (read_packets cells) 0 (k + 1)
+    (λ j low. read-stays cells longer j are (decided-before cells (16 * j + 23) (16 * k + 23) (omega arith) decided)))

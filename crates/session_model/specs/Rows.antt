@@ -2,10 +2,9 @@
 -- them and the octets that those give, and the return packets. That a row is tested by the number of active members that a packet
 -- says (ACT) is this project's own.
 use Rattle.std.specs.Prelude.{ℕ, zero, suc, ◌+◌, ◌-◌, ◌*◌, ◌/◌, ◌%◌, ◌==◌, nat_lt, ◌&&◌, not, Bool, true, false, if◌then◌else◌, List, [], ◌∷◌, ◌++◌, map, position, length, slice_get, slice_index, Option, Some, None, is_none}
-use Rattle.std.specs.List.{list_any}
+use Rattle.std.specs.List.{range_with_len}
 use Rattle.std.specs.Option.{option_map}
 use Rattle.std.specs.Result.{result_ok}
-use Rattle.remainder.specs.Bits.{number}
 use Rattle.vc_cell.specs.declared.Container.{Container}
 use Rattle.vc_cell.specs.declared.Cell.{Cell}
 use Rattle.vc_cell.specs.declared.Ctrl.{Ctrl}
@@ -14,6 +13,7 @@ use Rattle.session_model.specs.declared.packet.Packet.{Packet}
 use Rattle.session_model.specs.Packet.{read_of}
 use Rattle.session_model.specs.Number.{verdict}
 use Rattle.session_model.specs.MemberPacket.{nibbles_of}
+use Rattle.session_model.specs.ReturnPacket.{leader, return_of}
 
 -- ---- the packets that are read
 abbrev pub packet_in : Option (List ℕ) → Option Packet
@@ -33,12 +33,6 @@ abbrev pub governing : List (List Cell) → ℕ → List (Option Packet)
 governing cells t = if nat_lt t 24 then map (λ own. None) cells else read_packets cells ((t - 24) / 16)
 
 -- ---- the lines that carry payload
--- the packet read on the least line that has one
-abbrev pub leader : List (Option Packet) → Option Packet
-leader [] = None
-leader (None ∷ packets) = leader packets
-leader (Some packet ∷ packets) = Some packet
-
 abbrev pub is_carrying : Ctrl → Bool
 is_carrying Fixed = true
 is_carrying Add = false
@@ -111,44 +105,7 @@ row_at size cells t = if nat_lt t 24 then Some [] else row_under (governing cell
 abbrev pub first_open : List (List Cell) → ℕ → Option ℕ
 first_open cells t = position (λ own. is_none (verdict own t)) cells
 
--- ---- return packets, for any packets that are read
-abbrev pub is_member : Ctrl → Bool
-is_member Fixed = true
-is_member Add = true
-is_member Norm = true
-is_member Eos = true
-is_member Idle = false
-is_member Dnu = true
-
--- the status of an SQ, where OK is true
-abbrev pub status_of : List (Option Packet) → ℕ → Bool
-status_of packets sq = list_any (has is_member sq) packets
-
--- the eight statuses from an SQ on in an octet: 0 for OK, and the first in the most significant bit
-abbrev pub statuses_of : List (Option Packet) → ℕ → ℕ
-statuses_of packets sq = number (map (λ i. not (status_of packets (sq + i))) (0 ∷ 1 ∷ 2 ∷ 3 ∷ 4 ∷ 5 ∷ 6 ∷ 7 ∷ []))
-
--- the change bit that was last read before packet k
-abbrev pub change_by : Option Packet → Bool → Bool
-change_by None before = before
-change_by (Some packet) before = packet.chg
-
-unfoldable pub change_before : (ℕ → List (Option Packet)) → ℕ → Bool
-change_before packets zero = false
-change_before packets (suc k) = change_by (leader (packets k)) (change_before packets k)
-
--- return packet k
-abbrev pub return_of : (ℕ → List (Option Packet)) → ℕ → Packet
-return_of packets k = record {
-  mst = statuses_of (packets k) (8 * (k % 16));
-  rs_ack = change_before packets (suc k);
-  chg = false;
-  sq = 255;
-  mfi2 = (k + 1) % 256;
-  ctrl = Idle;
-  gid = false;
-  act = 0;
-}
-
+-- ---- return packets
+-- return packet k, by the packets that are read up to it
 abbrev pub return_at : List (List Cell) → ℕ → Packet
-return_at cells k = return_of (read_packets cells) k
+return_at cells k = return_of (map (read_packets cells) (range_with_len 0 (k + 1))) k
