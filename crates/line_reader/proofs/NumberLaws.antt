@@ -1,7 +1,7 @@
 -- What is kept of the numbers of a line after a cell, and after a number that is passed.
 use Rattle.std.proofs.Common.{◌≡◌, ℕ, zero, suc, ◌+◌, ◌-◌, ◌%◌, ◌<◌, Bool, true, false, inl, inr, List, [], ◌∷◌, ◌++◌, length, replicate, slice_get, Option, Some, None, refl, sym, ◌∙◌, ap, subst, arith, length-append}
-use Rattle.std.specs.Prelude.{IsSome}
-use Rattle.std.proofs.lemmas.Bool.{cases_Bool}
+use Rattle.std.specs.Prelude.{IsSome, is_none, ◌==◌, ◌&&◌, not}
+use Rattle.std.proofs.lemmas.Bool.{cases_Bool, and_parts, eqb-true, not-true}
 use Rattle.std.proofs.lemmas.List.{append-nil}
 use Rattle.std.proofs.lemmas.Option.{slice_get_past}
 use Rattle.vc_bits.proofs.LockLaws.{slice_get-append_seam}
@@ -17,7 +17,7 @@ use Rattle.session_model.specs.Number.{ahead, read_on, reading_of, verdict_or, v
 use Rattle.session_model.specs.Sign.{signs_of, HasNoEnd}
 use Rattle.line_law.proofs.ListLaws.{append_one, slice_get-inside}
 use Rattle.line_law.proofs.EndLaws.{verdict-open, end-reading}
-use Rattle.line_reader.specs.Numbers.{Numbers, IsOpen, last_of, left_of, Stands}
+use Rattle.line_reader.specs.Numbers.{Numbers, IsOpen, is_open, last_of, left_of, Stands}
 use Rattle.line_reader.proofs.LockWording.{verdicts_for, signs-next, no_end-next, good-next, fail-next}
 
 false-true : false ≡ true → ⊥
@@ -209,3 +209,48 @@ passed-decided numbers place cells t s stands before =
           let here = slice_get-inside (reading_of cells).verdicts s (let passed = (stands.runs e).2 in omega (arith, size, passed, before)) in
           rw here.1 refl
     ]
+
+-- ---- whether the next number is decided
+pub open-test : (numbers : Numbers) → IsOpen numbers → is_open numbers ≡ true
+open-test numbers is = rw (is.bad, is.whole, is.ended) refl
+
+pub test-open : (numbers : Numbers) → is_open numbers ≡ true → IsOpen numbers
+test-open numbers test =
+    let parts = and_parts (numbers.bad == 0 && not numbers.whole) (not numbers.ended) test in
+    let first = and_parts (numbers.bad == 0) (not numbers.whole) parts.0 in
+    record { bad = eqb-true numbers.bad 0 first.0; whole = not-true numbers.whole first.1; ended = not-true numbers.ended parts.1 }
+
+says-something : (lock : MfiLock) (next t bad : ℕ) (whole ended : Bool) (place : Container) (cells : List Cell) → (IsOpen (record { lock = lock; next = next; bad = bad; whole = whole; ended = ended }) → ⊥) →
+    Stands (record { lock = lock; next = next; bad = bad; whole = whole; ended = ended }) place cells t → IsSome (verdict cells t)
+says-something lock next t (suc bad) whole ended place cells shut stands = rw (says-bad lock next t (suc bad) whole ended place cells (omega arith) stands) refl
+says-something lock next t zero whole true place cells shut stands = rw (says-over lock next t zero whole place cells stands) refl
+says-something lock next t zero true false place cells shut stands = rw (says-whole lock next t place cells stands) refl
+says-something lock next t zero false false place cells shut stands = absurd (shut (record { bad = refl; whole = refl; ended = refl }))
+
+-- it is not exactly where the cells don't decide it
+pub open-verdict : (numbers : Numbers) (place : Container) (cells : List Cell) (t : ℕ) → Stands numbers place cells t → is_open numbers ≡ is_none (verdict cells t)
+open-verdict numbers place cells t stands =
+    elim (cases_Bool (is_open numbers)) [
+      | inl test ↦ test ∙ sym (ap is_none (says-nothing numbers place cells t (test-open numbers test) stands))
+      | inr test ↦
+          let shut : IsOpen numbers → ⊥ = λ is. false-true (sym test ∙ open-test numbers is) in
+          let some = says-something numbers.lock numbers.next t numbers.bad numbers.whole numbers.ended place cells shut stands in
+          test ∙ sym (ap not some)
+    ]
+
+-- the container of a number that is whole lies in the place
+whole-by : (lock : MfiLock) (next t bad : ℕ) (whole ended : Bool) (place container : Container) (cells : List Cell) →
+    Stands (record { lock = lock; next = next; bad = bad; whole = whole; ended = ended }) place cells t → verdict cells t ≡ Some (Some container) → place ≡ container
+whole-by lock next t (suc bad) whole ended place container cells stands is =
+    absurd (let e : Some None ≡ Some (Some container) = sym (says-bad lock next t (suc bad) whole ended place cells (omega arith) stands) ∙ is in cc)
+whole-by lock next t zero whole true place container cells stands is =
+    absurd (let e : Some None ≡ Some (Some container) = sym (says-over lock next t zero whole place cells stands) ∙ is in cc)
+whole-by lock next t zero true false place container cells stands is =
+    let e : Some (Some place) ≡ Some (Some container) = sym (says-whole lock next t place cells stands) ∙ is in cc
+whole-by lock next t zero false false place container cells stands is =
+    let open' : IsOpen (record { lock = lock; next = next; bad = 0; whole = false; ended = false }) = record { bad = refl; whole = refl; ended = refl } in
+    absurd (let e : None ≡ Some (Some container) = sym (says-nothing (record { lock = lock; next = next; bad = 0; whole = false; ended = false }) place cells t open' stands) ∙ is in cc)
+
+pub whole-place : (numbers : Numbers) (place container : Container) (cells : List Cell) (t : ℕ) → Stands numbers place cells t → verdict cells t ≡ Some (Some container) → place ≡ container
+whole-place numbers place container cells t stands is =
+    whole-by numbers.lock numbers.next t numbers.bad numbers.whole numbers.ended place container cells stands is

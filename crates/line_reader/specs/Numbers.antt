@@ -1,5 +1,5 @@
 -- What is kept of the numbers of a line.
-use Rattle.std.specs.Prelude.{◌≡◌, ℕ, ◌%◌, ◌≤◌, Bool, true, false, List, [], ◌∷◌, ◌++◌, length, replicate, Option, Some, None}
+use Rattle.std.specs.Prelude.{◌≡◌, ℕ, ◌%◌, ◌≤◌, ◌==◌, ◌&&◌, not, Bool, true, false, List, [], ◌∷◌, ◌++◌, length, replicate, Option, Some, None}
 use Rattle.vc_cell.specs.declared.Container.{Container}
 use Rattle.vc_cell.specs.declared.Cell.{Cell}
 use Rattle.h4_multiframe.specs.declared.MfiLock.{MfiLock}
@@ -21,6 +21,9 @@ pub record IsOpen (numbers : Numbers) : Type 0 where
   pub bad : numbers.bad ≡ 0
   pub whole : numbers.whole ≡ false
   pub ended : numbers.ended ≡ false
+
+abbrev pub is_open : Numbers → Bool
+is_open numbers = numbers.bad == 0 && not numbers.whole && not numbers.ended
 
 -- the container of a number that is whole lies in a place
 abbrev pub last_of : Bool → Container → List (Option Container)

@@ -5,7 +5,7 @@ ghost use Rattle.vc_cell.specs.declared.Container.{Container};
 ghost use Rattle.vc_cell.specs.declared.Cell.{Cell};
 ghost use Rattle.session_model.specs.Number.{ahead, verdict};
 ghost use Rattle.line_reader.specs.Told.{cell_of, told_by};
-ghost use Rattle.line_reader.specs.Numbers.{IsOpen, Stands};
+ghost use Rattle.line_reader.specs.Numbers.{IsOpen, is_open, Stands};
 
 use crate::{CellRef, Verdict};
 use h4_multiframe::{MfiLock, Place};
@@ -49,7 +49,8 @@ impl Default for LineNumbers {
 impl LineNumbers {
     /// The numbers of a line of which no cell has come.
     pub fn new() -> LineNumbers
-        ensures { (place : Container) → Stands result place [] 0 }
+        ensures stands { (place : Container) → Stands result place [] 0 }
+        ensures open { IsOpen result }
     {
         LineNumbers {
             lock: MfiLock::new(),
@@ -103,7 +104,8 @@ impl LineNumbers {
 
     /// Whether each decided number was passed.
     pub fn is_open(&self) -> bool
-        ensures { IsTrue result ↔ IsOpen self.now }
+        ensures open { IsTrue result ↔ IsOpen self.now }
+        ensures test { result ≡ is_open self.now }
     {
         self.bad == 0 && !self.whole && !self.ended
     }

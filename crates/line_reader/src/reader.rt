@@ -36,7 +36,8 @@ impl Default for LineReader {
 impl LineReader {
     /// A reader to which no cell came.
     pub fn new() -> LineReader
-        ensures { ReaderStands result [] 0 }
+        ensures stands { ReaderStands result [] 0 }
+        ensures open { IsReaderOpen result }
     {
         LineReader {
             numbers: LineNumbers::new(),

@@ -1,8 +1,8 @@
 -- The rows of a group, over any cells of all its lines (G.707, G.7042): the control packets that are read, the rows that are whole by
 -- them and the octets that those give, and the return packets. That a row is tested by the number of active members that a packet
 -- says (ACT) is this project's own.
-use Rattle.std.specs.Prelude.{ℕ, zero, suc, ◌+◌, ◌-◌, ◌*◌, ◌/◌, ◌%◌, ◌==◌, nat_lt, ◌&&◌, not, Bool, true, false, if◌then◌else◌, List, [], ◌∷◌, ◌++◌, map, position, length, slice_get, slice_index, Option, Some, None, is_none}
-use Rattle.std.specs.List.{range_with_len}
+use Rattle.std.specs.Prelude.{ℕ, zero, suc, ◌+◌, ◌-◌, ◌*◌, ◌/◌, ◌%◌, ◌==◌, nat_lt, ◌&&◌, not, Bool, true, false, if◌then◌else◌, List, [], ◌∷◌, ◌++◌, map, length, slice_get, slice_index, Option, Some, None, is_none}
+use Rattle.std.specs.List.{range_with_len, position_from}
 use Rattle.std.specs.Option.{option_map}
 use Rattle.std.specs.Result.{result_ok}
 use Rattle.vc_cell.specs.declared.Container.{Container}
@@ -103,7 +103,7 @@ row_at size cells t = if nat_lt t 24 then Some [] else row_under (governing cell
 
 -- the first line whose cells don't decide row t
 abbrev pub first_open : List (List Cell) → ℕ → Option ℕ
-first_open cells t = position (λ own. is_none (verdict own t)) cells
+first_open cells t = position_from (λ own. is_none (verdict own t)) 0 cells
 
 -- ---- return packets
 -- return packet k, by the packets that are read up to it
