@@ -129,7 +129,8 @@ fn run_with(run: u32, end: u32, window: &Window) -> u32
     requires sum { run ≤ end }
     requires apart { end ≤ window.now.first }
     requires sign { window.now.slip + window.now.first < window.now.end }
-    ensures sum { result ≡ (if nat_lt window.now.first (end + 17) then run + window.now.slip else window.now.slip) }
+    ensures sum { result ≡ (if nat_lt window.now.first (end + 17)
+        then run + window.now.slip else window.now.slip) }
     ensures within { result ≤ window.now.end }
 {
     let Window {
