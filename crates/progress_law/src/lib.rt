@@ -27,8 +27,10 @@ ghost use Rattle.progress_law.specs.Worked.{one_line, two_items, cause_after, on
 /// to, a list of events leads to.
 pub fn progress_law()
     ensures within { (plan : Plan) (s : Counts) → IsPlan plan → IsReached plan s → Fits plan s }
-    ensures inbox { (plan : Plan) (s : Counts) → IsPlan plan → IsReached plan s → in_inbox plan s ≤ plan.lag }
-    ensures moves { (plan : Plan) (s : Counts) → IsPlan plan → IsReached plan s → s.rows < plan.ticks → SomeProgress plan s }
+    ensures inbox { (plan : Plan) (s : Counts) → IsPlan plan → IsReached plan s →
+        in_inbox plan s ≤ plan.lag }
+    ensures moves { (plan : Plan) (s : Counts) → IsPlan plan → IsReached plan s →
+        s.rows < plan.ticks → SomeProgress plan s }
     ensures ends { (plan : Plan) (s : Counts) → IsPlan plan → IsReached plan s →
         (drain (bound plan) plan s).rows ≡ plan.ticks }
     ensures stalls { (plan : Plan) (s : Counts) (event : Event) (cause : StallCause) →
@@ -41,7 +43,8 @@ pub fn progress_law()
 pub fn line_law()
     ensures decided { (carries : ℕ → Carried) (containers : List Container) (delay y t : ℕ) →
         t < length containers → IsDecided carries delay containers y t }
-    ensures paths { (windows : List Window) (containers : List Container) (delay : ℕ) → IsLine windows containers →
+    ensures paths { (windows : List Window) (containers : List Container) (delay : ℕ) →
+        IsLine windows containers →
         IsPath (length containers) (slip_of windows) (path_of (carried windows) delay containers) }
     ensures plans { (config : Config) (items : List Item) (sent : List (List Container)) →
         CanRun config items sent → IsPlan (plan_of config items sent) }

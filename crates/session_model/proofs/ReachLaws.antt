@@ -141,8 +141,7 @@ begun-follows : (n : ℕ) (stream : Stream) → (more : List Piece) × (((begun 
 unfolding begun
 begun-follows zero stream = ([], (sym (append-nil stream.pieces), refl))
 begun-follows (suc n) stream =
-    let rest = begun-follows n (next_by stream.waiting stream.pieces) in
-    (
+    let rest = begun-follows n (next_by stream.waiting stream.pieces) in (
       piece_of stream.waiting ∷ rest.0,
       (
         rest.1.0 ∙ ap (λ pieces. pieces ++ rest.0) (next_by-piece stream.waiting stream.pieces) ∙ append_assoc stream.pieces (piece_of stream.waiting ∷ []) rest.0,
@@ -156,8 +155,7 @@ fewest-first : (before : List Piece) (piece : Piece) (more : List Piece) (place 
 fewest-first before piece more place after is fewest =
     let same : fewest.more ≡ piece ∷ more = append_cancel_left before fewest.more (piece ∷ more) (sym fewest.follow ∙ is) in
     let each : (n : ℕ) → n < length (piece ∷ more) → size (before ++ take n (piece ∷ more)) < place =
-    subst (λ (l : List Piece). (n : ℕ) → n < length l → size (before ++ take n l) < place) same fewest.fewest in
-    (
+    subst (λ (l : List Piece). (n : ℕ) → n < length l → size (before ++ take n l) < place) same fewest.fewest in (
       (let none : before ++ [] ≡ before = append-nil before in rw none at (each 0 (omega arith))),
       record {
         more = more;

@@ -27,5 +27,6 @@ pub mod MemberPacket
 pub mod Accepted
 pub mod Journal
 pub mod Rows
+pub mod SessionRows
 pub mod Counts
 pub mod Plan
