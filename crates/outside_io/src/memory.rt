@@ -1,6 +1,7 @@
-ghost use Rattle.std.specs.Prelude.{◌≡◌, ◌⊎◌, ◌<◌, ◌≤◌, ◌↔◌, ◌-◌, [], ◌++◌, length, take, drop, min, Some, Contains, IsTrue, IsErr, IfOk, OnErr};
+//! A source and a sink in memory, which tell all, and whose calls fail on demand.
+ghost use Rattle.std.specs.Prelude.{◌≡◌, ◌⊎◌, ◌<◌, ◌≤◌, ◌↔◌, ◌-◌, [], ◌++◌, length, take, drop, min, Some, Contains, IsTrue, IsErr, IfOk, OnOk, OnErr};
 ghost use Rattle.std.specs.Io.KnownBytes.{append_known, prepend_known, IsAtEnd};
-ghost use Rattle.outside_io.specs.Faults.{one_more, Rose};
+ghost use Rattle.outside_io.specs.Faults.{one_more};
 ghost use Rattle.outside_io.specs.Memory.{IsFailingTake, IsFailingPut};
 
 use crate::traits::{ByteSink, ByteSource, Failed};
@@ -55,7 +56,6 @@ impl ByteSource for MemSource {
     ghost faults = { λ source. source.faults };
 
     fn take(&mut self, buf: &mut [u8]) -> Result<usize, Failed>
-        ensures never_falls { self.old.faults ≤ self.new.faults }
         ensures fails { IsErr result ↔ IsFailingTake self.old }
         ensures count { IfOk result (λ n. n ≡ min (length buf.old) (length self.old.left)) }
         ensures filled { IfOk result (λ n. buf.new ≡ take n self.old.left ++ drop n buf.old) }
@@ -109,7 +109,7 @@ impl Model for MemSink {
 }
 
 impl MemSink {
-    /// An empty sink with room for so many octets, all of which is taken now. The calls of `put` whose numbers are
+    /// An empty sink with room for `room` octets, all of which is taken now. The calls of `put` whose numbers are
     /// in `fail` fail, and the first has number 0; so does a call with a piece that isn't empty where no room is left.
     pub fn new(alloc: Global, room: usize, fail: &[u32]) -> Result<MemSink, AllocError>
         ensures { IfOk result (λ sink.
@@ -138,7 +138,6 @@ impl ByteSink for MemSink {
     ghost faults = { λ sink. sink.faults };
 
     fn put(&mut self, piece: &[u8]) -> Result<usize, Failed>
-        ensures never_falls { self.old.faults ≤ self.new.faults }
         ensures fails { IsErr result ↔ IsFailingPut self.old piece.now }
         ensures count { IfOk result (λ n. n ≡ min (length piece.now) self.old.room) }
         ensures after { IfOk result (λ n. self.new ≡ record self.old {

@@ -1,3 +1,4 @@
+//! A source over a reader and a sink over a writer of the standard library, which count faults and tell no content.
 ghost use Rattle.std.specs.Prelude.{◌≡◌, ◌<◌, ◌≤◌, length, IfOk, OnOk, OnErr};
 ghost use Rattle.outside_io.specs.Faults.{one_more};
 
@@ -34,9 +35,8 @@ impl<R: Read> ByteSource for StdSource<R> {
 
     fn take(&mut self, buf: &mut [u8]) -> Result<usize, Failed>
         ensures bound { IfOk result (λ n. n ≤ length buf.new) }
-        ensures never_falls { self.old ≤ self.new }
-        ensures ok { OnOk result (self.new ≡ self.old) }
-        ensures err { OnErr result (self.new ≡ one_more self.old) }
+        ensures quiet { OnOk result (self.new ≡ self.old) }
+        ensures counted { OnErr result (self.new ≡ one_more self.old) }
     {
         match self.inner.read(buf) {
             Ok(n) => Ok(n),
@@ -79,9 +79,8 @@ impl<W: Write> ByteSink for StdSink<W> {
     fn put(&mut self, piece: &[u8]) -> Result<usize, Failed>
         ensures bound { IfOk result (λ n. n ≤ length piece.now) }
         ensures moves { IfOk result (λ n. 0 < length piece.now → 0 < n) }
-        ensures never_falls { self.old ≤ self.new }
-        ensures ok { OnOk result (self.new ≡ self.old) }
-        ensures err { OnErr result (self.new ≡ one_more self.old) }
+        ensures quiet { OnOk result (self.new ≡ self.old) }
+        ensures counted { OnErr result (self.new ≡ one_more self.old) }
     {
         match self.inner.write(piece) {
             Ok(n) if n > 0 || piece.is_empty() => Ok(n),
@@ -100,7 +99,7 @@ mod tests {
     use std::io;
     use std::test::Fail;
 
-    /// Moves at most two octets in a call, and fails once so many calls were made.
+    /// Moves at most two octets in a call, and fails once its calls are used up.
     #[derive(Drop)]
     struct Trickle {
         octets: Vec<u8>,

@@ -1,3 +1,5 @@
+//! The two loops over the fakes, and the fakes call by call.
+
 use crate::{ByteSink, ByteSource, Failed, MemSink, MemSource, ReadEnd, put_all, read_all};
 use std::alloc::{AllocError, Global};
 use std::test::Fail;

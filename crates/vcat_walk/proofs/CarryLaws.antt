@@ -1,21 +1,20 @@
 -- What a walk knows after some rows, and what one more row adds.
 use Rattle.std.proofs.Common.{◌≡◌, ℕ, ◌+◌, ◌-◌, ◌≤◌, List, [], ◌∷◌, ◌++◌, length, take, drop, Option, All, refl, sym, ap, ◌∙◌, arith, subst}
-use Rattle.std.specs.Io.KnownBytes.{append_known}
 use Rattle.std.proofs.Math.Seq.{take-add, take-append-add}
 use Rattle.std.proofs.lemmas.List.{drop-drop, take-take, length-take-le}
 use Rattle.std.proofs.lemmas.List.Concat.{flat_map-append}
 use Rattle.std.proofs.lemmas.List.Elements.{All-take, All-weaker}
-use Rattle.outside_io.specs.Transfer.{AppendsPart}
-use Rattle.outside_io.proofs.Parts.{AppendsPart-longer, append_known-nil}
-use Rattle.gfp_headers.specs.Piece.{Piece, idle, stream_of, frames_by, opening}
-use Rattle.gfp_headers.specs.Delivery.{delivered}
+use Rattle.outside_io.specs.Transfer.{Appends, AppendsPart}
+use Rattle.outside_io.proofs.Parts.{Appends-none, AppendsPart-longer}
+use Rattle.session_model.specs.Piece.{Piece, idle, stream_of, frames_by, opening}
+use Rattle.session_model.specs.Delivery.{delivered}
 use Rattle.gfp_fill.specs.Stream.{Sender, Fills, next_pieces}
 use Rattle.gfp_fill.specs.Stream.{Stands as Sends}
 use Rattle.gfp_fill.proofs.StreamLaws.{append-next_pieces, take-stream_of, next_pieces-zero}
 use Rattle.gfp_delineate.specs.Receiver.{Receiver, Stands, IsClientFrame}
 use Rattle.vcat_walk.specs.Form.{IsFrame}
 use Rattle.vcat_walk.specs.Report.{got_texts, got_text}
-use Rattle.vcat_walk.specs.Walk.{StopsWithin}
+use Rattle.vcat_walk.specs.Written.{HasGot, StopsWithin}
 use Rattle.vcat_walk.proofs.PlaceLaws.{begun_pieces, frames_by-begun, frames_by-grow, frames_by-zero}
 
 -- what the two ends of a stream tell of each other
@@ -73,32 +72,29 @@ filled octets frames waiting after sender next receiver out so_far fill =
           ∙ ap (λ (pieces : List Piece). take (octets + length out) (stream_of pieces)) same;
     }
 
--- the lines of the octets so far
-pub record HasLines (octets : ℕ) (frames : List (List ℕ)) (start now : Option (List ℕ)) (got : ℕ) : Type 0 where
-  pub written : now ≡ append_known start (got_texts (frames_by octets (opening frames 0)))
-  pub counted : got ≡ length (frames_by octets (opening frames 0))
+-- the lines of the frames that end in the octets so far
+pub record HasLines {K : Type 0} (written : K → Option (List ℕ)) (faults : K → ℕ) (octets : ℕ) (frames : List (List ℕ)) (start now : K) (got : ℕ) : Type 0 where
+  pub lines : Appends written faults start now (got_texts (frames_by octets (opening frames 0)))
+  pub count : got ≡ length (frames_by octets (opening frames 0))
 
--- the lines of one more row
-pub lines_filled : DeliveryLaw → (octets size : ℕ) (frames waiting : List (List ℕ)) (sender : Sender) (before out : List ℕ) (start now : Option (List ℕ)) (count : ℕ)
-    → All IsFrame frames → (fill : IsFilled (octets + size) frames waiting sender before out)
-    → now ≡ append_known start (got_texts (delivered 9600 (before ++ out))) → count ≡ length (delivered 9600 (before ++ out))
-    → HasLines (octets + size) frames start now count
-lines_filled law octets size frames waiting sender before out start now count each fill written counted =
+-- the lines after one more row
+lines_filled : {K : Type 0} (written : K → Option (List ℕ)) (faults : K → ℕ) → DeliveryLaw → (octets size : ℕ) (frames waiting : List (List ℕ)) (sender : Sender) (before out : List ℕ)
+    (start now : K) (got : ℕ) → All IsFrame frames → (fill : IsFilled (octets + size) frames waiting sender before out)
+    → HasGot written faults (before ++ out) start now got → HasLines written faults (octets + size) frames start now got
+lines_filled written faults law octets size frames waiting sender before out start now got each fill has =
     let ends : delivered 9600 (before ++ out) ≡ frames_by (octets + size) (opening frames 0) =
     ap (λ (os : List ℕ). delivered 9600 os) fill.all ∙ delivered_by law (octets + size) fill.begun frames each fill.sends.within in
-    record {
-      written = written ∙ ap (λ (fs : List (List ℕ)). append_known start (got_texts fs)) ends;
-      counted = counted ∙ ap (λ (fs : List (List ℕ)). length fs) ends;
-    }
+    let P : List (List ℕ) → Type 0 = λ fs. Appends written faults start now (got_texts fs) in
+    record { lines = subst P ends has.lines; count = has.count ∙ ap (λ (fs : List (List ℕ)). length fs) ends }
 
 -- the lines before a row, as the receiver has them
-pub lines_before : DeliveryLaw → (octets : ℕ) (frames waiting : List (List ℕ)) (sender : Sender) (receiver : Receiver) (start now : Option (List ℕ)) (got : ℕ)
-    → All IsFrame frames → (so_far : IsCarried octets frames waiting sender receiver) → HasLines octets frames start now got
-    → (now ≡ append_known start (got_texts (delivered 9600 (take octets (stream_of (begun_pieces so_far.begun frames))))))
-    × (got ≡ length (delivered 9600 (take octets (stream_of (begun_pieces so_far.begun frames)))))
-lines_before law octets frames waiting sender receiver start now got each so_far lines =
-    let ends = delivered_by law octets so_far.begun frames each so_far.sends.within in
-    (lines.written ∙ ap (λ (fs : List (List ℕ)). append_known start (got_texts fs)) (sym ends), lines.counted ∙ ap (λ (fs : List (List ℕ)). length fs) (sym ends))
+lines_before : {K : Type 0} (written : K → Option (List ℕ)) (faults : K → ℕ) → DeliveryLaw → (octets : ℕ) (frames waiting : List (List ℕ)) (sender : Sender) (receiver : Receiver)
+    (start now : K) (got : ℕ) → All IsFrame frames → (so_far : IsCarried octets frames waiting sender receiver) → HasLines written faults octets frames start now got
+    → HasGot written faults (take octets (stream_of (begun_pieces so_far.begun frames))) start now got
+lines_before written faults law octets frames waiting sender receiver start now got each so_far has =
+    let ends = sym (delivered_by law octets so_far.begun frames each so_far.sends.within) in
+    let P : List (List ℕ) → Type 0 = λ fs. Appends written faults start now (got_texts fs) in
+    record { lines = subst P ends has.lines; count = has.count ∙ ap (λ (fs : List (List ℕ)). length fs) ends }
 
 -- the front of a row, behind the octets before it
 pub front_of_row : (before out stream : List ℕ) (written size count : ℕ) → length before ≡ written → before ++ out ≡ take (written + size) stream
@@ -109,28 +105,28 @@ front_of_row before out stream written size count long all part =
     ∙ ap (λ (octets : List ℕ). take (written + count) octets) all
     ∙ take-take (written + count) (written + size) stream (omega arith)
 
--- a first part of the lines of an earlier place is one of those of a later place
-pub part_by : (place last : ℕ) (frames : List (List ℕ)) (start now : Option (List ℕ)) → place ≤ last
-    → AppendsPart start now (got_texts (frames_by place (opening frames 0))) → AppendsPart start now (got_texts (frames_by last (opening frames 0)))
-part_by place last frames start now before stops =
+-- a prefix of the lines of an earlier place is one of those of a later place
+part_by : {K : Type 0} (written : K → Option (List ℕ)) (faults : K → ℕ) (place last : ℕ) (frames : List (List ℕ)) (start now : K) → place ≤ last
+    → AppendsPart written faults start now (got_texts (frames_by place (opening frames 0))) → AppendsPart written faults start now (got_texts (frames_by last (opening frames 0)))
+part_by written faults place last frames start now before stops =
     let grow = frames_by-grow place last (opening frames 0) before in
-    let P : List ℕ → Type 0 = λ text. AppendsPart start now text in
+    let P : List ℕ → Type 0 = λ text. AppendsPart written faults start now text in
     subst P (sym (ap (λ (fs : List (List ℕ)). got_texts fs) grow.1 ∙ flat_map-append got_text (frames_by place (opening frames 0)) grow.0))
-    (AppendsPart-longer start now (got_texts (frames_by place (opening frames 0))) (got_texts grow.0) stops)
+    (AppendsPart-longer written faults start now (got_texts (frames_by place (opening frames 0))) (got_texts grow.0) stops)
 
--- where a row stops, a first part of the lines of all rows is written
-pub stopped : DeliveryLaw → (octets size last : ℕ) (frames waiting : List (List ℕ)) (sender : Sender) (before out : List ℕ) (start now : Option (List ℕ))
-    → All IsFrame frames → (fill : IsFilled (octets + size) frames waiting sender before out) → length before ≡ octets → length out ≡ size → octets + size ≤ last
-    → StopsWithin start now before out → AppendsPart start now (got_texts (frames_by last (opening frames 0)))
-stopped law octets size last frames waiting sender before out start now each fill long row most stops =
+-- where a row stops, a prefix of the lines of all rows is written
+stopped : {K : Type 0} (written : K → Option (List ℕ)) (faults : K → ℕ) → DeliveryLaw → (octets size last : ℕ) (frames waiting : List (List ℕ)) (sender : Sender) (before out : List ℕ)
+    (start now : K) → All IsFrame frames → (fill : IsFilled (octets + size) frames waiting sender before out) → length before ≡ octets → length out ≡ size → octets + size ≤ last
+    → StopsWithin written faults before out start now → AppendsPart written faults start now (got_texts (frames_by last (opening frames 0)))
+stopped written faults law octets size last frames waiting sender before out start now each fill long row most stops =
     let within = stops.within in
     let reach = fill.sends.within in
     let ends : delivered 9600 (before ++ take stops.count out) ≡ frames_by (octets + stops.count) (opening frames 0) =
     ap (λ (os : List ℕ). delivered 9600 os)
     (front_of_row before out (stream_of (begun_pieces fill.begun frames)) octets size stops.count long fill.all (omega arith))
     ∙ delivered_by law (octets + stops.count) fill.begun frames each (omega arith) in
-    let P : List (List ℕ) → Type 0 = λ fs. AppendsPart start now (got_texts fs) in
-    part_by (octets + stops.count) last frames start now (omega arith) (subst P ends stops.part)
+    let P : List (List ℕ) → Type 0 = λ fs. AppendsPart written faults start now (got_texts fs) in
+    part_by written faults (octets + stops.count) last frames start now (omega arith) (subst P ends stops.part)
 
 -- before any row
 begun_none : (frames : List (List ℕ)) → begun_pieces 0 frames ≡ idle ∷ idle ∷ []
@@ -142,47 +138,41 @@ none_carried frames sender receiver sends stands =
     let P : List Piece → Type 0 = λ pieces. Sends sender pieces 0 in
     record { begun = 0; sends = subst P (sym (begun_none frames)) sends; waits = refl; stands = stands }
 
-pub no_lines : (frames : List (List ℕ)) (start : Option (List ℕ)) → HasLines 0 frames start start 0
-no_lines frames start =
-    let none = frames_by-zero (opening frames 0) in
-    record {
-      written = sym (append_known-nil start) ∙ ap (λ (fs : List (List ℕ)). append_known start (got_texts fs)) (sym none);
-      counted = ap (λ (fs : List (List ℕ)). length fs) (sym none);
-    }
+pub no_lines : {K : Type 0} (written : K → Option (List ℕ)) (faults : K → ℕ) (frames : List (List ℕ)) (start : K) → HasLines written faults 0 frames start start 0
+no_lines written faults frames start =
+    let none = sym (frames_by-zero (opening frames 0)) in
+    let P : List (List ℕ) → Type 0 = λ fs. Appends written faults start start (got_texts fs) in
+    record { lines = subst P none (Appends-none written faults start); count = ap (λ (fs : List (List ℕ)). length fs) none }
 
 -- what is carried and written after one more row
-pub record IsNext (octets : ℕ) (frames waiting : List (List ℕ)) (sender : Sender) (receiver : Receiver) (start now : Option (List ℕ)) (got : ℕ) : Type 0 where
+pub record IsNext {K : Type 0} (written : K → Option (List ℕ)) (faults : K → ℕ) (octets : ℕ) (frames waiting : List (List ℕ)) (sender : Sender) (receiver : Receiver) (start now : K) (got : ℕ) : Type 0 where
   pub carried : IsCarried octets frames waiting sender receiver
-  pub lines : HasLines octets frames start now got
+  pub lines : HasLines written faults octets frames start now got
 
-pub next_row : DeliveryLaw → (octets : ℕ) (frames waiting after : List (List ℕ)) (sender next : Sender) (receiver later : Receiver) (out : List ℕ) (start old new : Option (List ℕ)) (got n : ℕ)
-    → All IsFrame frames → (so_far : IsCarried octets frames waiting sender receiver) → HasLines octets frames start old got
+pub next_row : {K : Type 0} (written : K → Option (List ℕ)) (faults : K → ℕ) → DeliveryLaw → (octets : ℕ) (frames waiting after : List (List ℕ)) (sender next : Sender) (receiver later : Receiver) (out : List ℕ)
+    (start old new : K) (got n : ℕ) → All IsFrame frames → (so_far : IsCarried octets frames waiting sender receiver) → HasLines written faults octets frames start old got
     → Fills (begun_pieces so_far.begun frames) octets waiting after next out
     → ((before : List ℕ) → Stands receiver 9600 before → Stands later 9600 (before ++ out))
-    → ((before : List ℕ) (start : Option (List ℕ)) → Stands receiver 9600 before → old ≡ append_known start (got_texts (delivered 9600 before))
-    → new ≡ append_known start (got_texts (delivered 9600 (before ++ out))))
-    → ((before : List ℕ) → Stands receiver 9600 before → length (delivered 9600 (before ++ out)) ≡ length (delivered 9600 before) + n)
-    → IsNext (octets + length out) frames after next later start new (got + n)
-next_row law octets frames waiting after sender next receiver later out start old new got n each so_far lines fill stands writes counts =
+    → ((before : List ℕ) (start : K) (got : ℕ) → Stands receiver 9600 before → HasGot written faults before start old got → HasGot written faults (before ++ out) start new (got + n))
+    → IsNext written faults (octets + length out) frames after next later start new (got + n)
+next_row written faults law octets frames waiting after sender next receiver later out start old new got n each so_far lines fill stands writes =
     let before = take octets (stream_of (begun_pieces so_far.begun frames)) in
-    let had = lines_before law octets frames waiting sender receiver start old got each so_far lines in
+    let had = lines_before written faults law octets frames waiting sender receiver start old got each so_far lines in
     let full = filled octets frames waiting after sender next receiver out so_far fill in
     let P : List ℕ → Type 0 = λ os. Stands later 9600 os in
     record {
       carried = record { begun = full.begun; sends = full.sends; waits = full.waits; stands = subst P full.all (stands before so_far.stands) };
-      lines = lines_filled law octets (length out) frames after next before out start new (got + n) each full (writes before start so_far.stands had.0)
-          (ap (λ (k : ℕ). k + n) had.1 ∙ sym (counts before so_far.stands));
+      lines = lines_filled written faults law octets (length out) frames after next before out start new (got + n) each full (writes before start got so_far.stands had);
     }
 
-pub stops_in_row : DeliveryLaw → (octets last : ℕ) (frames waiting after : List (List ℕ)) (sender next : Sender) (receiver : Receiver) (out : List ℕ) (start old new : Option (List ℕ)) (got : ℕ)
-    → All IsFrame frames → (so_far : IsCarried octets frames waiting sender receiver) → HasLines octets frames start old got
+pub stops_in_row : {K : Type 0} (written : K → Option (List ℕ)) (faults : K → ℕ) → DeliveryLaw → (octets last : ℕ) (frames waiting after : List (List ℕ)) (sender next : Sender) (receiver : Receiver) (out : List ℕ)
+    (start old new : K) (got : ℕ) → All IsFrame frames → (so_far : IsCarried octets frames waiting sender receiver) → HasLines written faults octets frames start old got
     → Fills (begun_pieces so_far.begun frames) octets waiting after next out → octets + length out ≤ last
-    → ((before : List ℕ) (start : Option (List ℕ)) → Stands receiver 9600 before → old ≡ append_known start (got_texts (delivered 9600 before))
-    → StopsWithin start new before out)
-    → AppendsPart start new (got_texts (frames_by last (opening frames 0)))
-stops_in_row law octets last frames waiting after sender next receiver out start old new got each so_far lines fill most stops =
+    → ((before : List ℕ) (start : K) (got : ℕ) → Stands receiver 9600 before → HasGot written faults before start old got → StopsWithin written faults before out start new)
+    → AppendsPart written faults start new (got_texts (frames_by last (opening frames 0)))
+stops_in_row written faults law octets last frames waiting after sender next receiver out start old new got each so_far lines fill most stops =
     let before = take octets (stream_of (begun_pieces so_far.begun frames)) in
-    let had = lines_before law octets frames waiting sender receiver start old got each so_far lines in
+    let had = lines_before written faults law octets frames waiting sender receiver start old got each so_far lines in
     let full = filled octets frames waiting after sender next receiver out so_far fill in
-    stopped law octets (length out) last frames after next before out start new each full
-    (length-take-le octets (stream_of (begun_pieces so_far.begun frames)) so_far.sends.within) refl most (stops before start so_far.stands had.0)
+    stopped written faults law octets (length out) last frames after next before out start new each full
+    (length-take-le octets (stream_of (begun_pieces so_far.begun frames)) so_far.sends.within) refl most (stops before start got so_far.stands had)

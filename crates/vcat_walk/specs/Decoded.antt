@@ -1,8 +1,6 @@
 -- What is written of the H4 octets of a line: a line of text for each control packet, and a last line.
-use Rattle.std.specs.Prelude.{◌≡◌, ℕ, ◌<◌, Bool, if◌then◌else◌, List, [], ◌∷◌, ◌++◌, length, map, drop, All, Contains, Option, Result, Ok, Err, codes, decimal, slice_index_or}
+use Rattle.std.specs.Prelude.{◌≡◌, ℕ, ◌<◌, Bool, if◌then◌else◌, List, [], ◌∷◌, ◌++◌, length, map, drop, All, Contains, Result, Ok, Err, codes, decimal, slice_index_or}
 use Rattle.std.specs.List.{flat_map}
-use Rattle.std.specs.Io.KnownBytes.{append_known}
-use Rattle.outside_io.specs.Transfer.{AppendsPart}
 use Rattle.hex.specs.Hex.{encode_lower}
 use Rattle.vc_cell.specs.declared.Ctrl.{Ctrl}
 use Rattle.vc_cell.specs.declared.Ctrl.TheVariants.{Fixed, Add, Norm, Eos, Idle, Dnu}
@@ -66,16 +64,3 @@ decoded_text octets found = found_texts found ++ end_text (length octets) (lengt
 -- the text of octets
 abbrev pub IsDecoded : List ℕ → List ℕ → Type 0
 IsDecoded octets text = (found : List Found) × AreFound octets found × (text ≡ decoded_text octets found)
-
--- of the text of these octets, the lines of the packets are written, and they are so many
-pub record HasLines (octets : List ℕ) (start now : Option (List ℕ)) (packets : ℕ) : Type 0 where
-  pub found : List Found
-  pub are : AreFound octets found
-  pub count : packets ≡ length found
-  pub lines : now ≡ append_known start (found_texts found)
-
--- a first part of those lines is written
-pub record HasLinesPart (octets : List ℕ) (start now : Option (List ℕ)) : Type 0 where
-  pub found : List Found
-  pub are : AreFound octets found
-  pub part : AppendsPart start now (found_texts found)

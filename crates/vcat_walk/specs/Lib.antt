@@ -4,3 +4,6 @@ pub mod Walk
 pub mod HexLines
 pub mod Decoded
 pub mod Top
+pub mod Line
+pub mod Stop
+pub mod Written

@@ -1,55 +1,69 @@
--- What the program answers: the commands, their statuses and the texts on notes.
-use Rattle.std.specs.Prelude.{◌≡◌, ℕ, ◌⊎◌, ◌==◌, ◌||◌, Bool, List, [], ◌∷◌, ◌++◌, Option, codes, decimal}
-use Rattle.std.specs.Io.KnownBytes.{append_known}
-use Rattle.outside_io.specs.Transfer.{AppendsPart}
+-- What the program answers: the commands, their statuses, what is written on `out`, and what is said on `notes`. `written` and
+-- `faults` are what a sink tells of its octets, where it tells them, and its count of faults.
+use Rattle.std.specs.Prelude.{◌≡◌, ℕ, ◌⊎◌, ◌==◌, ◌||◌, Bool, List, [], ◌∷◌, ◌++◌, Option, String, map, string_bytes, codes, decimal}
+use Rattle.std.specs.declared.alloc.Global.{Global}
+use Rattle.outside_io.specs.Transfer.{Appends, AppendsPart}
 use Rattle.vcat_walk.specs.Form.{IsForm}
 use Rattle.vcat_walk.specs.HexLines.{IsHexText}
 use Rattle.vcat_walk.specs.Decoded.{IsDecoded}
 use Rattle.vcat_walk.specs.Walk.{report}
 
+-- ---- the words
+abbrev pub IsWalk : List (String Global) → Type 0
+IsWalk words = map string_bytes words ≡ codes "walk" ∷ []
+
+abbrev pub IsDecode : List (String Global) → Type 0
+IsDecode words = map string_bytes words ≡ codes "decode" ∷ []
+
 -- the words are a command
-abbrev pub IsWalk : List (List ℕ) → Type 0
-IsWalk words = words ≡ codes "walk" ∷ []
-
-abbrev pub IsDecode : List (List ℕ) → Type 0
-IsDecode words = words ≡ codes "decode" ∷ []
-
-abbrev pub IsCommand : List (List ℕ) → Type 0
+abbrev pub IsCommand : List (String Global) → Type 0
 IsCommand words = IsWalk words ⊎ IsDecode words
 
--- the statuses that there are: of a walk, of a decoding, and of either or neither
-abbrev pub is_walk_status : ℕ → Bool
-is_walk_status n = n == 0 || n == 3 || n == 4 || n == 7 || n == 8 || n == 9
-
-abbrev pub is_decode_status : ℕ → Bool
-is_decode_status n = n == 0 || n == 3 || n == 4 || n == 5 || n == 7 || n == 8
-
--- the statuses at which the input was read
-abbrev pub HasRead : ℕ → Type 0
-HasRead status = (status ≡ 0) ⊎ ((status ≡ 4) ⊎ ((status ≡ 5) ⊎ (status ≡ 9)))
-
--- the report of a script is appended, or a first part of it
-abbrev pub WritesReport : List ℕ → Option (List ℕ) → Option (List ℕ) → Type 0
-WritesReport script old new = (ticks : ℕ) × (frames : List (List ℕ)) × IsForm script ticks frames
-    × (new ≡ append_known old (report ticks frames))
-
-abbrev pub WritesReportPart : List ℕ → Option (List ℕ) → Option (List ℕ) → Type 0
-WritesReportPart script old new = (ticks : ℕ) × (frames : List (List ℕ)) × IsForm script ticks frames
-    × AppendsPart old new (report ticks frames)
+-- ---- the input
+-- the greatest number of octets
+abbrev pub most_octets : ℕ
+most_octets = 67108864
 
 -- the text is no script
 abbrev pub IsOtherForm : List ℕ → Type 0
 IsOtherForm text = (ticks : ℕ) (frames : List (List ℕ)) → ¬ IsForm text ticks frames
 
--- the packets in the octets of a text are appended, or a first part of their text
-abbrev pub WritesPackets : List ℕ → Option (List ℕ) → Option (List ℕ) → Type 0
-WritesPackets text old new = (octets : List ℕ) × IsHexText text octets × ((packets : List ℕ) × IsDecoded octets packets
-    × (new ≡ append_known old packets))
+-- ---- the statuses
+-- those that there are
+abbrev pub is_status : ℕ → Bool
+is_status n = n == 0 || n == 2 || n == 3 || n == 4 || n == 5 || n == 7 || n == 8 || n == 9
 
-abbrev pub WritesPacketsPart : List ℕ → Option (List ℕ) → Option (List ℕ) → Type 0
-WritesPacketsPart text old new = (octets : List ℕ) × IsHexText text octets × ((packets : List ℕ) × IsDecoded octets packets
-    × AppendsPart old new packets)
+-- those at which the input was read to its end
+abbrev pub HasRead : ℕ → Type 0
+HasRead status = (status ≡ 0) ⊎ ((status ≡ 4) ⊎ ((status ≡ 5) ⊎ (status ≡ 9)))
 
--- the texts on notes
+-- ---- what is written on `out`
+-- the report of a script
+abbrev pub WritesReport : {K : Type 0} → (K → Option (List ℕ)) → (K → ℕ) → K → K → List ℕ → Type 0
+WritesReport written faults old new script = (ticks : ℕ) × (frames : List (List ℕ)) × IsForm script ticks frames
+    × Appends written faults old new (report ticks frames)
+
+-- a prefix of it
+abbrev pub WritesReportPart : {K : Type 0} → (K → Option (List ℕ)) → (K → ℕ) → K → K → List ℕ → Type 0
+WritesReportPart written faults old new script = (ticks : ℕ) × (frames : List (List ℕ)) × IsForm script ticks frames
+    × AppendsPart written faults old new (report ticks frames)
+
+-- the lines of the packets in octets, and the last line
+abbrev pub WritesDecoded : {K : Type 0} → (K → Option (List ℕ)) → (K → ℕ) → K → K → List ℕ → Type 0
+WritesDecoded written faults old new octets = (lines : List ℕ) × IsDecoded octets lines × Appends written faults old new lines
+
+-- a prefix of them
+abbrev pub WritesDecodedPart : {K : Type 0} → (K → Option (List ℕ)) → (K → ℕ) → K → K → List ℕ → Type 0
+WritesDecodedPart written faults old new octets = (lines : List ℕ) × IsDecoded octets lines × AppendsPart written faults old new lines
+
+-- the same of the octets that a text of hexadecimal lines says
+abbrev pub WritesPackets : {K : Type 0} → (K → Option (List ℕ)) → (K → ℕ) → K → K → List ℕ → Type 0
+WritesPackets written faults old new text = (octets : List ℕ) × IsHexText text octets × WritesDecoded written faults old new octets
+
+abbrev pub WritesPacketsPart : {K : Type 0} → (K → Option (List ℕ)) → (K → ℕ) → K → K → List ℕ → Type 0
+WritesPacketsPart written faults old new text = (octets : List ℕ) × IsHexText text octets × WritesDecodedPart written faults old new octets
+
+-- ---- what is said on `notes`
+-- the note on a line that is not hexadecimal
 abbrev pub line_text : ℕ → List ℕ
 line_text number = codes "fault: line " ++ decimal number ++ codes ": hex\n"

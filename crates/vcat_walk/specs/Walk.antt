@@ -1,8 +1,6 @@
 -- What a walk of a script of one line writes.
-use Rattle.std.specs.Prelude.{ℕ, ◌-◌, ◌*◌, ◌≤◌, List, ◌++◌, length, Option, take}
-use Rattle.outside_io.specs.Transfer.{AppendsPart}
-use Rattle.gfp_headers.specs.Piece.{opening, frames_by}
-use Rattle.gfp_headers.specs.Delivery.{delivered}
+use Rattle.std.specs.Prelude.{ℕ, ◌-◌, ◌*◌, List, ◌++◌, length}
+use Rattle.session_model.specs.Piece.{opening, frames_by}
 use Rattle.vcat_walk.specs.Report.{got_texts, total_text}
 
 -- the octets of payload in a row, and the rows in which the line carries none of the stream
@@ -20,9 +18,3 @@ carried ticks frames = frames_by (row_octets * (ticks - empty_rows)) (opening fr
 unfoldable pub report : ℕ → List (List ℕ) → List ℕ
 report ticks frames =
     got_texts (carried ticks frames) ++ total_text ticks (length frames) (length (carried ticks frames))
-
--- a first part of the lines of the frames that are delivered, where the text stops within these octets behind those before
-pub record StopsWithin (start now : Option (List ℕ)) (before octets : List ℕ) : Type 0 where
-  pub count : ℕ
-  pub within : count ≤ length octets
-  pub part : AppendsPart start now (got_texts (delivered 9600 (before ++ take count octets)))

@@ -1,126 +1,135 @@
-ghost use Rattle.std.specs.Prelude.{◌≡◌, ◌≢◌, ℕ, ◌<◌, ◌≤◌, length, IsTrue, IfSome, IfOk, OnOk, OnErr, IsErrOf, IfErr, codes};
-ghost use Rattle.std.specs.Io.KnownBytes.{IsAtEnd, prepend_known};
-ghost use Rattle.outside_io.specs.Faults.{Rose};
+//! The two commands: each reads its input whole before it writes.
+ghost use Rattle.std.specs.Prelude.{◌≡◌, ◌≢◌, ℕ, ◌<◌, ◌≤◌, length, IfSome, OnOk, IfErr};
+ghost use Rattle.std.specs.Io.KnownBytes.{IsAtEnd};
+ghost use Rattle.outside_io.specs.Faults.{one_more};
 ghost use Rattle.outside_io.specs.Transfer.{Tells};
 ghost use Rattle.vcat_walk.specs.HexLines.{IsFirstFault};
-ghost use Rattle.vcat_walk.specs.Top.{HasRead, IsOtherForm, WritesReport, WritesReportPart, WritesPackets, WritesPacketsPart, line_text, is_walk_status, is_decode_status};
+ghost use Rattle.vcat_walk.specs.Stop.{HasReadAll, note_of};
+ghost use Rattle.vcat_walk.specs.Top.{most_octets, IsOtherForm, WritesReport, WritesReportPart, WritesPackets, WritesPacketsPart};
 
 use crate::decode::write_packets;
 use crate::form::read_form;
 use crate::hex_lines::{HexLinesFault, read_octets};
-use crate::report::line_note;
+use crate::report::{NOTE_ROOM, note_line};
 use crate::walk::run;
 use gfp_delineate::Delineator;
-use gfp_fill::FrameQueue;
+use gfp_fill::{FrameQueue, MAX_FRAME};
 use outside_io::{ByteSink, ByteSource, Failed, ReadEnd, put_all, read_all};
 use std::alloc::Global;
 
 /// The most octets that an input may have.
 pub const MOST: usize = 67_108_864;
 
-/// Reads a script of one line, runs it and writes its report. The answer is the status.
-pub fn walk_status<S: ByteSource, K: ByteSink>(alloc: Global, script: &mut S, out: &mut K) -> u8
-    ensures known { IsTrue (is_walk_status result) }
-    ensures read { result ≡ 3 → Rose (S.faults script.old) (S.faults script.new) }
-    ensures long { result ≡ 8 → IfSome (S.left script.old) (λ text. MOST < length text) }
-    ensures fits { HasRead result → IfSome (S.left script.old) (λ text. length text ≤ MOST) }
-    ensures form { result ≡ 9 → IfSome (S.left script.old) IsOtherForm }
-    ensures write { result ≡ 4 → Rose (K.faults out.old) (K.faults out.new) }
-    ensures end { HasRead result → IsAtEnd (S.left script.new) }
-    ensures walked { result ≡ 0 → IfSome (S.left script.old) (λ text. WritesReport text (K.written out.old) (K.written out.new)) }
-    ensures part { result ≡ 4 → IfSome (S.left script.old) (λ text. WritesReportPart text (K.written out.old) (K.written out.new)) }
-    ensures nothing { result ≢ 0 → result ≢ 4 → K.written out.new ≡ K.written out.old }
-    ensures read_faults { S.faults script.old ≤ S.faults script.new }
-    ensures write_faults { K.faults out.old ≤ K.faults out.new }
-{
-    let text = match read_all(alloc, script, MOST) {
-        Ok(text) => text,
-        Err(ReadEnd::Memory) => return 7,
-        Err(ReadEnd::Failed) => return 3,
-        Err(ReadEnd::TooLong) => return 8,
-    };
-    let Ok(mut queue) = FrameQueue::new(alloc) else {
-        return 7;
-    };
-    let Ok(mut delineator) = Delineator::new(alloc, 9600) else {
-        return 7;
-    };
-    let Some(ticks) = read_form(text.as_slice(), &mut queue) else {
-        return 9;
-    };
-    match run(ticks, &mut queue, &mut delineator, out) {
-        Ok(()) => 0,
-        Err(Failed) => 4,
-    }
+/// Why a command stopped before it was done.
+#[derive(Clone, Copy, Debug, PartialEq, Eq)]
+pub enum Stop {
+    /// The words are no command.
+    Usage,
+    /// The input can't be read.
+    Read,
+    /// The input has more octets than it may have.
+    TooLong,
+    /// The text is no script.
+    OtherForm,
+    /// A line of the input is not hexadecimal: the first one, counted from 1.
+    NotHex { number: u64 },
+    /// `out` can't be written.
+    Write,
+    /// Memory is short.
+    Memory,
 }
 
-/// Reads the H4 octets of a line and writes the control packets in them. The answer is the status, and what went wrong is said
-/// on `notes`.
-pub fn decode_status<S: ByteSource, K: ByteSink, E: ByteSink>(
+/// Reads a script of one line, runs it and writes its report.
+pub fn walk<S: ByteSource, K: ByteSink>(
     alloc: Global,
     script: &mut S,
     out: &mut K,
-    notes: &mut E,
-) -> u8
-    ensures known { IsTrue (is_decode_status result) }
-    ensures read { result ≡ 3 → Rose (S.faults script.old) (S.faults script.new) }
-    ensures long { result ≡ 8 → IfSome (S.left script.old) (λ text. MOST < length text) }
-    ensures fits { HasRead result → IfSome (S.left script.old) (λ text. length text ≤ MOST) }
-    ensures hex { result ≡ 5 → IfSome (S.left script.old) (λ text. (number : ℕ) × IsFirstFault text number) }
-    ensures write { result ≡ 4 → Rose (K.faults out.old) (K.faults out.new) }
-    ensures end { HasRead result → IsAtEnd (S.left script.new) }
-    ensures decoded { result ≡ 0 → IfSome (S.left script.old) (λ text. WritesPackets text (K.written out.old) (K.written out.new)) }
-    ensures part { result ≡ 4 → IfSome (S.left script.old) (λ text. WritesPacketsPart text (K.written out.old) (K.written out.new)) }
-    ensures nothing { result ≢ 0 → result ≢ 4 → K.written out.new ≡ K.written out.old }
-    ensures quiet { result ≡ 0 → E.written notes.new ≡ E.written notes.old }
-    ensures told_read { result ≡ 3 →
-        Tells (E.faults notes.old) (E.faults notes.new) (E.written notes.old) (E.written notes.new) (codes "fault: read failed\n") }
-    ensures told_write { result ≡ 4 →
-        Tells (E.faults notes.old) (E.faults notes.new) (E.written notes.old) (E.written notes.new) (codes "fault: write failed\n") }
-    ensures told_line { result ≡ 5 → (number : ℕ) × IfSome (S.left script.old) (λ text. IsFirstFault text number)
-        × Tells (E.faults notes.old) (E.faults notes.new) (E.written notes.old) (E.written notes.new) (line_text number) }
-    ensures told_memory { result ≡ 7 →
-        Tells (E.faults notes.old) (E.faults notes.new) (E.written notes.old) (E.written notes.new) (codes "fault: no memory\n") }
-    ensures told_long { result ≡ 8 →
-        Tells (E.faults notes.old) (E.faults notes.new) (E.written notes.old) (E.written notes.new) (codes "fault: too long\n") }
-    ensures read_faults { S.faults script.old ≤ S.faults script.new }
-    ensures write_faults { K.faults out.old ≤ K.faults out.new }
-    ensures note_faults { E.faults notes.old ≤ E.faults notes.new }
+) -> Result<(), Stop>
+    ensures command { result ≢ Err Stop.Usage }
+    ensures hex { (number : ℕ) → result ≢ Err (Stop.NotHex number) }
+    ensures long { result ≡ Err Stop.TooLong → IfSome (S.left script.old) (λ text. most_octets < length text) }
+    ensures fits { HasReadAll result → IfSome (S.left script.old) (λ text. length text ≤ most_octets) }
+    ensures form { result ≡ Err Stop.OtherForm → IfSome (S.left script.old) IsOtherForm }
+    ensures end { HasReadAll result → IsAtEnd (S.left script.new) }
+    ensures walked { OnOk result (IfSome (S.left script.old) (WritesReport K.written K.faults out.old out.new)) }
+    ensures part { result ≡ Err Stop.Write →
+        IfSome (S.left script.old) (WritesReportPart K.written K.faults out.old out.new) }
+    ensures nothing { IfErr result (λ stop. stop ≢ Stop.Write → out.new ≡ out.old) }
+    ensures read_failed { result ≡ Err Stop.Read → S.faults script.new ≡ one_more (S.faults script.old) }
+    ensures read_quiet { result ≢ Err Stop.Read → S.faults script.new ≡ S.faults script.old }
+    ensures write_failed { result ≡ Err Stop.Write → K.faults out.new ≡ one_more (K.faults out.old) }
+    ensures write_quiet { result ≢ Err Stop.Write → K.faults out.new ≡ K.faults out.old }
 {
     let text = match read_all(alloc, script, MOST) {
         Ok(text) => text,
-        Err(ReadEnd::Memory) => return tell(notes, b"fault: no memory\n", 7),
-        Err(ReadEnd::Failed) => return tell(notes, b"fault: read failed\n", 3),
-        Err(ReadEnd::TooLong) => return tell(notes, b"fault: too long\n", 8),
+        Err(ReadEnd::Memory) => return Err(Stop::Memory),
+        Err(ReadEnd::Failed) => return Err(Stop::Read),
+        Err(ReadEnd::TooLong) => return Err(Stop::TooLong),
     };
-    let octets = match read_octets(alloc, text.as_slice()) {
-        Ok(octets) => octets,
-        Err(HexLinesFault::Memory) => return tell(notes, b"fault: no memory\n", 7),
-        Err(HexLinesFault::Line { number }) => return tell_line(notes, number),
+    let Ok(mut queue) = FrameQueue::new(alloc) else {
+        return Err(Stop::Memory);
     };
-    match write_packets(octets.as_slice(), out) {
-        Ok(()) => 0,
-        Err(Failed) => tell(notes, b"fault: write failed\n", 4),
+    let Ok(mut delineator) = Delineator::new(alloc, MAX_FRAME as u16) else {
+        return Err(Stop::Memory);
+    };
+    let Some(ticks) = read_form(text.as_slice(), &mut queue) else {
+        return Err(Stop::OtherForm);
+    };
+    match run(ticks, &mut queue, &mut delineator, out) {
+        Ok(()) => Ok(()),
+        Err(Failed) => Err(Stop::Write),
     }
 }
 
-/// Writes a text on notes, as far as they take it, and gives the status back.
-fn tell<E: ByteSink>(notes: &mut E, text: &[u8], status: u8) -> u8
-    ensures same { result ≡ status }
-    ensures told { Tells (E.faults notes.old) (E.faults notes.new) (E.written notes.old) (E.written notes.new) text.now }
-    ensures faults { E.faults notes.old ≤ E.faults notes.new }
+/// Reads the H4 octets of a line and writes the control packets in them.
+pub fn decode<S: ByteSource, K: ByteSink>(
+    alloc: Global,
+    script: &mut S,
+    out: &mut K,
+) -> Result<(), Stop>
+    ensures command { result ≢ Err Stop.Usage }
+    ensures form { result ≢ Err Stop.OtherForm }
+    ensures long { result ≡ Err Stop.TooLong → IfSome (S.left script.old) (λ text. most_octets < length text) }
+    ensures fits { HasReadAll result → IfSome (S.left script.old) (λ text. length text ≤ most_octets) }
+    ensures hex { (number : ℕ) → result ≡ Err (Stop.NotHex number) →
+        IfSome (S.left script.old) (λ text. IsFirstFault text number) }
+    ensures end { HasReadAll result → IsAtEnd (S.left script.new) }
+    ensures decoded { OnOk result (IfSome (S.left script.old) (WritesPackets K.written K.faults out.old out.new)) }
+    ensures part { result ≡ Err Stop.Write →
+        IfSome (S.left script.old) (WritesPacketsPart K.written K.faults out.old out.new) }
+    ensures nothing { IfErr result (λ stop. stop ≢ Stop.Write → out.new ≡ out.old) }
+    ensures read_failed { result ≡ Err Stop.Read → S.faults script.new ≡ one_more (S.faults script.old) }
+    ensures read_quiet { result ≢ Err Stop.Read → S.faults script.new ≡ S.faults script.old }
+    ensures write_failed { result ≡ Err Stop.Write → K.faults out.new ≡ one_more (K.faults out.old) }
+    ensures write_quiet { result ≢ Err Stop.Write → K.faults out.new ≡ K.faults out.old }
 {
-    let _ = put_all(notes, text);
-    status
+    let text = match read_all(alloc, script, MOST) {
+        Ok(text) => text,
+        Err(ReadEnd::Memory) => return Err(Stop::Memory),
+        Err(ReadEnd::Failed) => return Err(Stop::Read),
+        Err(ReadEnd::TooLong) => return Err(Stop::TooLong),
+    };
+    let octets = match read_octets(alloc, text.as_slice()) {
+        Ok(octets) => octets,
+        Err(HexLinesFault::Memory) => return Err(Stop::Memory),
+        Err(HexLinesFault::Line { number }) => return Err(Stop::NotHex { number }),
+    };
+    match write_packets(octets.as_slice(), out) {
+        Ok(()) => Ok(()),
+        Err(Failed) => Err(Stop::Write),
+    }
 }
 
-/// Says on notes which line is not hexadecimal. The answer is the status of that.
-fn tell_line<E: ByteSink>(notes: &mut E, number: u64) -> u8
-    ensures same { result ≡ 5 }
-    ensures told { Tells (E.faults notes.old) (E.faults notes.new) (E.written notes.old) (E.written notes.new) (line_text number) }
-    ensures faults { E.faults notes.old ≤ E.faults notes.new }
+/// Says on `notes` why a command stopped, where it did and as far as they take it, and gives its end back.
+pub fn told<E: ByteSink>(end: Result<(), Stop>, notes: &mut E) -> Result<(), Stop>
+    ensures same { result ≡ end }
+    ensures quiet { OnOk end (notes.new ≡ notes.old) }
+    ensures told { IfErr end (λ stop. Tells E.written E.faults notes.old notes.new (note_of stop)) }
 {
-    let mut line = [0u8; 64];
-    let end = line_note(number, &mut line);
-    tell(notes, &line[..end], 5)
+    if let Err(stop) = end {
+        let mut note = [0u8; NOTE_ROOM];
+        let end = note_line(stop, &mut note);
+        let _ = put_all(notes, &note[..end]);
+    }
+    end
 }

@@ -1,15 +1,14 @@
-ghost use Rattle.std.specs.Prelude.{◌≡◌, ℕ, ◌+◌, ◌<◌, ◌≤◌, List, [], ◌∷◌, ◌++◌, length, Option, IfOk, OnOk, OnErr};
-ghost use Rattle.std.specs.Io.KnownBytes.{append_known};
-ghost use Rattle.outside_io.specs.Faults.{Rose};
-ghost use Rattle.outside_io.specs.Transfer.{AppendsPart};
+//! The packets in the H4 octets of a line are found, and a line is written of each.
+ghost use Rattle.std.specs.Prelude.{◌≡◌, ℕ, ◌+◌, ◌<◌, ◌≤◌, List, [], ◌∷◌, ◌++◌, length, IfOk, OnOk, OnErr};
 ghost use Rattle.trace_core.specs.Decoder.{Stands};
-ghost use Rattle.vcat_walk.specs.Decoded.{IsDecoded, HasLines, HasLinesPart};
+ghost use Rattle.vcat_walk.specs.Top.{WritesDecoded, WritesDecodedPart};
+ghost use Rattle.vcat_walk.specs.Written.{HasLines, HasLinesPart};
 
 use crate::report::{FOUND_ROOM, end_line, found_line};
 use outside_io::{ByteSink, Failed, put_all};
 use trace_core::H4Decoder;
 
-/// Gives an H4 octet to the decoder, and writes the line of what it finds. The answer is how many lines that are.
+/// Gives an H4 octet to the decoder, and writes the line of what it finds. The answer is the number of lines.
 fn take_h4<K: ByteSink>(
     h4: u8,
     decoder: &mut H4Decoder,
@@ -19,15 +18,13 @@ fn take_h4<K: ByteSink>(
     requires { decoder.old.given < 4294967295 }
     ensures given { decoder.new.given ≡ decoder.old.given + 1 }
     ensures stands { (before : List ℕ) → Stands decoder.old before → Stands decoder.new (before ++ h4 ∷ []) }
-    ensures ok { (before : List ℕ) (start : Option (List ℕ)) (packets : ℕ) → Stands decoder.old before →
-        HasLines before start (K.written out.old) packets →
-        IfOk result (λ n. HasLines (before ++ h4 ∷ []) start (K.written out.new) (packets + n)) }
-    ensures err { (before : List ℕ) (start : Option (List ℕ)) (packets : ℕ) → Stands decoder.old before →
-        HasLines before start (K.written out.old) packets →
-        OnErr result (HasLinesPart (before ++ h4 ∷ []) start (K.written out.new)) }
+    ensures ok { (before : List ℕ) (start : K) (packets : ℕ) → Stands decoder.old before →
+        HasLines K.written K.faults before start out.old packets →
+        IfOk result (λ n. HasLines K.written K.faults (before ++ h4 ∷ []) start out.new (packets + n)) }
+    ensures err { (before : List ℕ) (start : K) (packets : ℕ) → Stands decoder.old before →
+        HasLines K.written K.faults before start out.old packets →
+        OnErr result (HasLinesPart K.written K.faults (before ++ h4 ∷ []) start out.new) }
     ensures one { IfOk result (λ n. n ≤ 1) }
-    ensures never_falls { K.faults out.old ≤ K.faults out.new }
-    ensures cause { OnErr result (Rose (K.faults out.old) (K.faults out.new)) }
 {
     let Some((place, found)) = decoder.octet(h4) else {
         return Ok(0);
@@ -42,10 +39,8 @@ fn take_h4<K: ByteSink>(
 /// Writes a line for each control packet in the H4 octets of a line, and the last line.
 pub fn write_packets<K: ByteSink>(octets: &[u8], out: &mut K) -> Result<(), Failed>
     requires { length octets.now ≤ 33554432 }
-    ensures ok { OnOk result ((report : List ℕ) × IsDecoded octets.now report × (K.written out.new ≡ append_known (K.written out.old) report)) }
-    ensures err { OnErr result ((report : List ℕ) × IsDecoded octets.now report × AppendsPart (K.written out.old) (K.written out.new) report) }
-    ensures never_falls { K.faults out.old ≤ K.faults out.new }
-    ensures cause { OnErr result (Rose (K.faults out.old) (K.faults out.new)) }
+    ensures ok { OnOk result (WritesDecoded K.written K.faults out.old out.new octets.now) }
+    ensures err { OnErr result (WritesDecodedPart K.written K.faults out.old out.new octets.now) }
 {
     let mut decoder = H4Decoder::new();
     let mut line = [0u8; FOUND_ROOM];

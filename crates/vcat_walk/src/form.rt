@@ -1,18 +1,22 @@
+//! The script of one line: its ticks, and the frames that wait from the start.
 ghost use Rattle.std.specs.Prelude.{◌≡◌, ◌≢◌, ℕ, ◌≤◌, List, [], ◌++◌, take, IfSome, IfNone};
 ghost use Rattle.std.specs.Bool.{OnTrue, OnFalse};
 ghost use Rattle.vcat_walk.specs.Form.{IsFrame, AreFrames, IsForm, frame_line};
 
 use crate::lines::{behind, first_line, read_hex, read_ticks};
-use gfp_fill::FrameQueue;
+use gfp_fill::{FrameQueue, MAX_FRAME};
 
+/// What a script says before its number of ticks.
 const HEAD: &[u8] = b"lines 1\ndelays 0\nring 1\nlag 1\nticks ";
 
+/// The addition of the line.
 const ADD: &[u8] = b"add 0 0\n";
 
+/// How the line of a frame begins.
 const FRAME: &[u8] = b"frame 0 ";
 
-/// Reads the frame line in front of a text into the front of `octets`: how many octets it has, and what is behind it.
-fn read_frame<'a>(text: &'a [u8], octets: &mut [u8; 9600]) -> Option<(usize, &'a [u8])>
+/// Reads the frame line at the start of a text into the front of `octets`: how many octets the frame has, and the rest of the text.
+fn read_frame<'a>(text: &'a [u8], octets: &mut [u8; MAX_FRAME]) -> Option<(usize, &'a [u8])>
     ensures bound { IfSome result (λ read. read.0 ≤ 9600) }
     ensures frame { IfSome result (λ read. IsFrame (take read.0 octets.new)) }
     ensures some { IfSome result (λ read. text.now ≡ frame_line (take read.0 octets.new) ++ read.1.now) }
@@ -36,7 +40,7 @@ fn read_frames(text: &[u8], queue: &mut FrameQueue) -> bool
     ensures yes { OnTrue result (AreFrames text.now queue.new) }
     ensures no { OnFalse result ((frames : List (List ℕ)) → ¬ AreFrames text.now frames) }
 {
-    let mut octets = [0u8; 9600];
+    let mut octets = [0u8; MAX_FRAME];
     let mut rest = text;
     while !rest.is_empty() {
         let Some((n, further)) = read_frame(rest, &mut octets) else {

@@ -1,3 +1,4 @@
+//! The octets that lines of hexadecimal digits say.
 ghost use Rattle.std.specs.Prelude.{◌≡◌, ℕ, ◌≤◌, ◌<◌, ◌+◌, ◌*◌, ◌^◌, ◌∷◌, [], List, reverse, length, vec_len, IfOk, OnOk, IfSome, IfNone};
 ghost use Rattle.std.specs.Str.Lines.{lines, strip_carriage_return};
 ghost use Rattle.hex.specs.Hex.{decode_of};
@@ -7,10 +8,12 @@ ghost use Rattle.std.specs.Result.{result_ok};
 use crate::lines::first_line;
 use std::alloc::{AllocError, Global};
 
-/// Why a text gives no octets: its first line that is not hexadecimal, counted from 1, or want of memory.
+/// Why a text gives no octets.
 #[derive(Clone, Copy, Debug, PartialEq, Eq)]
 pub enum HexLinesFault {
+    /// A line is not hexadecimal: the first one, counted from 1.
     Line { number: u64 },
+    /// Memory is short.
     Memory,
 }
 

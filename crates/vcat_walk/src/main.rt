@@ -5,6 +5,7 @@ mod commands;
 mod decode;
 mod form;
 mod hex_lines;
+mod line;
 mod lines;
 mod report;
 #[cfg(test)]

@@ -1,10 +1,11 @@
-use crate::commands::MOST;
+//! The program by commands, inputs and faults.
+
 use crate::top::walk_top;
 use outside_io::{MemSink, MemSource};
 use std::alloc::{AllocError, Global};
 use std::test::Fail;
 
-/// What a walk answered and wrote.
+/// What the program answered and wrote.
 #[derive(Drop)]
 struct Answer {
     status: u8,
@@ -20,7 +21,21 @@ fn walked(
     fail_reads: &[u32],
     fail_writes: &[u32],
 ) -> Result<Answer, AllocError> {
-    let words = vec![in alloc; String::from_str(alloc, word)?]?;
+    called(alloc, &[word], script, fail_reads, fail_writes)
+}
+
+/// Calls the program with any words.
+fn called(
+    alloc: Global,
+    given: &[&str],
+    script: &[u8],
+    fail_reads: &[u32],
+    fail_writes: &[u32],
+) -> Result<Answer, AllocError> {
+    let mut words = Vec::new(alloc);
+    for word in given {
+        words.push(String::from_str(alloc, word)?)?;
+    }
     let mut source = MemSource::new(alloc, script, fail_reads)?;
     let mut out = MemSink::new(alloc, 1 << 20, fail_writes)?;
     let mut notes = MemSink::new(alloc, 1 << 10, &[])?;
@@ -32,16 +47,22 @@ fn walked(
     })
 }
 
-/// A script of so many ticks, with a frame of zeros for each length.
+/// Appends the hexadecimal digits of a frame of `length` octets.
+fn push_digits(text: &mut Vec<u8>, length: usize) -> Result<(), AllocError> {
+    for _ in 0..length {
+        text.extend_from_slice(b"5a")?;
+    }
+    Ok(())
+}
+
+/// A script of a number of ticks, with a frame of each length.
 fn script(alloc: Global, ticks: &str, lengths: &[usize]) -> Result<Vec<u8>, AllocError> {
     let mut text = Vec::from_slice(alloc, b"lines 1\ndelays 0\nring 1\nlag 1\nticks ")?;
     text.extend_from_slice(ticks.as_bytes())?;
     text.extend_from_slice(b"\nadd 0 0\n")?;
     for length in lengths {
         text.extend_from_slice(b"frame 0 ")?;
-        for _ in 0..*length {
-            text.extend_from_slice(b"00")?;
-        }
+        push_digits(&mut text, *length)?;
         text.extend_from_slice(b"\n")?;
     }
     Ok(text)
@@ -55,8 +76,8 @@ fn count_lines(text: &[u8]) -> usize {
 #[test]
 fn frames_that_the_rows_carry(rt: HostRuntime) -> Result<(), Fail> {
     let alloc = rt.alloc();
-    // Ticks and lengths, and how many got lines there are. The stream begins with two idles, eight octets, behind forty empty
-    // rows, and a frame has eight octets of headers.
+    // Ticks and lengths, and how many got lines there are. The stream begins with two idles, eight octets, after forty empty rows,
+    // and a frame has eight octets of headers.
     for (ticks, lengths, got) in [
         ("1", [].as_slice(), 0),
         ("41", [2324].as_slice(), 1),
@@ -76,6 +97,36 @@ fn frames_that_the_rows_carry(rt: HostRuntime) -> Result<(), Fail> {
     assert_eq!(rt;
         one.out.as_slice(),
         b"total ticks 1 taken 1 frames 0 commands 1 refused 0 got 0\n".as_slice()
+    );
+    Ok(())
+}
+
+#[test]
+fn frame_that_ends_on_the_last_octet(rt: HostRuntime) -> Result<(), Fail> {
+    let alloc = rt.alloc();
+    let mut text = Vec::from_slice(alloc, b"got ")?;
+    push_digits(&mut text, 2324)?;
+    text.extend_from_slice(b"\ntotal ticks 41 taken 41 frames 1 commands 1 refused 0 got 1\n")?;
+    let end = walked(
+        alloc,
+        "walk",
+        script(alloc, "41", &[2324])?.as_slice(),
+        &[],
+        &[],
+    )?;
+    assert_eq!(rt; end.status, 0);
+    assert_eq!(rt; end.out.as_slice(), text.as_slice());
+    let end = walked(
+        alloc,
+        "walk",
+        script(alloc, "41", &[2325])?.as_slice(),
+        &[],
+        &[],
+    )?;
+    assert_eq!(rt; end.status, 0);
+    assert_eq!(rt;
+        end.out.as_slice(),
+        b"total ticks 41 taken 41 frames 1 commands 1 refused 0 got 0\n".as_slice()
     );
     Ok(())
 }
@@ -124,7 +175,7 @@ fn texts_of_another_form(rt: HostRuntime) -> Result<(), Fail> {
     let last = upper.pop();
     assert_eq!(rt; last, Some(b'\n'));
     let digit = upper.pop();
-    assert_eq!(rt; digit, Some(b'0'));
+    assert_eq!(rt; digit, Some(b'a'));
     upper.extend_from_slice(b"A\n")?;
     assert_eq!(rt;
         walked(alloc, "walk", upper.as_slice(), &[], &[])?.status,
@@ -139,11 +190,21 @@ fn texts_of_another_form(rt: HostRuntime) -> Result<(), Fail> {
 }
 
 #[test]
-fn words_faults_and_lengths(rt: HostRuntime) -> Result<(), Fail> {
+fn words_and_faults(rt: HostRuntime) -> Result<(), Fail> {
     let alloc = rt.alloc();
     let text = script(alloc, "50", &[64, 65, 66, 67])?;
-    for word in ["", "walk ", "Walk", "decoder", "-h"] {
-        let end = walked(alloc, word, text.as_slice(), &[0], &[])?;
+    for words in [
+        [].as_slice(),
+        &[""],
+        &["walk "],
+        &["Walk"],
+        &["decoder"],
+        &["-h"],
+        &["walk", "walk"],
+        &["walk", "x"],
+        &["decode", ""],
+    ] {
+        let end = called(alloc, words, text.as_slice(), &[0], &[])?;
         assert_eq!(rt; end.status, 2);
         assert_eq!(rt; end.out.len(), 0);
         assert_eq!(rt; end.notes.len(), 0);
@@ -160,12 +221,6 @@ fn words_faults_and_lengths(rt: HostRuntime) -> Result<(), Fail> {
     let total_unwritten = walked(alloc, "walk", text.as_slice(), &[], &[4])?;
     assert_eq!(rt; total_unwritten.status, 4);
     assert_eq!(rt; count_lines(total_unwritten.out.as_slice()), 4);
-    for (length, status) in [(MOST, 9), (MOST + 1, 8)] {
-        let long = vec![in alloc; b'0'; length]?;
-        let end = walked(alloc, "walk", long.as_slice(), &[], &[])?;
-        assert_eq!(rt; end.status, status);
-        assert_eq!(rt; end.out.len(), 0);
-    }
     Ok(())
 }
 
@@ -225,9 +280,5 @@ fn control_packets(rt: HostRuntime) -> Result<(), Fail> {
         unwritten.notes.as_slice(),
         b"fault: write failed\n".as_slice()
     );
-    let long = vec![in alloc; b'0'; MOST + 1]?;
-    let end = walked(alloc, "decode", long.as_slice(), &[], &[])?;
-    assert_eq!(rt; end.status, 8);
-    assert_eq!(rt; end.notes.as_slice(), b"fault: too long\n".as_slice());
     Ok(())
 }

@@ -1,7 +1,9 @@
+//! The words of the command line.
+
 use std::alloc::AllocError;
 use std::env::{Env, FillError};
 
-/// The words behind the program's name. One that isn't UTF-8 is given as `-`.
+/// The words after the program's name. One that isn't UTF-8 is given as `-`.
 pub fn given_words<R: Env + AllocGlobal>(rt: &R) -> Result<Vec<String>, AllocError> {
     let mut words = Vec::new(rt.alloc());
     for i in 1..usize::MAX {

@@ -1,13 +1,12 @@
--- The octets before `at` are written.
-use Rattle.std.proofs.Common.{◌≡◌, ◌≤◌, ◌-◌, length, take}
-use Rattle.std.specs.Io.KnownBytes.{append_known}
+-- The octets before `at` are written, and no fault came.
+use Rattle.std.proofs.Common.{◌≤◌, ◌-◌, length, take}
+use Rattle.outside_io.specs.Transfer.{Appends}
 use Rattle.outside_io.proofs.transfer.put_all.Given as goal
 
 abbrev pub invariant-loop-at : goal.invariant-loop-at
 invariant-loop-at g l = record {
   within : l.at ≤ length l.piece;
-  written : g.K.ByteSink.written l.sink ≡ append_known (g.K.ByteSink.written l.fn.sink) (take l.at l.piece);
-  faults : g.K.ByteSink.faults l.fn.sink ≤ g.K.ByteSink.faults l.sink;
+  written : Appends g.K.ByteSink.written g.K.ByteSink.faults l.fn.sink l.sink (take l.at l.piece);
 }
 
 abbrev pub decreases-loop-at : goal.decreases-loop-at

@@ -1,4 +1,4 @@
--- The text is what the source gave.
+-- The text is what the source gave, and no fault came.
 use Rattle.std.proofs.Common.{◌≡◌, ◌≤◌, ◌-◌, vec_len}
 use Rattle.std.specs.Io.KnownBytes.{prepend_known}
 use Rattle.outside_io.proofs.transfer.read_all.Given as goal
@@ -7,7 +7,7 @@ abbrev pub invariant-loop-text : goal.invariant-loop-text
 invariant-loop-text g l = record {
   given : g.S.ByteSource.left l.fn.source ≡ prepend_known l.text.items (g.S.ByteSource.left l.source);
   fits : vec_len l.text ≤ l.limit;
-  faults : g.S.ByteSource.faults l.fn.source ≤ g.S.ByteSource.faults l.source;
+  quiet : g.S.ByteSource.faults l.source ≡ g.S.ByteSource.faults l.fn.source;
 }
 
 abbrev pub decreases-loop-text : goal.decreases-loop-text

@@ -1,16 +1,17 @@
+-- An octet that ends a packet writes its line, and every other one writes nothing.
 use Rattle.vcat_walk.proofs.DecodedLaws.{none_more, one_more, one_part}
 use Rattle.vcat_walk.proofs.decode.take_h4.Goals as goal
 
 pub returns-in_default-clause-ok : goal.returns-in_default-clause-ok
 returns-in_default-clause-ok g c before start packets stands has =
-    none_more before c.args.h4 packets start _ has (λ place ends. c.in_default.ensures.none before place stands ends)
+    none_more _ _ before c.args.h4 packets start _ has (λ place ends. c.in_default.ensures.none before place stands ends)
 
 pub returns-in-Ok-clause-ok : goal.returns-in-Ok-clause-ok
 returns-in-Ok-clause-ok g c before start packets stands has =
-    one_more before c.args.h4 c.in-Some.place packets c.in-Some.found _ start _ _ has (c.in-Some.ensures.ends before stands) (c.in-Some.ensures.packet before stands)
+    one_more _ _ before c.args.h4 c.in-Some.place packets c.in-Some.found _ start _ _ has (c.in-Some.ensures.ends before stands) (c.in-Some.ensures.packet before stands)
     (c.in-Some.ensures.reads before stands) c.found_line-end.ensures.line c.in-Ok.ensures.ok
 
 pub returns-in-Err-clause-err : goal.returns-in-Err-clause-err
 returns-in-Err-clause-err g c before start packets stands has =
-    one_part before c.args.h4 c.in-Some.place packets c.in-Some.found _ start _ _ has (c.in-Some.ensures.ends before stands) (c.in-Some.ensures.packet before stands)
+    one_part _ _ before c.args.h4 c.in-Some.place packets c.in-Some.found _ start _ _ has (c.in-Some.ensures.ends before stands) (c.in-Some.ensures.packet before stands)
     (c.in-Some.ensures.reads before stands) c.found_line-end.ensures.line c.in-Err.ensures.err

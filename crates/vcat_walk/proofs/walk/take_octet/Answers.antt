@@ -1,5 +1,6 @@
+-- An octet that completes a frame writes its line, and every other one writes nothing.
 use Rattle.std.proofs.Common.{ap, ◌∙◌, List, ℕ, ◌++◌}
-use Rattle.gfp_headers.specs.Delivery.{delivered}
+use Rattle.session_model.specs.Delivery.{delivered}
 use Rattle.gfp_delineate.specs.Receiver.{told}
 use Rattle.vcat_walk.proofs.TakeLaws.{told_frame, told_none, one_written, one_stopped, none_written}
 use Rattle.vcat_walk.proofs.walk.take_octet.Goals as goal
@@ -8,18 +9,18 @@ pub put_frame-requires : goal.put_frame-requires
 put_frame-requires g c = rw c.frame.ensures at (c.byte.ensures.short 9600 c.requires.0 c.requires.1)
 
 pub returns-in-Ok-clause-ok : goal.returns-in-Ok-clause-ok
-returns-in-Ok-clause-ok g c before start stands written =
-    one_written start _ _ (delivered 9600 before) _ c.frame.result.now written c.in-Ok.ensures.ok
+returns-in-Ok-clause-ok g c before start got stands has =
+    one_written _ _ before _ start _ _ c.frame.result.now got has c.in-Ok.ensures.ok
     (c.byte.ensures.delivers 9600 before stands ∙ ap (λ (fs : List (List ℕ)). delivered 9600 before ++ fs) (told_frame c.byte.new.self c.byte.result c.frame.result.now c.in-Frame.is c.frame.ensures))
 
 pub returns-in-Err-clause-err : goal.returns-in-Err-clause-err
-returns-in-Err-clause-err g c before start stands written =
-    one_stopped start _ _ (delivered 9600 before) _ c.frame.result.now written c.in-Err.ensures.err
+returns-in-Err-clause-err g c before start got stands has =
+    one_stopped _ _ before _ start _ _ c.frame.result.now got has c.in-Err.ensures.err
     (c.byte.ensures.delivers 9600 before stands ∙ ap (λ (fs : List (List ℕ)). delivered 9600 before ++ fs) (told_frame c.byte.new.self c.byte.result c.frame.result.now c.in-Frame.is c.frame.ensures))
 
 pub returns-in_default-clause-ok : goal.returns-in_default-clause-ok
-returns-in_default-clause-ok g c before start stands written =
-    none_written start _ (delivered 9600 before) _ (told c.byte.new.self c.byte.result) written (c.byte.ensures.delivers 9600 before stands)
+returns-in_default-clause-ok g c before start got stands has =
+    none_written _ _ before _ start _ (told c.byte.new.self c.byte.result) got has (c.byte.ensures.delivers 9600 before stands)
     (told_none c.byte.new.self c.byte.result c.in_default.not-Frame)
 
 pub returns-in-Ok-clause-stands : goal.returns-in-Ok-clause-stands
