@@ -8,6 +8,7 @@ use Rattle.session_model.specs.Table.{Told, active}
 use Rattle.session_model.specs.Source.{table_of}
 use Rattle.session_model.specs.Rows.{read_packets, container_on, joined}
 use Rattle.session_model.specs.SessionRows.{packets_of}
+use Rattle.session_model.specs.Payload.{payload_of}
 
 -- of packets up to packet k those are read that can be
 abbrev pub HasPackets : Scenario → List (Option Told) → List (List Cell) → ℕ → Type 0
@@ -29,3 +30,9 @@ row_octets scenario returns sent t =
 abbrev pub AreDealt : (ℕ → ℕ) → List Container → ℕ → Type 0
 AreDealt octet containers size = (r p : ℕ) (container : Container) → slice_get containers r ≡ Some container → p < size →
     slice_index container.payload p ≡ octet (p * length containers + r)
+
+-- the lines that carry payload in row t have its octets, dealt in the order of their SQ
+abbrev pub IsDealtRow : Scenario → List (Option Told) → (ℕ → Container) → ℕ → Type 0
+IsDealtRow scenario returns sent t = 24 ≤ t →
+    AreDealt (λ place. slice_index (payload_of scenario returns t) place)
+    (map sent (active (table_of scenario returns ((t - 24) / 16)))) scenario.size

@@ -18,11 +18,13 @@ ghost use Rattle.session_model.specs.Back.{return_packet};
 ghost use Rattle.session_model.specs.Told.{told_by, told_in};
 ghost use Rattle.session_model.specs.Rows.{active_of, row_at, return_at, joined};
 ghost use Rattle.session_model.specs.SessionRows.{packets_from, is_whole_row};
-ghost use Rattle.row_law.specs.Received.{HasPackets, TellsRow, row_octets, AreDealt};
+ghost use Rattle.session_model.specs.Payload.{payload_of};
+ghost use Rattle.row_law.specs.Received.{HasPackets, TellsRow, row_octets, AreDealt, IsDealtRow};
 ghost use Rattle.row_law.specs.Worked.{sent, active_read, all_but};
 
 /// A row is whole by the packets that the sink reads exactly where it is by the source's table and the failures, and then it gives the
-/// octets of the lines that carry payload, in the order of their SQ. Joining gives back what was dealt.
+/// octets of the lines that carry payload, in the order of their SQ: those of the stream that the frame carries, where they were dealt
+/// to the lines so. Joining gives back what was dealt.
 pub fn row_law()
     ensures active { (scenario : Scenario) (returns : List (Option Told)) (k : ℕ)
         (readable : ℕ → Bool) → length scenario.windows ≤ 128 →
@@ -35,6 +37,9 @@ pub fn row_law()
         row_at scenario.size cells t
         ≡ (if is_whole_row scenario returns t then Some (row_octets scenario returns sent t)
         else None) }
+    ensures payload { (scenario : Scenario) (returns : List (Option Told)) (sent : ℕ → Container)
+        (t : ℕ) → IsDealtRow scenario returns sent t →
+        row_octets scenario returns sent t ≡ payload_of scenario returns t }
     ensures joined { (octet : ℕ → ℕ) (containers : List Container) (size : ℕ) →
         AreDealt octet containers size →
         joined containers 0 size ≡ map octet (range_with_len 0 (size * length containers)) }

@@ -1,13 +1,16 @@
 -- The client's stream: what it depends on, that it holds each accepted frame, and that its pieces are the fewest that reach.
-use Rattle.std.proofs.Common.{◌≡◌, ℕ, zero, suc, ◌+◌, ◌-◌, ◌*◌, ◌/◌, ◌≤◌, ◌<◌, subst, nat_lt, nat_le, true, false, if◌then◌else◌, List, [], ◌∷◌, ◌++◌, map, filter, fold, length, Option, Some, None, refl, sym, ◌∙◌, ap, arith}
+use Rattle.std.proofs.Common.{◌≡◌, ℕ, zero, suc, ◌+◌, ◌-◌, ◌*◌, ◌/◌, ◌≤◌, ◌<◌, subst, nat_lt, nat_le, true, false, if◌then◌else◌, List, [], ◌∷◌, ◌++◌, map, filter, fold, drop, length, Option, Some, None, refl, sym, ◌∙◌, ap, arith}
 use Rattle.std.proofs.lemmas.Grind.{flat_map-append}
-use Rattle.std.proofs.lemmas.List.{append_assoc, append-nil, map-append}
+use Rattle.std.proofs.lemmas.List.{append_assoc, append-nil, map-append, length-drop, length-take-le}
+use Rattle.std.proofs.lemmas.List.Sums.{sum-map}
 use Rattle.std.proofs.lemmas.Bool.{ltb-false}
 use Rattle.session_model.specs.declared.refusal.AcceptFault.{AcceptFault}
 use Rattle.session_model.specs.Scenario.{Offer, Scenario, comes_at, frames_at}
 use Rattle.session_model.specs.Table.{Told, active}
 use Rattle.session_model.specs.Source.{after, table_of}
-use Rattle.session_model.specs.Piece.{Piece, idle, client}
+use Rattle.session_model.specs.Piece.{Piece, idle, client, size_of, stream_of}
+use Rattle.session_model.specs.Payload.{payload_of}
+use Rattle.session_model.proofs.StreamLaws.{length-stream_of}
 use Rattle.session_model.specs.Accepted.{kept_by}
 use Rattle.session_model.specs.Client.{size, Stream, frame_refusal, offered_by, next_by, reaching, reached, offered, width, place_of, stream_before, frame_in, frames_in, IsFewest}
 use Rattle.session_model.specs.Journal.{accepted_offers, offers_before, frames_before}
@@ -134,3 +137,20 @@ stream_before-fewest scenario cells t =
     let stream = fold offered (stream_before scenario cells t) (frames_at scenario t) in
     subst (λ s. IsFewest (stream_before scenario cells t).pieces place s.pieces) (sym (stream_before-next scenario cells t))
     (subst (λ pieces. IsFewest pieces place (reached place stream).pieces) (offered_all-pieces (frames_at scenario t) (stream_before scenario cells t)) (reached-fewest place stream))
+
+-- ---- the octets that a frame carries
+-- the stream has octets up to the place at which the frame begins
+pub stream-reaches : (scenario : Scenario) (cells : List (Option Told)) (t : ℕ) → place_of scenario cells t ≤ length (stream_of (stream_before scenario cells t).pieces)
+stream-reaches scenario cells t =
+    let pieces = (stream_before scenario cells t).pieces in
+    let reaches = stream_before-reaches scenario cells t in
+    let long = length-stream_of pieces ∙ sum-map size_of pieces in
+    omega arith
+
+pub payload-length : (scenario : Scenario) (cells : List (Option Told)) (t : ℕ) → length (payload_of scenario cells t) ≡ scenario.size * width scenario cells t
+unfolding place_of
+payload-length scenario cells t =
+    let octets = stream_of (stream_before scenario cells (suc t)).pieces in
+    let reaches = stream-reaches scenario cells (suc t) in
+    let left = length-drop (place_of scenario cells t) octets in
+    length-take-le (scenario.size * width scenario cells t) (drop (place_of scenario cells t) octets) (omega arith)

@@ -10,7 +10,8 @@ ghost use Rattle.session_model.specs.Scenario.{Scenario, Order, Offer, steps_in,
 ghost use Rattle.session_model.specs.Table.{kept_of, Told};
 ghost use Rattle.session_model.specs.Source.{after, table_of, told_at};
 ghost use Rattle.session_model.specs.Back.{cells_before};
-ghost use Rattle.session_model.specs.Client.{size, place_of, stream_before, frames_in, IsFewest};
+ghost use Rattle.session_model.specs.Client.{size, width, place_of, stream_before, frames_in, IsFewest};
+ghost use Rattle.session_model.specs.Payload.{payload_of};
 ghost use Rattle.session_model.specs.Journal.{orders_before, offers_before, frames_before, replayed};
 ghost use Rattle.session_law.specs.Session.{IsReturned, AgreeBefore, AreWhole};
 ghost use Rattle.session_law.specs.Feedback.{Takes, Acknowledges, TellsOf, SameLines, WasSaid};
@@ -86,7 +87,7 @@ pub fn journal_law()
 {}
 
 /// The client's stream. Each accepted frame is begun or waits, in order; the pieces are the fewest that reach the place at which the
-/// next frame begins; and more return cells after a list change nothing of what was sent before.
+/// next frame begins, so that each frame has all octets that it carries; and more return cells after a list change nothing of what was sent before.
 pub fn client_law()
     ensures frames { (scenario : Scenario) (cells : List (Option Told)) (t : ℕ) →
         frames_in (stream_before scenario cells t).pieces
@@ -97,6 +98,8 @@ pub fn client_law()
     ensures fewest { (scenario : Scenario) (cells : List (Option Told)) (t : ℕ) →
         IsFewest (stream_before scenario cells t).pieces (place_of scenario cells (suc t))
         (stream_before scenario cells (suc t)).pieces }
+    ensures payload { (scenario : Scenario) (cells : List (Option Told)) (t : ℕ) →
+        length (payload_of scenario cells t) ≡ scenario.size * width scenario cells t }
     ensures cells { (scenario : Scenario) (a b : List (Option Told)) (t : ℕ) →
         AgreeBefore ((t - 8) / 16 - scenario.lag) a b →
         stream_before scenario a t ≡ stream_before scenario b t }

@@ -28,5 +28,6 @@ pub mod Accepted
 pub mod Journal
 pub mod Rows
 pub mod SessionRows
+pub mod Payload
 pub mod Counts
 pub mod Plan
