@@ -1,8 +1,8 @@
 -- No line stands twice in the order, and each is one of the session's: so the order is no longer than there are lines.
-use Rattle.std.proofs.Common.{◌≡◌, ℕ, zero, suc, ◌+◌, ◌-◌, ◌%◌, ◌<◌, ◌≤◌, ◌==◌, ◌&&◌, not, nat_le, Bool, true, false, if◌then◌else◌, inl, inr, List, [], ◌∷◌, ◌++◌, filter, length, Option, Some, None, option_map, slice_index_or, slice_set, refl, sym, ◌∙◌, ap, arith}
+use Rattle.std.proofs.Common.{◌≡◌, ℕ, zero, suc, ◌+◌, ◌-◌, ◌%◌, ◌<◌, ◌≤◌, ◌==◌, ◌&&◌, not, nat_le, Bool, true, false, if◌then◌else◌, inl, inr, List, [], ◌∷◌, ◌++◌, filter, length, Option, Some, None, option_map, slice_index_or, slice_set, refl, sym, ◌∙◌, ap, subst, arith}
 use Rattle.std.specs.Bool.{⊤}
 use Rattle.std.proofs.lemmas.Bool.{cases_lt, leb-false, eqb-true, eq-eqb, eqb-false}
-use Rattle.std.proofs.lemmas.List.{length-replicate, map-append, length-map, length-set, get_or-set_same, get_or-set_other}
+use Rattle.std.proofs.lemmas.List.{length-append, length-replicate, map-append, length-map, length-set, get_or-set_same, get_or-set_other}
 use Rattle.session_model.specs.declared.table.Command.{Command}
 use Rattle.session_model.specs.declared.table.Command.TheVariants.{Add as add, Remove as remove}
 use Rattle.session_model.specs.Scenario.{Scenario, orders_at}
@@ -388,6 +388,15 @@ Fits-size lines source fits =
     let order = source.table.order in
     let most = length-at_most lines (lines_of order) fits.0.0 (IsPlan-once lines (times (lines_of order)) source.waiting (planned_of source) fits.0.1) in
     let same = length-map order (λ member. member.line) in
+    omega arith
+
+-- an order that a line is to be added to is shorter than that
+pub Fits-room : (lines : ℕ) (source : Source) (line : ℕ) (commands : List Command) → Fits lines source → source.waiting ≡ add line ∷ commands →
+    length source.table.order < lines
+Fits-room lines source line commands fits waits =
+    let plan = subst (λ waiting. FitsTable lines source.table waiting (planned_of source)) waits fits.0 in
+    let more = Fits-size lines (change_by (add line ∷ commands) source source.table) (Fits-change_by lines (add line ∷ commands) source source.table plan, fits.1) in
+    let longer = length-append source.table.order (member_of line adding ∷ []) in
     omega arith
 
 pub order-length : (scenario : Scenario) (cells : List (Option Told)) (j : ℕ) → length (after scenario cells j).table.order ≤ length scenario.windows

@@ -1,6 +1,7 @@
 -- G.7042, the source over any list of calls: commands and decision steps as they come, each step with the return cell that it takes.
-use Rattle.std.specs.Prelude.{ℕ, ◌+◌, ◌%◌, List, fold, Option, Some, None}
+use Rattle.std.specs.Prelude.{ℕ, zero, suc, ◌+◌, ◌-◌, ◌%◌, nat_le, List, [], ◌∷◌, ◌++◌, map, fold, Option, Some, None, slice_index_or, if◌then◌else◌}
 use Rattle.session_model.specs.declared.table.Command.{Command}
+use Rattle.session_model.specs.Scenario.{Scenario, orders_at}
 use Rattle.session_model.specs.Table.{Told}
 use Rattle.session_model.specs.Source.{Source, opening, asked, decide}
 
@@ -45,3 +46,14 @@ called course (decides cell) = record {
 
 abbrev pub course_of : ℕ → List Call → Course
 course_of lines calls = fold called (begun lines) calls
+
+-- ---- the calls of a scenario
+-- the return cell that step j is given: the first of these cells comes in the step whose number is the lag
+abbrev pub given_at : Scenario → List (Option Told) → ℕ → Option (Option Told)
+given_at scenario cells j = if nat_le scenario.lag j then Some (slice_index_or cells (j - scenario.lag) None) else None
+
+-- those before step j: the commands that land before each step, in their order, and then the step
+unfoldable pub calls_before : Scenario → List (Option Told) → ℕ → List Call
+calls_before scenario cells zero = []
+calls_before scenario cells (suc j) =
+    calls_before scenario cells j ++ (map asks (orders_at scenario j) ++ decides (given_at scenario cells j) ∷ [])
