@@ -2,7 +2,9 @@ pub mod HuntLaws
 pub mod RunLaws
 pub mod StandingLaws
 pub mod OutcomeLaws
+pub mod Taking
 pub mod Known
+pub mod Idles
 pub mod SearchSteps
 pub mod RunSteps
 pub mod HeaderSteps
