@@ -1,12 +1,10 @@
 -- More octets of an area in SYNC.
 use Rattle.std.proofs.Common.{◌≡◌, ℕ, ◌+◌, ◌-◌, ◌<◌, ◌≤◌, Bool, true, List, [], ◌∷◌, ◌++◌, length, take, drop, inl, inr, Option, Some, None, refl, sym, ◌∙◌, ap, subst, arith, append_assoc, length-append}
-use Rattle.std.specs.Prelude.{◌⊎◌, Result, Ok, Err, MatchOption}
+use Rattle.std.specs.Prelude.{◌⊎◌}
 use Rattle.std.proofs.lemmas.List.{append-nil, drop-append-le}
-use Rattle.gfp_scramble.specs.Descrambler.{Descrambling}
+use Rattle.gfp_scramble.specs.Descrambler.{Descrambling, Continues, DescramblesTo}
 use Rattle.gfp_scramble.specs.Descrambler as descrambler
 use Rattle.session_model.specs.declared.Why.{Why}
-use Rattle.session_model.specs.declared.Why.TheVariants.{Header}
-use Rattle.session_model.specs.declared.TypeFault.{TypeFault}
 use Rattle.session_model.specs.Core.{head, IsPli}
 use Rattle.session_model.specs.Scramble.{descrambled_octets}
 use Rattle.session_model.specs.Piece.{joined}
@@ -21,27 +19,22 @@ use Rattle.gfp_delineate.specs.declared.Phase.TheVariants.{SyncHeader, SyncArea,
 use Rattle.gfp_delineate.specs.Standing.{running, Leaves}
 use Rattle.gfp_delineate.specs.Receiver.{Progress, Follows, Headed, InSyncArea, InSyncPassing, IsIn, IsAt}
 use Rattle.gfp_delineate.proofs.StandingLaws.{Becomes-area, Leaves-longer, Leaves-goes_on}
-use Rattle.gfp_delineate.proofs.Known.{outcomes_with, outcomes-area, window-none}
-use Rattle.gfp_delineate.proofs.Taking.{Takes, Waits, Taken, Takes-in}
+use Rattle.gfp_delineate.proofs.Known.{outcomes_with, outcomes-area, nothing, window-none}
+use Rattle.gfp_delineate.proofs.Taking.{Takes, Adds, Taken, Takes-in}
 use Rattle.gfp_delineate.proofs.RunSteps.{to-header, to-area, to-passing, outcome_of-fitting, outcomes_with-push, joined-push}
 
 -- with another descrambler and another area
 abbrev pub holding : Progress → Phase → Descrambling → List ℕ → Progress
 holding old phase descrambling area = record old { phase = phase; descrambling = descrambling; area = area }
 
--- with these octets a descrambler becomes another
-abbrev pub Passes : Descrambling → Descrambling → List ℕ → Type 0
-Passes old new more = (settled : Bool) (octets : List ℕ) → descrambler.Stands old settled octets → descrambler.Stands new settled (octets ++ more)
-
--- and it descrambles them to others where it knows the octets before
+-- with these octets a descrambler becomes another, and descrambles them to others where it knows the octets before
 pub record Descrambles (old new : Descrambling) (more plain : List ℕ) : Type 0 where
-  pub stands : Passes old new more
-  pub answer : (settled : Bool) (octets : List ℕ) → descrambler.Stands old settled octets → (settled ≡ true) ⊎ (6 ≤ length octets) →
-      descrambled_octets (octets ++ more) ≡ descrambled_octets octets ++ plain
+  pub stands : Continues old new more
+  pub answer : DescramblesTo old more plain
 
 -- a run with more octets of an area
 follows-more : (old : Progress) (first : Bool) (octets : List ℕ) (ended : List Run) (settled : Bool) (before : List (List ℕ)) (header come more : List ℕ) (phase : Phase) (next : Descrambling) (area : List ℕ) →
-    Follows old first octets ended settled before (header ++ come) come → Passes old.descrambling next more →
+    Follows old first octets ended settled before (header ++ come) come → Continues old.descrambling next more →
     Follows (holding old phase next area) first (octets ++ more) ended settled before (header ++ (come ++ more)) (come ++ more)
 follows-more old first octets ended settled before header come more phase next area run passes = record {
   leaves = subst (λ last. Leaves head head first (octets ++ more) ended (running settled before last)) (append_assoc header come more)
@@ -70,19 +63,20 @@ headed-more header come more left rest parts headed = record {
   found = headed.found ∙ ap (λ n. Some n) (let e : length come + left ≡ length (come ++ more) + rest = omega (arith, length-append come more, parts) in e);
 }
 
-module _ (old : Progress) (longest : ℕ) (first : Bool) (octets more : List ℕ) (limit : old.longest ≡ longest) (left : ℕ) (next : Descrambling) where
-  -- the area goes on, whatever its octets are
-  area-waits : (ended : List Run) (settled : Bool) (before : List (List ℕ)) (header come : List ℕ) → length more < left → Headed header come left →
-      Follows old first octets ended settled before (header ++ come) come → outcomes longest first (octets ++ more) ≡ outcomes longest first octets
-  area-waits ended settled before header come few headed run =
-      outcomes-area longest first (octets ++ more) ended settled before header (come ++ more) (left - length more) (headed-more header come more left (left - length more) (omega (arith, few)) headed) (omega (arith, few))
-      (subst (λ last. Leaves head head first (octets ++ more) ended (running settled before last)) (append_assoc header come more)
-      (Leaves-longer head head first octets ended (running settled before (header ++ come)) more run.leaves))
-      ∙ sym (outcomes-area longest first octets ended settled before header come left headed (omega (arith, few)) run.leaves)
+-- an area goes on, whatever its octets are
+area-goes_on : (old : Progress) (longest : ℕ) (first : Bool) (octets more : List ℕ) (left : ℕ) (ended : List Run) (settled : Bool) (before : List (List ℕ)) (header come : List ℕ) → length more < left → Headed header come left →
+    Follows old first octets ended settled before (header ++ come) come → outcomes longest first (octets ++ more) ≡ outcomes longest first octets ++ []
+area-goes_on old longest first octets more left ended settled before header come few headed run =
+    nothing longest first octets more (outcomes_with longest ended settled before)
+    (outcomes-area longest first octets ended settled before header come left headed (omega (arith, few)) run.leaves)
+    (outcomes-area longest first (octets ++ more) ended settled before header (come ++ more) (left - length more) (headed-more header come more left (left - length more) (omega (arith, few)) headed) (omega (arith, few))
+    (subst (λ last. Leaves head head first (octets ++ more) ended (running settled before last)) (append_assoc header come more)
+    (Leaves-longer head head first octets ended (running settled before (header ++ come)) more run.leaves)))
 
-  -- it is whole, whatever comes of it
+module _ (old : Progress) (longest : ℕ) (first : Bool) (octets more : List ℕ) (limit : old.longest ≡ longest) (left : ℕ) (next : Descrambling) where
+  -- an area is whole, whatever comes of it
   whole-area : (area : List ℕ) (ended : List Run) (settled : Bool) (before : List (List ℕ)) (header come : List ℕ) (told : List Outcome) → length more ≡ left → 0 < left → Headed header come left →
-      Follows old first octets ended settled before (header ++ come) come → Passes old.descrambling next more →
+      Follows old first octets ended settled before (header ++ come) come → Continues old.descrambling next more →
       outcome_of longest settled (length (joined before)) (drop (length (joined before)) (descrambled_octets (joined before ++ (come ++ more)))) ≡ told →
       Taken (holding old (SyncHeader 0) next area) longest first octets more told
   whole-area area ended settled before header come told all part headed run passes outcome =
@@ -129,14 +123,13 @@ module _ (old : Progress) (longest : ℕ) (first : Bool) (octets more : List ℕ
         ∙ outcome_of-fitting longest (length (joined is.before)) is.settled area is.known
         (omega (arith, size, length-append is.come more, is.part, all)) (omega (arith, size, length-append is.come more, is.fits, is.part, all, limit))
 
-    keep-whole : (area : List ℕ) (told : Outcome) → length more ≡ left → outcome_by (type_fault (take 4 (old.area ++ plain))) (old.area ++ plain) ≡ told →
-        Taken (holding old (SyncHeader 0) next area) longest first octets more (told ∷ [])
+    keep-whole : (area : List ℕ) (told : List Outcome) → length more ≡ left → outcome_by (type_fault (take 4 (old.area ++ plain))) (old.area ++ plain) ∷ [] ≡ told →
+        Taken (holding old (SyncHeader 0) next area) longest first octets more told
     keep-whole area told all outcome =
-        whole-area area is.ended is.settled is.before is.header is.come (told ∷ []) all is.part is.headed is.run descrambles.stands
-        (kept-outcome all ∙ ap (λ come. come ∷ []) outcome)
+        whole-area area is.ended is.settled is.before is.header is.come told all is.part is.headed is.run descrambles.stands (kept-outcome all ∙ outcome)
 
   -- ---- an area that is dropped
-  module _ (why : Why) (is : InSyncPassing left why old first octets) (passes : Passes old.descrambling next more) where
+  module _ (why : Why) (is : InSyncPassing left why old first octets) (passes : Continues old.descrambling next more) where
     pass-part : length more < left → Taken (holding old (SyncPassing (left - length more) why) next old.area) longest first octets more []
     pass-part few =
         let come : List ℕ = is.come ++ more in
@@ -156,15 +149,16 @@ module _ (old : Progress) (longest : ℕ) (first : Bool) (octets more : List ℕ
 
 -- ---- the same for all octets that may have come
 module _ (old : Progress) (more : List ℕ) (left : ℕ) where
-  pub Waits-area : length more < left → old.phase ≡ SyncArea left → Waits old more
-  Waits-area few was = λ longest first octets at.
+  -- those that leave some of the area bring nothing
+  pub Adds-area : length more < left → old.phase ≡ SyncArea left → Adds old more []
+  Adds-area few was = λ longest first octets at.
       let is : InSyncArea left old first octets = subst (λ phase. IsIn phase old first octets) was at.phase in
-      area-waits old longest first octets more at.limit left old.descrambling is.ended is.settled is.before is.header is.come few is.headed is.run
+      area-goes_on old longest first octets more left is.ended is.settled is.before is.header is.come few is.headed is.run
 
-  pub Waits-passing : (why : Why) → length more < left → old.phase ≡ SyncPassing left why → Waits old more
-  Waits-passing why few was = λ longest first octets at.
+  pub Adds-passing : (why : Why) → length more < left → old.phase ≡ SyncPassing left why → Adds old more []
+  Adds-passing why few was = λ longest first octets at.
       let is : InSyncPassing left why old first octets = subst (λ phase. IsIn phase old first octets) was at.phase in
-      area-waits old longest first octets more at.limit left old.descrambling is.ended is.settled is.before is.header is.come few is.headed is.run
+      area-goes_on old longest first octets more left is.ended is.settled is.before is.header is.come few is.headed is.run
 
   module _ (next : Descrambling) (plain : List ℕ) (was : old.phase ≡ SyncArea left) (descrambles : Descrambles old.descrambling next more plain) where
     pub Takes-keep-part : length more < left → Takes old (holding old (SyncArea (left - length more)) next (old.area ++ plain)) more []
@@ -172,18 +166,13 @@ module _ (old : Progress) (more : List ℕ) (left : ℕ) where
         Takes-in old (holding old (SyncArea (left - length more)) next (old.area ++ plain)) more [] (SyncArea left) was
         (λ longest first octets limit is. keep-part old longest first octets more limit left next plain is descrambles few)
 
-    takes-whole : (area : List ℕ) (told : Outcome) → length more ≡ left → outcome_by (type_fault (take 4 (old.area ++ plain))) (old.area ++ plain) ≡ told → Takes old (holding old (SyncHeader 0) next area) more (told ∷ [])
-    takes-whole area told all outcome =
-        Takes-in old (holding old (SyncHeader 0) next area) more (told ∷ []) (SyncArea left) was
-        (λ longest first octets limit is. keep-whole old longest first octets more limit left next plain is descrambles area told all outcome)
+    pub Takes-keep-whole : (told : List Outcome) → length more ≡ left → outcome_by (type_fault (take 4 (old.area ++ plain))) (old.area ++ plain) ∷ [] ≡ told →
+        Takes old (holding old (SyncHeader 0) next (old.area ++ plain)) more told
+    Takes-keep-whole told all outcome =
+        Takes-in old (holding old (SyncHeader 0) next (old.area ++ plain)) more told (SyncArea left) was
+        (λ longest first octets limit is. keep-whole old longest first octets more limit left next plain is descrambles (old.area ++ plain) told all outcome)
 
-    pub Takes-frame : length more ≡ left → type_fault (take 4 (old.area ++ plain)) ≡ None → Takes old (holding old (SyncHeader 0) next (old.area ++ plain)) more (delivery (drop 4 (old.area ++ plain)) ∷ [])
-    Takes-frame all none = takes-whole (old.area ++ plain) (delivery (drop 4 (old.area ++ plain))) all (ap (λ fault. outcome_by fault (old.area ++ plain)) none)
-
-    pub Takes-fault : (fault : TypeFault) → length more ≡ left → type_fault (take 4 (old.area ++ plain)) ≡ Some fault → Takes old (holding old (SyncHeader 0) next (old.area ++ plain)) more (dropping (Header fault) ∷ [])
-    Takes-fault fault all some = takes-whole (old.area ++ plain) (dropping (Header fault)) all (ap (λ fault. outcome_by fault (old.area ++ plain)) some)
-
-  module _ (next : Descrambling) (why : Why) (was : old.phase ≡ SyncPassing left why) (passes : Passes old.descrambling next more) where
+  module _ (next : Descrambling) (why : Why) (was : old.phase ≡ SyncPassing left why) (passes : Continues old.descrambling next more) where
     pub Takes-pass-part : length more < left → Takes old (holding old (SyncPassing (left - length more) why) next old.area) more []
     Takes-pass-part few =
         Takes-in old (holding old (SyncPassing (left - length more) why) next old.area) more [] (SyncPassing left why) was
@@ -193,12 +182,3 @@ module _ (old : Progress) (more : List ℕ) (left : ℕ) where
     Takes-pass-whole all =
         Takes-in old (holding old (SyncHeader 0) next old.area) more (dropping why ∷ []) (SyncPassing left why) was
         (λ longest first octets limit is. pass-whole old longest first octets more limit left next why is passes all)
-
--- what the answer of reading a type header says of it
-pub type_right : (fault : Option TypeFault) (result : Result (Unit {0}) TypeFault) (unit : Unit {0}) → result ≡ Ok unit → MatchOption fault (result ≡ Ok tt) (λ fault. result ≡ Err fault) → fault ≡ None
-type_right None result unit is answer = refl
-type_right (Some fault) result unit is answer = absurd cc
-
-pub type_wrong : (fault : Option TypeFault) (result : Result (Unit {0}) TypeFault) (found : TypeFault) → result ≡ Err found → MatchOption fault (result ≡ Ok tt) (λ fault. result ≡ Err fault) → fault ≡ Some found
-type_wrong None result found is answer = absurd cc
-type_wrong (Some fault) result found is answer = cc

@@ -1,6 +1,6 @@
 -- The frames that an answer tells.
-use Rattle.std.proofs.Common.{◌≡◌, ℕ, ◌+◌, ◌≤◌, Bool, true, false, List, [], ◌++◌, length, map, inl, inr, Option, Some, None, refl, ◌∙◌, ap, arith, length-drop}
-use Rattle.std.specs.Prelude.{IfSome}
+use Rattle.std.proofs.Common.{◌≡◌, ℕ, ◌+◌, ◌≤◌, Bool, true, false, List, [], ◌++◌, length, map, drop, inl, inr, Option, Some, None, refl, sym, ◌∙◌, ap, arith, length-drop}
+use Rattle.std.specs.Prelude.{◌↔◌, IfSome, IsTrue}
 use Rattle.std.specs.List.{flat_map}
 use Rattle.std.specs.Option.{option_to_list}
 use Rattle.std.proofs.lemmas.Bool.{le-leb, lt-leb, cases_lt}
@@ -9,8 +9,7 @@ use Rattle.session_model.specs.Outcome.{delivery, outcomes}
 use Rattle.session_model.specs.Delivery.{frame_in, delivered}
 use Rattle.gfp_delineate.specs.declared.Step.{Step}
 use Rattle.gfp_delineate.specs.declared.Step.TheVariants.{Nothing, Frame, Dropped}
-use Rattle.gfp_delineate.specs.Receiver.{Progress, Receiver, StandsIn, frame_of, told_outcomes}
-use Rattle.gfp_delineate.proofs.Taking.{completed}
+use Rattle.gfp_delineate.specs.Receiver.{Progress, Receiver, frame_of, outcomes_told, told_outcomes}
 
 -- the frames that an answer tells
 abbrev pub told : Receiver → Step → List (List ℕ)
@@ -35,13 +34,20 @@ delivered-told receiver step longest octets more outcome =
     ∙ flat_map-append frame_in (outcomes longest true octets) (told_outcomes receiver step)
     ∙ ap (λ l. delivered longest octets ++ l) (frames_told receiver step)
 
--- a frame that is held is no longer than frames that are delivered
-short-held : (holds : Bool) (progress : Progress) (longest : ℕ) → (holds ≡ true → length progress.area ≤ longest + 4) → IfSome (frame_of (record { progress = progress; holds = holds })) (λ frame. length frame ≤ longest)
-short-held false progress longest short = tt
-short-held true progress longest short = elim (cases_lt (length progress.area) 4) [
+-- ---- what a call tells, where it holds a frame exactly at the answer Frame
+frame-held : (progress : Progress) (holds : Bool) → IsTrue holds → 4 ≤ length progress.area → frame_of (record { progress = progress; holds = holds }) ≡ Some (drop 4 progress.area)
+frame-held progress true held room = rw (le-leb 4 (length progress.area) room) refl
+frame-held progress false held room = absurd cc
+
+pub outcomes-held : (progress : Progress) (holds : Bool) (step : Step) → (IsTrue holds ↔ (step ≡ Frame)) → (step ≡ Frame → 4 ≤ length progress.area) →
+    outcomes_told (Some (drop 4 progress.area)) step ≡ told_outcomes (record { progress = progress; holds = holds }) step
+outcomes-held progress holds Nothing held room = refl
+outcomes-held progress holds Frame held room = ap (λ frame. map delivery (option_to_list frame)) (sym (frame-held progress holds (held.1 refl) (room refl)))
+outcomes-held progress holds (Dropped why) held room = refl
+
+pub short-held : (progress : Progress) (holds : Bool) (longest : ℕ) → (IsTrue holds → length progress.area ≤ longest + 4) → IfSome (frame_of (record { progress = progress; holds = holds })) (λ frame. length frame ≤ longest)
+short-held progress false longest short = tt
+short-held progress true longest short = elim (cases_lt (length progress.area) 4) [
   | inl few ↦ rw (lt-leb 4 (length progress.area) few) tt
   | inr room ↦ rw (le-leb 4 (length progress.area) room) (omega (arith, length-drop 4 progress.area, short refl))
 ]
-
-pub short-StandsIn : (receiver : Receiver) (longest : ℕ) (first : Bool) (octets : List ℕ) → StandsIn receiver longest first octets → IfSome (frame_of receiver) (λ frame. length frame ≤ longest)
-short-StandsIn receiver longest first octets stands = short-held receiver.holds receiver.progress longest stands.short

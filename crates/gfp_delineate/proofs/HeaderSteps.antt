@@ -2,9 +2,6 @@
 use Rattle.std.proofs.Common.{◌≡◌, ℕ, zero, suc, ◌+◌, ◌-◌, ◌<◌, ◌≤◌, Bool, true, false, List, [], ◌∷◌, ◌++◌, length, drop, inl, inr, Some, None, refl, sym, ◌∙◌, ap, subst, arith, append_assoc, length-append, length-drop}
 use Rattle.std.specs.Prelude.{◌⊎◌}
 use Rattle.std.proofs.lemmas.List.{append-nil}
-use Rattle.remainder.specs.Bits.{bits, number_behind}
-use Rattle.remainder.specs.Remainder.{add_front, divide}
-use Rattle.hec16.specs.Hec.{hec_of}
 use Rattle.gfp_scramble.specs.Descrambler.{Descrambling}
 use Rattle.gfp_scramble.specs.Descrambler as descrambler
 use Rattle.session_model.specs.declared.Why.TheVariants.{Unsettled, TooLong}
@@ -20,7 +17,7 @@ use Rattle.gfp_delineate.proofs.StandingLaws.{Becomes-refused, Becomes-confirmed
 use Rattle.gfp_delineate.proofs.OutcomeLaws.{run_outcomes-none, outcomes_of-push}
 use Rattle.gfp_delineate.proofs.Known.{outcomes_of, outcomes_with, outcomes-presync, outcomes-header, length-shifted, window-few, window-none}
 use Rattle.gfp_delineate.proofs.Taking.{Takes, Taken, Takes-in, Takes-none, Takes-then}
-use Rattle.gfp_delineate.proofs.Idles.{idle_header, idle_headers, core_header-idle}
+use Rattle.gfp_delineate.proofs.IdleLaws.{idle_header, idles, core_header-idle, idles-suc}
 use Rattle.gfp_delineate.proofs.SearchSteps.{in_phase, shifted, to-hunt}
 use Rattle.gfp_delineate.proofs.RunSteps.{followed, Knows, followed-idle, followed-unknown, followed-long, followed-kept, Takes-follow-part}
 
@@ -189,7 +186,6 @@ module _ (old : Progress) (was : old.phase ≡ SyncHeader 0) where
       subst (λ new. Takes old new idle_header []) (ap (in_phase old) (sym was))
       (Takes-in old (in_phase old (SyncHeader 0)) idle_header [] (SyncHeader 0) was one-idle)
 
-  pub Takes-idles : (n : ℕ) → Takes old old (idle_headers n) []
-  unfolding idle_headers
+  pub Takes-idles : (n : ℕ) → Takes old old (idles n) []
   Takes-idles zero = Takes-none old
-  Takes-idles (suc n) = Takes-then old old old (idle_headers n) idle_header [] (Takes-idles n) takes-one
+  Takes-idles (suc n) = subst (λ more. Takes old old more []) (sym (idles-suc n)) (Takes-then old old old idle_header (idles n) [] takes-one (Takes-idles n))

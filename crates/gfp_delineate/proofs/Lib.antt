@@ -4,7 +4,9 @@ pub mod StandingLaws
 pub mod OutcomeLaws
 pub mod Taking
 pub mod Known
-pub mod Idles
+pub mod IdleLaws
+pub mod ListLaws
+pub mod SettleLaws
 pub mod SearchSteps
 pub mod RunSteps
 pub mod HeaderSteps

@@ -3,7 +3,7 @@ use Rattle.std.proofs.Common.{◌≡◌, ℕ, ◌+◌, ◌-◌, ◌<◌, ◌≤�
 use Rattle.std.specs.Prelude.{◌⊎◌, ◌↔◌, ◌||◌, nat_le, IsTrue}
 use Rattle.std.proofs.lemmas.List.{append-nil, drop_all}
 use Rattle.std.proofs.lemmas.Bool.{cases_lt, lt-ltb, le-ltb, le-leb, lt-leb}
-use Rattle.gfp_scramble.specs.Descrambler.{Descrambling}
+use Rattle.gfp_scramble.specs.Descrambler.{Descrambling, IsKnown}
 use Rattle.gfp_scramble.specs.Descrambler as descrambler
 use Rattle.session_model.specs.declared.Why.{Why}
 use Rattle.session_model.specs.declared.Why.TheVariants.{Unsettled, TooLong}
@@ -117,13 +117,13 @@ joined-push before area = joined-append before (area ∷ []) ∙ ap (λ l. joine
 -- ---- a header that is whole
 -- whether a descrambler knows the octets that come
 abbrev pub Knows : Bool → Descrambling → Type 0
-Knows known descrambling = (settled : Bool) (octets : List ℕ) → descrambler.Stands descrambling settled octets → IsTrue known ↔ ((settled ≡ true) ⊎ (6 ≤ length octets))
+Knows known descrambling = (settled : Bool) (octets : List ℕ) → descrambler.Stands descrambling settled octets → IsTrue known ↔ IsKnown settled octets
 
-unknown-settled : (settled : Bool) (octets : List ℕ) → (IsTrue false ↔ ((settled ≡ true) ⊎ (6 ≤ length octets))) → settled ≡ false
+unknown-settled : (settled : Bool) (octets : List ℕ) → (IsTrue false ↔ IsKnown settled octets) → settled ≡ false
 unknown-settled true octets knows = let wrong : IsTrue false = knows.1 (inl refl) in absurd cc
 unknown-settled false octets knows = refl
 
-unknown-few : (settled : Bool) (octets : List ℕ) → (IsTrue false ↔ ((settled ≡ true) ⊎ (6 ≤ length octets))) → length octets < 6
+unknown-few : (settled : Bool) (octets : List ℕ) → (IsTrue false ↔ IsKnown settled octets) → length octets < 6
 unknown-few settled octets knows = elim (cases_lt (length octets) 6) [ inl few ↦ few | inr enough ↦ (let wrong : IsTrue false = knows.1 (inr enough) in absurd cc) ]
 
 -- with this window, and nothing kept

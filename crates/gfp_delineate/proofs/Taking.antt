@@ -1,26 +1,43 @@
 -- What more octets make of how far a receiver is, whatever came before them.
-use Rattle.std.proofs.Common.{◌≡◌, ℕ, Bool, List, [], ◌∷◌, ◌++◌, drop, sym, ◌∙◌, ap, subst, append_assoc}
+use Rattle.std.proofs.Common.{◌≡◌, ℕ, Bool, List, [], ◌∷◌, ◌++◌, drop, Option, sym, ◌∙◌, ap, subst, append_assoc}
 use Rattle.std.proofs.lemmas.List.{append-nil}
-use Rattle.session_model.specs.Outcome.{Outcome, delivery, dropping, outcomes}
+use Rattle.session_model.specs.Core.{head}
+use Rattle.session_model.specs.Outcome.{Outcome, outcomes}
 use Rattle.gfp_delineate.specs.declared.Phase.{Phase}
-use Rattle.gfp_delineate.specs.declared.Step.{Step}
-use Rattle.gfp_delineate.specs.declared.Step.TheVariants.{Nothing, Frame, Dropped}
-use Rattle.gfp_delineate.specs.Receiver.{Progress, IsIn, IsAt}
+use Rattle.gfp_delineate.specs.Receiver.{Progress, Receiver, IsIn, IsAt}
 
--- it is as far as they lead, and these outcomes come
+-- it is as far as they lead
+abbrev pub Goes : Progress → Progress → List ℕ → Type 0
+Goes old new more = (longest : ℕ) (first : Bool) (octets : List ℕ) → IsAt old longest first octets → IsAt new longest first (octets ++ more)
+
+-- these outcomes come
+abbrev pub Adds : Progress → List ℕ → List Outcome → Type 0
+Adds old more come = (longest : ℕ) (first : Bool) (octets : List ℕ) → IsAt old longest first octets → outcomes longest first (octets ++ more) ≡ outcomes longest first octets ++ come
+
+-- both
 pub record Takes (old new : Progress) (more : List ℕ) (come : List Outcome) : Type 0 where
-  pub stands : (longest : ℕ) (first : Bool) (octets : List ℕ) → IsAt old longest first octets → IsAt new longest first (octets ++ more)
-  pub outcome : (longest : ℕ) (first : Bool) (octets : List ℕ) → IsAt old longest first octets → outcomes longest first (octets ++ more) ≡ outcomes longest first octets ++ come
+  pub stands : Goes old new more
+  pub outcome : Adds old more come
 
--- they complete nothing
-abbrev pub Waits : Progress → List ℕ → Type 0
-Waits old more = (longest : ℕ) (first : Bool) (octets : List ℕ) → IsAt old longest first octets → outcomes longest first (octets ++ more) ≡ outcomes longest first octets
+-- seen in the value and in the fields of a receiver
+pub seen : (old view : Receiver) (new : Progress → Progress) (more : List ℕ) (come : List Outcome) → view ≡ old → Takes old.progress (new old.progress) more come →
+    Goes old.progress (new view.progress) more × Adds old.progress more come
+seen old view new more come same takes =
+    let all : Takes old.progress (new view.progress) more come = subst (λ (seen : Receiver). Takes old.progress (new seen.progress) more come) (sym same) takes in
+    (all.stands, all.outcome)
 
--- the outcomes that an answer tells, where the area of the frame is this
-abbrev pub completed : List ℕ → Step → List Outcome
-completed area Nothing = []
-completed area Frame = delivery (drop 4 area) ∷ []
-completed area (Dropped why) = dropping why ∷ []
+-- what was read of the last four octets
+pub read-window : (old view : Receiver) (octet : ℕ) (window : List ℕ) (result found : Option ℕ) → view ≡ old → window ≡ drop 1 view.progress.window ++ octet ∷ [] → result ≡ head window → result ≡ found →
+    head (drop 1 old.progress.window ++ octet ∷ []) ≡ found
+read-window old view octet window result found same shifted read is =
+    ap (λ (seen : Receiver). head (drop 1 seen.progress.window ++ octet ∷ [])) (sym same) ∙ ap head (sym shifted) ∙ sym read ∙ is
+
+-- the two parts apart and together
+pub told : (old new : Progress) (more : List ℕ) (come : List Outcome) → Takes old new more come → Goes old new more × Adds old more come
+told old new more come takes = (takes.stands, takes.outcome)
+
+pub tell : (old new : Progress) (more : List ℕ) (come : List Outcome) → Goes old new more × Adds old more come → Takes old new more come
+tell old new more come parts = record { stands = parts.0; outcome = parts.1 }
 
 -- ---- octets of a segment of which these have come
 pub record Taken (new : Progress) (longest : ℕ) (first : Bool) (octets more : List ℕ) (come : List Outcome) : Type 0 where
@@ -44,18 +61,15 @@ Takes-none progress = record {
   outcome = λ longest first octets at. ap (outcomes longest first) (append-nil octets) ∙ sym (append-nil (outcomes longest first octets));
 }
 
+pub Adds-then : (old middle : Progress) (part more : List ℕ) (come : List Outcome) → Takes old middle part [] → Adds middle more come → Adds old (part ++ more) come
+Adds-then old middle part more come one other = λ longest first octets at.
+    ap (outcomes longest first) (sym (append_assoc octets part more))
+    ∙ other longest first (octets ++ part) (one.stands longest first octets at)
+    ∙ ap (λ l. l ++ come) (one.outcome longest first octets at ∙ append-nil (outcomes longest first octets))
+
 pub Takes-then : (old middle new : Progress) (part more : List ℕ) (come : List Outcome) → Takes old middle part [] → Takes middle new more come → Takes old new (part ++ more) come
 Takes-then old middle new part more come one other = record {
   stands = λ longest first octets at.
       subst (λ all. IsAt new longest first all) (append_assoc octets part more) (other.stands longest first (octets ++ part) (one.stands longest first octets at));
-  outcome = λ longest first octets at.
-      ap (outcomes longest first) (sym (append_assoc octets part more))
-      ∙ other.outcome longest first (octets ++ part) (one.stands longest first octets at)
-      ∙ ap (λ l. l ++ come) (one.outcome longest first octets at ∙ append-nil (outcomes longest first octets));
+  outcome = Adds-then old middle part more come one other.outcome;
 }
-
-pub Waits-then : (old middle : Progress) (part more : List ℕ) → Takes old middle part [] → Waits middle more → Waits old (part ++ more)
-Waits-then old middle part more one other = λ longest first octets at.
-    ap (outcomes longest first) (sym (append_assoc octets part more))
-    ∙ other longest first (octets ++ part) (one.stands longest first octets at)
-    ∙ one.outcome longest first octets at ∙ append-nil (outcomes longest first octets)

@@ -1,14 +1,14 @@
 -- G.7041, frame delineation: what a receiver knows of the octets of a segment that have come.
-use Rattle.std.specs.Prelude.{◌≡◌, ℕ, ◌+◌, ◌-◌, ◌^◌, ◌<◌, ◌≤◌, ◌⊎◌, ◌&&◌, nat_le, Bool, true, false, List, [], ◌∷◌, ◌++◌, length, map, drop, All, Option, Some, None, if◌then◌else◌}
+use Rattle.std.specs.Prelude.{◌≡◌, ℕ, ◌+◌, ◌-◌, ◌^◌, ◌<◌, ◌≤◌, ◌&&◌, nat_le, Bool, true, false, List, [], ◌∷◌, ◌++◌, length, map, drop, All, Option, Some, None, if◌then◌else◌}
 use Rattle.std.specs.Option.{option_to_list}
-use Rattle.gfp_scramble.specs.Descrambler.{Descrambling}
+use Rattle.gfp_scramble.specs.Descrambler.{Descrambling, IsKnown}
 use Rattle.gfp_scramble.specs.Descrambler as descrambler
 use Rattle.session_model.specs.declared.Why.{Why}
 use Rattle.session_model.specs.Core.{head}
 use Rattle.session_model.specs.Scramble.{descrambled_octets}
 use Rattle.session_model.specs.Piece.{joined}
 use Rattle.session_model.specs.Run.{Run}
-use Rattle.session_model.specs.Outcome.{Outcome, delivery, dropping, outcome_of}
+use Rattle.session_model.specs.Outcome.{Outcome, delivery, dropping, outcome_of, outcomes}
 use Rattle.gfp_delineate.specs.declared.Phase.{Phase}
 use Rattle.gfp_delineate.specs.declared.Phase.TheVariants.{Hunt, PresyncArea, PresyncHeader, SyncHeader, SyncArea, SyncPassing}
 use Rattle.gfp_delineate.specs.declared.Step.{Step}
@@ -38,11 +38,14 @@ abbrev pub frame_of : Receiver → Option (List ℕ)
 frame_of receiver =
     if receiver.holds && nat_le 4 (length receiver.progress.area) then Some (drop 4 receiver.progress.area) else None
 
--- the outcomes that an answer tells
+-- the outcomes that an answer tells, where this frame is held
+abbrev pub outcomes_told : Option (List ℕ) → Step → List Outcome
+outcomes_told frame Nothing = []
+outcomes_told frame Frame = map delivery (option_to_list frame)
+outcomes_told frame (Dropped why) = dropping why ∷ []
+
 abbrev pub told_outcomes : Receiver → Step → List Outcome
-told_outcomes receiver Nothing = []
-told_outcomes receiver Frame = map delivery (option_to_list (frame_of receiver))
-told_outcomes receiver (Dropped why) = dropping why ∷ []
+told_outcomes receiver step = outcomes_told (frame_of receiver) step
 
 -- ---- how far it is with the octets of a segment
 -- HUNT and PRESYNC: these runs ended, a search goes on in the last octets, and the descrambler has none of the next run
@@ -109,7 +112,7 @@ pub record InSyncArea (left : ℕ) (progress : Progress) (first : Bool) (octets 
   pub part : 0 < left
   pub fits : length come + left ≤ progress.longest + 4
   pub run : Follows progress first octets ended settled before (header ++ come) come
-  pub known : (settled ≡ true) ⊎ (6 ≤ length (joined before))
+  pub known : IsKnown settled (joined before)
   pub kept : progress.area ≡ drop (length (joined before)) (descrambled_octets (joined before ++ come))
 
 -- SYNC: a header and part of its area, which is dropped whatever its octets are
@@ -140,13 +143,20 @@ pub record IsAt (progress : Progress) (longest : ℕ) (first : Bool) (octets : L
 
 -- ---- a receiver and a segment
 -- these octets of a segment have come, which is the first one of its stream or a later one
-pub record StandsIn (receiver : Receiver) (longest : ℕ) (first : Bool) (octets : List ℕ) : Type 0 where
-  pub at : IsAt receiver.progress longest first octets
-  pub short : receiver.holds ≡ true → length receiver.progress.area ≤ longest + 4
+abbrev pub StandsIn : Receiver → ℕ → Bool → List ℕ → Type 0
+StandsIn receiver longest first octets = IsAt receiver.progress longest first octets
 
 -- these octets of the first segment have come
 abbrev pub Stands : Receiver → ℕ → List ℕ → Type 0
 Stands receiver longest octets = StandsIn receiver longest true octets
+
+-- whatever octets of a segment came before, these came after them
+abbrev pub Advances : Receiver → Receiver → List ℕ → Type 0
+Advances was now more = (longest : ℕ) (first : Bool) (octets : List ℕ) → StandsIn was longest first octets → StandsIn now longest first (octets ++ more)
+
+-- whatever octets of a segment came before, these bring these outcomes after them
+abbrev pub Brings : Receiver → List ℕ → List Outcome → Type 0
+Brings was more come = (longest : ℕ) (first : Bool) (octets : List ℕ) → StandsIn was longest first octets → outcomes longest first (octets ++ more) ≡ outcomes longest first octets ++ come
 
 -- a frame that may be sent to a receiver which delivers frames of at most a number of octets
 pub record IsClientFrame (longest : ℕ) (frame : List ℕ) : Type 0 where
