@@ -7,8 +7,8 @@ use Rattle.std.proofs.lemmas.List.Concat.{flat_map-append}
 use Rattle.std.proofs.lemmas.List.Elements.{All-take, All-weaker}
 use Rattle.outside_io.specs.Transfer.{AppendsPart}
 use Rattle.outside_io.proofs.Parts.{AppendsPart-longer, append_known-nil}
-use Rattle.gfp_headers.specs.Piece.{Piece, idle, stream_of, frames_by, opening}
-use Rattle.gfp_headers.specs.Delivery.{delivered}
+use Rattle.session_model.specs.Piece.{Piece, idle, stream_of, frames_by, opening}
+use Rattle.session_model.specs.Delivery.{delivered}
 use Rattle.gfp_fill.specs.Stream.{Sender, Fills, next_pieces}
 use Rattle.gfp_fill.specs.Stream.{Stands as Sends}
 use Rattle.gfp_fill.proofs.StreamLaws.{append-next_pieces, take-stream_of, next_pieces-zero}

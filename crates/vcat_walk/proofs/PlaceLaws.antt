@@ -5,7 +5,7 @@ use Rattle.std.proofs.lemmas.Bool.{cases_lt}
 use Rattle.std.proofs.lemmas.Bool.Decides.{nat_tests}
 use Rattle.std.proofs.lemmas.List.{drop_all}
 use Rattle.std.proofs.lemmas.List.Elements.{filter-append}
-use Rattle.gfp_headers.specs.Piece.{Piece, idle, client, cut, size_of, stream_of, frame_ends, frames_by, opening}
+use Rattle.session_model.specs.Piece.{Piece, idle, client, cut, size_of, stream_of, frame_ends, frames_by, opening}
 use Rattle.gfp_fill.specs.Stream.{next_pieces}
 use Rattle.gfp_fill.proofs.StreamLaws.{length-stream_of-cons, next_pieces-add, opening-next_pieces, next_pieces-nil}
 

@@ -3,7 +3,7 @@ use Rattle.std.proofs.Common.{◌≡◌, ℕ, ◌-◌, ◌*◌, List, ◌++◌, 
 use Rattle.std.specs.Io.KnownBytes.{append_known}
 use Rattle.outside_io.specs.Transfer.{AppendsPart}
 use Rattle.outside_io.proofs.Parts.{append_known-twice, AppendsPart-behind, AppendsPart-longer}
-use Rattle.gfp_headers.specs.Piece.{frames_by, opening}
+use Rattle.session_model.specs.Piece.{frames_by, opening}
 use Rattle.vcat_walk.specs.Report.{got_texts, total_text}
 use Rattle.vcat_walk.specs.Walk.{carried, report}
 

@@ -4,11 +4,12 @@ use Rattle.std.specs.Io.KnownBytes.{append_known}
 use Rattle.std.proofs.lemmas.List.{take_more, flat_map_more}
 use Rattle.outside_io.specs.Transfer.{AppendsPart}
 use Rattle.outside_io.proofs.Parts.{append_known-twice, AppendsPart-behind}
-use Rattle.gfp_headers.specs.Delivery.{delivered}
+use Rattle.session_model.specs.Delivery.{delivered}
 use Rattle.gfp_delineate.specs.declared.Step.{Step}
 use Rattle.gfp_delineate.specs.declared.Step.TheVariants.{Frame}
 use Rattle.std.specs.Option.{option_to_list}
-use Rattle.gfp_delineate.specs.Receiver.{Receiver, frame_of, told}
+use Rattle.gfp_delineate.specs.Receiver.{Receiver, frame_of}
+use Rattle.gfp_delineate.proofs.Frames.{told}
 use Rattle.vcat_walk.specs.Report.{got_text, got_texts}
 use Rattle.vcat_walk.specs.Walk.{StopsWithin}
 

@@ -1,8 +1,8 @@
 -- What a walk of a script of one line writes.
 use Rattle.std.specs.Prelude.{ℕ, ◌-◌, ◌*◌, ◌≤◌, List, ◌++◌, length, Option, take}
 use Rattle.outside_io.specs.Transfer.{AppendsPart}
-use Rattle.gfp_headers.specs.Piece.{opening, frames_by}
-use Rattle.gfp_headers.specs.Delivery.{delivered}
+use Rattle.session_model.specs.Piece.{opening, frames_by}
+use Rattle.session_model.specs.Delivery.{delivered}
 use Rattle.vcat_walk.specs.Report.{got_texts, total_text}
 
 -- the octets of payload in a row, and the rows in which the line carries none of the stream

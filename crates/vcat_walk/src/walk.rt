@@ -2,8 +2,8 @@ ghost use Rattle.std.specs.Prelude.{◌≡◌, ℕ, ◌+◌, ◌*◌, ◌≤◌,
 ghost use Rattle.std.specs.Io.KnownBytes.{append_known};
 ghost use Rattle.outside_io.specs.Faults.{Rose};
 ghost use Rattle.outside_io.specs.Transfer.{AppendsPart};
-ghost use Rattle.gfp_headers.specs.Piece.{opening, frames_by};
-ghost use Rattle.gfp_headers.specs.Delivery.{delivered};
+ghost use Rattle.session_model.specs.Piece.{opening, frames_by};
+ghost use Rattle.session_model.specs.Delivery.{delivered};
 ghost use Rattle.gfp_delineate.specs.Receiver.{Stands};
 ghost use Rattle.vcat_walk.specs.Form.{IsTicks, IsFrame};
 ghost use Rattle.vcat_walk.specs.Report.{got_text, got_texts};

@@ -1,7 +1,7 @@
 use Rattle.std.proofs.Common.{arith, ap, sym, ◌∙◌, List, ℕ, ◌++◌, length, take, subst}
 use Rattle.std.specs.Io.KnownBytes.{append_known}
 use Rattle.std.proofs.lemmas.List.{take_all}
-use Rattle.gfp_headers.specs.Delivery.{delivered}
+use Rattle.session_model.specs.Delivery.{delivered}
 use Rattle.gfp_delineate.specs.Receiver.{Stands}
 use Rattle.vcat_walk.specs.Report.{got_texts}
 use Rattle.vcat_walk.proofs.TakeLaws.{one_octet, one_counted, stops_at}

@@ -1,6 +1,6 @@
 use Rattle.std.proofs.Common.{◌≡◌, ◌≤◌, ◌+◌, ℕ, List, length, ◌++◌, take, Option}
 use Rattle.std.specs.Io.KnownBytes.{append_known}
-use Rattle.gfp_headers.specs.Delivery.{delivered}
+use Rattle.session_model.specs.Delivery.{delivered}
 use Rattle.gfp_delineate.specs.Receiver.{Stands}
 use Rattle.vcat_walk.specs.Report.{got_texts}
 use Rattle.vcat_walk.proofs.walk.take_row.Given as goal
