@@ -31,3 +31,7 @@ pub taken_more : (at n : ℕ) (piece : List ℕ) → n ≤ length (take (length 
 taken_more at n piece within =
     ap (λ l. take at piece ++ take n l) (take_all (length piece - at) (drop at piece) (omega (arith, length-drop at piece)))
     ∙ sym (take-add at n piece)
+
+-- a part of one octet that isn't empty
+pub part_of_one : (n octet : ℕ) → 0 < n → n ≤ 1 → take n (octet ∷ []) ≡ octet ∷ []
+part_of_one n octet some within = let one : n ≡ 1 = omega arith in ap (λ n. take n (octet ∷ [])) one

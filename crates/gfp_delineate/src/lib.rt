@@ -121,7 +121,8 @@ impl Delineator {
         ensures short { (longest : ℕ) (first : Bool) (octets : List ℕ) → StandsIn self.old longest first octets →
             IfSome (frame_of self.new) (λ frame. length frame ≤ longest) }
     {
-        let (_, step) = self.feed(&[octet]);
+        let (_, step) = self.step(&[octet]);
+        self.holds = step.is_frame();
         step
     }
 

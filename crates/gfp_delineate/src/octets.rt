@@ -83,6 +83,10 @@ pub fn keep(area: &mut Vec<u8>, descrambler: &mut Descrambler, piece: &[u8])
     ensures stands { Continues descrambler.old descrambler.new piece.now }
     ensures kept { DescramblesTo descrambler.old piece.now (drop (vec_len area.old) area.new.items) }
 {
+    if let [octet] = piece {
+        area.push_reserved(descrambler.byte(*octet));
+        return;
+    }
     let old = area.len();
     match area.extend_from_slice(piece) {
         Ok(()) => {}

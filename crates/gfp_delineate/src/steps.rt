@@ -35,7 +35,8 @@ impl Delineator {
     }
 
     /// Takes octets of one part of the stream, at least one.
-    fn step(&mut self, piece: &[u8]) -> (usize, Step)
+    #[inline]
+    pub fn step(&mut self, piece: &[u8]) -> (usize, Step)
         requires { 0 < length piece.now }
         ensures within { result.0 ≤ length piece.now }
         ensures some { 0 < result.0 }
@@ -62,6 +63,7 @@ impl Delineator {
     }
 
     /// HUNT: an octet, at the fourth of which a header may be whole.
+    #[inline]
     fn hunt(&mut self, have: u8, octet: u8)
         requires { self.old.progress.phase ≡ Phase.Hunt have }
         ensures { Advances self.old self.new (octet ∷ []) × Brings self.old (octet ∷ []) [] }
@@ -79,6 +81,7 @@ impl Delineator {
     }
 
     /// PRESYNC: octets of the area after a header.
+    #[inline]
     fn skip(&mut self, left: u16, piece: &[u8]) -> usize
         requires phase { self.old.progress.phase ≡ Phase.PresyncArea left }
         requires some { 0 < length piece.now }
@@ -98,6 +101,7 @@ impl Delineator {
     }
 
     /// PRESYNC: an octet of the header that confirms.
+    #[inline]
     fn confirm(&mut self, have: u8, octet: u8)
         requires { self.old.progress.phase ≡ Phase.PresyncHeader have }
         ensures { Advances self.old self.new (octet ∷ []) × Brings self.old (octet ∷ []) [] }
@@ -111,6 +115,7 @@ impl Delineator {
     }
 
     /// SYNC: the headers of idles, a header, or an octet of one.
+    #[inline]
     fn follow(&mut self, have: u8, piece: &[u8]) -> usize
         requires phase { self.old.progress.phase ≡ Phase.SyncHeader have }
         requires some { 0 < length piece.now }
@@ -132,6 +137,7 @@ impl Delineator {
     }
 
     /// SYNC: an octet of a header.
+    #[inline]
     fn follow_octet(&mut self, have: u8, octet: u8)
         requires { self.old.progress.phase ≡ Phase.SyncHeader have }
         ensures { Advances self.old self.new (octet ∷ []) × Brings self.old (octet ∷ []) [] }
@@ -186,6 +192,7 @@ impl Delineator {
     }
 
     /// SYNC: octets of an area that is kept.
+    #[inline]
     fn keep(&mut self, left: u16, piece: &[u8]) -> (usize, Step)
         requires phase { self.old.progress.phase ≡ Phase.SyncArea left }
         requires some { 0 < length piece.now }
@@ -211,6 +218,7 @@ impl Delineator {
     }
 
     /// SYNC: octets of an area that is dropped.
+    #[inline]
     fn pass(&mut self, left: u16, why: Why, piece: &[u8]) -> (usize, Step)
         requires phase { self.old.progress.phase ≡ Phase.SyncPassing left why }
         requires some { 0 < length piece.now }
