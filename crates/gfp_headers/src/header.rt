@@ -2,7 +2,7 @@
 
 ghost use Rattle.std.specs.Prelude.{◌≡◌, ◌≢◌, ◌↔◌, ℕ, IfSome, IfNone, IsTrue};
 ghost use Rattle.hec16.specs.Hec.{hec_of};
-ghost use Rattle.gfp_headers.specs.Core.{core_header, head, IsPli};
+ghost use Rattle.session_model.specs.Core.{core_header, head, IsPli};
 
 use hec16::{hec, hec_ok};
 

@@ -2,7 +2,7 @@
 
 ghost use Rattle.std.specs.Prelude.{◌≡◌, ◌≢◌, ◌↔◌, ℕ, ◌+◌, ◌*◌, MatchOption, IsOk};
 ghost use Rattle.hec16.specs.Hec.{hec_of};
-ghost use Rattle.gfp_headers.specs.TypeHeader.{type_header, type_field, type_check, field_fault, type_fault};
+ghost use Rattle.session_model.specs.TypeHeader.{type_header, type_field, type_check, field_fault, type_fault};
 
 use hec16::hec;
 use session_model::TypeFault;
