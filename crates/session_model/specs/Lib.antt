@@ -29,5 +29,8 @@ pub mod Journal
 pub mod Rows
 pub mod SessionRows
 pub mod Payload
+pub mod Segment
+pub mod Loss
+pub mod SessionStream
 pub mod Counts
 pub mod Plan

@@ -1,0 +1,95 @@
+//! The laws of losses: which frames come through a stream that comes in rows, of which some aren't whole. There is no code here.
+//! Begin at `loss_law`, which is of any stream and rows; `session_loss_law` and `hitless_law` say it of a session.
+#![tactic(auto)]
+
+ghost use Rattle.std.specs.Prelude.{◌≡◌, ℕ, ◌≤◌, ◌<◌, ◌↔◌, Bool, true, List, [], ◌∷◌, ◌++◌, length, map, take, drop, All, Option, Some, IfSome};
+ghost use Rattle.session_model.specs.Hunt.{Confirmed, hunt};
+ghost use Rattle.session_model.specs.Piece.{Piece, idle, frames_by};
+ghost use Rattle.session_model.specs.Scenario.{Scenario};
+ghost use Rattle.session_model.specs.Table.{Told};
+ghost use Rattle.session_model.specs.Client.{place_of, stream_before};
+ghost use Rattle.session_model.specs.Journal.{frames_before};
+ghost use Rattle.session_model.specs.SessionRows.{is_whole_row};
+ghost use Rattle.session_model.specs.Segment.{StreamRow, segments, deliver, octets_of_rows};
+ghost use Rattle.session_model.specs.Loss.{Extent, extents, Lost, is_frame_lost, TrueStarts, frames_kept};
+ghost use Rattle.session_model.specs.SessionStream.{rows_of};
+ghost use Rattle.loss_law.specs.Carried.{Carry, IsSentPiece, AreOctets, IsUndamaged};
+ghost use Rattle.loss_law.specs.Worked.{worked_pieces, worked_rows, kept_frame};
+
+/// Where each place that is confirmed first after a break is that of a piece, the frames delivered are those that the rows carry and
+/// that aren't lost: nothing is altered or invented.
+pub fn loss_law()
+    ensures { (longest : ℕ) (pieces : List Piece) (rows : List StreamRow) →
+        longest ≤ 65531 → All (IsSentPiece longest) pieces → Carry rows (idle ∷ idle ∷ pieces) →
+        TrueStarts (idle ∷ idle ∷ pieces) rows →
+        deliver longest rows ≡ frames_kept (idle ∷ idle ∷ pieces) rows }
+{}
+
+/// Where each row is whole, they are all frames whose piece ends in the rows.
+pub fn whole_law()
+    ensures { (longest : ℕ) (pieces : List Piece) (rows : List StreamRow) →
+        longest ≤ 65531 → All (IsSentPiece longest) pieces → Carry rows (idle ∷ idle ∷ pieces) →
+        All (λ row. row.whole ≡ true) rows →
+        deliver longest rows ≡ frames_by (length (octets_of_rows rows)) (idle ∷ idle ∷ pieces) }
+{}
+
+/// A frame is lost exactly in the four ways.
+pub fn ways_law()
+    ensures { (rows : List StreamRow) (all : List Extent) (frame : Extent) → frame.from < frame.to →
+        (is_frame_lost (segments rows) all frame ≡ true) ↔ Lost (segments rows) all frame }
+{}
+
+/// The place that is confirmed first in a segment stays where more octets come.
+pub fn confirmed_law()
+    ensures { (refused : Bool) (octets more : List ℕ) (found : Confirmed) →
+        hunt refused 0 octets ≡ Some found →
+        IfSome (hunt refused 0 (octets ++ more)) (λ other. other.place ≡ found.place) }
+{}
+
+/// More rows add frames, and change none of those before.
+pub fn grow_law()
+    ensures { (longest : ℕ) (rows more : List StreamRow) →
+        deliver longest (rows ++ more) ≡ deliver longest rows
+        ++ drop (length (deliver longest rows)) (deliver longest (rows ++ more)) }
+{}
+
+/// In a session, of any number of rows: they carry the first octets of its stream, whose client frames are the accepted ones but those
+/// that wait; and where each place that is confirmed first after a break is that of a piece, the frames delivered are the accepted
+/// frames that the rows carry and that aren't lost.
+pub fn session_loss_law()
+    ensures accepted { (scenario : Scenario) (cells : List (Option Told)) (n : ℕ) →
+        map (λ (e : Extent). e.frame) (extents 0 (stream_before scenario cells n).pieces)
+        ++ (stream_before scenario cells n).waiting ≡ frames_before scenario cells n }
+    ensures carried { (scenario : Scenario) (cells : List (Option Told)) (t n : ℕ) → t ≤ n →
+        Carry (rows_of scenario cells t) (stream_before scenario cells n).pieces }
+    ensures place { (scenario : Scenario) (cells : List (Option Told)) (t : ℕ) →
+        length (octets_of_rows (rows_of scenario cells t)) ≡ place_of scenario cells t }
+    ensures kept { (scenario : Scenario) (cells : List (Option Told)) (t n : ℕ) →
+        AreOctets scenario → t ≤ n →
+        TrueStarts (stream_before scenario cells n).pieces (rows_of scenario cells t) →
+        deliver 9600 (rows_of scenario cells t)
+        ≡ frames_kept (stream_before scenario cells n).pieces (rows_of scenario cells t) }
+{}
+
+/// A session in which no line fails loses no frame, whatever lines are added and removed: each row is whole, and the frames delivered
+/// are those whose piece ends in the rows taken, which are the first of the accepted ones.
+pub fn hitless_law()
+    ensures whole { (scenario : Scenario) (cells : List (Option Told)) (t : ℕ) →
+        IsUndamaged scenario → is_whole_row scenario cells t ≡ true }
+    ensures delivered { (scenario : Scenario) (cells : List (Option Told)) (t n : ℕ) →
+        AreOctets scenario → IsUndamaged scenario → t ≤ n →
+        deliver 9600 (rows_of scenario cells t)
+        ≡ frames_by (place_of scenario cells t) (stream_before scenario cells n).pieces }
+    ensures first { (scenario : Scenario) (cells : List (Option Told)) (t n : ℕ) →
+        AreOctets scenario → IsUndamaged scenario → t ≤ n →
+        deliver 9600 (rows_of scenario cells t)
+        ≡ take (length (deliver 9600 (rows_of scenario cells t))) (frames_before scenario cells n) }
+{}
+
+/// A worked stream, computed: of four frames the second row, which isn't whole, cuts two off, the third settles the descrambler, and
+/// the last is delivered. What is confirmed after the break is the place of a piece.
+pub fn worked_law()
+    ensures delivered { deliver 9600 worked_rows ≡ kept_frame ∷ [] }
+    ensures kept { frames_kept worked_pieces worked_rows ≡ kept_frame ∷ [] }
+    ensures starts { TrueStarts worked_pieces worked_rows }
+{}
