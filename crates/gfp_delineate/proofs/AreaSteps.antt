@@ -1,13 +1,10 @@
--- One more octet of an area in SYNC.
+-- More octets of an area in SYNC.
 use Rattle.std.proofs.Common.{◌≡◌, ℕ, ◌+◌, ◌-◌, ◌<◌, ◌≤◌, Bool, true, List, [], ◌∷◌, ◌++◌, length, take, drop, inl, inr, Option, Some, None, refl, sym, ◌∙◌, ap, subst, arith, append_assoc, length-append}
-use Rattle.std.specs.Prelude.{◌⊎◌, Result, Ok, Err, MatchOption}
+use Rattle.std.specs.Prelude.{◌⊎◌}
 use Rattle.std.proofs.lemmas.List.{append-nil, drop-append-le}
-use Rattle.std.proofs.lemmas.Bool.{le-leb}
-use Rattle.gfp_scramble.specs.Descrambler.{Descrambling}
+use Rattle.gfp_scramble.specs.Descrambler.{Descrambling, Continues, DescramblesTo}
 use Rattle.gfp_scramble.specs.Descrambler as descrambler
 use Rattle.session_model.specs.declared.Why.{Why}
-use Rattle.session_model.specs.declared.Why.TheVariants.{Header}
-use Rattle.session_model.specs.declared.TypeFault.{TypeFault}
 use Rattle.session_model.specs.Core.{head, IsPli}
 use Rattle.session_model.specs.Scramble.{descrambled_octets}
 use Rattle.session_model.specs.Piece.{joined}
@@ -19,190 +16,169 @@ use Rattle.session_model.proofs.ScrambledOctets.{length-descrambled_octets}
 use Rattle.session_model.proofs.AreaLaws.{length-descrambled_single}
 use Rattle.gfp_delineate.specs.declared.Phase.{Phase}
 use Rattle.gfp_delineate.specs.declared.Phase.TheVariants.{SyncHeader, SyncArea, SyncPassing}
-use Rattle.gfp_delineate.specs.declared.Step.TheVariants.{Frame}
 use Rattle.gfp_delineate.specs.Standing.{running, Leaves}
-use Rattle.gfp_delineate.specs.Receiver.{Receiver, Follows, Headed, InSyncArea, InSyncPassing, Takes, told_outcomes}
-use Rattle.gfp_delineate.proofs.StandingLaws.{Becomes-area, Leaves-longer, Leaves-becomes}
-use Rattle.gfp_delineate.proofs.Known.{outcomes-area, Taken, Takes-in, window-none}
-use Rattle.gfp_delineate.proofs.RunSteps.{holding, to-header, to-area, to-passing, outcome_of-fitting, outcomes_with-push, joined-push}
+use Rattle.gfp_delineate.specs.Receiver.{Progress, Follows, Headed, InSyncArea, InSyncPassing, IsIn, IsAt}
+use Rattle.gfp_delineate.proofs.StandingLaws.{Becomes-area, Leaves-longer, Leaves-goes_on}
+use Rattle.gfp_delineate.proofs.Known.{outcomes_with, outcomes-area, nothing, window-none}
+use Rattle.gfp_delineate.proofs.Taking.{Takes, Adds, Taken, Takes-in}
+use Rattle.gfp_delineate.proofs.RunSteps.{to-header, to-area, to-passing, outcome_of-fitting, outcomes_with-push, joined-push}
 
--- a descrambler becomes another with an octet, which it descrambles to this one where it knows the octets before
-pub record Descrambles (old new : Descrambling) (octet plain : ℕ) : Type 0 where
-  pub stands : (settled : Bool) (octets : List ℕ) → descrambler.Stands old settled octets → descrambler.Stands new settled (octets ++ octet ∷ [])
-  pub answer : (settled : Bool) (octets : List ℕ) → descrambler.Stands old settled octets → (settled ≡ true) ⊎ (6 ≤ length octets) →
-      descrambled_octets (octets ++ octet ∷ []) ≡ descrambled_octets octets ++ plain ∷ []
+-- with another descrambler and another area
+abbrev pub holding : Progress → Phase → Descrambling → List ℕ → Progress
+holding old phase descrambling area = record old { phase = phase; descrambling = descrambling; area = area }
 
--- a run with one more octet of an area
-follows-more : (old : Receiver) (first : Bool) (octets : List ℕ) (ended : List Run) (settled : Bool) (before : List (List ℕ)) (header come : List ℕ) (octet plain : ℕ) (phase : Phase) (next : Descrambling) (area : List ℕ) →
-    Follows old first octets ended settled before (header ++ come) come → Descrambles old.descrambling next octet plain →
-    Follows (holding old phase next area) first (octets ++ octet ∷ []) ended settled before (header ++ (come ++ octet ∷ [])) (come ++ octet ∷ [])
-follows-more old first octets ended settled before header come octet plain phase next area run more = record {
-  leaves = subst (λ last. Leaves first (octets ++ octet ∷ []) ended (running settled before last)) (append_assoc header come (octet ∷ []))
-      (Leaves-longer first octets ended (running settled before (header ++ come)) (octet ∷ []) run.leaves);
-  given = subst (λ all. descrambler.Stands next settled all) (append_assoc (joined before) come (octet ∷ [])) (more.stands settled (joined before ++ come) run.given);
+-- with these octets a descrambler becomes another, and descrambles them to others where it knows the octets before
+pub record Descrambles (old new : Descrambling) (more plain : List ℕ) : Type 0 where
+  pub stands : Continues old new more
+  pub answer : DescramblesTo old more plain
+
+-- a run with more octets of an area
+follows-more : (old : Progress) (first : Bool) (octets : List ℕ) (ended : List Run) (settled : Bool) (before : List (List ℕ)) (header come more : List ℕ) (phase : Phase) (next : Descrambling) (area : List ℕ) →
+    Follows old first octets ended settled before (header ++ come) come → Continues old.descrambling next more →
+    Follows (holding old phase next area) first (octets ++ more) ended settled before (header ++ (come ++ more)) (come ++ more)
+follows-more old first octets ended settled before header come more phase next area run passes = record {
+  leaves = subst (λ last. Leaves head head first (octets ++ more) ended (running settled before last)) (append_assoc header come more)
+      (Leaves-longer head head first octets ended (running settled before (header ++ come)) more run.leaves);
+  given = subst (λ all. descrambler.Stands next settled all) (append_assoc (joined before) come more) (passes settled (joined before ++ come) run.given);
   window = run.window;
 }
 
 -- a run whose area is whole
-follows-whole : (base : Receiver) (first : Bool) (octets : List ℕ) (ended : List Run) (settled : Bool) (before : List (List ℕ)) (header area : List ℕ) → Headed header area 0 →
+follows-whole : (base : Progress) (first : Bool) (octets : List ℕ) (ended : List Run) (settled : Bool) (before : List (List ℕ)) (header area : List ℕ) → Headed header area 0 →
     Follows base first octets ended settled before (header ++ area) area → Follows base first octets ended settled (before ++ area ∷ []) (drop (4 - 0) base.window) []
 follows-whole base first octets ended settled before header area headed run =
     let found : head header ≡ Some (length area) = headed.found ∙ ap (λ n. Some n) (let e : length area + 0 ≡ length area = omega arith in e) in
-    let next : Leaves first octets (ended ++ []) (running settled (before ++ area ∷ []) []) =
-    Leaves-becomes first octets ended [] (running settled before (header ++ area)) (running settled (before ++ area ∷ []) []) run.leaves (Becomes-area settled before header area headed.size found) in
     record {
-      leaves = subst (λ ended. Leaves first octets ended (running settled (before ++ area ∷ []) (drop (4 - 0) base.window))) (append-nil ended)
-          (subst (λ last. Leaves first octets (ended ++ []) (running settled (before ++ area ∷ []) last)) (sym (window-none base.window run.window)) next);
+      leaves = subst (λ last. Leaves head head first octets ended (running settled (before ++ area ∷ []) last)) (sym (window-none base.window run.window))
+          (Leaves-goes_on head head first octets ended (running settled before (header ++ area)) (running settled (before ++ area ∷ []) []) run.leaves
+          (Becomes-area head head settled before header area headed.size found));
       given = subst (λ all. descrambler.Stands base.descrambling settled all) (sym (joined-push before area) ∙ sym (append-nil (joined (before ++ area ∷ [])))) run.given;
       window = run.window;
     }
 
--- a header with one more octet of its area
-headed-more : (header come : List ℕ) (left octet : ℕ) → 0 < left → Headed header come left → Headed header (come ++ octet ∷ []) (left - 1)
-headed-more header come left octet part headed = record {
+-- a header with more octets of its area
+headed-more : (header come more : List ℕ) (left rest : ℕ) → length more + rest ≡ left → Headed header come left → Headed header (come ++ more) rest
+headed-more header come more left rest parts headed = record {
   size = headed.size;
-  found = headed.found ∙ ap (λ n. Some n) (let e : length come + left ≡ length (come ++ octet ∷ []) + (left - 1) = omega (arith, length-append come (octet ∷ []), part) in e);
+  found = headed.found ∙ ap (λ n. Some n) (let e : length come + left ≡ length (come ++ more) + rest = omega (arith, length-append come more, parts) in e);
 }
 
-headed-last : (header come : List ℕ) (left : ℕ) → left ≡ 0 → Headed header come left → Headed header come 0
-headed-last header come left none headed = record { size = headed.size; found = headed.found ∙ ap (λ n. Some (length come + n)) none }
+-- an area goes on, whatever its octets are
+area-goes_on : (old : Progress) (longest : ℕ) (first : Bool) (octets more : List ℕ) (left : ℕ) (ended : List Run) (settled : Bool) (before : List (List ℕ)) (header come : List ℕ) → length more < left → Headed header come left →
+    Follows old first octets ended settled before (header ++ come) come → outcomes longest first (octets ++ more) ≡ outcomes longest first octets ++ []
+area-goes_on old longest first octets more left ended settled before header come few headed run =
+    nothing longest first octets more (outcomes_with longest ended settled before)
+    (outcomes-area longest first octets ended settled before header come left headed (omega (arith, few)) run.leaves)
+    (outcomes-area longest first (octets ++ more) ended settled before header (come ++ more) (left - length more) (headed-more header come more left (left - length more) (omega (arith, few)) headed) (omega (arith, few))
+    (subst (λ last. Leaves head head first (octets ++ more) ended (running settled before last)) (append_assoc header come more)
+    (Leaves-longer head head first octets ended (running settled before (header ++ come)) more run.leaves)))
 
--- an area is empty or has room for a type header
-four_or_more : (header come : List ℕ) (left : ℕ) → 0 < left → Headed header come left → 4 ≤ length come + left
-four_or_more header come left part headed =
-    let pli : IsPli (length come + left) = IsPli-head header (length come + left) headed.found in
-    let either : (length come + left ≡ 0) ⊎ (4 ≤ length come + left) = pli.1 in
-    omega (arith, part, either)
+module _ (old : Progress) (longest : ℕ) (first : Bool) (octets more : List ℕ) (limit : old.longest ≡ longest) (left : ℕ) (next : Descrambling) where
+  -- an area is whole, whatever comes of it
+  whole-area : (area : List ℕ) (ended : List Run) (settled : Bool) (before : List (List ℕ)) (header come : List ℕ) (told : List Outcome) → length more ≡ left → 0 < left → Headed header come left →
+      Follows old first octets ended settled before (header ++ come) come → Continues old.descrambling next more →
+      outcome_of longest settled (length (joined before)) (drop (length (joined before)) (descrambled_octets (joined before ++ (come ++ more)))) ≡ told →
+      Taken (holding old (SyncHeader 0) next area) longest first octets more told
+  whole-area area ended settled before header come told all part headed run passes outcome =
+      let whole : List ℕ = come ++ more in
+      let base : Progress = holding old (SyncHeader 0) next area in
+      to-header base longest first octets more limit ended settled (before ++ whole ∷ []) told
+      (ap (λ l. l ++ told) (outcomes-area longest first octets ended settled before header come left headed part run.leaves) ∙ outcomes_with-push longest ended settled before whole told outcome)
+      0 (omega arith)
+      (follows-whole base first (octets ++ more) ended settled before header whole (headed-more header come more left 0 (omega (arith, all)) headed)
+      (follows-more old first octets ended settled before header come more (SyncHeader 0) next area run passes))
 
-module _ (old : Receiver) (longest : ℕ) (first : Bool) (octets : List ℕ) (octet : ℕ) (limit : old.longest ≡ longest) where
-  -- an octet of an area that is kept, and what is kept
-  kept-more : (left plain : ℕ) (next : Descrambling) (is : InSyncArea left old first octets) → Descrambles old.descrambling next octet plain →
-      old.area ++ plain ∷ [] ≡ drop (length (joined is.before)) (descrambled_octets (joined is.before ++ (is.come ++ octet ∷ [])))
-  kept-more left plain next is more =
-      let before : List ℕ = joined is.before in
-      let all : List ℕ = before ++ is.come in
-      let size : length all ≡ length before + length is.come = length-append before is.come in
-      let known : (is.settled ≡ true) ⊎ (6 ≤ length all) = elim is.known [ inl start ↦ inl start | inr enough ↦ inr (omega (arith, size, enough)) ] in
-      ap (λ l. l ++ plain ∷ []) is.kept
-      ∙ sym (drop-append-le (length before) (descrambled_octets all) (plain ∷ []) (omega (arith, length-descrambled_octets all, size)))
-      ∙ ap (drop (length before)) (sym (more.answer is.settled all is.run.given known) ∙ ap descrambled_octets (append_assoc before is.come (octet ∷ [])))
+  -- ---- an area that is kept
+  module _ (plain : List ℕ) (is : InSyncArea left old first octets) (descrambles : Descrambles old.descrambling next more plain) where
+    -- what is kept
+    kept-more : old.area ++ plain ≡ drop (length (joined is.before)) (descrambled_octets (joined is.before ++ (is.come ++ more)))
+    kept-more =
+        let before : List ℕ = joined is.before in
+        let all : List ℕ = before ++ is.come in
+        let size : length all ≡ length before + length is.come = length-append before is.come in
+        let known : (is.settled ≡ true) ⊎ (6 ≤ length all) = elim is.known [ inl start ↦ inl start | inr enough ↦ inr (omega (arith, size, enough)) ] in
+        ap (λ l. l ++ plain) is.kept
+        ∙ sym (drop-append-le (length before) (descrambled_octets all) plain (omega (arith, length-descrambled_octets all, size)))
+        ∙ ap (drop (length before)) (sym (descrambles.answer is.settled all is.run.given known) ∙ ap descrambled_octets (append_assoc before is.come more))
 
-  keep-part : (left plain : ℕ) (next : Descrambling) → 1 < left → InSyncArea left old first octets → Descrambles old.descrambling next octet plain →
-      Taken (holding old (SyncArea (left - 1)) next (old.area ++ plain ∷ [])) longest first octets octet []
-  keep-part left plain next more is descrambles =
-      let come : List ℕ = is.come ++ octet ∷ [] in
-      to-area (holding old (SyncArea (left - 1)) next (old.area ++ plain ∷ [])) longest first octets octet limit is.ended is.settled is.before []
-      (append-nil (outcomes longest first octets) ∙ outcomes-area old longest first octets is.ended is.settled is.before is.come is.header left is.headed is.part is.run)
-      is.header come (left - 1) (headed-more is.header is.come left octet is.part is.headed) (omega (arith, more))
-      (omega (arith, is.fits, more, length-append is.come (octet ∷ [])))
-      (follows-more old first octets is.ended is.settled is.before is.header is.come octet plain (SyncArea (left - 1)) next (old.area ++ plain ∷ []) is.run descrambles)
-      is.known (kept-more left plain next is descrambles)
+    keep-part : length more < left → Taken (holding old (SyncArea (left - length more)) next (old.area ++ plain)) longest first octets more []
+    keep-part few =
+        let come : List ℕ = is.come ++ more in
+        to-area (holding old (SyncArea (left - length more)) next (old.area ++ plain)) longest first octets more limit is.ended is.settled is.before []
+        (append-nil (outcomes longest first octets) ∙ outcomes-area longest first octets is.ended is.settled is.before is.header is.come left is.headed is.part is.run.leaves)
+        is.header come (left - length more) (headed-more is.header is.come more left (left - length more) (omega (arith, few)) is.headed) (omega (arith, few))
+        (omega (arith, is.fits, few, length-append is.come more))
+        (follows-more old first octets is.ended is.settled is.before is.header is.come more (SyncArea (left - length more)) next (old.area ++ plain) is.run descrambles.stands)
+        is.known kept-more
 
-  -- the last octet of an area, whatever comes of it
-  whole-area : (left plain : ℕ) (next : Descrambling) (area : List ℕ) (ended : List Run) (settled : Bool) (before : List (List ℕ)) (header come : List ℕ) (told : List Outcome) → length area ≤ old.longest + 4 → left ≤ 1 → 0 < left → Headed header come left →
-      Follows old first octets ended settled before (header ++ come) come → Descrambles old.descrambling next octet plain →
-      outcome_of longest settled (length (joined before)) (drop (length (joined before)) (descrambled_octets (joined before ++ (come ++ octet ∷ [])))) ≡ told →
-      Taken (holding old (SyncHeader 0) next area) longest first octets octet told
-  whole-area left plain next area ended settled before header come told short last part headed run descrambles outcome =
-      let whole : List ℕ = come ++ octet ∷ [] in
-      let base : Receiver = holding old (SyncHeader 0) next area in
-      let ends : Headed header whole 0 = headed-last header whole (left - 1) (omega (arith, last)) (headed-more header come left octet part headed) in
-      to-header base longest first octets octet limit ended settled (before ++ whole ∷ []) told
-      (ap (λ l. l ++ told) (outcomes-area old longest first octets ended settled before come header left headed part run) ∙ outcomes_with-push longest ended settled before whole told outcome)
-      0 (omega arith) short
-      (follows-whole base first (octets ++ octet ∷ []) ended settled before header whole ends
-      (follows-more old first octets ended settled before header come octet plain (SyncHeader 0) next area run descrambles))
+    -- what comes of it
+    kept-outcome : length more ≡ left →
+        outcome_of longest is.settled (length (joined is.before)) (drop (length (joined is.before)) (descrambled_octets (joined is.before ++ (is.come ++ more))))
+        ≡ outcome_by (type_fault (take 4 (old.area ++ plain))) (old.area ++ plain) ∷ []
+    kept-outcome all =
+        let area : List ℕ = old.area ++ plain in
+        let whole : List ℕ = is.come ++ more in
+        let size : length area ≡ length whole = ap length kept-more ∙ length-descrambled_single (joined is.before) whole in
+        ap (outcome_of longest is.settled (length (joined is.before))) (sym kept-more)
+        ∙ outcome_of-fitting longest (length (joined is.before)) is.settled area is.known
+        (omega (arith, size, length-append is.come more, is.part, all)) (omega (arith, size, length-append is.come more, is.fits, is.part, all, limit))
 
-  -- what comes of an area that was kept
-  kept-outcome : (left plain : ℕ) (next : Descrambling) → left ≤ 1 → (is : InSyncArea left old first octets) → Descrambles old.descrambling next octet plain →
-      outcome_of longest is.settled (length (joined is.before)) (drop (length (joined is.before)) (descrambled_octets (joined is.before ++ (is.come ++ octet ∷ []))))
-      ≡ outcome_by (type_fault (take 4 (old.area ++ plain ∷ []))) (old.area ++ plain ∷ []) ∷ []
-  kept-outcome left plain next last is descrambles =
-      let area : List ℕ = old.area ++ plain ∷ [] in
-      let whole : List ℕ = is.come ++ octet ∷ [] in
-      let same = kept-more left plain next is descrambles in
-      let size : length area ≡ length whole = ap length same ∙ length-descrambled_single (joined is.before) whole in
-      ap (outcome_of longest is.settled (length (joined is.before))) (sym same)
-      ∙ outcome_of-fitting longest (length (joined is.before)) is.settled area is.known
-      (omega (arith, size, length-append is.come (octet ∷ []))) (omega (arith, size, length-append is.come (octet ∷ []), is.fits, is.part, last, limit))
+    keep-whole : (area : List ℕ) (told : List Outcome) → length more ≡ left → outcome_by (type_fault (take 4 (old.area ++ plain))) (old.area ++ plain) ∷ [] ≡ told →
+        Taken (holding old (SyncHeader 0) next area) longest first octets more told
+    keep-whole area told all outcome =
+        whole-area area is.ended is.settled is.before is.header is.come told all is.part is.headed is.run descrambles.stands (kept-outcome all ∙ outcome)
 
-  kept-short : (left plain : ℕ) (next : Descrambling) → left ≤ 1 → (is : InSyncArea left old first octets) → Descrambles old.descrambling next octet plain → length (old.area ++ plain ∷ []) ≤ old.longest + 4
-  kept-short left plain next last is descrambles =
-      let whole : List ℕ = is.come ++ octet ∷ [] in
-      let size : length (old.area ++ plain ∷ []) ≡ length whole = ap length (kept-more left plain next is descrambles) ∙ length-descrambled_single (joined is.before) whole in
-      omega (arith, size, length-append is.come (octet ∷ []), is.fits, is.part, last)
+  -- ---- an area that is dropped
+  module _ (why : Why) (is : InSyncPassing left why old first octets) (passes : Continues old.descrambling next more) where
+    pass-part : length more < left → Taken (holding old (SyncPassing (left - length more) why) next old.area) longest first octets more []
+    pass-part few =
+        let come : List ℕ = is.come ++ more in
+        to-passing (holding old (SyncPassing (left - length more) why) next old.area) longest first octets more limit is.ended is.settled is.before []
+        (append-nil (outcomes longest first octets) ∙ outcomes-area longest first octets is.ended is.settled is.before is.header is.come left is.headed is.part is.run.leaves)
+        is.header come (left - length more) why (headed-more is.header is.come more left (left - length more) (omega (arith, few)) is.headed) (omega (arith, few))
+        (follows-more old first octets is.ended is.settled is.before is.header is.come more (SyncPassing (left - length more) why) next old.area is.run passes)
+        (λ area size. is.dropped area (omega (arith, size, few, length-append is.come more)))
 
-  -- its frame is held, since it has room for a type header
-  kept-frame : (left plain : ℕ) (next : Descrambling) → left ≤ 1 → (is : InSyncArea left old first octets) → Descrambles old.descrambling next octet plain →
-      told_outcomes (holding old (SyncHeader 0) next (old.area ++ plain ∷ [])) Frame ≡ delivery (drop 4 (old.area ++ plain ∷ [])) ∷ []
-  kept-frame left plain next last is descrambles =
-      let area : List ℕ = old.area ++ plain ∷ [] in
-      let whole : List ℕ = is.come ++ octet ∷ [] in
-      let size : length area ≡ length whole = ap length (kept-more left plain next is descrambles) ∙ length-descrambled_single (joined is.before) whole in
-      let room : 4 ≤ length area = omega (arith, size, length-append is.come (octet ∷ []), four_or_more is.header is.come left is.part is.headed, last) in
-      rw (le-leb 4 (length area) room) refl
-
-  -- an octet of an area that is dropped
-  pass-part : (left : ℕ) (why : Why) (plain : ℕ) (next : Descrambling) → 1 < left → InSyncPassing left why old first octets → Descrambles old.descrambling next octet plain →
-      Taken (holding old (SyncPassing (left - 1) why) next old.area) longest first octets octet []
-  pass-part left why plain next more is descrambles =
-      let come : List ℕ = is.come ++ octet ∷ [] in
-      to-passing (holding old (SyncPassing (left - 1) why) next old.area) longest first octets octet limit is.ended is.settled is.before []
-      (append-nil (outcomes longest first octets) ∙ outcomes-area old longest first octets is.ended is.settled is.before is.come is.header left is.headed is.part is.run)
-      is.header come (left - 1) why (headed-more is.header is.come left octet is.part is.headed) (omega (arith, more)) is.nothing
-      (follows-more old first octets is.ended is.settled is.before is.header is.come octet plain (SyncPassing (left - 1) why) next old.area is.run descrambles)
-      (λ area size. is.dropped area (omega (arith, size, more, length-append is.come (octet ∷ []))))
-
-  pass-last : (left : ℕ) (why : Why) (plain : ℕ) (next : Descrambling) → left ≤ 1 → InSyncPassing left why old first octets → Descrambles old.descrambling next octet plain →
-      Taken (holding old (SyncHeader 0) next old.area) longest first octets octet (dropping why ∷ [])
-  pass-last left why plain next last is descrambles =
-      let whole : List ℕ = is.come ++ octet ∷ [] in
-      let area : List ℕ = drop (length (joined is.before)) (descrambled_octets (joined is.before ++ whole)) in
-      let size : length area ≡ length is.come + left = omega (arith, length-descrambled_single (joined is.before) whole, length-append is.come (octet ∷ []), last, is.part) in
-      whole-area left plain next old.area is.ended is.settled is.before is.header is.come (dropping why ∷ []) (let short : length old.area ≤ old.longest + 4 = rw is.nothing (omega arith) in short) last is.part is.headed is.run descrambles
-      (ap (λ most. outcome_of most is.settled (length (joined is.before)) area) (sym limit) ∙ is.dropped area size)
+    pass-whole : length more ≡ left → Taken (holding old (SyncHeader 0) next old.area) longest first octets more (dropping why ∷ [])
+    pass-whole all =
+        let whole : List ℕ = is.come ++ more in
+        let area : List ℕ = drop (length (joined is.before)) (descrambled_octets (joined is.before ++ whole)) in
+        let size : length area ≡ length is.come + left = omega (arith, length-descrambled_single (joined is.before) whole, length-append is.come more, all) in
+        whole-area old.area is.ended is.settled is.before is.header is.come (dropping why ∷ []) all is.part is.headed is.run passes
+        (ap (λ most. outcome_of most is.settled (length (joined is.before)) area) (sym limit) ∙ is.dropped area size)
 
 -- ---- the same for all octets that may have come
-module _ (old : Receiver) (octet left plain : ℕ) (next : Descrambling) (descrambles : Descrambles old.descrambling next octet plain) where
-  pub Takes-keep-part : 1 < left → old.phase ≡ SyncArea left → Takes old (holding old (SyncArea (left - 1)) next (old.area ++ plain ∷ [])) octet []
-  Takes-keep-part more was =
-      Takes-in old (holding old (SyncArea (left - 1)) next (old.area ++ plain ∷ [])) octet [] (SyncArea left) was
-      (λ longest first octets limit is. keep-part old longest first octets octet limit left plain next more is descrambles)
+module _ (old : Progress) (more : List ℕ) (left : ℕ) where
+  -- those that leave some of the area bring nothing
+  pub Adds-area : length more < left → old.phase ≡ SyncArea left → Adds old more []
+  Adds-area few was = λ longest first octets at.
+      let is : InSyncArea left old first octets = subst (λ phase. IsIn phase old first octets) was at.phase in
+      area-goes_on old longest first octets more left is.ended is.settled is.before is.header is.come few is.headed is.run
 
-  pub Takes-frame : left ≤ 1 → old.phase ≡ SyncArea left → type_fault (take 4 (old.area ++ plain ∷ [])) ≡ None →
-      Takes old (holding old (SyncHeader 0) next (old.area ++ plain ∷ [])) octet (told_outcomes (holding old (SyncHeader 0) next (old.area ++ plain ∷ [])) Frame)
-  Takes-frame last was none =
-      let area : List ℕ = old.area ++ plain ∷ [] in
-      let new : Receiver = holding old (SyncHeader 0) next area in
-      Takes-in old new octet (told_outcomes new Frame) (SyncArea left) was
-      (λ longest first octets limit is. whole-area old longest first octets octet limit left plain next area is.ended is.settled is.before is.header is.come (told_outcomes new Frame) (kept-short old longest first octets octet limit left plain next last is descrambles) last is.part is.headed is.run descrambles
-      (kept-outcome old longest first octets octet limit left plain next last is descrambles
-      ∙ ap (λ fault. outcome_by fault area ∷ []) none
-      ∙ sym (kept-frame old longest first octets octet limit left plain next last is descrambles)))
+  pub Adds-passing : (why : Why) → length more < left → old.phase ≡ SyncPassing left why → Adds old more []
+  Adds-passing why few was = λ longest first octets at.
+      let is : InSyncPassing left why old first octets = subst (λ phase. IsIn phase old first octets) was at.phase in
+      area-goes_on old longest first octets more left is.ended is.settled is.before is.header is.come few is.headed is.run
 
-  pub Takes-fault : (fault : TypeFault) → left ≤ 1 → old.phase ≡ SyncArea left → type_fault (take 4 (old.area ++ plain ∷ [])) ≡ Some fault →
-      Takes old (holding old (SyncHeader 0) next []) octet (dropping (Header fault) ∷ [])
-  Takes-fault fault last was some =
-      Takes-in old (holding old (SyncHeader 0) next []) octet (dropping (Header fault) ∷ []) (SyncArea left) was
-      (λ longest first octets limit is. whole-area old longest first octets octet limit left plain next [] is.ended is.settled is.before is.header is.come (dropping (Header fault) ∷ []) (omega arith) last is.part is.headed is.run descrambles
-      (kept-outcome old longest first octets octet limit left plain next last is descrambles
-      ∙ ap (λ found. outcome_by found (old.area ++ plain ∷ []) ∷ []) some))
+  module _ (next : Descrambling) (plain : List ℕ) (was : old.phase ≡ SyncArea left) (descrambles : Descrambles old.descrambling next more plain) where
+    pub Takes-keep-part : length more < left → Takes old (holding old (SyncArea (left - length more)) next (old.area ++ plain)) more []
+    Takes-keep-part few =
+        Takes-in old (holding old (SyncArea (left - length more)) next (old.area ++ plain)) more [] (SyncArea left) was
+        (λ longest first octets limit is. keep-part old longest first octets more limit left next plain is descrambles few)
 
-  pub Takes-pass-part : (why : Why) → 1 < left → old.phase ≡ SyncPassing left why → Takes old (holding old (SyncPassing (left - 1) why) next old.area) octet []
-  Takes-pass-part why more was =
-      Takes-in old (holding old (SyncPassing (left - 1) why) next old.area) octet [] (SyncPassing left why) was
-      (λ longest first octets limit is. pass-part old longest first octets octet limit left why plain next more is descrambles)
+    pub Takes-keep-whole : (told : List Outcome) → length more ≡ left → outcome_by (type_fault (take 4 (old.area ++ plain))) (old.area ++ plain) ∷ [] ≡ told →
+        Takes old (holding old (SyncHeader 0) next (old.area ++ plain)) more told
+    Takes-keep-whole told all outcome =
+        Takes-in old (holding old (SyncHeader 0) next (old.area ++ plain)) more told (SyncArea left) was
+        (λ longest first octets limit is. keep-whole old longest first octets more limit left next plain is descrambles (old.area ++ plain) told all outcome)
 
-  pub Takes-pass-last : (why : Why) → left ≤ 1 → old.phase ≡ SyncPassing left why → Takes old (holding old (SyncHeader 0) next old.area) octet (dropping why ∷ [])
-  Takes-pass-last why last was =
-      Takes-in old (holding old (SyncHeader 0) next old.area) octet (dropping why ∷ []) (SyncPassing left why) was
-      (λ longest first octets limit is. pass-last old longest first octets octet limit left why plain next last is descrambles)
+  module _ (next : Descrambling) (why : Why) (was : old.phase ≡ SyncPassing left why) (passes : Continues old.descrambling next more) where
+    pub Takes-pass-part : length more < left → Takes old (holding old (SyncPassing (left - length more) why) next old.area) more []
+    Takes-pass-part few =
+        Takes-in old (holding old (SyncPassing (left - length more) why) next old.area) more [] (SyncPassing left why) was
+        (λ longest first octets limit is. pass-part old longest first octets more limit left next why is passes few)
 
--- what the answer of reading a type header says of it
-pub type_right : (fault : Option TypeFault) (result : Result (Unit {0}) TypeFault) (unit : Unit {0}) → result ≡ Ok unit → MatchOption fault (result ≡ Ok tt) (λ fault. result ≡ Err fault) → fault ≡ None
-type_right None result unit is answer = refl
-type_right (Some fault) result unit is answer = absurd cc
-
-pub type_wrong : (fault : Option TypeFault) (result : Result (Unit {0}) TypeFault) (found : TypeFault) → result ≡ Err found → MatchOption fault (result ≡ Ok tt) (λ fault. result ≡ Err fault) → fault ≡ Some found
-type_wrong None result found is answer = absurd cc
-type_wrong (Some fault) result found is answer = cc
+    pub Takes-pass-whole : length more ≡ left → Takes old (holding old (SyncHeader 0) next old.area) more (dropping why ∷ [])
+    Takes-pass-whole all =
+        Takes-in old (holding old (SyncHeader 0) next old.area) more (dropping why ∷ []) (SyncPassing left why) was
+        (λ longest first octets limit is. pass-whole old longest first octets more limit left next why is passes all)

@@ -12,16 +12,17 @@ use Rattle.hec16.specs.Hec.{hec_of}
 use Rattle.session_model.specs.Core.{core_header, IsPli}
 use Rattle.session_model.specs.TypeHeader.{type_header, type_fault}
 use Rattle.session_model.specs.Piece.{Piece, idle, client, area_of, cut, with_header, scrambled_areas, stream_of, size_of, frame_ends, frames_by, opening}
+use Rattle.session_model.specs.Core.{head}
 use Rattle.session_model.specs.Hunt.{header_at}
-use Rattle.session_model.specs.Run.{runs, runs_behind}
-use Rattle.session_model.specs.Outcome.{outcome_of, outcomes_behind, run_outcomes, descrambled_areas}
+use Rattle.session_model.specs.Run.{Followed, run_then, runs, delineate}
+use Rattle.session_model.specs.Outcome.{outcome_of, outcomes_after, outcomes_after_with, run_outcomes, descrambled_areas}
 use Rattle.session_model.specs.Delivery.{frame_in, delivered}
 use Rattle.session_model.proofs.CoreLaws.{length-core_header}
 use Rattle.session_model.proofs.AreaLaws.{map-length-scrambled_areas}
 use Rattle.gfp_delineate.specs.Receiver.{IsClientFrame}
 use Rattle.gfp_delineate.proofs.HuntLaws.{search-few, search-short, search-confirmed}
-use Rattle.gfp_delineate.proofs.RunLaws.{runs_from, runs-open}
-use Rattle.gfp_delineate.proofs.FrontLaws.{take-append, header_at-core, whole_areas, areas-front, behind_run-front, descrambled-whole_areas}
+use Rattle.gfp_delineate.proofs.RunLaws.{delineate_from, delineate-open}
+use Rattle.gfp_delineate.proofs.FrontLaws.{take-append, header_at-core, whole_areas, follow-front, descrambled-whole_areas}
 
 -- ---- the run in a front of a stream that begins with two idles
 idle_fits : IsPli 0
@@ -39,14 +40,14 @@ runs-idles place pieces long all =
     let front : take place (flat_map with_header ([] ∷ [] ∷ pieces)) ≡ header ++ rest =
     take-idle place (flat_map with_header ([] ∷ pieces)) (omega (arith, long)) in
     let next : rest ≡ header ++ more = take-idle (place - 4) (flat_map with_header pieces) (omega (arith, long)) in
-    let behind : drop (4 + 0) (header ++ rest) ≡ rest = drop_at header rest 4 four in
-    ap (runs true) front
-    ∙ runs-open true (header ++ rest)
-    ∙ ap runs_from
-    (search-confirmed false (header ++ rest) 0 0 (header_at-core 0 rest idle_fits) (ap header_at (behind ∙ next) ∙ header_at-core 0 more idle_fits)
-    ∙ ap (λ octets. Some (false, octets)) behind)
-    ∙ ap₂ (λ found octets. record { settled = true; areas = found } ∷ runs_behind octets (λ refused octets. runs (not refused) octets))
-    (areas-front (place - 4) ([] ∷ pieces) fits) (behind_run-front (place - 4) ([] ∷ pieces) fits)
+    let after : drop (4 + 0) (header ++ rest) ≡ rest = drop_at header rest 4 four in
+    ap (λ octets. runs true octets) front
+    ∙ ap (λ found. found.runs)
+    (delineate-open head head true (header ++ rest)
+    ∙ ap (delineate_from head head)
+    (search-confirmed head false (header ++ rest) 0 0 (header_at-core 0 rest idle_fits) (ap header_at (after ∙ next) ∙ header_at-core 0 more idle_fits)
+    ∙ ap (λ octets. Some (false, octets)) after)
+    ∙ ap (λ (found : Followed). run_then (record { settled = true; areas = found.areas }) found.after (delineate false)) (follow-front (place - 4) ([] ∷ pieces) fits))
   where
     take-idle : (count : ℕ) (octets : List ℕ) → 4 ≤ count → take count (with_header [] ++ octets) ≡ core_header 0 ++ take (count - 4) octets
     take-idle count octets long =
@@ -58,28 +59,28 @@ runs-idles place pieces long all =
 
 -- where they are not, there is none
 runs-few : (place : ℕ) (octets : List ℕ) → place < 8 → runs true (take place (with_header [] ++ octets)) ≡ []
-runs-few place octets few = runs-open true (take place (with_header [] ++ octets)) ∙ ap runs_from (elim (cases_lt place 4) [
-  | inl none ↦ search-few false (take place (with_header [] ++ octets)) (omega (arith, length-take place (with_header [] ++ octets), none))
+runs-few place octets few = ap (λ found. found.runs) (delineate-open head head true (take place (with_header [] ++ octets)) ∙ ap (delineate_from head head) (elim (cases_lt place 4) [
+  | inl none ↦ search-few head false (take place (with_header [] ++ octets)) (omega (arith, length-take place (with_header [] ++ octets), none))
   | inr long ↦ (
       let header : List ℕ = core_header 0 in
       let four : length header ≡ 4 = length-core_header 0 in
       let front : take place (with_header [] ++ octets) ≡ header ++ take (place - length header) octets =
       ap (λ l. take place (l ++ octets)) (append-nil header) ∙ take-append place header octets (omega (arith, four, long)) in
-      search-short false (take place (with_header [] ++ octets)) 0 (ap header_at front ∙ header_at-core 0 (take (place - length header) octets) idle_fits)
+      search-short head false (take place (with_header [] ++ octets)) 0 (ap header_at front ∙ header_at-core 0 (take (place - length header) octets) idle_fits)
       (omega (arith, length-take place (with_header [] ++ octets), few)))
-])
+]))
 
 -- ---- the frames in whole areas
 type_header_right : type_fault type_header ≡ None
 unfolding type_fault hec_of bits divide add_front number_behind
 type_header_right = refl
 
--- a piece that may be sent to a receiver of frames with at most so many octets
+-- a piece that may be sent to a receiver of frames with at most a number of octets
 abbrev pub IsSendable : ℕ → Piece → Type 0
 IsSendable longest idle = Unit {0}
 IsSendable longest (client frame) = IsClientFrame longest frame
 
-IsPli-area_of : (longest : ℕ) (piece : Piece) → longest ≤ 65531 → IsSendable longest piece → IsPli (length (area_of piece))
+pub IsPli-area_of : (longest : ℕ) (piece : Piece) → longest ≤ 65531 → IsSendable longest piece → IsPli (length (area_of piece))
 IsPli-area_of longest idle fits sendable = idle_fits
 IsPli-area_of longest (client frame) fits sendable =
     let size : length (type_header ++ frame) ≡ 4 + length frame = length-append type_header frame in
@@ -90,7 +91,7 @@ type_header_below =
     let below : ℕ → Type 0 = λ o. o < 256 in
     All-cons below 0 (1 ∷ 16 ∷ 33 ∷ []) (omega arith) (All-cons below 1 (16 ∷ 33 ∷ []) (omega arith) (All-cons below 16 (33 ∷ []) (omega arith) (All-cons below 33 [] (omega arith) (All-nil below))))
 
-area_of_below : (longest : ℕ) (piece : Piece) → IsSendable longest piece → All (λ o. o < 256) (area_of piece)
+pub area_of_below : (longest : ℕ) (piece : Piece) → IsSendable longest piece → All (λ o. o < 256) (area_of piece)
 area_of_below longest idle sendable = All-nil (λ o. o < 256)
 area_of_below longest (client frame) sendable = All-append (λ o. o < 256) type_header frame type_header_below sendable.octets
 
@@ -112,10 +113,10 @@ frames-area_of longest before start (client frame) sendable =
     rw (le-ltb (longest + 4) (length (type_header ++ frame)) short, type_header_right) refl
 
 -- the frames whose piece ends by a place
-abbrev ended : ℕ → List (ℕ × List ℕ) → List (ℕ × List ℕ)
+abbrev pub ended : ℕ → List (ℕ × List ℕ) → List (ℕ × List ℕ)
 ended place ends = filter (λ end. nat_le end.0 place) ends
 
--- there is none among pieces that begin where no piece can end by the place
+-- none does among pieces that begin where no piece can end by the place
 frames-past : (place start : ℕ) (pieces : List Piece) → place < start + 4 → ended place (frame_ends start pieces) ≡ []
 unfolding frame_ends
 frames-past place start [] past = refl
@@ -124,7 +125,7 @@ frames-past place start (client frame ∷ pieces) past =
     let later : nat_le (start + size_of (client frame)) place ≡ false = lt-leb (start + size_of (client frame)) place (omega arith) in
     rw later (frames-past place (start + size_of (client frame)) pieces (omega arith))
 
--- the first piece ends behind the place, or by it
+-- the first piece ends after the place, or by it
 ended-none : (place start : ℕ) (piece : Piece) → place < start + size_of piece → ended place (frame_at start piece) ≡ []
 ended-none place start idle later = refl
 ended-none place start (client frame) later = rw (lt-leb (start + size_of (client frame)) place later) refl
@@ -139,9 +140,9 @@ ended-cons place start piece pieces =
     ∙ filter-append (λ (end : ℕ × List ℕ). nat_le end.0 place) (frame_at start piece) (frame_ends (start + size_of piece) pieces)
 
 -- the frames in the areas that are whole are those whose piece ends by the place
-frames-whole : (longest before count start : ℕ) (pieces : List Piece) → All (IsSendable longest) pieces →
-    flat_map frame_in (outcomes_behind longest true before (whole_areas count (map area_of pieces))) ≡ map (λ end. end.1) (ended (start + count) (frame_ends start pieces))
-unfolding frame_ends whole_areas outcomes_behind
+pub frames-whole : (longest before count start : ℕ) (pieces : List Piece) → All (IsSendable longest) pieces →
+    flat_map frame_in (outcomes_after longest true before (whole_areas count (map area_of pieces))) ≡ map (λ end. end.1) (ended (start + count) (frame_ends start pieces))
+unfolding frame_ends whole_areas outcomes_after_with
 frames-whole longest before count start [] all = refl
 frames-whole longest before count start (piece ∷ pieces) all = elim (cases_lt count (size_of piece)) [
   | inl short ↦ rw (lt-leb (4 + length (area_of piece)) count short)
@@ -151,7 +152,7 @@ frames-whole longest before count start (piece ∷ pieces) all = elim (cases_lt 
       let left : ℕ = count - size_of piece in
       let same : next + left ≡ start + count = omega (arith, whole) in
       rw (le-leb (4 + length (area_of piece)) count whole)
-      (flat_map-append frame_in (outcome_of longest true before (area_of piece)) (outcomes_behind longest true (before + length (area_of piece)) (whole_areas left (map area_of pieces)))
+      (flat_map-append frame_in (outcome_of longest true before (area_of piece)) (outcomes_after longest true (before + length (area_of piece)) (whole_areas left (map area_of pieces)))
       ∙ ap₂ ◌++◌ (frames-area_of longest before start piece (All-head (IsSendable longest) piece pieces all))
       (frames-whole longest (before + length (area_of piece)) left next pieces (All-tail (IsSendable longest) piece pieces all))
       ∙ sym (map-append (λ (end : ℕ × List ℕ). end.1) (frame_at start piece) (ended (next + left) (frame_ends next pieces)))
@@ -170,7 +171,7 @@ unfolding cut
 scrambled-idle pieces = refl
 
 -- the areas of pieces have lengths that headers may say
-fits-scrambled : (sizes : List (List ℕ)) (octets : List (List ℕ)) → map length octets ≡ map length sizes → All (λ area. IsPli (length area)) sizes → All (λ area. IsPli (length area)) octets
+pub fits-scrambled : (sizes : List (List ℕ)) (octets : List (List ℕ)) → map length octets ≡ map length sizes → All (λ area. IsPli (length area)) sizes → All (λ area. IsPli (length area)) octets
 fits-scrambled [] [] same all = All-nil (λ area. IsPli (length area))
 fits-scrambled [] (area ∷ octets) same all = absurd cc
 fits-scrambled (size ∷ sizes) [] same all = absurd cc
@@ -179,7 +180,7 @@ fits-scrambled (size ∷ sizes) (area ∷ octets) same all =
     (let first : length size ≡ length area = cc in subst IsPli first (All-head (λ area. IsPli (length area)) size sizes all))
     (fits-scrambled sizes octets (let rest : map length octets ≡ map length sizes = cc in rest) (All-tail (λ area. IsPli (length area)) size sizes all))
 
-delivered-whole : (longest place : ℕ) (pieces : List Piece) → longest ≤ 65531 → All (IsSendable longest) pieces → 8 ≤ place →
+pub delivered-whole : (longest place : ℕ) (pieces : List Piece) → longest ≤ 65531 → All (IsSendable longest) pieces → 8 ≤ place →
     delivered longest (take place (stream_of (idle ∷ idle ∷ pieces))) ≡ frames_by place (idle ∷ idle ∷ pieces)
 unfolding frame_ends
 delivered-whole longest place pieces fits all long =
@@ -195,20 +196,24 @@ delivered-whole longest place pieces fits all long =
     ∙ ap (λ found. flat_map frame_in (flat_map (run_outcomes longest) found))
     (runs-idles place (scrambled_areas sent) long (fits-scrambled sent (scrambled_areas sent) (map-length-scrambled_areas sent) plis))
     ∙ ap (flat_map frame_in) (append-nil (run_outcomes longest (record { settled = true; areas = come })))
-    ∙ ap (λ areas. flat_map frame_in (outcomes_behind longest true 0 areas)) plain
+    ∙ ap (λ areas. flat_map frame_in (outcomes_after longest true 0 areas)) plain
     ∙ frames-whole longest 0 (place - 4) (0 + size_of idle) (idle ∷ pieces) (All-cons (IsSendable longest) idle pieces tt all)
     ∙ ap (λ place. map (λ end. end.1) (ended place (frame_ends (0 + size_of idle) (idle ∷ pieces)))) same
 
-delivered-few : (longest place : ℕ) (pieces : List Piece) → place < 8 → delivered longest (take place (stream_of (idle ∷ idle ∷ pieces))) ≡ frames_by place (idle ∷ idle ∷ pieces)
+pub delivered-few : (longest place : ℕ) (pieces : List Piece) → place < 8 → delivered longest (take place (stream_of (idle ∷ idle ∷ pieces))) ≡ frames_by place (idle ∷ idle ∷ pieces)
 unfolding frame_ends
 delivered-few longest place pieces few =
     ap (λ octets. delivered longest (take place octets)) (scrambled-idles pieces)
     ∙ ap (λ found. flat_map frame_in (flat_map (run_outcomes longest) found)) (runs-few place (flat_map with_header ([] ∷ scrambled_areas (map area_of pieces))) few)
     ∙ ap (map (λ end. end.1)) (sym (frames-past place (0 + size_of idle) (idle ∷ pieces) (omega (arith, few))))
 
+pub delivered-stream : (longest place : ℕ) (pieces : List Piece) → longest ≤ 65531 → All (IsSendable longest) pieces →
+    delivered longest (take place (stream_of (idle ∷ idle ∷ pieces))) ≡ frames_by place (idle ∷ idle ∷ pieces)
+delivered-stream longest place pieces fits all =
+    elim (cases_lt place 8) [ inl few ↦ delivered-few longest place pieces few | inr long ↦ delivered-whole longest place pieces fits all long ]
+
 pub delivered-opening : (longest : ℕ) (frames : List (List ℕ)) (idles place : ℕ) → longest ≤ 65531 → All (IsClientFrame longest) frames → delivered longest (take place (stream_of (opening frames idles))) ≡ frames_by place (opening frames idles)
 delivered-opening longest frames idles place fits all =
-    let pieces : List Piece = map client frames ++ replicate idles idle in
     let clients : All (IsSendable longest) (map client frames) = All-map (IsSendable longest) client frames all in
-    let sendable : All (IsSendable longest) pieces = All-append (IsSendable longest) (map client frames) (replicate idles idle) clients (All-replicate (IsSendable longest) idles idle tt) in
-    elim (cases_lt place 8) [ inl few ↦ delivered-few longest place pieces few | inr long ↦ delivered-whole longest place pieces fits sendable long ]
+    delivered-stream longest place (map client frames ++ replicate idles idle) fits
+    (All-append (IsSendable longest) (map client frames) (replicate idles idle) clients (All-replicate (IsSendable longest) idles idle tt))

@@ -1,17 +1,21 @@
--- The frames that an answer gives.
-use Rattle.std.proofs.Common.{◌≡◌, ℕ, zero, suc, ◌≤◌, Bool, true, List, ◌++◌, length, map, inl, inr, Option, Some, None, refl, ◌∙◌, ap, arith, length-drop}
-use Rattle.std.specs.Prelude.{IfSome}
+-- The frames that an answer tells.
+use Rattle.std.proofs.Common.{◌≡◌, ℕ, ◌+◌, ◌≤◌, Bool, true, false, List, [], ◌++◌, length, map, drop, inl, inr, Option, Some, None, refl, sym, ◌∙◌, ap, arith, length-drop}
+use Rattle.std.specs.Prelude.{◌↔◌, IfSome, IsTrue}
 use Rattle.std.specs.List.{flat_map}
 use Rattle.std.specs.Option.{option_to_list}
 use Rattle.std.proofs.lemmas.Bool.{le-leb, lt-leb, cases_lt}
 use Rattle.std.proofs.lemmas.List.Concat.{flat_map-append}
 use Rattle.session_model.specs.Outcome.{delivery, outcomes}
 use Rattle.session_model.specs.Delivery.{frame_in, delivered}
-use Rattle.gfp_delineate.specs.declared.Phase.{Phase}
-use Rattle.gfp_delineate.specs.declared.Phase.TheVariants.{Hunt, PresyncArea, PresyncHeader, SyncHeader, SyncArea, SyncPassing}
 use Rattle.gfp_delineate.specs.declared.Step.{Step}
 use Rattle.gfp_delineate.specs.declared.Step.TheVariants.{Nothing, Frame, Dropped}
-use Rattle.gfp_delineate.specs.Receiver.{Receiver, IsIn, StandsIn, held_in, frame_of, told, told_outcomes}
+use Rattle.gfp_delineate.specs.Receiver.{Progress, Receiver, frame_of, outcomes_told, told_outcomes}
+
+-- the frames that an answer tells
+abbrev pub told : Receiver → Step → List (List ℕ)
+told receiver Nothing = []
+told receiver Frame = option_to_list (frame_of receiver)
+told receiver (Dropped why) = []
 
 frames_held : (frame : Option (List ℕ)) → flat_map frame_in (map delivery (option_to_list frame)) ≡ option_to_list frame
 frames_held None = refl
@@ -30,18 +34,20 @@ delivered-told receiver step longest octets more outcome =
     ∙ flat_map-append frame_in (outcomes longest true octets) (told_outcomes receiver step)
     ∙ ap (λ l. delivered longest octets ++ l) (frames_told receiver step)
 
--- a frame that is held is no longer than frames that are delivered
-short-IsIn : (phase : Phase) (receiver : Receiver) (longest : ℕ) (first : Bool) (octets : List ℕ) → receiver.longest ≡ longest → IsIn phase receiver first octets → IfSome (held_in phase receiver.area) (λ frame. length frame ≤ longest)
-short-IsIn (SyncHeader zero) receiver longest first octets limit is = elim (cases_lt (length receiver.area) 4) [
-  | inl few ↦ rw (lt-leb 4 (length receiver.area) few) tt
-  | inr room ↦ rw (le-leb 4 (length receiver.area) room) (omega (arith, length-drop 4 receiver.area, is.short, limit))
-]
-short-IsIn (SyncHeader (suc have)) receiver longest first octets limit is = tt
-short-IsIn (SyncArea left) receiver longest first octets limit is = tt
-short-IsIn (SyncPassing left why) receiver longest first octets limit is = tt
-short-IsIn (PresyncHeader have) receiver longest first octets limit is = tt
-short-IsIn (PresyncArea left) receiver longest first octets limit is = tt
-short-IsIn (Hunt have) receiver longest first octets limit is = tt
+-- ---- what a call tells, where it holds a frame exactly at the answer Frame
+frame-held : (progress : Progress) (holds : Bool) → IsTrue holds → 4 ≤ length progress.area → frame_of (record { progress = progress; holds = holds }) ≡ Some (drop 4 progress.area)
+frame-held progress true held room = rw (le-leb 4 (length progress.area) room) refl
+frame-held progress false held room = absurd cc
 
-pub short-StandsIn : (receiver : Receiver) (longest : ℕ) (first : Bool) (octets : List ℕ) → StandsIn receiver longest first octets → IfSome (frame_of receiver) (λ frame. length frame ≤ longest)
-short-StandsIn receiver longest first octets stands = short-IsIn receiver.phase receiver longest first octets stands.limit stands.phase
+pub outcomes-held : (progress : Progress) (holds : Bool) (step : Step) → (IsTrue holds ↔ (step ≡ Frame)) → (step ≡ Frame → 4 ≤ length progress.area) →
+    outcomes_told (Some (drop 4 progress.area)) step ≡ told_outcomes (record { progress = progress; holds = holds }) step
+outcomes-held progress holds Nothing held room = refl
+outcomes-held progress holds Frame held room = ap (λ frame. map delivery (option_to_list frame)) (sym (frame-held progress holds (held.1 refl) (room refl)))
+outcomes-held progress holds (Dropped why) held room = refl
+
+pub short-held : (progress : Progress) (holds : Bool) (longest : ℕ) → (IsTrue holds → length progress.area ≤ longest + 4) → IfSome (frame_of (record { progress = progress; holds = holds })) (λ frame. length frame ≤ longest)
+short-held progress false longest short = tt
+short-held progress true longest short = elim (cases_lt (length progress.area) 4) [
+  | inl few ↦ rw (lt-leb 4 (length progress.area) few) tt
+  | inr room ↦ rw (le-leb 4 (length progress.area) room) (omega (arith, length-drop 4 progress.area, short refl))
+]

@@ -8,15 +8,15 @@ use Rattle.std.proofs.lemmas.Bool.{le-leb, lt-leb, cases_lt}
 use Rattle.session_model.specs.Scramble.{scrambled_octets}
 use Rattle.session_model.specs.Core.{core_header, IsPli}
 use Rattle.session_model.specs.Piece.{cut, with_header, scrambled_areas}
+use Rattle.session_model.specs.Core.{head}
 use Rattle.session_model.specs.Hunt.{header_at}
-use Rattle.session_model.specs.Run.{areas, behind_run}
+use Rattle.session_model.specs.Run.{area_then, no_area, follow_with}
 use Rattle.session_model.specs.Outcome.{descrambled_areas}
 use Rattle.session_model.proofs.CoreLaws.{length-core_header, head-core_header}
 use Rattle.session_model.proofs.AreaLaws.{scrambled_behind, scrambled_behind-append, scrambled_behind-single, length-scrambled_single, descrambled_areas-scrambled_areas}
 use Rattle.session_model.proofs.StreamLaws.{length-with_header}
-use Rattle.gfp_delineate.proofs.HuntLaws.{no_header}
-use Rattle.gfp_delineate.proofs.RunLaws.{areas-lost, areas-part, areas-whole, behind_run-few, behind_run-part, behind_run-whole}
-use Rattle.gfp_delineate.proofs.StandingLaws.{header_at-window}
+use Rattle.gfp_delineate.proofs.HuntLaws.{header-window}
+use Rattle.gfp_delineate.proofs.RunLaws.{follow-few, follow-part, follow-whole}
 
 -- the front of a list that has its first part whole
 pub take-append : (count : ℕ) (xs ys : List ℕ) → length xs ≤ count → take count (xs ++ ys) ≡ xs ++ take (count - length xs) ys
@@ -28,94 +28,61 @@ take-append (suc count) (x ∷ xs) ys longer =
 
 -- a header in front
 pub header_at-core : (pli : ℕ) (more : List ℕ) → IsPli pli → header_at (core_header pli ++ more) ≡ Some pli
-header_at-core pli more fits = header_at-window (core_header pli) more (length-core_header pli) ∙ head-core_header pli fits
+header_at-core pli more fits = header-window head (core_header pli) more (length-core_header pli) ∙ head-core_header pli fits
 
--- the areas that are whole where so many octets have come
+-- the areas that are whole where a number of octets has come
 unfoldable pub whole_areas : ℕ → List (List ℕ) → List (List ℕ)
 whole_areas count [] = []
 whole_areas count (area ∷ more) = if nat_le (4 + length area) count then area ∷ whole_areas (count - (4 + length area)) more else []
 
 -- a front that ends in the first piece
-module _ (count : ℕ) (area more : List ℕ) (fits : IsPli (length area)) (short : count < 4 + length area) where
-  front_part : 4 ≤ count → take count (with_header area ++ more) ≡ core_header (length area) ++ take (count - 4) (area ++ more)
-  front_part long =
-      let four : length (core_header (length area)) ≡ 4 = length-core_header (length area) in
-      ap (take count) (append_assoc (core_header (length area)) area more)
-      ∙ take-append count (core_header (length area)) (area ++ more) (omega arith)
-      ∙ ap (λ n. core_header (length area) ++ take (count - n) (area ++ more)) four
-
-  front_size : length (take count (with_header area ++ more)) < 4 + length area
-  front_size = omega (arith, length-take count (with_header area ++ more), short)
-
-  areas-part_front : areas (take count (with_header area ++ more)) ≡ []
-  areas-part_front = elim (cases_lt count 4) [
-    | inl few ↦ areas-lost (take count (with_header area ++ more)) (no_header (take count (with_header area ++ more)) (omega (arith, length-take count (with_header area ++ more), few)))
-    | inr long ↦ areas-part (take count (with_header area ++ more)) (length area) (ap header_at (front_part long) ∙ header_at-core (length area) (take (count - 4) (area ++ more)) fits) front_size
-  ]
-
-  behind-part_front : behind_run (take count (with_header area ++ more)) ≡ None
-  behind-part_front = elim (cases_lt count 4) [
-    | inl few ↦ behind_run-few (take count (with_header area ++ more)) (omega (arith, length-take count (with_header area ++ more), few))
-    | inr long ↦ behind_run-part (take count (with_header area ++ more)) (length area) (ap header_at (front_part long) ∙ header_at-core (length area) (take (count - 4) (area ++ more)) fits) front_size
-  ]
+follow-part_front : (count : ℕ) (area more : List ℕ) → IsPli (length area) → count < 4 + length area → follow_with head (take count (with_header area ++ more)) ≡ no_area None
+follow-part_front count area more fits short =
+    let octets : List ℕ = take count (with_header area ++ more) in
+    let size : length octets ≤ count = omega (arith, length-take count (with_header area ++ more)) in
+    elim (cases_lt count 4) [
+      | inl few ↦ follow-few head octets (omega (arith, size, few))
+      | inr long ↦ (
+          let four : length (core_header (length area)) ≡ 4 = length-core_header (length area) in
+          let front : octets ≡ core_header (length area) ++ take (count - 4) (area ++ more) =
+          ap (take count) (append_assoc (core_header (length area)) area more)
+          ∙ take-append count (core_header (length area)) (area ++ more) (omega arith)
+          ∙ ap (λ n. core_header (length area) ++ take (count - n) (area ++ more)) four in
+          follow-part head octets (length area) (ap header_at front ∙ header_at-core (length area) (take (count - 4) (area ++ more)) fits) (omega (arith, size, short)))
+    ]
 
 -- a front that has the first piece whole
-module _ (count : ℕ) (area more : List ℕ) (fits : IsPli (length area)) (long : 4 + length area ≤ count) where
-  front_whole : take count (with_header area ++ more) ≡ core_header (length area) ++ (area ++ take (count - (4 + length area)) more)
-  front_whole =
-      let size : length (with_header area) ≡ 4 + length area = length-with_header area in
-      take-append count (with_header area) more (omega arith)
-      ∙ ap (λ n. with_header area ++ take (count - n) more) size
-      ∙ append_assoc (core_header (length area)) area (take (count - (4 + length area)) more)
-
-  areas-whole_front : areas (take count (with_header area ++ more)) ≡ area ∷ areas (take (count - (4 + length area)) more)
-  areas-whole_front =
-      let header : List ℕ = core_header (length area) in
-      let rest : List ℕ = take (count - (4 + length area)) more in
-      let four : length header ≡ 4 = length-core_header (length area) in
-      let both : length (header ++ area) ≡ 4 + length area = omega (arith, length-append header area, four) in
-      let enough : 4 + length area ≤ length (header ++ (area ++ rest)) = omega (arith, length-append header (area ++ rest), length-append area rest, four) in
-      ap areas front_whole
-      ∙ areas-whole (header ++ (area ++ rest)) (length area) (header_at-core (length area) (area ++ rest) fits) enough
-      ∙ ap₂ (λ first octets. first ∷ areas octets)
-      (ap (take (length area)) (drop_at header (area ++ rest) 4 four) ∙ take_at area rest (length area) refl)
-      (ap (drop (4 + length area)) (sym (append_assoc header area rest)) ∙ drop_at (header ++ area) rest (4 + length area) both)
-
-  behind-whole_front : behind_run (take count (with_header area ++ more)) ≡ behind_run (take (count - (4 + length area)) more)
-  behind-whole_front =
-      let header : List ℕ = core_header (length area) in
-      let rest : List ℕ = take (count - (4 + length area)) more in
-      let four : length header ≡ 4 = length-core_header (length area) in
-      let both : length (header ++ area) ≡ 4 + length area = omega (arith, length-append header area, four) in
-      let enough : 4 + length area ≤ length (header ++ (area ++ rest)) = omega (arith, length-append header (area ++ rest), length-append area rest, four) in
-      ap behind_run front_whole
-      ∙ behind_run-whole (header ++ (area ++ rest)) (length area) (header_at-core (length area) (area ++ rest) fits) enough
-      ∙ ap behind_run (ap (drop (4 + length area)) (sym (append_assoc header area rest)) ∙ drop_at (header ++ area) rest (4 + length area) both)
+follow-whole_front : (count : ℕ) (area more : List ℕ) → IsPli (length area) → 4 + length area ≤ count →
+    follow_with head (take count (with_header area ++ more)) ≡ area_then area (follow_with head (take (count - (4 + length area)) more))
+follow-whole_front count area more fits long =
+    let header : List ℕ = core_header (length area) in
+    let rest : List ℕ = take (count - (4 + length area)) more in
+    let four : length header ≡ 4 = length-core_header (length area) in
+    let size : length (with_header area) ≡ 4 + length area = length-with_header area in
+    let both : length (header ++ area) ≡ 4 + length area = omega (arith, length-append header area, four) in
+    let enough : 4 + length area ≤ length (header ++ (area ++ rest)) = omega (arith, length-append header (area ++ rest), length-append area rest, four) in
+    ap (follow_with head)
+    (take-append count (with_header area) more (omega arith) ∙ ap (λ n. with_header area ++ take (count - n) more) size ∙ append_assoc header area rest)
+    ∙ follow-whole head (header ++ (area ++ rest)) (length area) (header_at-core (length area) (area ++ rest) fits) enough
+    ∙ ap₂ (λ first octets. area_then first (follow_with head octets))
+    (ap (take (length area)) (drop_at header (area ++ rest) 4 four) ∙ take_at area rest (length area) refl)
+    (ap (drop (4 + length area)) (sym (append_assoc header area rest)) ∙ drop_at (header ++ area) rest (4 + length area) both)
 
 -- in a front of pieces
 take-none : (count : ℕ) → length (take {A = ℕ} count []) < 4
 take-none count = omega (arith, length-take {A = ℕ} count [])
 
-pub areas-front : (count : ℕ) (pieces : List (List ℕ)) → All (λ area. IsPli (length area)) pieces → areas (take count (flat_map with_header pieces)) ≡ whole_areas count pieces
+-- a run of pieces has the areas that are whole, and is open
+pub follow-front : (count : ℕ) (pieces : List (List ℕ)) → All (λ area. IsPli (length area)) pieces → follow_with head (take count (flat_map with_header pieces)) ≡ record { areas = whole_areas count pieces; after = None }
 unfolding whole_areas
-areas-front count [] all = areas-lost (take count []) (no_header (take count []) (take-none count))
-areas-front count (area ∷ pieces) all =
+follow-front count [] all = follow-few head (take count []) (take-none count)
+follow-front count (area ∷ pieces) all =
     let fits = All-head (λ area. IsPli (length area)) area pieces all in
     elim (cases_lt count (4 + length area)) [
-      | inl short ↦ rw (lt-leb (4 + length area) count short) (areas-part_front count area (flat_map with_header pieces) fits short)
+      | inl short ↦ rw (lt-leb (4 + length area) count short) (follow-part_front count area (flat_map with_header pieces) fits short)
       | inr long ↦ rw (le-leb (4 + length area) count long)
-          (areas-whole_front count area (flat_map with_header pieces) fits long
-          ∙ ap (λ l. area ∷ l) (areas-front (count - (4 + length area)) pieces (All-tail (λ area. IsPli (length area)) area pieces all)))
-    ]
-
-pub behind_run-front : (count : ℕ) (pieces : List (List ℕ)) → All (λ area. IsPli (length area)) pieces → behind_run (take count (flat_map with_header pieces)) ≡ None
-behind_run-front count [] all = behind_run-few (take count []) (take-none count)
-behind_run-front count (area ∷ pieces) all =
-    let fits = All-head (λ area. IsPli (length area)) area pieces all in
-    elim (cases_lt count (4 + length area)) [
-      | inl short ↦ behind-part_front count area (flat_map with_header pieces) fits short
-      | inr long ↦ behind-whole_front count area (flat_map with_header pieces) fits long
-          ∙ behind_run-front (count - (4 + length area)) pieces (All-tail (λ area. IsPli (length area)) area pieces all)
+          (follow-whole_front count area (flat_map with_header pieces) fits long
+          ∙ ap (area_then area) (follow-front (count - (4 + length area)) pieces (All-tail (λ area. IsPli (length area)) area pieces all)))
     ]
 
 -- whole areas are among the areas
@@ -129,12 +96,12 @@ All-whole_areas P count (area ∷ pieces) all = elim (cases_lt count (4 + length
 ]
 
 -- areas that are scrambled as one list are whole at the same places
-scrambled_behind-cons : (before area : List ℕ) (pieces : List (List ℕ)) → scrambled_behind before (area ∷ pieces) ≡ drop (length before) (scrambled_octets (before ++ area)) ∷ scrambled_behind (before ++ area) pieces
+pub scrambled_behind-cons : (before area : List ℕ) (pieces : List (List ℕ)) → scrambled_behind before (area ∷ pieces) ≡ drop (length before) (scrambled_octets (before ++ area)) ∷ scrambled_behind (before ++ area) pieces
 scrambled_behind-cons before area pieces =
     scrambled_behind-append before (area ∷ []) pieces
     ∙ ap₂ ◌++◌ (scrambled_behind-single before area) (ap (λ l. scrambled_behind (before ++ l) pieces) (append-nil area))
 
-whole_areas-scrambled_behind : (count : ℕ) (before : List ℕ) (pieces : List (List ℕ)) → whole_areas count (scrambled_behind before pieces) ≡ scrambled_behind before (whole_areas count pieces)
+pub whole_areas-scrambled_behind : (count : ℕ) (before : List ℕ) (pieces : List (List ℕ)) → whole_areas count (scrambled_behind before pieces) ≡ scrambled_behind before (whole_areas count pieces)
 unfolding whole_areas cut
 whole_areas-scrambled_behind count before [] = refl
 whole_areas-scrambled_behind count before (area ∷ pieces) =

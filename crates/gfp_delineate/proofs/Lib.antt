@@ -2,7 +2,11 @@ pub mod HuntLaws
 pub mod RunLaws
 pub mod StandingLaws
 pub mod OutcomeLaws
+pub mod Taking
 pub mod Known
+pub mod IdleLaws
+pub mod ListLaws
+pub mod SettleLaws
 pub mod SearchSteps
 pub mod RunSteps
 pub mod HeaderSteps

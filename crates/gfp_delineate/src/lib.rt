@@ -1,15 +1,20 @@
 //! Delineation: the frames that are found in a stream of GFP frames (G.7041), from any place of it on.
+//!
+//! It is the receiver of one stream. It keeps one frame at a time, and neither joins rows of octets nor knows why the stream breaks.
+//! `Delineator` is the place to begin: `feed` and `byte` take octets, `frame` is the frame that they completed, and `broken` begins a
+//! new segment. `delivery_law` says what comes of a stream that is taken from its start.
 #![tactic(auto)]
 
-ghost use Rattle.std.specs.Prelude.{◌≡◌, ℕ, ◌+◌, ◌≤◌, ◌⊎◌, ◌↔◌, Bool, true, false, List, [], ◌∷◌, ◌++◌, length, take, drop, All, IfOk, IfSome, IsSome};
-ghost use Rattle.session_model.specs.Core.{head};
+ghost use Rattle.std.specs.Prelude.{◌≡◌, ◌≢◌, ℕ, ◌+◌, ◌-◌, ◌<◌, ◌≤◌, ◌↔◌, Bool, true, false, List, [], ◌∷◌, ◌++◌, length, take, All, IfOk, IfSome, IsSome, IsTrue};
 ghost use Rattle.session_model.specs.Piece.{stream_of, opening, frames_by};
 ghost use Rattle.session_model.specs.Run.{is_sync};
 ghost use Rattle.session_model.specs.Outcome.{outcomes};
 ghost use Rattle.session_model.specs.Delivery.{delivered};
-ghost use Rattle.gfp_delineate.specs.Receiver.{StandsIn, Stands, frame_of, told, told_outcomes, IsClientFrame, in_sync, Takes, found_phase, followed_phase};
+ghost use Rattle.gfp_delineate.specs.Receiver.{most, StandsIn, Advances, Brings, frame_of, told_outcomes, IsClientFrame, in_sync};
 
-use gfp_headers::{read_core, read_type};
+mod octets;
+mod steps;
+
 use gfp_scramble::Descrambler;
 pub use session_model::{TypeFault, Why};
 use std::alloc::{AllocError, Global};
@@ -18,25 +23,36 @@ use std::marker::Model;
 /// What an octet completes: nothing, a frame that is delivered, or a client frame that is not.
 #[derive(Clone, Copy, Debug, PartialEq, Eq)]
 pub enum Step {
+    /// Nothing.
     Nothing,
+    /// A frame that is delivered, which the receiver holds.
     Frame,
+    /// A client frame that is not delivered, for this cause.
     Dropped(Why),
+}
+
+impl Step {
+    fn is_frame(self) -> bool
+        ensures { IsTrue result ↔ (self ≡ Step.Frame) }
+    {
+        matches!(self, Step::Frame)
+    }
 }
 
 /// Where in a piece of the stream a receiver is.
 #[derive(Clone, Copy)]
 enum Phase {
-    /// HUNT, behind so many octets at which a header may have begun.
+    /// HUNT, after a number of octets, below four, at which a header may have begun.
     Hunt { have: u8 },
-    /// PRESYNC, in the area behind a header, of which so many octets are still to come.
+    /// PRESYNC, in the area after a header, of which a number of octets is left to come.
     PresyncArea { left: u16 },
-    /// PRESYNC, behind so many octets of the header that confirms.
+    /// PRESYNC, after a number of octets, below four, of the header that confirms.
     PresyncHeader { have: u8 },
-    /// SYNC, behind so many octets of a header.
+    /// SYNC, after a number of octets, below four, of a header.
     SyncHeader { have: u8 },
-    /// SYNC, in an area that is kept, of which so many octets are still to come.
+    /// SYNC, in an area that is kept, of which a number of octets is left to come.
     SyncArea { left: u16 },
-    /// SYNC, in an area that is dropped, of which so many octets are still to come.
+    /// SYNC, in an area that is dropped, of which a number of octets is left to come.
     SyncPassing { left: u16, why: Why },
 }
 
@@ -51,14 +67,19 @@ impl Phase {
     }
 }
 
-/// Finds the frames in a stream, octet by octet.
+/// Finds the frames in a stream.
 #[derive(Drop)]
 pub struct Delineator {
+    /// The most octets of a frame that is delivered.
     max: u16,
     phase: Phase,
+    /// The last octets of what may be a header.
     window: [u8; 4],
     descrambler: Descrambler,
+    /// The descrambled octets of an area, or the last area that was kept.
     area: Vec<u8>,
+    /// Whether the last call completed the frame in the area.
+    holds: bool,
 }
 
 impl Model for Delineator {
@@ -67,16 +88,19 @@ impl Model for Delineator {
 
     ghost Value = { Receiver };
 
-    ghost view = { λ s. record { longest = s.max; phase = s.phase; window = s.window; descrambling = s.descrambler; area = s.area.items } };
+    ghost view = { λ s. record {
+        progress = record { longest = s.max; phase = s.phase; window = s.window; descrambling = s.descrambler; area = s.area.items };
+        holds = s.holds;
+    } };
 
     ghost invariant = { λ s. IsSound s.max (vec_capacity s.area) (vec_len s.area) s.phase };
 }
 
 impl Delineator {
-    /// A receiver of a stream of which nothing has come. It has room for one frame of `max` octets.
+    /// A receiver of a stream of which nothing has come. It has room for one frame of `max` octets, the most that it delivers.
     pub fn new(alloc: Global, max: u16) -> Result<Delineator, AllocError>
-        requires { max ≤ 65531 }
-        ensures { IfOk result (λ delineator. Stands delineator max []) }
+        requires { max ≤ most }
+        ensures { IfOk result (λ delineator. StandsIn delineator max true []) }
     {
         Ok(Delineator {
             max,
@@ -84,25 +108,40 @@ impl Delineator {
             window: [0; 4],
             descrambler: Descrambler::new(),
             area: Vec::with_capacity(alloc, usize::from(max) + 4)?,
+            holds: false,
         })
     }
 
     /// Takes the next octet. `Frame` and `Dropped` come at the last octet of the area of a client frame.
     #[inline]
     pub fn byte(&mut self, octet: u8) -> Step
-        ensures stands { (longest : ℕ) (octets : List ℕ) → Stands self.old longest octets →
-            Stands self.new longest (octets ++ octet ∷ []) }
-        ensures stands_in { (longest : ℕ) (first : Bool) (octets : List ℕ) → StandsIn self.old longest first octets →
-            StandsIn self.new longest first (octets ++ octet ∷ []) }
-        ensures outcome { (longest : ℕ) (first : Bool) (octets : List ℕ) → StandsIn self.old longest first octets →
-            outcomes longest first (octets ++ octet ∷ []) ≡ outcomes longest first octets ++ told_outcomes self.new result }
-        ensures delivers { (longest : ℕ) (octets : List ℕ) → Stands self.old longest octets →
-            delivered longest (octets ++ octet ∷ []) ≡ delivered longest octets ++ told self.new result }
+        ensures stands_in { Advances self.old self.new (octet ∷ []) }
+        ensures outcome { Brings self.old (octet ∷ []) (told_outcomes self.new result) }
         ensures held { IsSome (frame_of self.new) ↔ (result ≡ Step.Frame) }
-        ensures short { (longest : ℕ) (octets : List ℕ) → Stands self.old longest octets →
+        ensures short { (longest : ℕ) (first : Bool) (octets : List ℕ) → StandsIn self.old longest first octets →
             IfSome (frame_of self.new) (λ frame. length frame ≤ longest) }
     {
-        self.take(octet)
+        let (_, step) = self.step(&[octet]);
+        self.holds = step.is_frame();
+        step
+    }
+
+    /// Takes octets as `byte` does, up to and including the first at which it answers other than `Nothing`, or all of them. The
+    /// answer is their number, and that step or `Nothing`.
+    pub fn feed(&mut self, piece: &[u8]) -> (usize, Step)
+        ensures within { result.0 ≤ length piece.now }
+        ensures none { (result.0 ≡ 0) ↔ (length piece.now ≡ 0) }
+        ensures all { result.1 ≡ Step.Nothing → result.0 ≡ length piece.now }
+        ensures stands_in { Advances self.old self.new (take result.0 piece.now) }
+        ensures outcome { Brings self.old (take result.0 piece.now) (told_outcomes self.new result.1) }
+        ensures first_step { result.1 ≢ Step.Nothing → Brings self.old (take (result.0 - 1) piece.now) [] }
+        ensures held { IsSome (frame_of self.new) ↔ (result.1 ≡ Step.Frame) }
+        ensures short { (longest : ℕ) (first : Bool) (octets : List ℕ) → StandsIn self.old longest first octets →
+            IfSome (frame_of self.new) (λ frame. length frame ≤ longest) }
+    {
+        let (taken, step) = self.take(piece);
+        self.holds = step.is_frame();
+        (taken, step)
     }
 
     /// The frame that the last octet completed.
@@ -113,10 +152,11 @@ impl Delineator {
         &self.area[4..]
     }
 
-    /// A break of the stream: the octets that come belong to a new segment.
+    /// A break of the stream: the octets that come belong to a new segment. A frame that is held stays.
     pub fn broken(&mut self)
-        ensures { (longest : ℕ) (first : Bool) (octets : List ℕ) → StandsIn self.old longest first octets →
+        ensures stands_in { (longest : ℕ) (first : Bool) (octets : List ℕ) → StandsIn self.old longest first octets →
             StandsIn self.new longest false [] }
+        ensures held { frame_of self.new ≡ frame_of self.old }
     {
         self.descrambler.forget();
         self.phase = Phase::Hunt { have: 0 };
@@ -129,184 +169,13 @@ impl Delineator {
     {
         self.phase.is_sync()
     }
-
-    fn take(&mut self, octet: u8) -> Step
-        ensures takes { Takes self.old self.new octet (told_outcomes self.new result) }
-        ensures held { IsSome (frame_of self.new) ↔ (result ≡ Step.Frame) }
-    {
-        match self.phase {
-            Phase::Hunt { have } => self.hunt(have, octet),
-            Phase::PresyncArea { left } => self.skip(left),
-            Phase::PresyncHeader { have } => self.confirm(have, octet),
-            Phase::SyncHeader { have } => self.follow(have, octet),
-            Phase::SyncArea { left } => self.keep(left, octet),
-            Phase::SyncPassing { left, why } => self.pass(left, why, octet),
-        }
-    }
-
-    fn hunt(&mut self, have: u8, octet: u8) -> Step
-        requires { self.old.phase ≡ Phase.Hunt have }
-        ensures takes { Takes self.old self.new octet (told_outcomes self.new result) }
-        ensures held { IsSome (frame_of self.new) ↔ (result ≡ Step.Frame) }
-    {
-        self.window = shifted(self.window, octet);
-        self.phase = if have < 3 {
-            Phase::Hunt { have: have + 1 }
-        } else {
-            found_phase(&self.window)
-        };
-        Step::Nothing
-    }
-
-    fn skip(&mut self, left: u16) -> Step
-        requires { self.old.phase ≡ Phase.PresyncArea left }
-        ensures takes { (octet : ℕ) → Takes self.old self.new octet (told_outcomes self.new result) }
-        ensures held { IsSome (frame_of self.new) ↔ (result ≡ Step.Frame) }
-    {
-        self.phase = if left > 1 {
-            Phase::PresyncArea { left: left - 1 }
-        } else {
-            Phase::PresyncHeader { have: 0 }
-        };
-        Step::Nothing
-    }
-
-    fn confirm(&mut self, have: u8, octet: u8) -> Step
-        requires { self.old.phase ≡ Phase.PresyncHeader have }
-        ensures takes { Takes self.old self.new octet (told_outcomes self.new result) }
-        ensures held { IsSome (frame_of self.new) ↔ (result ≡ Step.Frame) }
-    {
-        if have < 3 {
-            self.window = shifted(self.window, octet);
-            self.phase = Phase::PresyncHeader { have: have + 1 };
-            return Step::Nothing;
-        }
-        self.take_header(octet)
-    }
-
-    fn follow(&mut self, have: u8, octet: u8) -> Step
-        requires { self.old.phase ≡ Phase.SyncHeader have }
-        ensures takes { Takes self.old self.new octet (told_outcomes self.new result) }
-        ensures held { IsSome (frame_of self.new) ↔ (result ≡ Step.Frame) }
-    {
-        if have < 3 {
-            self.window = shifted(self.window, octet);
-            self.phase = Phase::SyncHeader { have: have + 1 };
-            return Step::Nothing;
-        }
-        self.take_header(octet)
-    }
-
-    /// The last octet of a header that confirms, or of one in SYNC. Where it is no header, the run or the search for one begins
-    /// anew, one octet behind its first.
-    fn take_header(&mut self, octet: u8) -> Step
-        requires { (self.old.phase ≡ Phase.PresyncHeader 3) ⊎ (self.old.phase ≡ Phase.SyncHeader 3) }
-        ensures takes { Takes self.old self.new octet (told_outcomes self.new result) }
-        ensures held { IsSome (frame_of self.new) ↔ (result ≡ Step.Frame) }
-    {
-        self.window = shifted(self.window, octet);
-        let Some(pli) = read_core(&self.window) else {
-            self.descrambler.forget();
-            self.phase = Phase::Hunt { have: 3 };
-            return Step::Nothing;
-        };
-        self.area.clear();
-        self.phase = followed_phase(self.descrambler.known(), self.max, pli);
-        Step::Nothing
-    }
-
-    fn keep(&mut self, left: u16, octet: u8) -> Step
-        requires { self.old.phase ≡ Phase.SyncArea left }
-        ensures takes { Takes self.old self.new octet (told_outcomes self.new result) }
-        ensures held { IsSome (frame_of self.new) ↔ (result ≡ Step.Frame) }
-    {
-        self.area.push_reserved(self.descrambler.byte(octet));
-        if left > 1 {
-            self.phase = Phase::SyncArea { left: left - 1 };
-            return Step::Nothing;
-        }
-        self.phase = Phase::SyncHeader { have: 0 };
-        match read_type(&first_four(&self.area)) {
-            Ok(()) => Step::Frame,
-            Err(fault) => {
-                self.area.clear();
-                Step::Dropped(Why::Header(fault))
-            }
-        }
-    }
-
-    fn pass(&mut self, left: u16, why: Why, octet: u8) -> Step
-        requires { self.old.phase ≡ Phase.SyncPassing left why }
-        ensures takes { Takes self.old self.new octet (told_outcomes self.new result) }
-        ensures held { IsSome (frame_of self.new) ↔ (result ≡ Step.Frame) }
-    {
-        let _ = self.descrambler.byte(octet);
-        if left > 1 {
-            self.phase = Phase::SyncPassing {
-                left: left - 1,
-                why,
-            };
-            return Step::Nothing;
-        }
-        self.phase = Phase::SyncHeader { have: 0 };
-        Step::Dropped(why)
-    }
 }
 
-/// The last four octets with one more octet.
-fn shifted(window: [u8; 4], octet: u8) -> [u8; 4]
-    ensures { result ≡ drop 1 window ++ octet ∷ [] }
-{
-    let [_, second, third, fourth] = window;
-    [second, third, fourth, octet]
-}
-
-/// The type header in front of an area.
-fn first_four(area: &[u8]) -> [u8; 4]
-    requires { 4 ≤ length area.now }
-    ensures { result ≡ take 4 area.now }
-{
-    [area[0], area[1], area[2], area[3]]
-}
-
-/// HUNT: where the last four octets lead.
-fn found_phase(window: &[u8; 4]) -> Phase
-    ensures { result ≡ found_phase (head window.now) }
-{
-    match read_core(window) {
-        None => Phase::Hunt { have: 3 },
-        Some(0) => Phase::PresyncHeader { have: 0 },
-        Some(pli) => Phase::PresyncArea { left: pli },
-    }
-}
-
-/// SYNC: where a header leads.
-fn followed_phase(known: bool, max: u16, pli: u16) -> Phase
-    requires { max ≤ 65531 }
-    ensures { result ≡ followed_phase known max pli }
-{
-    if pli == 0 {
-        Phase::SyncHeader { have: 0 }
-    } else if !known {
-        Phase::SyncPassing {
-            left: pli,
-            why: Why::Unsettled,
-        }
-    } else if pli > max + 4 {
-        Phase::SyncPassing {
-            left: pli,
-            why: Why::TooLong { pli },
-        }
-    } else {
-        Phase::SyncArea { left: pli }
-    }
-}
-
-/// The two ends fit together: of each front of a stream in which all frames wait from the start, the frames delivered
+/// The two ends fit together: of each first part of a stream in which all frames wait from the start, the frames delivered
 /// are those whose piece ends in it.
 pub fn delivery_law()
     ensures { (longest : ℕ) (frames : List (List ℕ)) (idles place : ℕ) →
-        longest ≤ 65531 → All (IsClientFrame longest) frames → place ≤ length (stream_of (opening frames idles)) →
+        longest ≤ most → All (IsClientFrame longest) frames → place ≤ length (stream_of (opening frames idles)) →
         delivered longest (take place (stream_of (opening frames idles))) ≡ frames_by place (opening frames idles) }
 {}
 

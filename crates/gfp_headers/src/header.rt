@@ -1,41 +1,46 @@
+//! The core header, written and read as one word of 32 bits.
+
 ghost use Rattle.std.specs.Prelude.{◌≡◌, ◌≢◌, ◌↔◌, ℕ, IfSome, IfNone, IsTrue};
-ghost use Rattle.gfp_headers.specs.Core.{core_header, head, IsPli};
+ghost use Rattle.hec16.specs.Hec.{hec_of};
+ghost use Rattle.session_model.specs.Core.{core_header, head, IsPli};
 
-use hec16::hec;
+use hec16::{hec, hec_ok};
 
-/// What a core header is combined with by exclusive or.
-const MASK: [u8; 4] = [0xb6, 0xab, 0x31, 0xe0];
+// What a core header is combined with by exclusive or, its first octet most significant.
+const MASK: u32 = 0xb6ab_31e0;
 
 /// The core header of an area of `pli` octets, as it is sent (G.7041, PLI and cHEC).
+#[inline]
 pub fn core_bytes(pli: u16) -> [u8; 4]
     ensures { result ≡ core_header pli }
 {
-    let [a, b] = pli.to_be_bytes();
-    let [c, d] = hec(pli).to_be_bytes();
-    let [w, x, y, z] = MASK;
-    [a ^ w, b ^ x, c ^ y, d ^ z]
+    let header = (u32::from(pli) * (1 << 16) + u32::from(hec(pli))) ^ MASK;
+    // In this order LLVM makes one exchange of the octets.
+    header.swap_bytes().to_le_bytes()
 }
 
 /// The PLI of a core header as it was sent, or `None` where these octets are no core header.
+#[inline]
 pub fn read_core(octets: &[u8; 4]) -> Option<u16>
     ensures value { result ≡ head octets.now }
     ensures some { IfSome result (λ pli. IsPli pli × (core_header pli ≡ octets.now)) }
     ensures none { IfNone result ((pli : ℕ) → IsPli pli → core_header pli ≢ octets.now) }
 {
-    let [a, b, _, _] = *octets;
-    let pli = u16::from_be_bytes([a ^ MASK[0], b ^ MASK[1]]);
-    if is_core(pli, octets) {
+    let header = u32::from_be_bytes(*octets) ^ MASK;
+    let pli = (header >> 16) as u16;
+    if is_core(pli, (header % (1 << 16)) as u16) {
         Some(pli)
     } else {
         None
     }
 }
 
-/// Whether a header may have this PLI, and these octets are its header.
-fn is_core(pli: u16, octets: &[u8; 4]) -> bool
-    ensures { IsTrue result ↔ (IsPli pli × (core_header pli ≡ octets.now)) }
+// Whether a header may have this PLI, and this is its check.
+#[inline]
+fn is_core(pli: u16, check: u16) -> bool
+    ensures { IsTrue result ↔ (IsPli pli × (check ≡ hec_of pli)) }
 {
-    (pli == 0 || pli >= 4) && core_bytes(pli) == *octets
+    (pli == 0 || pli >= 4) && hec_ok(pli, check)
 }
 
 #[cfg(test)]

@@ -1,11 +1,14 @@
+//! The type header, of which all fields but those of an Ethernet frame are faults.
+
 ghost use Rattle.std.specs.Prelude.{◌≡◌, ◌≢◌, ◌↔◌, ℕ, ◌+◌, ◌*◌, MatchOption, IsOk};
 ghost use Rattle.hec16.specs.Hec.{hec_of};
-ghost use Rattle.gfp_headers.specs.TypeHeader.{type_header, type_field, type_check, field_fault, type_fault};
+ghost use Rattle.session_model.specs.TypeHeader.{type_header, type_field, type_check, field_fault, type_fault};
 
 use hec16::hec;
 use session_model::TypeFault;
 
 /// The type header of an Ethernet frame, as it is before scrambling.
+#[inline]
 pub fn type_bytes() -> [u8; 4]
     ensures { result ≡ type_header }
 {
@@ -14,6 +17,7 @@ pub fn type_bytes() -> [u8; 4]
 
 /// Whether these octets are the type header of an Ethernet frame, and what is wrong with them where they are not: the check
 /// (tHEC), or else the first field that differs.
+#[inline]
 pub fn read_type(octets: &[u8; 4]) -> Result<(), TypeFault>
     ensures value { MatchOption (type_fault octets.now) (result ≡ Ok tt) (λ fault. result ≡ Err fault) }
     ensures check { (said found : ℕ) → (result ≡ Err (TypeFault.Check said found)) ↔
@@ -33,14 +37,15 @@ pub fn read_type(octets: &[u8; 4]) -> Result<(), TypeFault>
     }
 }
 
-/// The word that two octets are.
+// The word that two octets are.
+#[inline]
 fn word(upper: u8, lower: u8) -> u16
     ensures { result ≡ 256 * upper + lower }
 {
     u16::from_be_bytes([upper, lower])
 }
 
-/// The first field of a type field (PTI, PFI, EXI, UPI) that is not that of an Ethernet frame.
+// The first field of a type field (PTI, PFI, EXI, UPI) that is not that of an Ethernet frame.
 fn fault_of_field(field: u16) -> Option<TypeFault>
     ensures { result ≡ field_fault field }
 {

@@ -1,14 +1,13 @@
 -- A word through the scrambler and the descrambler: with n = a + b places between the bits that are combined, and a register of as
 -- many bits, a word has a bits more.
-use Rattle.std.proofs.Common.{◌≡◌, ℕ, zero, suc, ◌+◌, ◌*◌, ◌/◌, ◌%◌, ◌^◌, ◌<◌, Bool, false, List, [], ◌++◌, length, drop, replicate, bit_xor, All, refl, sym, ◌∙◌, ap, ap₂, arith, append_assoc}
+use Rattle.std.proofs.Common.{◌≡◌, ℕ, zero, suc, ◌+◌, ◌*◌, ◌/◌, ◌%◌, ◌^◌, ◌<◌, Bool, false, List, ◌++◌, length, drop, replicate, bit_xor, refl, sym, ◌∙◌, ap, ap₂, arith, append_assoc}
 use Rattle.std.specs.Int.{bytes_high_first}
 use Rattle.std.specs.Int.Bits.{xor_zero_r}
 use Rattle.std.proofs.lemmas.List.{drop_at, length-append}
-use Rattle.std.proofs.lemmas.List.Elements.{All-nil, All-cons}
 use Rattle.std.proofs.lemmas.Nat.{shr-shr, shr_high, shr_split, xor_shr, xor_block, xor_lt, pow_pos}
 use Rattle.remainder.specs.Bits.{bits, octets_of, xors}
 use Rattle.remainder.proofs.BitLaws.{length-bits, bits-add, bits_low, bits-mod, bits-xor}
-use Rattle.remainder.proofs.OctetLaws.{octets_of-append, octets_of-octet_bits, octet_bits-bytes_high_first}
+use Rattle.remainder.proofs.OctetLaws.{octets_of-append, octets_of-octet_bits, bytes_high_first_below, octet_bits-bytes_high_first}
 use Rattle.session_model.specs.Scramble.{scramble_on}
 use Rattle.session_model.proofs.ScrambleLaws.{scramble_on-append, scramble_on-short, xors-longer, descramble, descramble-append}
 use Rattle.gfp_scramble.proofs.RegisterLaws.{window, window-append}
@@ -121,11 +120,6 @@ module _ (a b r w : ℕ) (small : r < 2 ^ (a + b)) (h : w < 2 ^ (a + b + a)) whe
       ∙ ap (λ l. s ++ l) (sym (bits-add n a v))
 
 -- ---- octets
-bytes_below : (count n : ℕ) → All (λ o. o < 256) (bytes_high_first count n)
-bytes_below zero n = All-nil (λ o. o < 256)
-bytes_below (suc zero) n = All-cons (λ o. o < 256) (n % 256) [] (omega arith) (bytes_below zero n)
-bytes_below (suc (suc count)) n = All-cons (λ o. o < 256) (n / 256 ^ suc count % 256) (bytes_high_first (suc count) n) (omega arith) (bytes_below (suc count) n)
-
 pub length-bytes : (count n : ℕ) → length (bytes_high_first count n) ≡ count
 length-bytes zero n = refl
 length-bytes (suc count) n = ap suc (length-bytes count n)
@@ -138,4 +132,4 @@ more_octets count octets w v all front size e =
     ∙ octets_of-append (length octets) count front (bits (8 * count) v) size
     ∙ ap (λ l. octets_of (length octets) front ++ l)
     (ap₂ octets_of (sym (length-bytes count v)) (sym (octet_bits-bytes_high_first count v))
-    ∙ octets_of-octet_bits (bytes_high_first count v) (bytes_below count v))
+    ∙ octets_of-octet_bits (bytes_high_first count v) (bytes_high_first_below count v))

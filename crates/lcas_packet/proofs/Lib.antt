@@ -1,2 +1,0 @@
-pub mod PacketLaws
-pub mod ReadingLaws

@@ -1,94 +1,29 @@
-//! The control packet of LCAS (G.7042).
+//! Reads the sixteen nibbles of a control packet (LCAS, G.7042). The packet, its nibbles as they are sent and the definitions stand
+//! in session_model; begin with `read`. Where a packet stands among the H4 octets of a line is not said here.
 #![tactic(auto)]
 
-ghost use Rattle.std.specs.Prelude.{◌≡◌, ◌≢◌, ℕ, ◌+◌, ◌*◌, ◌%◌, ◌<◌, ◌↔◌, slice_index, All, IsOk, IfOk};
-ghost use Rattle.vc_cell.specs.declared.Ctrl.{Ctrl};
-ghost use Rattle.vc_cell.specs.Code.{code_of};
+ghost use Rattle.std.specs.Prelude.{◌≡◌, ◌≢◌, ℕ, ◌%◌, ◌==◌, ◌<◌, ◌↔◌, List, length, All, IsOk, IsSome, IfOk, None};
+ghost use Rattle.vc_cell.specs.Code.{ctrl_of};
+ghost use Rattle.session_model.specs.Packet.{IsPacket, packet_nibbles, covered_nibbles, octet_at, bit_at, said_check, found_check, said_code, packet_of, cleared_nibbles, read_of};
 
-use vc_bits::{crc8, join_nibbles, nibble_hi, nibble_lo};
+pub use session_model::{Packet, PacketFault};
+use vc_bits::{crc8, join_nibbles};
 use vc_cell::Ctrl;
-
-/// A control packet, forward or return (G.7042): member status, the acknowledgement of a change of sequence numbers
-/// (RS-Ack), the change bit (CHG), the sequence number (SQ), the upper half of the multiframe's number (MFI2), the control
-/// word (CTRL), the group's bit (GID) and the number of active members (ACT).
-#[derive(Clone, Copy, Debug, PartialEq, Eq)]
-pub struct Packet {
-    pub mst: u8,
-    pub rs_ack: bool,
-    pub chg: bool,
-    pub sq: u8,
-    pub mfi2: u8,
-    pub ctrl: Ctrl,
-    pub gid: bool,
-    pub act: u8,
-}
-
-/// Why sixteen nibbles are no packet: the check that they say and the one over the others, or the code that they say.
-#[derive(Clone, Copy, Debug, PartialEq, Eq)]
-pub enum PacketFault {
-    Crc { said: u8, found: u8 },
-    Ctrl { code: u8 },
-}
-
-impl Packet {
-    ghost use Rattle.lcas_packet.specs.Packet.{covered_nibbles, packet_nibbles};
-
-    /// The sixteen nibbles of the packet in the order of sending.
-    pub fn nibbles(&self) -> [u8; 16]
-        ensures { result ≡ packet_nibbles self.now }
-    {
-        let covered = self.covered();
-        let check = crc8(&covered);
-        let mut nibbles = [0; 16];
-        nibbles[..14].copy_from_slice(&covered);
-        nibbles[14] = nibble_hi(check);
-        nibbles[15] = nibble_lo(check);
-        nibbles
-    }
-
-    /// The fourteen nibbles that the check covers.
-    fn covered(&self) -> [u8; 14]
-        ensures value { result ≡ covered_nibbles self.now }
-        ensures below { All (λ nibble. nibble < 16) result }
-    {
-        [
-            nibble_hi(self.mst),
-            nibble_lo(self.mst),
-            u8::from(self.rs_ack),
-            u8::from(self.chg),
-            0,
-            0,
-            nibble_hi(self.sq),
-            nibble_lo(self.sq),
-            nibble_hi(self.mfi2),
-            nibble_lo(self.mfi2),
-            self.ctrl.code(),
-            u8::from(self.gid),
-            nibble_hi(self.act),
-            nibble_lo(self.act),
-        ]
-    }
-}
-
-ghost use Rattle.lcas_packet.specs.Packet.{IsPacket, bit_nibble, packet_nibbles, covered_nibbles, cleared_nibbles, Says, said_check, found_check, said_code, IsUnknownCode};
-ghost use Rattle.lcas_packet.specs.Reading.{Reads};
 
 /// Reads sixteen nibbles. The reserved nibbles and the upper bits of those that hold one bit are covered by the check and
 /// otherwise ignored.
 pub fn read(nibbles: &[u8; 16]) -> Result<Packet, PacketFault>
     requires { All (λ nibble. nibble < 16) nibbles.now }
+    ensures value { result ≡ read_of nibbles.now }
     ensures crc { (result ≡ Err (PacketFault.Crc (said_check nibbles.now) (found_check nibbles.now)))
         ↔ (said_check nibbles.now ≢ found_check nibbles.now) }
     ensures ctrl { (result ≡ Err (PacketFault.Ctrl (said_code nibbles.now)))
-        ↔ ((said_check nibbles.now ≡ found_check nibbles.now) × IsUnknownCode (said_code nibbles.now)) }
+        ↔ ((said_check nibbles.now ≡ found_check nibbles.now) × (ctrl_of (said_code nibbles.now) ≡ None)) }
     ensures ok { IsOk result
-        ↔ ((said_check nibbles.now ≡ found_check nibbles.now) × ((ctrl : Ctrl) × (code_of ctrl ≡ said_code nibbles.now))) }
-    ensures says { IfOk result (λ packet. Says nibbles.now packet) }
+        ↔ ((said_check nibbles.now ≡ found_check nibbles.now) × IsSome (ctrl_of (said_code nibbles.now))) }
     // What is accepted is the nibbles of the answer, apart from the ignored bits and the check over them.
     ensures cleared { IfOk result (λ packet. covered_nibbles packet ≡ cleared_nibbles nibbles.now) }
     ensures own { (packet : Packet) → IsPacket packet → nibbles.now ≡ packet_nibbles packet → result ≡ Ok packet }
-    // What the clauses above say, in one word.
-    ensures reads { Reads nibbles.now result }
 {
     let said = octet(nibbles, 14);
     let found = check(nibbles);
@@ -102,6 +37,18 @@ pub fn read(nibbles: &[u8; 16]) -> Result<Packet, PacketFault>
     }
 }
 
+/// What is read of any list of numbers: what is sent is read back, and a list of which a packet is read is sixteen nibbles with a
+/// right check, which are those of the packet apart from the ignored bits.
+pub fn packet_law()
+    ensures back { (packet : Packet) → IsPacket packet → read_of (packet_nibbles packet) ≡ Ok packet }
+    ensures nibbles { (nibbles : List ℕ) (packet : Packet) → read_of nibbles ≡ Ok packet →
+        (length nibbles ≡ 16) × All (λ nibble. nibble < 16) nibbles }
+    ensures check { (nibbles : List ℕ) (packet : Packet) → read_of nibbles ≡ Ok packet → said_check nibbles ≡ found_check nibbles }
+    ensures cleared { (nibbles : List ℕ) (packet : Packet) → read_of nibbles ≡ Ok packet →
+        covered_nibbles packet ≡ cleared_nibbles nibbles }
+    ensures octets { (nibbles : List ℕ) (packet : Packet) → read_of nibbles ≡ Ok packet → IsPacket packet }
+{}
+
 /// The check over the first fourteen nibbles.
 fn check(nibbles: &[u8; 16]) -> u8
     requires { All (λ nibble. nibble < 16) nibbles.now }
@@ -112,21 +59,19 @@ fn check(nibbles: &[u8; 16]) -> u8
     crc8(&covered)
 }
 
-/// The packet of nibbles whose check is right and whose code is that of `ctrl`.
+/// The packet that nibbles say, with this control word.
 fn packet_of(nibbles: &[u8; 16], ctrl: Ctrl) -> Packet
-    requires below { All (λ nibble. nibble < 16) nibbles.now }
-    requires check { said_check nibbles.now ≡ found_check nibbles.now }
-    requires ctrl { code_of ctrl ≡ said_code nibbles.now }
-    ensures { Says nibbles.now result }
+    requires { All (λ nibble. nibble < 16) nibbles.now }
+    ensures { result ≡ packet_of nibbles.now ctrl }
 {
     Packet {
         mst: octet(nibbles, 0),
-        rs_ack: bit(nibbles[2]),
-        chg: bit(nibbles[3]),
+        rs_ack: bit(nibbles, 2),
+        chg: bit(nibbles, 3),
         sq: octet(nibbles, 6),
         mfi2: octet(nibbles, 8),
         ctrl,
-        gid: bit(nibbles[11]),
+        gid: bit(nibbles, 11),
         act: octet(nibbles, 12),
     }
 }
@@ -135,16 +80,17 @@ fn packet_of(nibbles: &[u8; 16], ctrl: Ctrl) -> Packet
 fn octet(nibbles: &[u8; 16], at: usize) -> u8
     requires below { All (λ nibble. nibble < 16) nibbles.now }
     requires at { at < 15 }
-    ensures { result ≡ 16 * slice_index nibbles.now at + slice_index nibbles.now (at + 1) }
+    ensures { result ≡ octet_at nibbles.now at }
 {
     join_nibbles(nibbles[at], nibbles[at + 1])
 }
 
 /// The lowest bit of a nibble.
-fn bit(nibble: u8) -> bool
-    ensures { bit_nibble result ≡ nibble % 2 }
+fn bit(nibbles: &[u8; 16], at: usize) -> bool
+    requires { at < 16 }
+    ensures { result ≡ bit_at nibbles.now at }
 {
-    nibble % 2 == 1
+    nibbles[at] % 2 == 1
 }
 
 #[cfg(test)]

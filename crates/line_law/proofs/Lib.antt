@@ -9,3 +9,4 @@ pub mod CountLaws
 pub mod WorkedLaws
 pub mod OctetLaws
 pub mod EndLaws
+pub mod RowLaws

@@ -1,5 +1,6 @@
 -- The elements of lists, one by one.
-use Rattle.std.proofs.Common.{◌≡◌, ℕ, zero, suc, ◌+◌, ◌-◌, ◌<◌, ◌≤◌, List, [], ◌∷◌, ◌++◌, length, take, drop, slice_get, Some, None, refl, ◌∙◌, ap, arith}
+use Rattle.std.specs.Prelude.{IsSome}
+use Rattle.std.proofs.Common.{◌≡◌, true, false, ℕ, zero, suc, ◌+◌, ◌-◌, ◌<◌, ◌≤◌, List, [], ◌∷◌, ◌++◌, length, take, drop, slice_get, Option, Some, None, refl, ◌∙◌, ap, arith}
 
 -- ---- an element that is there, or not
 pub slice_get-inside : {X : Type 0} (xs : List X) (k : ℕ) → k < length xs → (x : X) × (slice_get xs k ≡ Some x)
@@ -16,6 +17,10 @@ pub none-beyond : {X : Type 0} (xs : List X) (t : ℕ) → slice_get xs t ≡ No
 none-beyond [] t e = omega arith
 none-beyond (x ∷ xs) zero e = absurd cc
 none-beyond (x ∷ xs) (suc t) e = let rest = none-beyond xs t e in omega arith
+
+pub is-some : {X : Type 0} (o : Option X) → IsSome o → (x : X) × (o ≡ Some x)
+is-some (Some x) h = (x, refl)
+is-some None h = absurd (let e : false ≡ true = h in cc)
 
 -- ---- an element of a part
 pub slice_get-after : {X : Type 0} (xs ys : List X) (t : ℕ) → length xs ≤ t → slice_get (xs ++ ys) t ≡ slice_get ys (t - length xs)

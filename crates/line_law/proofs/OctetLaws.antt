@@ -1,7 +1,6 @@
 -- The octets of packets.
 use Rattle.std.proofs.Common.{◌≡◌, ◌⊎◌, ℕ, zero, suc, ◌+◌, ◌*◌, ◌/◌, ◌<◌, ◌≤◌, true, false, if◌then◌else◌, inl, inr, List, [], ◌∷◌, ◌++◌, map, length, take, drop, slice_get, Option, Some, None, refl, sym, ◌∙◌, ap, subst, arith}
-use Rattle.line_law.proofs.ListLaws.{take-next, slice_get-drop, slice_get-inside}
-use Rattle.std.specs.Prelude.{IsSome}
+use Rattle.line_law.proofs.ListLaws.{take-next, slice_get-drop, slice_get-inside, is-some}
 use Rattle.std.proofs.lemmas.Bool.{cases_eq, cases_Bool}
 use Rattle.std.proofs.lemmas.List.{map-append}
 use Rattle.vc_cell.specs.declared.Container.{Container}
@@ -17,10 +16,6 @@ use Rattle.line_law.specs.Stable.{OctetsStay}
 use Rattle.line_law.proofs.GoodLaws.{readable-good, good-readable}
 use Rattle.line_law.proofs.RunLaws.{are_numbered}
 use Rattle.line_law.proofs.StableLaws.{verdict-stays}
-
-is-some : {X : Type 0} (o : Option X) → IsSome o → (x : X) × (o ≡ Some x)
-is-some (Some x) h = (x, refl)
-is-some None h = absurd (let e : false ≡ true = h in cc)
 
 module _ (told : List Cell) (containers : List Container) where
   uppers-good : (from count : ℕ) → ((t : ℕ) → from ≤ t → t < from + count → (c : Container) × (slice_get containers t ≡ Some c) × (verdict told t ≡ Some (Some c))) →

@@ -73,7 +73,7 @@ slice_get-upto verdict (suc n) t h =
     ]
 
 module _ (windows : List Window) (containers : List Container) (line : IsLine windows containers) where
-  line_read : (k : ℕ) → HasRead (carried windows) containers (length (take k containers)) (reading_of (path (carried windows) 0 (take k containers)))
+  pub line_read : (k : ℕ) → HasRead (carried windows) containers (length (take k containers)) (reading_of (path (carried windows) 0 (take k containers)))
   line_read k =
       rw (let e : length (take k containers) ≡ 0 + length (take k containers) = omega arith in e)
       (run (carried windows) containers (carries_of windows containers line) line.sent 0 (take k containers) (record { lock = unlocked; verdicts = [] })

@@ -2,3 +2,4 @@ pub mod Numbering
 pub mod Wording
 pub mod Stable
 pub mod Worked
+pub mod StableRows

@@ -1,5 +1,6 @@
 -- What the cells of a line with failures tell of its containers.
 use Rattle.std.specs.Prelude.{◌≡◌, ◌↔◌, true, ℕ, ◌+◌, ◌*◌, ◌%◌, ◌<◌, ◌≤◌, List, ◌∷◌, ◌++◌, length, take, slice_get, Option, Some, None, IsSome, if◌then◌else◌}
+use Rattle.std.specs.Result.{result_ok}
 use Rattle.vc_cell.specs.declared.Container.{Container}
 use Rattle.vc_cell.specs.declared.Cell.{Cell}
 use Rattle.vc_cell.specs.declared.Cell.TheVariants.{Good}
@@ -13,6 +14,8 @@ use Rattle.session_model.specs.Number.{locked, reading_of, verdict}
 use Rattle.session_model.specs.Sign.{signs_of}
 use Rattle.session_model.specs.Line.{IsLine, expected, sent_nibbles}
 use Rattle.session_model.specs.MemberPacket.{nibbles_of}
+use Rattle.session_model.specs.Packet.{read_of}
+use Rattle.session_model.specs.Rows.{read_packet}
 use Rattle.line_law.specs.Wording.{dec_of}
 
 -- the cells of i carries of a line all of whose containers are known
@@ -67,3 +70,11 @@ AreReadable = (windows : List Window) (containers : List Container) (delay i k :
     ((t : ℕ) → 16 * k + 8 ≤ t → t < 16 * k + 24 → IsSome (verdict (line_cells windows containers delay i) t)) →
     nibbles_of (line_cells windows containers delay i) k
     ≡ (if is_readable (carried windows) k then Some (sent_nibbles containers k) else None)
+
+-- and it is read exactly where it is readable, and what was sent is that of a packet
+abbrev pub AreRead : Type 0
+AreRead = (windows : List Window) (containers : List Container) (delay i k : ℕ) →
+    IsLine windows containers → 16 * k + 23 < length containers →
+    IsSome (verdict (line_cells windows containers delay i) (16 * k + 23)) →
+    read_packet (line_cells windows containers delay i) k
+    ≡ (if is_readable (carried windows) k then result_ok (read_of (sent_nibbles containers k)) else None)

@@ -1,11 +1,13 @@
 //! Laws of the numbers of a line's cells: that they are the numbers of its containers, although cells vanish and a number is sent
-//! modulo 4,096. It has no code of its own: each function is a theorem of the definitions in `session_model`, which are its
-//! contract. Begin with `numbering_law`; `reading_law` says that those definitions are what G.707 words.
+//! modulo 4,096. It has no code of its own: each function is a theorem of the definitions in `session_model`, which is its contract.
+//! Begin with `numbering_law`; `reading_law` says that those definitions are what G.707 words, and `stable_law` that more cells
+//! change nothing of what is decided.
 #![tactic(auto)]
 
-ghost use Rattle.line_law.specs.Numbering.{AreNumbered, AreAt, AreInStep, AreExpected, ArePackets, AreReadable};
+ghost use Rattle.line_law.specs.Numbering.{AreNumbered, AreAt, AreInStep, AreExpected, ArePackets, AreReadable, AreRead};
 ghost use Rattle.line_law.specs.Wording.{IsWorded, IsOnlyCount, AreWhole, AreDecided, EndDecides};
 ghost use Rattle.line_law.specs.Stable.{VerdictsStay, OctetsStay, CellsStay};
+ghost use Rattle.line_law.specs.StableRows.{PacketsStay, GoverningStay, RowsStay, ReturnsStay};
 ghost use Rattle.line_law.specs.Worked.{IsMet, AreSummed, AreSeventeen};
 
 /// The cells of a line with windows of failures, whose slip is below 4,096, have the numbers of its containers.
@@ -16,6 +18,7 @@ pub fn numbering_law()
     ensures due { AreExpected }
     ensures packets { ArePackets }
     ensures readable { AreReadable }
+    ensures read { AreRead }
 {}
 
 /// The recursion over the cells of a line is what is worded of them, and nothing else is.
@@ -27,11 +30,15 @@ pub fn reading_law()
     ensures end { EndDecides }
 {}
 
-/// What is decided of a line stays so.
+/// What is decided of a line, and of all lines of a group, stays so.
 pub fn stable_law()
     ensures verdicts { VerdictsStay }
     ensures octets { OctetsStay }
     ensures cells { CellsStay }
+    ensures packets { PacketsStay }
+    ensures governing { GoverningStay }
+    ensures rows { RowsStay }
+    ensures returns { ReturnsStay }
 {}
 
 /// There are lines as the law asks for. Of near windows the slips have to be summed, and windows are near up to sixteen whole

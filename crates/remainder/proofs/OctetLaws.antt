@@ -68,7 +68,14 @@ byte_at_is : (k n : ℕ) → byte_at k n ≡ n / 2 ^ (8 * k) % 2 ^ 8
 byte_at_is zero n = ap (λ m. m % 2 ^ 8) (sym (div-one n))
 byte_at_is (suc k) n = ap (λ m. n / m % 256) (pow_of_octets (suc k))
 
--- the bits of a number's octets, as `to_be_bytes` gives them
+-- the octets of a number, as `to_be_bytes` gives them
+pub bytes_high_first_below : (count n : ℕ) → All (λ o. o < 256) (bytes_high_first count n)
+bytes_high_first_below zero n = All-nil (λ o. o < 256)
+bytes_high_first_below (suc zero) n = All-cons (λ o. o < 256) (n % 256) [] (omega arith) (bytes_high_first_below zero n)
+bytes_high_first_below (suc (suc count)) n =
+    All-cons (λ o. o < 256) (n / 256 ^ suc count % 256) (bytes_high_first (suc count) n) (omega arith) (bytes_high_first_below (suc count) n)
+
+-- their bits
 pub octet_bits-bytes_high_first : (count n : ℕ) → octet_bits (bytes_high_first count n) ≡ bits (8 * count) n
 unfolding bits
 octet_bits-bytes_high_first zero n = refl

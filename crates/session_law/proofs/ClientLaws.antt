@@ -1,17 +1,20 @@
 -- The client's stream: what it depends on, that it holds each accepted frame, and that its pieces are the fewest that reach.
-use Rattle.std.proofs.Common.{◌≡◌, ℕ, zero, suc, ◌+◌, ◌-◌, ◌*◌, ◌/◌, ◌≤◌, ◌<◌, subst, nat_lt, nat_le, true, false, if◌then◌else◌, List, [], ◌∷◌, ◌++◌, map, filter, fold, take, length, Option, Some, None, refl, sym, ◌∙◌, ap, arith}
-use Rattle.std.proofs.lemmas.List.Sums.{sum_by-append}
+use Rattle.std.proofs.Common.{◌≡◌, ℕ, zero, suc, ◌+◌, ◌-◌, ◌*◌, ◌/◌, ◌≤◌, ◌<◌, subst, nat_lt, nat_le, true, false, if◌then◌else◌, List, [], ◌∷◌, ◌++◌, map, filter, fold, drop, length, Option, Some, None, refl, sym, ◌∙◌, ap, arith}
 use Rattle.std.proofs.lemmas.Grind.{flat_map-append}
-use Rattle.std.proofs.lemmas.List.{append_assoc, append-nil, map-append}
-use Rattle.std.proofs.lemmas.Bool.{leb-true, leb-false, ltb-false}
+use Rattle.std.proofs.lemmas.List.{append_assoc, append-nil, map-append, length-drop, length-take-le}
+use Rattle.std.proofs.lemmas.List.Sums.{sum-map}
+use Rattle.std.proofs.lemmas.Bool.{ltb-false}
 use Rattle.session_model.specs.declared.refusal.AcceptFault.{AcceptFault}
 use Rattle.session_model.specs.Scenario.{Offer, Scenario, comes_at, frames_at}
 use Rattle.session_model.specs.Table.{Told, active}
 use Rattle.session_model.specs.Source.{after, table_of}
-use Rattle.session_model.specs.Piece.{Piece, idle, client, size_of}
+use Rattle.session_model.specs.Piece.{Piece, idle, client, size_of, stream_of}
+use Rattle.session_model.specs.Payload.{payload_of}
+use Rattle.session_model.proofs.StreamLaws.{length-stream_of}
 use Rattle.session_model.specs.Accepted.{kept_by}
-use Rattle.session_model.specs.Client.{size, Stream, frame_refusal, offered_by, next_by, reaching, offered, width, place_of, stream_before, frame_in, frames_in, IsFewest}
+use Rattle.session_model.specs.Client.{size, Stream, frame_refusal, offered_by, next_by, reaching, reached, offered, width, place_of, stream_before, frame_in, frames_in, IsFewest}
 use Rattle.session_model.specs.Journal.{accepted_offers, offers_before, frames_before}
+use Rattle.session_model.proofs.ReachLaws.{reaching-reaches, reached-fewest}
 use Rattle.session_law.proofs.SessionLaws.{Agree, Agree-sooner, after-agree}
 
 -- ---- what the stream depends on: the tables of the packets that govern the frames so far, and the frames that land
@@ -107,28 +110,6 @@ stream_before-frames scenario cells (suc t) =
     ∙ sym (map-append (λ (offer : Offer). offer.frame) (offers_before scenario cells t) (accepted_offers (stream_before scenario cells t) come))
 
 -- ---- the pieces reach the place
-size-piece : (piece : Piece) → 4 ≤ size (piece ∷ [])
-size-piece idle = omega arith
-size-piece (client frame) = omega arith
-
-size-more : (pieces : List Piece) (piece : Piece) → size pieces + 4 ≤ size (pieces ++ piece ∷ [])
-size-more pieces piece = let sums = sum_by-append size_of pieces (piece ∷ []) in let last = size-piece piece in rw sums (omega arith)
-
-next_by-size : (waiting : List (List ℕ)) (pieces : List Piece) → size pieces + 4 ≤ size (next_by waiting pieces).pieces
-next_by-size [] pieces = size-more pieces idle
-next_by-size (frame ∷ waiting) pieces = size-more pieces (client frame)
-
-reaching-reaches : (steps place : ℕ) (stream : Stream) → place ≤ size stream.pieces + steps → place ≤ size (reaching steps place stream).pieces
-unfolding reaching
-reaching-reaches zero place stream h = omega arith
-reaching-reaches (suc steps) place stream h =
-    elim (nat_le place (size stream.pieces)) as (λ b. nat_le place (size stream.pieces) ≡ b → place ≤ size (if b then stream else reaching steps place (next_by stream.waiting stream.pieces)).pieces) [
-      | true ↦ λ e. leb-true place (size stream.pieces) e
-      | false ↦ λ e.
-          let more = next_by-size stream.waiting stream.pieces in
-          reaching-reaches steps place (next_by stream.waiting stream.pieces) (omega arith)
-    ] refl
-
 pub stream_before-reaches : (scenario : Scenario) (cells : List (Option Told)) (t : ℕ) → place_of scenario cells t ≤ size (stream_before scenario cells t).pieces
 unfolding stream_before place_of
 stream_before-reaches scenario cells zero = omega arith
@@ -136,46 +117,6 @@ stream_before-reaches scenario cells (suc t) =
     reaching-reaches (place_of scenario cells (suc t)) (place_of scenario cells (suc t)) (fold offered (stream_before scenario cells t) (frames_at scenario t)) (omega arith)
 
 -- ---- and are the fewest that do
-piece_of : List (List ℕ) → Piece
-piece_of [] = idle
-piece_of (frame ∷ waiting) = client frame
-
-next_by-piece : (waiting : List (List ℕ)) (pieces : List Piece) → (next_by waiting pieces).pieces ≡ pieces ++ piece_of waiting ∷ []
-unfolding piece_of
-next_by-piece [] pieces = refl
-next_by-piece (frame ∷ waiting) pieces = refl
-
--- so many pieces more, none of which was needed less
-pub record Follows (before : List Piece) (place : ℕ) (after : List Piece) : Type 0 where
-  pub more : List Piece
-  pub follow : after ≡ before ++ more
-  pub fewest : (n : ℕ) → n < length more → size (before ++ take n more) < place
-
-fewest_next : (before : List Piece) (piece : Piece) (more : List Piece) (place : ℕ) → size before < place →
-    ((n : ℕ) → n < length more → size (before ++ piece ∷ [] ++ take n more) < place) → (n : ℕ) → n < length (piece ∷ more) → size (before ++ take n (piece ∷ more)) < place
-fewest_next before piece more place short rest zero h = let e : before ++ [] ≡ before = append-nil before in rw e short
-fewest_next before piece more place short rest (suc n) h = let e = append_assoc before (piece ∷ []) (take n more) in rw e at (rest n (omega arith))
-
-follows-next : (before : List Piece) (piece : Piece) (place : ℕ) (after : List Piece) → size before < place → Follows (before ++ piece ∷ []) place after → Follows before place after
-follows-next before piece place after short follows = record {
-  more = piece ∷ follows.more;
-  follow = follows.follow ∙ append_assoc before (piece ∷ []) follows.more;
-  fewest = fewest_next before piece follows.more place short follows.fewest;
-}
-
-reaching-follows : (steps place : ℕ) (stream : Stream) → Follows stream.pieces place (reaching steps place stream).pieces
-unfolding reaching
-reaching-follows zero place stream = record { more = []; follow = sym (append-nil stream.pieces); fewest = λ n h. absurd (omega arith) }
-reaching-follows (suc steps) place stream =
-    elim (nat_le place (size stream.pieces)) as (λ b. nat_le place (size stream.pieces) ≡ b →
-    Follows stream.pieces place (if b then stream else reaching steps place (next_by stream.waiting stream.pieces)).pieces) [
-      | true ↦ λ e. record { more = []; follow = sym (append-nil stream.pieces); fewest = λ n h. absurd (omega arith) }
-      | false ↦ λ e.
-          follows-next stream.pieces (piece_of stream.waiting) place (reaching steps place (next_by stream.waiting stream.pieces)).pieces (leb-false place (size stream.pieces) e)
-          (subst (λ pieces. Follows pieces place (reaching steps place (next_by stream.waiting stream.pieces)).pieces) (next_by-piece stream.waiting stream.pieces)
-          (reaching-follows steps place (next_by stream.waiting stream.pieces)))
-    ] refl
-
 offered-pieces : (why : Option AcceptFault) (frame : List ℕ) (stream : Stream) → (offered_by why frame stream).pieces ≡ stream.pieces
 offered-pieces None frame stream = refl
 offered-pieces (Some why) frame stream = refl
@@ -185,7 +126,7 @@ offered_all-pieces [] stream = refl
 offered_all-pieces (frame ∷ frames) stream = offered_all-pieces frames (offered stream frame) ∙ offered-pieces (frame_refusal frame stream) frame stream
 
 stream_before-next : (scenario : Scenario) (cells : List (Option Told)) (t : ℕ) →
-    stream_before scenario cells (suc t) ≡ reaching (place_of scenario cells (suc t)) (place_of scenario cells (suc t)) (fold offered (stream_before scenario cells t) (frames_at scenario t))
+    stream_before scenario cells (suc t) ≡ reached (place_of scenario cells (suc t)) (fold offered (stream_before scenario cells t) (frames_at scenario t))
 unfolding stream_before
 stream_before-next scenario cells t = refl
 
@@ -194,10 +135,22 @@ pub stream_before-fewest : (scenario : Scenario) (cells : List (Option Told)) (t
 stream_before-fewest scenario cells t =
     let place = place_of scenario cells (suc t) in
     let stream = fold offered (stream_before scenario cells t) (frames_at scenario t) in
-    let follows = subst (λ pieces. Follows pieces place (reaching place place stream).pieces) (offered_all-pieces (frames_at scenario t) (stream_before scenario cells t)) (reaching-follows place place stream) in
-    record {
-      more = follows.more;
-      follow = ap (λ s. s.pieces) (stream_before-next scenario cells t) ∙ follows.follow;
-      reach = stream_before-reaches scenario cells (suc t);
-      fewest = follows.fewest;
-    }
+    subst (λ s. IsFewest (stream_before scenario cells t).pieces place s.pieces) (sym (stream_before-next scenario cells t))
+    (subst (λ pieces. IsFewest pieces place (reached place stream).pieces) (offered_all-pieces (frames_at scenario t) (stream_before scenario cells t)) (reached-fewest place stream))
+
+-- ---- the octets that a frame carries
+-- the stream has octets up to the place at which the frame begins
+pub stream-reaches : (scenario : Scenario) (cells : List (Option Told)) (t : ℕ) → place_of scenario cells t ≤ length (stream_of (stream_before scenario cells t).pieces)
+stream-reaches scenario cells t =
+    let pieces = (stream_before scenario cells t).pieces in
+    let reaches = stream_before-reaches scenario cells t in
+    let long = length-stream_of pieces ∙ sum-map size_of pieces in
+    omega arith
+
+pub payload-length : (scenario : Scenario) (cells : List (Option Told)) (t : ℕ) → length (payload_of scenario cells t) ≡ scenario.size * width scenario cells t
+unfolding place_of
+payload-length scenario cells t =
+    let octets = stream_of (stream_before scenario cells (suc t)).pieces in
+    let reaches = stream-reaches scenario cells (suc t) in
+    let left = length-drop (place_of scenario cells t) octets in
+    length-take-le (scenario.size * width scenario cells t) (drop (place_of scenario cells t) octets) (omega arith)

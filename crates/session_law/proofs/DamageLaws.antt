@@ -1,38 +1,27 @@
 -- Containers that arrive whole, one by one, and those that tell of a packet.
-use Rattle.std.proofs.Common.{◌≡◌, ◌↔◌, ℕ, zero, suc, ◌+◌, ◌-◌, ◌*◌, ◌/◌, ◌<◌, ◌≤◌, ◌||◌, nat_le, true, false, List, [], ◌∷◌, length, slice_index_or, inl, inr, refl, sym, subst, arith}
+use Rattle.std.proofs.Common.{◌≡◌, ◌↔◌, ℕ, zero, suc, ◌+◌, ◌-◌, ◌*◌, ◌/◌, ◌<◌, ◌≤◌, ◌||◌, nat_le, true, false, List, [], ◌∷◌, length, slice_index_or, refl, sym, subst, arith}
 use Rattle.std.specs.List.{list_any}
-use Rattle.std.proofs.lemmas.Bool.{cases_lt, leb-true, le-leb, and_parts, and_from}
+use Rattle.std.proofs.lemmas.Bool.{leb-true, le-leb, and_parts, and_from}
 use Rattle.session_model.specs.declared.window.Window.{Window}
 use Rattle.session_model.specs.declared.window.Carried.{Carried}
 use Rattle.session_model.specs.declared.window.Carried.TheVariants.{Whole, Fails, Vanishes}
 use Rattle.session_model.specs.Damage.{carried, is_whole, are_whole, lock_of, is_good, is_readable}
 use Rattle.session_model.specs.Scenario.{Scenario, is_read, is_heard}
+use Rattle.line_law.proofs.GoodLaws.{are_whole-each, each-are_whole}
 use Rattle.session_law.specs.Session.{AreWhole}
 
+-- a container is whole where its test says so
 whole-of_test : (found : Carried) → is_whole found ≡ true → found ≡ Whole
 whole-of_test Whole e = refl
 whole-of_test Fails e = absurd cc
 whole-of_test Vanishes e = absurd cc
 
 AreWhole-of_test : (carries : ℕ → Carried) (from count : ℕ) → are_whole carries from count ≡ true → AreWhole carries from (from + count)
-unfolding are_whole
-AreWhole-of_test carries from zero e n low high = absurd (omega arith)
-AreWhole-of_test carries from (suc count) e n low high =
-    let parts = and_parts (are_whole carries from count) (is_whole (carries (from + count))) e in
-    elim (cases_lt n (from + count)) [
-      | inl before ↦ AreWhole-of_test carries from count parts.0 n low before
-      | inr last ↦
-          let same : from + count ≡ n = omega arith in
-          subst (λ k. carries k ≡ Whole) same (whole-of_test (carries (from + count)) parts.1)
-    ]
+AreWhole-of_test carries from count e n low high = whole-of_test (carries n) (are_whole-each carries from count e n low high)
 
 are_whole-of : (carries : ℕ → Carried) (from count : ℕ) → AreWhole carries from (from + count) → are_whole carries from count ≡ true
-unfolding are_whole
-are_whole-of carries from zero whole = refl
-are_whole-of carries from (suc count) whole =
-    let last = whole (from + count) (omega arith) (omega arith) in
-    and_from (are_whole carries from count) (is_whole (carries (from + count))) (are_whole-of carries from count (λ n low high. whole n low (omega arith)))
-    (subst (λ found. is_whole found ≡ true) (sym last) refl)
+are_whole-of carries from count whole =
+    each-are_whole carries from count (λ n low high. subst (λ found. is_whole found ≡ true) (sym (whole n low high)) refl)
 
 pub readable-whole : (carries : ℕ → Carried) (k : ℕ) → (is_readable carries k ≡ true) ↔ AreWhole carries (16 * k) (16 * k + 24)
 readable-whole carries k = (AreWhole-of_test carries (16 * k) 24, are_whole-of carries (16 * k) 24)

@@ -1,11 +1,11 @@
 -- A session of what was accepted alone goes as the session, and accepts all of it again.
 use Rattle.std.proofs.Common.{◌≡◌, ℕ, zero, suc, ◌-◌, ◌%◌, ◌<◌, ◌≤◌, List, ◌++◌, map, filter, fold, length, Option, refl, sym, ◌∙◌, ap, arith}
 use Rattle.std.proofs.lemmas.List.Folds.{fold-map}
-use Rattle.session_model.specs.Scenario.{Order, Offer, Scenario, orders_at, lands_at, comes_at}
+use Rattle.session_model.specs.Scenario.{Order, Offer, Scenario, steps_in, orders_at, lands_at, comes_at}
 use Rattle.session_model.specs.Table.{Told}
 use Rattle.session_model.specs.Source.{Source, refusal, asked, asked_by, asked_all, decide, cell_at, after}
 use Rattle.session_model.specs.Client.{Stream, frame_refusal, offered, offered_by, stream_before}
-use Rattle.session_model.specs.Journal.{accepted_orders, accepted_offers, orders_before, offers_before, with_items, steps_in, replayed}
+use Rattle.session_model.specs.Journal.{accepted_orders, accepted_offers, orders_before, offers_before, with_items, replayed}
 use Rattle.session_law.proofs.AcceptedLaws.{LeavesRefused, fold-accepted_of, accepted_of-again, Passes-accepted_of}
 use Rattle.session_law.proofs.LandingLaws.{Passes-filter, Grows, filter-there, lands_apart, comes_apart}
 use Rattle.session_law.proofs.ClientLaws.{stream_before-same}

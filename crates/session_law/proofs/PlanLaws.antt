@@ -1,8 +1,8 @@
 -- No line stands twice in the order, and each is one of the session's: so the order is no longer than there are lines.
-use Rattle.std.proofs.Common.{◌≡◌, ℕ, zero, suc, ◌+◌, ◌-◌, ◌%◌, ◌<◌, ◌≤◌, ◌==◌, ◌&&◌, not, nat_le, Bool, true, false, if◌then◌else◌, inl, inr, List, [], ◌∷◌, ◌++◌, filter, length, Option, Some, None, option_map, slice_index_or, slice_set, refl, sym, ◌∙◌, ap, arith}
+use Rattle.std.proofs.Common.{◌≡◌, ℕ, zero, suc, ◌+◌, ◌-◌, ◌%◌, ◌<◌, ◌≤◌, ◌==◌, ◌&&◌, not, nat_le, Bool, true, false, if◌then◌else◌, inl, inr, List, [], ◌∷◌, ◌++◌, filter, length, Option, Some, None, option_map, slice_index_or, slice_set, refl, sym, ◌∙◌, ap, subst, arith}
 use Rattle.std.specs.Bool.{⊤}
 use Rattle.std.proofs.lemmas.Bool.{cases_lt, leb-false, eqb-true, eq-eqb, eqb-false}
-use Rattle.std.proofs.lemmas.List.{length-replicate, map-append, length-map, length-set, get_or-set_same, get_or-set_other}
+use Rattle.std.proofs.lemmas.List.{length-append, length-replicate, map-append, length-map, length-set, get_or-set_same, get_or-set_other}
 use Rattle.session_model.specs.declared.table.Command.{Command}
 use Rattle.session_model.specs.declared.table.Command.TheVariants.{Add as add, Remove as remove}
 use Rattle.session_model.specs.Scenario.{Scenario, orders_at}
@@ -244,7 +244,7 @@ flags-set flags line b l inside =
       | false ↦ λ e. sym (get_or-set_other flags line l b false (eqb-false l line e))
     ] refl
 
-Fits-asked : (lines : ℕ) (source : Source) (command : Command) → Fits lines source → Fits lines (asked lines source command)
+pub Fits-asked : (lines : ℕ) (source : Source) (command : Command) → Fits lines source → Fits lines (asked lines source command)
 Fits-asked lines source command fits =
     elim (refusal lines command source) as (λ r. refusal lines command source ≡ r → Fits lines (asked_by r command source)) [
       | None ↦ λ e.
@@ -363,10 +363,10 @@ change-planned source table =
       | false ↦ refl
     ]
 
-opening-fits : (lines : ℕ) → Fits lines (opening lines)
+pub opening-fits : (lines : ℕ) → Fits lines (opening lines)
 opening-fits lines = ((λ l high. refl, λ l. ap (λ b. if b then 1 else 0) (sym (replicate-at lines false l))), length-replicate lines false)
 
-Fits-decide : (lines group : ℕ) (told : Option Told) (source : Source) → Fits lines source → Fits lines (decide group told source)
+pub Fits-decide : (lines group : ℕ) (told : Option Told) (source : Source) → Fits lines source → Fits lines (decide group told source)
 Fits-decide lines group told source fits =
     let table = told_on (heard group told source.table) in
     let same = told_on-lines (heard group told source.table) ∙ ap lines_of (heard-order group told source.table) in (
@@ -383,11 +383,21 @@ Fits-after scenario cells (suc j) =
     (Fits-asked_all (length scenario.windows) (orders_at scenario j) (after scenario cells j) (Fits-after scenario cells j))
 
 -- the order is no longer than there are lines
-pub order-length : (scenario : Scenario) (cells : List (Option Told)) (j : ℕ) → length (after scenario cells j).table.order ≤ length scenario.windows
-order-length scenario cells j =
-    let fits = Fits-after scenario cells j in
-    let order = (after scenario cells j).table.order in
-    let most = length-at_most (length scenario.windows) (lines_of order) fits.0.0
-    (IsPlan-once (length scenario.windows) (times (lines_of order)) (after scenario cells j).waiting (planned_of (after scenario cells j)) fits.0.1) in
+pub Fits-size : (lines : ℕ) (source : Source) → Fits lines source → length source.table.order ≤ lines
+Fits-size lines source fits =
+    let order = source.table.order in
+    let most = length-at_most lines (lines_of order) fits.0.0 (IsPlan-once lines (times (lines_of order)) source.waiting (planned_of source) fits.0.1) in
     let same = length-map order (λ member. member.line) in
     omega arith
+
+-- an order that a line is to be added to is shorter than that
+pub Fits-room : (lines : ℕ) (source : Source) (line : ℕ) (commands : List Command) → Fits lines source → source.waiting ≡ add line ∷ commands →
+    length source.table.order < lines
+Fits-room lines source line commands fits waits =
+    let plan = subst (λ waiting. FitsTable lines source.table waiting (planned_of source)) waits fits.0 in
+    let more = Fits-size lines (change_by (add line ∷ commands) source source.table) (Fits-change_by lines (add line ∷ commands) source source.table plan, fits.1) in
+    let longer = length-append source.table.order (member_of line adding ∷ []) in
+    omega arith
+
+pub order-length : (scenario : Scenario) (cells : List (Option Told)) (j : ℕ) → length (after scenario cells j).table.order ≤ length scenario.windows
+order-length scenario cells j = Fits-size (length scenario.windows) (after scenario cells j) (Fits-after scenario cells j)

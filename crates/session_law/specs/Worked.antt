@@ -1,5 +1,5 @@
 -- Worked sessions, computed.
-use Rattle.std.specs.Prelude.{ℕ, ◌%◌, List, [], ◌∷◌, Option, Some, None}
+use Rattle.std.specs.Prelude.{ℕ, ◌%◌, List, [], ◌∷◌, map, Option, Some, None}
 use Rattle.session_model.specs.declared.window.Window.{Window}
 use Rattle.session_model.specs.declared.table.Command.{Command}
 use Rattle.session_model.specs.declared.table.Command.TheVariants.{Add as add, Remove as remove}
@@ -35,6 +35,10 @@ Shown = ℕ × List Member × Option ℕ × ℕ
 abbrev pub shown : Scenario → ℕ → Shown
 shown scenario k =
     let table = table_of scenario (session_cells scenario) k in (k, table.order, table.leaving, table.count % 2)
+
+-- what the packets of these numbers show
+abbrev pub shown_in : Scenario → List Shown → List Shown
+shown_in scenario packets = map (λ packet. shown scenario packet.0) packets
 
 -- three lines are added; line 1 is removed at tick 600
 abbrev pub three_lines : Scenario

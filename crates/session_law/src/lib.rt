@@ -3,25 +3,27 @@
 //! bit of a return packet stands for a whole count of changes.
 #![tactic(auto)]
 
-ghost use Rattle.std.specs.Prelude.{◌≡◌, ◌↔◌, ◌<◌, ◌≤◌, ◌++◌, ◌+◌, ◌-◌, ◌*◌, ◌/◌, ℕ, Bool, true, List, Option, Some, take, map, filter, suc, length};
+ghost use Rattle.std.specs.Prelude.{◌≡◌, ◌↔◌, ◌<◌, ◌≤◌, ◌++◌, ◌+◌, ◌-◌, ◌*◌, ◌/◌, ℕ, Bool, true, List, Option, Some, take, filter, suc, length};
 ghost use Rattle.session_model.specs.declared.window.Carried.{Carried};
 ghost use Rattle.session_model.specs.Damage.{is_good, is_readable};
-ghost use Rattle.session_model.specs.Scenario.{Scenario, Order, Offer, is_read, is_heard, lands_at, comes_at};
+ghost use Rattle.session_model.specs.Scenario.{Scenario, Order, Offer, steps_in, is_read, is_heard, lands_at, comes_at};
 ghost use Rattle.session_model.specs.Table.{kept_of, Told};
 ghost use Rattle.session_model.specs.Source.{after, table_of, told_at};
 ghost use Rattle.session_model.specs.Back.{cells_before};
-ghost use Rattle.session_model.specs.Client.{size, place_of, stream_before, frames_in, IsFewest};
-ghost use Rattle.session_model.specs.Journal.{orders_before, offers_before, frames_before, steps_in, replayed};
+ghost use Rattle.session_model.specs.Client.{size, width, place_of, stream_before, frames_in, IsFewest};
+ghost use Rattle.session_model.specs.Payload.{payload_of};
+ghost use Rattle.session_model.specs.Journal.{orders_before, offers_before, frames_before, replayed};
 ghost use Rattle.session_law.specs.Session.{IsReturned, AgreeBefore, AreWhole};
 ghost use Rattle.session_law.specs.Feedback.{Takes, Acknowledges, TellsOf, SameLines, WasSaid};
 ghost use Rattle.session_law.specs.Use.{IsUsedBy, AddsUndamaged, AddsAmongSilent};
-ghost use Rattle.session_law.specs.Worked.{shown, three_lines, three_lines_shown, other_line, other_line_shown, failing_line, failing_line_shown, silent_line, silent_line_shown};
+ghost use Rattle.session_law.specs.Worked.{shown_in, three_lines, three_lines_shown, other_line, other_line_shown, failing_line, failing_line_shown, silent_line, silent_line_shown};
 ghost use Rattle.session_law.specs.Landing.{AreOrdersInOrder, AreOffersInOrder, landed, is_landed, is_come};
 
 /// The return cells of a session. Each is made from the tables that the cells before it lead to; more cells after a list change no
 /// table that was made before.
 pub fn session_law()
-    ensures cells { (scenario : Scenario) (n k : ℕ) → 0 < scenario.lag → k < n → IsReturned scenario n k }
+    ensures cells { (scenario : Scenario) (n k : ℕ) → 0 < scenario.lag → k < n →
+        IsReturned scenario n k }
     ensures prefix { (scenario : Scenario) (n more : ℕ) →
         take n (cells_before scenario (n + more)) ≡ cells_before scenario n }
     ensures tables { (scenario : Scenario) (a b : List (Option Told)) (j : ℕ) →
@@ -34,9 +36,11 @@ pub fn session_law()
 pub fn feedback_law()
     ensures whole_count { (scenario : Scenario) (n j k : ℕ) (told : Told) →
         Takes scenario (cells_before scenario n) j k told →
-        Acknowledges scenario (cells_before scenario n) j told ↔ TellsOf scenario (cells_before scenario n) j k }
+        Acknowledges scenario (cells_before scenario n) j told
+        ↔ TellsOf scenario (cells_before scenario n) j k }
     ensures same_lines { (scenario : Scenario) (n j k : ℕ) (told : Told) →
-        Takes scenario (cells_before scenario n) j k told → TellsOf scenario (cells_before scenario n) j k →
+        Takes scenario (cells_before scenario n) j k told →
+        TellsOf scenario (cells_before scenario n) j k →
         SameLines scenario (cells_before scenario n) j k }
     ensures statuses { (scenario : Scenario) (n j sq : ℕ) (ok : Bool) → 0 < scenario.lag →
         kept_of (told_at scenario (cells_before scenario n) j) sq ≡ Some ok →
@@ -48,13 +52,14 @@ pub fn feedback_law()
 pub fn use_law()
     ensures undamaged { (scenario : Scenario) (first line : ℕ) → AddsUndamaged scenario first line →
         IsUsedBy scenario line first (first + 15 + scenario.lag) }
-    ensures others_silent { (scenario : Scenario) (first line : ℕ) → AddsAmongSilent scenario first line →
+    ensures others_silent { (scenario : Scenario) (first line : ℕ) →
+        AddsAmongSilent scenario first line →
         IsUsedBy scenario line first (first + 30 + 2 * scenario.lag) }
 {}
 
 /// What of a line arrives whole. A container is good, and a packet can be read, exactly where each container on the way to it is
 /// whole; a packet is heard where some line has it.
-pub fn damage_law()
+pub fn readable_law()
     ensures good { (carries : ℕ → Carried) (t : ℕ) →
         (is_good carries t ≡ true) ↔ ((2 ≤ t) × AreWhole carries (16 * ((t - 2) / 16)) (t + 1)) }
     ensures readable { (carries : ℕ → Carried) (k : ℕ) →
@@ -70,7 +75,8 @@ pub fn journal_law()
         after (replayed scenario cells t) cells j ≡ after scenario cells j }
     ensures streams { (scenario : Scenario) (cells : List (Option Told)) (t n : ℕ) → n ≤ t →
         stream_before (replayed scenario cells t) cells n ≡ stream_before scenario cells n }
-    ensures orders_again { (scenario : Scenario) (cells : List (Option Told)) (t j : ℕ) → j ≤ steps_in t →
+    ensures orders_again { (scenario : Scenario) (cells : List (Option Told)) (t j : ℕ) →
+        j ≤ steps_in t →
         orders_before (replayed scenario cells t) cells j ≡ orders_before scenario cells j }
     ensures offers_again { (scenario : Scenario) (cells : List (Option Told)) (t n : ℕ) → n ≤ t →
         offers_before (replayed scenario cells t) cells n ≡ offers_before scenario cells n }
@@ -81,24 +87,28 @@ pub fn journal_law()
 {}
 
 /// The client's stream. Each accepted frame is begun or waits, in order; the pieces are the fewest that reach the place at which the
-/// next frame begins; and more return cells after a list change nothing of what was sent before.
+/// next frame begins, so that each frame has all octets that it carries; and more return cells after a list change nothing of what was sent before.
 pub fn client_law()
     ensures frames { (scenario : Scenario) (cells : List (Option Told)) (t : ℕ) →
-        frames_in (stream_before scenario cells t).pieces ++ (stream_before scenario cells t).waiting
+        frames_in (stream_before scenario cells t).pieces
+        ++ (stream_before scenario cells t).waiting
         ≡ frames_before scenario cells t }
     ensures reaches { (scenario : Scenario) (cells : List (Option Told)) (t : ℕ) →
         place_of scenario cells t ≤ size (stream_before scenario cells t).pieces }
     ensures fewest { (scenario : Scenario) (cells : List (Option Told)) (t : ℕ) →
         IsFewest (stream_before scenario cells t).pieces (place_of scenario cells (suc t))
         (stream_before scenario cells (suc t)).pieces }
+    ensures payload { (scenario : Scenario) (cells : List (Option Told)) (t : ℕ) →
+        length (payload_of scenario cells t) ≡ scenario.size * width scenario cells t }
     ensures cells { (scenario : Scenario) (a b : List (Option Told)) (t : ℕ) →
-        AgreeBefore ((t - 8) / 16 - scenario.lag) a b → stream_before scenario a t ≡ stream_before scenario b t }
+        AgreeBefore ((t - 8) / 16 - scenario.lag) a b →
+        stream_before scenario a t ≡ stream_before scenario b t }
 {}
 
 /// Worked sessions, computed: what packets show of the lines.
 pub fn worked_law()
-    ensures three_lines { map (λ packet. shown three_lines packet.0) three_lines_shown ≡ three_lines_shown }
-    ensures other_line { map (λ packet. shown other_line packet.0) other_line_shown ≡ other_line_shown }
-    ensures failing_line { map (λ packet. shown failing_line packet.0) failing_line_shown ≡ failing_line_shown }
-    ensures silent_line { map (λ packet. shown silent_line packet.0) silent_line_shown ≡ silent_line_shown }
+    ensures three_lines { shown_in three_lines three_lines_shown ≡ three_lines_shown }
+    ensures other_line { shown_in other_line other_line_shown ≡ other_line_shown }
+    ensures failing_line { shown_in failing_line failing_line_shown ≡ failing_line_shown }
+    ensures silent_line { shown_in silent_line silent_line_shown ≡ silent_line_shown }
 {}

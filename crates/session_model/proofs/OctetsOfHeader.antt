@@ -1,80 +1,93 @@
--- A core header octet by octet, as it is written and read.
-use Rattle.std.proofs.Common.{◌≡◌, ◌≢◌, ℕ, zero, suc, ◌/◌, ◌%◌, ◌^◌, ◌<◌, ◌≤◌, List, [], ◌∷◌, ◌++◌, length, take, All, Option, Some, None, bit_xor, slice_index, get_or, refl, sym, ◌∙◌, ap, ap₂, subst, arith, w16, mod-eq_of_lt}
-use Rattle.std.specs.Int.{to_be_bytes, from_be_bytes}
-use Rattle.std.proofs.lemmas.Nat.{xor_of_8, be_bytes_2}
-use Rattle.std.proofs.lemmas.List.Elements.{All-nil, All-cons}
-use Rattle.remainder.specs.Bits.{bits, number, octet_bits, octets_of, xors}
-use Rattle.remainder.proofs.XorLaws.{xors_comm}
-use Rattle.remainder.proofs.BitLaws.{number-bits}
-use Rattle.remainder.proofs.OctetLaws.{octets_of-octet_bits, octet_bits-bytes_high_first, octet_bits-xor}
-use Rattle.hec16.specs.Hec.{hec_bits}
-use Rattle.session_model.specs.Core.{core_header, IsPli, pli_of, head}
-use Rattle.session_model.proofs.CoreLaws.{core_header_parts, pli_of-core_header, core_header-head, IsPli-head}
+-- A core header as one word of 32 bits, as it is written and read: its PLI above its check, under the mask.
+use Rattle.std.proofs.Common.{◌≡◌, ◌≢◌, ℕ, ◌+◌, ◌*◌, ◌/◌, ◌%◌, ◌^◌, ◌<◌, List, ◌++◌, length, take, drop, Option, Some, None, bit_xor, Bool, refl, sym, ◌∙◌, ap, ap₂, subst, arith, w32}
+use Rattle.std.specs.Int.{to_be_bytes}
+use Rattle.std.specs.Int.Bits.{xor_assoc, xor_self, xor_zero_r}
+use Rattle.std.proofs.lemmas.List.{length-append, take_at, drop_at}
+use Rattle.std.proofs.lemmas.Nat.{shr_high, shr_split, xor_lt}
+use Rattle.remainder.specs.Bits.{bits, octet_bits, octets_of, xors}
+use Rattle.remainder.proofs.XorLaws.{length_xors, xors_comm, xors_twice}
+use Rattle.remainder.proofs.BitLaws.{length-bits, bits-add, bits_low, bits-xor, same_from_bits}
+use Rattle.remainder.proofs.OctetLaws.{octet_bits-octets_of, octets_of-octet_bits, octet_bits-bytes_high_first, bytes_high_first_below}
+use Rattle.hec16.specs.Hec.{hec_bits, hec_of}
+use Rattle.hec16.proofs.HecLaws.{length-hec_bits, bits-hec_of, hec_of-from_bits}
+use Rattle.session_model.specs.Core.{core_header, IsPli, head}
+use Rattle.session_model.proofs.CoreLaws.{core_header-head, IsPli-head}
 
--- two octets under a mask
-masked_bits : (a b u v : ℕ) → octet_bits (bit_xor a u ∷ bit_xor b v ∷ []) ≡ xors (octet_bits (a ∷ b ∷ [])) (octet_bits (u ∷ v ∷ []))
-unfolding xors
-masked_bits a b u v = octet_bits-xor a u (bit_xor b v ∷ []) (b ∷ []) (v ∷ []) (octet_bits-xor b v [] [] [] refl)
-
--- the octets of a word under the mask of another
-masked_word : (mask word : ℕ) → bit_xor (word / 256 % 256) (mask / 256 % 256) ∷ bit_xor (word % 256) (mask % 256) ∷ [] ≡ octets_of 2 (xors (bits 16 mask) (bits 16 word))
-masked_word mask word =
-    let upper = bit_xor (word / 256 % 256) (mask / 256 % 256) in
-    let lower = bit_xor (word % 256) (mask % 256) in
-    let below : All (λ o. o < 256) (upper ∷ lower ∷ []) =
-    All-cons (λ o. o < 256) upper (lower ∷ []) (xor_of_8 (word / 256 % 256) (mask / 256 % 256) (omega arith) (omega arith))
-    (All-cons (λ o. o < 256) lower [] (xor_of_8 (word % 256) (mask % 256) (omega arith) (omega arith)) (All-nil (λ o. o < 256))) in
-    sym (octets_of-octet_bits (upper ∷ lower ∷ []) below)
-    ∙ ap (octets_of 2)
-    (masked_bits (word / 256 % 256) (word % 256) (mask / 256 % 256) (mask % 256)
-    ∙ xors_comm (octet_bits (word / 256 % 256 ∷ word % 256 ∷ [])) (octet_bits (mask / 256 % 256 ∷ mask % 256 ∷ []))
-    ∙ ap₂ xors (octet_bits-bytes_high_first 2 mask) (octet_bits-bytes_high_first 2 word))
+-- the octets of a word of two halves, under a mask
+masked : (mask upper lower : ℕ) → lower < 2 ^ 16 →
+    to_be_bytes w32 (bit_xor (upper * 2 ^ 16 + lower) mask) ≡ octets_of 4 (xors (bits 32 mask) (bits 16 upper ++ bits 16 lower))
+masked mask upper lower h =
+    let word = bit_xor (upper * 2 ^ 16 + lower) mask in
+    sym (octets_of-octet_bits (to_be_bytes w32 word) (bytes_high_first_below 4 word))
+    ∙ ap (octets_of 4)
+    (octet_bits-bytes_high_first 4 word
+    ∙ bits-xor 32 (upper * 2 ^ 16 + lower) mask
+    ∙ xors_comm (bits 32 (upper * 2 ^ 16 + lower)) (bits 32 mask)
+    ∙ ap (xors (bits 32 mask))
+    (bits-add 16 16 (upper * 2 ^ 16 + lower) ∙ ap₂ ◌++◌ (ap (bits 16) (shr_high upper 16 lower h)) (bits_low 16 upper lower)))
 
 -- what is written
-pub written : (pli check : ℕ) (front back : List ℕ) → hec_bits pli ≡ bits 16 check → front ≡ to_be_bytes w16 pli → back ≡ to_be_bytes w16 check →
-    bit_xor (slice_index front 0) 0xb6 ∷ bit_xor (slice_index front 1) 0xab ∷ bit_xor (slice_index back 0) 0x31 ∷ bit_xor (slice_index back 1) 0xe0 ∷ [] ≡ core_header pli
-written pli check front back h f b =
-    ap₂ (λ l m. bit_xor (slice_index l 0) 0xb6 ∷ bit_xor (slice_index l 1) 0xab ∷ bit_xor (slice_index m 0) 0x31 ∷ bit_xor (slice_index m 1) 0xe0 ∷ []) f b
-    ∙ ap₂ ◌++◌ (masked_word 0xb6ab pli) (masked_word 0x31e0 check)
-    ∙ ap (λ l. octets_of 2 (xors (bits 16 0xb6ab) (bits 16 pli)) ++ octets_of 2 (xors (bits 16 0x31e0) l)) (sym h)
-    ∙ sym (core_header_parts pli)
+pub written : (pli check : ℕ) → check < 2 ^ 16 → check ≡ hec_of pli → to_be_bytes w32 (bit_xor (pli * 2 ^ 16 + check) 0xb6ab31e0) ≡ core_header pli
+unfolding core_header
+written pli check small right =
+    masked 0xb6ab31e0 pli check small
+    ∙ ap (λ l. octets_of 4 (xors (bits 32 0xb6ab31e0) (bits 16 pli ++ l))) (ap (bits 16) right ∙ bits-hec_of pli)
 
-two_below : (a b : ℕ) → a < 256 → b < 256 → (i : ℕ) → get_or (a ∷ b ∷ []) i 0 < 256
-two_below a b p q zero = p
-two_below a b p q (suc zero) = q
-two_below a b p q (suc (suc i)) = omega arith
+length_of_halves : (front back : List Bool) → length front ≡ 16 → length back ≡ 16 → length (front ++ back) ≡ 32
+length_of_halves front back f b = omega (arith, length-append front back)
 
-take_two : (octets : List ℕ) → 2 ≤ length octets → take 2 octets ≡ slice_index octets 0 ∷ slice_index octets 1 ∷ []
-take_two [] h = absurd (omega arith)
-take_two (a ∷ []) h = absurd (omega arith)
-take_two (a ∷ b ∷ octets) h = refl
+-- two halves under a mask are those of their octets
+halves_only : (mask : ℕ) (a b c d : List Bool) → length a ≡ 16 → length b ≡ 16 → length c ≡ 16 → length d ≡ 16 →
+    octets_of 4 (xors (bits 32 mask) (a ++ b)) ≡ octets_of 4 (xors (bits 32 mask) (c ++ d)) → (a ≡ c) × (b ≡ d)
+halves_only mask a b c d la lb lc ld e =
+    let l : length (bits 32 mask) ≡ 32 = length-bits 32 mask in
+    let one = length_of_halves a b la lb in
+    let two = length_of_halves c d lc ld in
+    let front : length (xors (bits 32 mask) (a ++ b)) ≡ 8 * 4 = length_xors (bits 32 mask) (a ++ b) (l ∙ sym one) ∙ one in
+    let back : length (xors (bits 32 mask) (c ++ d)) ≡ 8 * 4 = length_xors (bits 32 mask) (c ++ d) (l ∙ sym two) ∙ two in
+    let same : xors (bits 32 mask) (a ++ b) ≡ xors (bits 32 mask) (c ++ d) =
+    sym (octet_bits-octets_of 4 (xors (bits 32 mask) (a ++ b)) front) ∙ ap octet_bits e ∙ octet_bits-octets_of 4 (xors (bits 32 mask) (c ++ d)) back in
+    let all : a ++ b ≡ c ++ d =
+    sym (xors_twice (bits 32 mask) (a ++ b) (omega arith)) ∙ ap (xors (bits 32 mask)) same ∙ xors_twice (bits 32 mask) (c ++ d) (omega arith) in (
+      sym (take_at a b 16 la) ∙ ap (take 16) all ∙ take_at c d 16 lc,
+      sym (drop_at a b 16 la) ∙ ap (drop 16) all ∙ drop_at c d 16 lc,
+    )
 
--- what is read
-pub pli_read : (octets : List ℕ) (pli : ℕ) → length octets ≡ 4 → ((i : ℕ) → get_or octets i 0 < 256) →
-    pli ≡ from_be_bytes w16 (bit_xor (slice_index octets 0) 0xb6 ∷ bit_xor (slice_index octets 1) 0xab ∷ []) → pli < 2 ^ 16 → pli ≡ pli_of octets
-unfolding pli_of
-pli_read octets pli size below e h =
-    let a = slice_index octets 0 in
-    let b = slice_index octets 1 in
-    let front = bit_xor a 0xb6 ∷ bit_xor b 0xab ∷ [] in
-    let small : (i : ℕ) → get_or front i 0 < 256 =
-    two_below (bit_xor a 0xb6) (bit_xor b 0xab) (xor_of_8 a 0xb6 (below 0) (omega arith)) (xor_of_8 b 0xab (below 1) (omega arith)) in
-    let bs : octet_bits front ≡ bits 16 pli = ap octet_bits (sym (be_bytes_2 front pli refl small e)) ∙ octet_bits-bytes_high_first 2 pli in
-    sym (ap number
-    (ap₂ xors (sym (octet_bits-bytes_high_first 2 0xb6ab)) (ap octet_bits (take_two octets (omega arith)))
-    ∙ xors_comm (octet_bits (0xb6 ∷ 0xab ∷ [])) (octet_bits (a ∷ b ∷ []))
-    ∙ sym (masked_bits a b 0xb6 0xab) ∙ bs)
-    ∙ number-bits 16 pli ∙ mod-eq_of_lt h)
+-- what is read, where the octets are those of this word
+module _ (octets : List ℕ) (word : ℕ) (is : to_be_bytes w32 word ≡ octets) (below : word < 2 ^ 32) where
+  abbrev pub plain : ℕ
+  plain = bit_xor word 0xb6ab31e0
 
--- if the PLI that octets have gives no header that they are, none does
-pub no_other : (octets : List ℕ) (pli : ℕ) → pli ≡ pli_of octets → (IsPli pli → core_header pli ≢ octets) → (other : ℕ) → IsPli other → core_header other ≢ octets
-no_other octets pli e h other o c =
-    let same : other ≡ pli = sym (pli_of-core_header other o.0) ∙ ap pli_of c ∙ sym e in
-    h (subst IsPli same o) (ap core_header (sym same) ∙ c)
+  pub halves : octets ≡ octets_of 4 (xors (bits 32 0xb6ab31e0) (bits 16 (plain / 2 ^ 16) ++ bits 16 (plain % 2 ^ 16)))
+  halves =
+      sym is
+      ∙ ap (to_be_bytes w32)
+      (sym (xor_zero_r word) ∙ ap (bit_xor word) (sym (xor_self 0xb6ab31e0)) ∙ sym (xor_assoc word 0xb6ab31e0 0xb6ab31e0)
+      ∙ ap (λ n. bit_xor n 0xb6ab31e0) (sym (shr_split plain 16)))
+      ∙ masked 0xb6ab31e0 (plain / 2 ^ 16) (plain % 2 ^ 16) (omega arith)
+
+  -- with the right check they are a header
+  pub header_read : plain % 2 ^ 16 ≡ hec_of (plain / 2 ^ 16) → core_header (plain / 2 ^ 16) ≡ octets
+  unfolding core_header
+  header_read right =
+      ap (λ l. octets_of 4 (xors (bits 32 0xb6ab31e0) (bits 16 (plain / 2 ^ 16) ++ l))) (sym (ap (bits 16) right ∙ bits-hec_of (plain / 2 ^ 16)))
+      ∙ sym halves
+
+  -- and they are no other one
+  pub no_other : (IsPli (plain / 2 ^ 16) → plain % 2 ^ 16 ≢ hec_of (plain / 2 ^ 16)) → (pli : ℕ) → IsPli pli → core_header pli ≢ octets
+  unfolding core_header
+  no_other wrong pli within e =
+      let all : plain < 2 ^ 32 = xor_lt 32 word 0xb6ab31e0 below (omega arith) in
+      let small : plain / 2 ^ 16 < 2 ^ 16 = omega arith in
+      let both = halves_only 0xb6ab31e0 (bits 16 pli) (hec_bits pli) (bits 16 (plain / 2 ^ 16)) (bits 16 (plain % 2 ^ 16))
+      (length-bits 16 pli) (length-hec_bits pli) (length-bits 16 (plain / 2 ^ 16)) (length-bits 16 (plain % 2 ^ 16)) (e ∙ halves) in
+      let same : pli ≡ plain / 2 ^ 16 = same_from_bits 16 pli (plain / 2 ^ 16) within.0 small both.0 in
+      wrong (subst IsPli same within) (hec_of-from_bits (plain / 2 ^ 16) (plain % 2 ^ 16) (omega arith) (sym both.1 ∙ ap hec_bits same))
 
 no_head_at : (octets : List ℕ) → ((pli : ℕ) → IsPli pli → core_header pli ≢ octets) → (found : Option ℕ) → head octets ≡ found → found ≡ None
 no_head_at octets h None e = refl
 no_head_at octets h (Some pli) e = absurd (h pli (IsPli-head octets pli e) (core_header-head octets pli e))
 
+-- where no header is these octets, they have no PLI
 pub no_head : (octets : List ℕ) → ((pli : ℕ) → IsPli pli → core_header pli ≢ octets) → head octets ≡ None
 no_head octets h = no_head_at octets h (head octets) refl

@@ -1,7 +1,8 @@
 -- G.7042, the return packets of a session: the sink tells which packets it could read, and of which count of changes.
 use Rattle.std.specs.Prelude.{ℕ, zero, suc, ◌+◌, ◌*◌, ◌%◌, Bool, false, if◌then◌else◌, List, [], ◌∷◌, ◌++◌, map, Option, Some, None, slice_get}
 use Rattle.session_model.specs.Scenario.{Scenario, is_read, is_heard, is_lost, packets}
-use Rattle.session_model.specs.Table.{Member, Told}
+use Rattle.session_model.specs.declared.table.Member.{Member}
+use Rattle.session_model.specs.Table.{Told}
 use Rattle.session_model.specs.Source.{table_of}
 
 -- the count of changes of the last packet before packet k that some line could read

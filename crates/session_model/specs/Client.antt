@@ -16,12 +16,15 @@ pub record Stream : Type 0 where
   pub pieces : List Piece
   pub waiting : List (List ℕ)
 
--- why a frame is refused: its length is outside 64 to 9600 octets, or 256 frames wait
-abbrev pub frame_refusal : List ℕ → Stream → Option AcceptFault
-frame_refusal frame stream =
+-- why a frame is refused while others wait: its length is outside 64 to 9600 octets, or else 256 frames wait
+abbrev pub refusal_while : List (List ℕ) → List ℕ → Option AcceptFault
+refusal_while waiting frame =
     if nat_lt (length frame) 64 || nat_lt 9600 (length frame) then Some (Length (length frame))
-    else if nat_le 256 (length stream.waiting) then Some (QueueFull 256)
+    else if nat_le 256 (length waiting) then Some (QueueFull 256)
     else None
+
+abbrev pub frame_refusal : List ℕ → Stream → Option AcceptFault
+frame_refusal frame stream = refusal_while stream.waiting frame
 
 abbrev pub offered_by : Option AcceptFault → List ℕ → Stream → Stream
 offered_by (Some refusal) frame stream = stream
@@ -40,6 +43,15 @@ unfoldable pub reaching : ℕ → ℕ → Stream → Stream
 reaching zero place stream = stream
 reaching (suc steps) place stream = if nat_le place (size stream.pieces) then stream else reaching steps place (next_by stream.waiting stream.pieces)
 
+-- the fewest pieces that reach a place: each has octets, so there are no more than the place counts
+abbrev pub reached : ℕ → Stream → Stream
+reached place stream = reaching place place stream
+
+-- so many more pieces
+unfoldable pub begun : ℕ → Stream → Stream
+begun zero stream = stream
+begun (suc n) stream = begun n (next_by stream.waiting stream.pieces)
+
 -- how many lines carry payload in frame t: packet k governs frames 16 k + 24 to 16 k + 39
 abbrev pub width : Scenario → List (Option Told) → ℕ → ℕ
 width scenario cells t = if nat_lt t 24 then 0 else length (active (table_of scenario cells ((t - 24) / 16)))
@@ -53,7 +65,7 @@ place_of scenario cells (suc t) = place_of scenario cells t + scenario.size * wi
 unfoldable pub stream_before : Scenario → List (Option Told) → ℕ → Stream
 stream_before scenario cells zero = record { pieces = idle ∷ idle ∷ []; waiting = [] }
 stream_before scenario cells (suc t) =
-    reaching (place_of scenario cells (suc t)) (place_of scenario cells (suc t)) (fold offered (stream_before scenario cells t) (frames_at scenario t))
+    reached (place_of scenario cells (suc t)) (fold offered (stream_before scenario cells t) (frames_at scenario t))
 
 -- the frames among pieces
 abbrev pub frame_in : Piece → List (List ℕ)

@@ -1,8 +1,13 @@
 -- Failures of a line: which containers a list of windows damages, and how.
 use Rattle.std.specs.Prelude.{ℕ, zero, suc, ◌+◌, ◌-◌, ◌*◌, ◌/◌, ◌&&◌, ◌≤◌, ◌<◌, nat_le, nat_lt, max, Bool, true, false, List, [], ◌∷◌, if◌then◌else◌}
+use Rattle.std.specs.List.{list_any}
 use Rattle.session_model.specs.declared.window.Window.{Window}
 use Rattle.session_model.specs.declared.window.Carried.{Carried}
 use Rattle.session_model.specs.declared.window.Carried.TheVariants.{Whole, Fails, Vanishes}
+
+-- container t is one of those that some window names
+abbrev pub is_damaged : List Window → ℕ → Bool
+is_damaged windows t = list_any (λ window. nat_le window.first t && nat_lt t window.end) windows
 
 -- what comes of a container of a window: the last ones vanish
 abbrev pub carried_in : Window → ℕ → Carried

@@ -1,6 +1,6 @@
 -- What a session has accepted, and the session of that alone.
-use Rattle.std.specs.Prelude.{ℕ, zero, suc, ◌+◌, ◌/◌, List, [], ◌++◌, map, filter, length, Option}
-use Rattle.session_model.specs.Scenario.{Order, Offer, Scenario, lands_at, comes_at}
+use Rattle.std.specs.Prelude.{ℕ, zero, suc, List, [], ◌++◌, map, filter, length, Option}
+use Rattle.session_model.specs.Scenario.{Order, Offer, Scenario, steps_in, lands_at, comes_at}
 use Rattle.session_model.specs.Table.{Told}
 use Rattle.session_model.specs.Accepted.{accepted_of}
 use Rattle.session_model.specs.Source.{Source, refusal, asked, after}
@@ -44,10 +44,6 @@ with_items scenario orders offers = record {
   orders = orders;
   offers = offers;
 }
-
--- how many decision steps are made in t ticks: step j is made in the tick of frame 16 j + 8
-abbrev pub steps_in : ℕ → ℕ
-steps_in t = (t + 7) / 16
 
 -- the session of what is accepted in t ticks alone
 abbrev pub replayed : Scenario → List (Option Told) → ℕ → Scenario

@@ -1,15 +1,20 @@
--- G.7041, frame delineation: what comes of each client frame that lies whole in a run.
-use Rattle.std.specs.Prelude.{ℕ, ◌+◌, ◌&&◌, nat_lt, not, Bool, List, [], ◌∷◌, ◌++◌, length, map, take, drop, Option, Some, None, if◌then◌else◌}
+-- G.7041, frame delineation: what comes of each client frame that lies whole in a run. That six octets settle a descrambler is
+-- this project's own rule.
+--
+-- The words that end in `with` take what comes of an area: from whether the descrambler was settled when it began, and from its
+-- descrambled octets. Those without it are for Ethernet frames of at most a number of octets, `longest`.
+use Rattle.std.specs.Prelude.{ℕ, ◌+◌, ◌||◌, nat_le, nat_lt, Bool, true, false, List, [], ◌∷◌, ◌++◌, length, map, take, drop, Option, Some, None, if◌then◌else◌}
 use Rattle.std.specs.List.{flat_map}
 use Rattle.session_model.specs.declared.Why.{Why}
 use Rattle.session_model.specs.declared.Why.TheVariants.{Unsettled, TooLong, Header}
 use Rattle.session_model.specs.declared.TypeFault.{TypeFault}
+use Rattle.session_model.specs.Core.{head}
 use Rattle.session_model.specs.Piece.{cut, joined}
 use Rattle.session_model.specs.Scramble.{descrambled_octets}
 use Rattle.session_model.specs.TypeHeader.{type_fault}
-use Rattle.session_model.specs.Run.{Run, runs}
+use Rattle.session_model.specs.Run.{Run, runs_with}
 
--- what comes of a client frame
+-- what comes of a client frame: it is delivered, or dropped for a cause
 pub data Outcome : Type 0 where
   delivery : List ℕ → Outcome
   dropping : Why → Outcome
@@ -19,28 +24,49 @@ abbrev pub outcome_by : Option TypeFault → List ℕ → Outcome
 outcome_by None area = delivery (drop 4 area)
 outcome_by (Some fault) area = dropping (Header fault)
 
--- the outcome of a descrambled area, where frames of at most so many octets are delivered: the first cause that holds. In a
--- run that isn't settled, six octets of areas settle the descrambler. The area of an idle frame has none
-abbrev pub outcome_of : ℕ → Bool → ℕ → List ℕ → List Outcome
-outcome_of longest settled before [] = []
-outcome_of longest settled before (o ∷ area) =
-    (if not settled && nat_lt before 6 then dropping Unsettled
-    else if nat_lt (longest + 4) (length (o ∷ area)) then dropping (TooLong (length (o ∷ area)))
-    else outcome_by (type_fault (take 4 (o ∷ area))) (o ∷ area)) ∷ []
+-- the outcome of a descrambled area: the first cause that holds, or the frame in it
+abbrev pub client_outcome : ℕ → Bool → List ℕ → Outcome
+client_outcome longest true area =
+    if nat_lt (longest + 4) (length area) then dropping (TooLong (length area)) else outcome_by (type_fault (take 4 area)) area
+client_outcome longest false area = dropping Unsettled
 
--- the outcomes of descrambled areas, before which the run has so many octets of areas
-unfoldable pub outcomes_behind : ℕ → Bool → ℕ → List (List ℕ) → List Outcome
-outcomes_behind longest settled before [] = []
-outcomes_behind longest settled before (area ∷ areas) =
-    outcome_of longest settled before area ++ outcomes_behind longest settled (before + length area) areas
+-- ---- the areas of a run
+-- the descrambler is settled after these octets of areas of a run that was settled at its start, or after six
+abbrev pub is_settled : Bool → ℕ → Bool
+is_settled settled before = settled || nat_le 6 before
+
+-- an area with no octets is that of an idle frame, of which nothing comes
+abbrev pub area_outcomes : {X : Type 0} → (Bool → List ℕ → X) → Bool → ℕ → List ℕ → List X
+area_outcomes outcome settled before [] = []
+area_outcomes outcome settled before (o ∷ area) = outcome (is_settled settled before) (o ∷ area) ∷ []
+
+-- the outcomes of descrambled areas, before which the run has this number of octets of areas
+unfoldable pub outcomes_after_with : {X : Type 0} → (Bool → List ℕ → X) → Bool → ℕ → List (List ℕ) → List X
+outcomes_after_with outcome settled before [] = []
+outcomes_after_with outcome settled before (area ∷ areas) =
+    area_outcomes outcome settled before area ++ outcomes_after_with outcome settled (before + length area) areas
 
 -- the areas of a run are descrambled as one list
 abbrev pub descrambled_areas : List (List ℕ) → List (List ℕ)
 descrambled_areas areas = cut (map length areas) (descrambled_octets (joined areas))
 
+abbrev pub run_outcomes_with : {X : Type 0} → (Bool → List ℕ → X) → Run → List X
+run_outcomes_with outcome run = outcomes_after_with outcome run.settled 0 (descrambled_areas run.areas)
+
+-- ---- the runs of a segment
+abbrev pub outcomes_with : {X : Type 0} → (List ℕ → Option ℕ) → (List ℕ → Option ℕ) → (Bool → List ℕ → X) → Bool → List ℕ → List X
+outcomes_with seek follow outcome first octets = flat_map (run_outcomes_with outcome) (runs_with seek follow first octets)
+
+-- ---- Ethernet frames
+abbrev pub outcome_of : ℕ → Bool → ℕ → List ℕ → List Outcome
+outcome_of longest settled before area = area_outcomes (client_outcome longest) settled before area
+
+abbrev pub outcomes_after : ℕ → Bool → ℕ → List (List ℕ) → List Outcome
+outcomes_after longest settled before areas = outcomes_after_with (client_outcome longest) settled before areas
+
 abbrev pub run_outcomes : ℕ → Run → List Outcome
-run_outcomes longest run = outcomes_behind longest run.settled 0 (descrambled_areas run.areas)
+run_outcomes longest run = run_outcomes_with (client_outcome longest) run
 
 -- the outcomes of a segment, which is the first of its stream or a later one
 abbrev pub outcomes : ℕ → Bool → List ℕ → List Outcome
-outcomes longest first octets = flat_map (run_outcomes longest) (runs first octets)
+outcomes longest first octets = outcomes_with head head (client_outcome longest) first octets

@@ -28,7 +28,7 @@ joined areas = flat_map (λ area. area) areas
 abbrev pub scrambled_areas : List (List ℕ) → List (List ℕ)
 scrambled_areas areas = cut (map length areas) (scrambled_octets (joined areas))
 
--- a payload area behind its core header
+-- a payload area, with its core header in front
 abbrev pub with_header : List ℕ → List ℕ
 with_header area = core_header (length area) ++ area
 
@@ -36,11 +36,11 @@ with_header area = core_header (length area) ++ area
 abbrev pub stream_of : List Piece → List ℕ
 stream_of pieces = flat_map with_header (scrambled_areas (map area_of pieces))
 
--- how many octets a piece has on the stream
+-- the number of octets that a piece has on the stream
 abbrev pub size_of : Piece → ℕ
 size_of piece = 4 + length (area_of piece)
 
--- the frames among pieces, each behind the place at which its piece ends, where the first piece begins at a place
+-- the frames among pieces, each with the place at which its piece ends, where the first piece begins at a place
 unfoldable pub frame_ends : ℕ → List Piece → List (ℕ × List ℕ)
 frame_ends place [] = []
 frame_ends place (idle ∷ pieces) = frame_ends (place + size_of idle) pieces
@@ -50,6 +50,7 @@ frame_ends place (client frame ∷ pieces) = (place + size_of (client frame), fr
 abbrev pub frames_by : ℕ → List Piece → List (List ℕ)
 frames_by place pieces = map (λ end. end.1) (filter (λ end. nat_le end.0 place) (frame_ends 0 pieces))
 
--- the pieces of a stream in which all frames wait from the start: two idles, the frames, and so many idles
+-- the pieces of a stream in which all frames wait from the start: two idles, the frames, and a number of idles. The two idles at
+-- the start are this project's own
 abbrev pub opening : List (List ℕ) → ℕ → List Piece
 opening frames idles = idle ∷ idle ∷ map client frames ++ replicate idles idle

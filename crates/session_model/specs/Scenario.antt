@@ -3,9 +3,8 @@ use Rattle.std.specs.Prelude.{ℕ, ◌+◌, ◌*◌, ◌-◌, ◌/◌, nat_le, n
 use Rattle.std.specs.List.{list_any, flat_map}
 use Rattle.session_model.specs.declared.window.Window.{Window}
 use Rattle.session_model.specs.declared.window.Carried.{Carried}
--- what an operator asks for
-pub use Rattle.session_model.specs.declared.table.Command.{Command}
-pub use Rattle.session_model.specs.declared.table.Command.TheVariants.{Add as add, Remove as remove}
+use Rattle.session_model.specs.declared.table.Command.{Command}
+use Rattle.session_model.specs.declared.table.Command.TheVariants.{Add as add, Remove as remove}
 use Rattle.session_model.specs.declared.script.Script.{Script}
 use Rattle.session_model.specs.declared.script.Item.{Item}
 use Rattle.session_model.specs.declared.script.ItemKind.{ItemKind}
@@ -78,12 +77,19 @@ is_heard scenario k = list_any (λ windows. is_readable (carried windows) k) sce
 abbrev pub is_lost : Scenario → ℕ → Bool
 is_lost scenario k = list_any (λ window. nat_le window.0 k && nat_lt k window.1) scenario.lost
 
--- how many return packets there are: packet k is the last one where its row 16 k + 23 is the last one
+-- how many return packets are made in a number of rows: packet k is made when row 16 k + 23 is taken
+abbrev pub packets_in : ℕ → ℕ
+packets_in rows = (rows - 8) / 16
+
 abbrev pub packets : Scenario → ℕ
-packets scenario = (scenario.ticks - 8) / 16
+packets scenario = packets_in scenario.ticks
+
+-- how many decision steps are made in a number of ticks: step j is made in the tick of frame 16 j + 8
+abbrev pub steps_in : ℕ → ℕ
+steps_in ticks = (ticks + 7) / 16
 
 -- ---- what lands
--- an order lands between decision steps j - 1 and j. Step j is made in the tick of frame 16 j + 8
+-- an order lands between decision steps j - 1 and j
 abbrev pub lands_at : ℕ → Order → Bool
 lands_at j order = nat_lt (16 * j) (order.due + 8) && nat_le order.due (16 * j + 8)
 

@@ -2,8 +2,10 @@
 use Rattle.std.specs.Prelude.{ℕ, zero, suc, ◌-◌, ◌%◌, ◌&&◌, not, nat_le, Bool, true, false, if◌then◌else◌, List, [], ◌∷◌, ◌++◌, fold, length, Option, Some, None, slice_index_or, slice_set, replicate}
 use Rattle.session_model.specs.declared.refusal.CommandFault.{CommandFault}
 use Rattle.session_model.specs.declared.refusal.CommandFault.TheVariants.{UnknownLine, AlreadyIn, NotIn, TooManyPending}
-use Rattle.session_model.specs.Scenario.{Command, add, remove, Scenario, orders_at}
-use Rattle.session_model.specs.Table.{Table, Told, kept_of, none_kept, heard, told_on, carried_out, exchange, exchanged}
+use Rattle.session_model.specs.declared.table.Command.{Command}
+use Rattle.session_model.specs.declared.table.Command.TheVariants.{Add as add, Remove as remove}
+use Rattle.session_model.specs.Scenario.{Scenario, orders_at}
+use Rattle.session_model.specs.Table.{Table, Told, kept_of, first_table, heard, told_on, carried_out, exchange, exchanged}
 
 -- the planned set is the lines that accepted commands have added and not removed; the commands that wait were accepted and
 -- not carried out
@@ -15,7 +17,7 @@ pub record Source : Type 0 where
 -- before the first step
 abbrev pub opening : ℕ → Source
 opening lines = record {
-  table = record { order = []; leaving = None; count = 0; acknowledged = true; statuses = none_kept };
+  table = first_table;
   planned = replicate lines false;
   waiting = [];
 }

@@ -1,10 +1,10 @@
 -- G.7042, the source's table of lines: what a decision step does with a return packet.
 use Rattle.std.specs.Prelude.{ℕ, ◌+◌, ◌/◌, ◌%◌, ◌==◌, ◌&&◌, not, Bool, true, false, if◌then◌else◌, List, [], ◌∷◌, ◌++◌, map, filter, Option, Some, None, option_map, slice_get, slice_index_or, replicate}
--- a line that has a sequence number is in ADD, NORM or DNU
-pub use Rattle.session_model.specs.declared.table.Standing.{Standing}
-pub use Rattle.session_model.specs.declared.table.Standing.TheVariants.{Add as adding, Norm as normal, Dnu as unused}
-pub use Rattle.session_model.specs.declared.table.Member.{Member}
-use Rattle.session_model.specs.Scenario.{Command, add, remove}
+use Rattle.session_model.specs.declared.table.Standing.{Standing}
+use Rattle.session_model.specs.declared.table.Standing.TheVariants.{Add as adding, Norm as normal, Dnu as unused}
+use Rattle.session_model.specs.declared.table.Member.{Member}
+use Rattle.session_model.specs.declared.table.Command.{Command}
+use Rattle.session_model.specs.declared.table.Command.TheVariants.{Add as add, Remove as remove}
 
 abbrev pub member_of : ℕ → Standing → Member
 member_of line standing = record { line = line; standing = standing }
@@ -51,8 +51,19 @@ pub record Told : Type 0 where
   pub oks : List Bool
 
 -- the status that is kept for an SQ
+abbrev pub kept_in : List (Option Bool) → ℕ → Option Bool
+kept_in statuses sq = slice_index_or statuses sq None
+
 abbrev pub kept_of : Table → ℕ → Option Bool
-kept_of table sq = slice_index_or table.statuses sq None
+kept_of table = kept_in table.statuses
+
+-- no status is kept for any SQ
+unfoldable pub none_kept : List (Option Bool)
+none_kept = replicate 128 None
+
+-- before the first step
+abbrev pub first_table : Table
+first_table = record { order = []; leaving = None; count = 0; acknowledged = true; statuses = none_kept }
 
 -- 1. A return packet for this change acknowledges it. Its eight statuses are for SQ 8 group to 8 group + 7
 abbrev pub is_for : ℕ → Option Told → Bool
@@ -66,9 +77,6 @@ oks_of (Some told) = told.oks
 unfoldable pub keep : ℕ → List Bool → ℕ → List (Option Bool) → List (Option Bool)
 keep group oks sq [] = []
 keep group oks sq (old ∷ statuses) = (if sq / 8 == group then slice_get oks (sq % 8) else old) ∷ keep group oks (sq + 1) statuses
-
-unfoldable pub none_kept : List (Option Bool)
-none_kept = replicate 128 None
 
 abbrev pub acknowledged_by : ℕ → Option Told → Table → Table
 acknowledged_by group told table = record {

@@ -1,17 +1,21 @@
 //! The definitions that the contracts of a session speak of, and the types that they name.
 #![tactic(auto)]
 
+mod packet;
 mod refusal;
 mod script;
 mod table;
+mod walk;
 mod window;
 
+pub use packet::{Packet, PacketFault};
 pub use refusal::{AcceptFault, CommandFault};
 pub use script::{
     Config, Delays, EventLine, EventList, Item, ItemKind, ItemList, LostList, Octets, Script,
     WindowList, WindowLists,
 };
 pub use table::{Command, Member, SinkState, SourceState, Standing};
+pub use walk::{Event, StallCause};
 pub use window::{Carried, Window};
 
 /// What is wrong with a type header (G.7041): its check, which says one word and was found to be another; or the first field

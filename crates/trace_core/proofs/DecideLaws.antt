@@ -1,15 +1,7 @@
--- It can be decided whether a packet stands at a place of the octets, and reading its nibbles always gives something.
-use Rattle.std.proofs.Common.{◌≡◌, ◌≢◌, ℕ, zero, suc, ◌+◌, ◌-◌, ◌*◌, ◌%◌, ◌<◌, ◌≤◌, ◌⊎◌, inl, inr, Bool, true, false, List, slice_index, Option, Some, None, slice_get, Result, Ok, Err, refl, sym, subst, arith}
+-- It can be decided whether a packet stands at a place of the octets.
+use Rattle.std.proofs.Common.{◌≡◌, ℕ, zero, suc, ◌+◌, ◌-◌, ◌%◌, ◌<◌, ◌≤◌, ◌⊎◌, inl, inr, List, slice_index, Option, Some, None, slice_get, refl, sym, subst, arith}
 use Rattle.std.proofs.lemmas.Bool.{cases_eq, cases_lt}
 use Rattle.vc_bits.specs.Lock.{HasMfi1, IsInStep, IsFirstStep, IsAt}
-use Rattle.vc_cell.specs.declared.Ctrl.{Ctrl}
-use Rattle.vc_cell.specs.declared.Ctrl.TheVariants.{Fixed, Add, Norm, Eos, Idle, Dnu}
-use Rattle.vc_cell.specs.Code.{code_of}
-use Rattle.lcas_packet.specs.declared.Packet.{Packet}
-use Rattle.lcas_packet.specs.declared.PacketFault.{PacketFault}
-use Rattle.lcas_packet.specs.declared.PacketFault.TheVariants.{Crc, Ctrl as CtrlFault}
-use Rattle.lcas_packet.specs.Packet.{bit_nibble, said_check, found_check, said_code, IsUnknownCode, Says}
-use Rattle.lcas_packet.specs.Reading.{Reads}
 use Rattle.session_model.specs.Decode.{good_cells, HasPacketAt}
 
 -- ---- decisions
@@ -102,78 +94,3 @@ decide_packet octets place =
     decide_same (λ both. record { first = both.0; locked = both.1 }) (λ packet. (packet.first, packet.locked))
     (decide_both (cases_eq (slice_index octets place % 16) 8)
     (decide_all (λ k. IsAt (good_cells octets) (place + k)) (λ k. decide_at (good_cells octets) (place + k)) 16))
-
--- ---- what sixteen nibbles say
-bit_said : (n : ℕ) → (bit : Bool) × (bit_nibble bit ≡ n % 2)
-bit_said n = elim (cases_eq (n % 2) 0) [ inl even ↦ (false, sym even) | inr odd ↦ (true, omega arith) ]
-
-no_word : (code : ℕ) → code ≢ 0 → code ≢ 1 → code ≢ 2 → code ≢ 3 → code ≢ 5 → code ≢ 15 → IsUnknownCode code
-no_word code not_fixed not_add not_norm not_eos not_idle not_dnu Fixed = λ e. not_fixed (sym e)
-no_word code not_fixed not_add not_norm not_eos not_idle not_dnu Add = λ e. not_add (sym e)
-no_word code not_fixed not_add not_norm not_eos not_idle not_dnu Norm = λ e. not_norm (sym e)
-no_word code not_fixed not_add not_norm not_eos not_idle not_dnu Eos = λ e. not_eos (sym e)
-no_word code not_fixed not_add not_norm not_eos not_idle not_dnu Idle = λ e. not_idle (sym e)
-no_word code not_fixed not_add not_norm not_eos not_idle not_dnu Dnu = λ e. not_dnu (sym e)
-
-word_said : (code : ℕ) → ((ctrl : Ctrl) × (code_of ctrl ≡ code)) ⊎ IsUnknownCode code
-word_said code =
-    elim (cases_eq code 0) [
-      | inl is ↦ inl (Fixed, sym is)
-      | inr not_fixed ↦ elim (cases_eq code 1) [
-        | inl is ↦ inl (Add, sym is)
-        | inr not_add ↦ elim (cases_eq code 2) [
-          | inl is ↦ inl (Norm, sym is)
-          | inr not_norm ↦ elim (cases_eq code 3) [
-            | inl is ↦ inl (Eos, sym is)
-            | inr not_eos ↦ elim (cases_eq code 5) [
-              | inl is ↦ inl (Idle, sym is)
-              | inr not_idle ↦ elim (cases_eq code 15) [
-                | inl is ↦ inl (Dnu, sym is)
-                | inr not_dnu ↦ inr (no_word code not_fixed not_add not_norm not_eos not_idle not_dnu)
-              ]
-            ]
-          ]
-        ]
-      ]
-    ]
-
-packet_said : (nibbles : List ℕ) (ctrl : Ctrl) → said_check nibbles ≡ found_check nibbles → code_of ctrl ≡ said_code nibbles → (packet : Packet) × Says nibbles packet
-packet_said nibbles ctrl check word =
-    let rs_ack = bit_said (slice_index nibbles 2) in
-    let chg = bit_said (slice_index nibbles 3) in
-    let gid = bit_said (slice_index nibbles 11) in (
-      record {
-        mst = 16 * slice_index nibbles 0 + slice_index nibbles 1;
-        rs_ack = rs_ack.0;
-        chg = chg.0;
-        sq = 16 * slice_index nibbles 6 + slice_index nibbles 7;
-        mfi2 = 16 * slice_index nibbles 8 + slice_index nibbles 9;
-        ctrl = ctrl;
-        gid = gid.0;
-        act = 16 * slice_index nibbles 12 + slice_index nibbles 13;
-      },
-      record {
-        check = check;
-        mst = refl;
-        rs_ack = rs_ack.1;
-        chg = chg.1;
-        sq = refl;
-        mfi2 = refl;
-        ctrl = word;
-        gid = gid.1;
-        act = refl;
-      },
-    )
-
-checked_said : (nibbles : List ℕ) → said_check nibbles ≡ found_check nibbles → ((ctrl : Ctrl) × (code_of ctrl ≡ said_code nibbles)) ⊎ IsUnknownCode (said_code nibbles) →
-    (result : Result Packet PacketFault) × Reads nibbles result
-checked_said nibbles check (inl word) = let said = packet_said nibbles word.0 check word.1 in (Ok said.0, said.1)
-checked_said nibbles check (inr unknown) = (Err (CtrlFault (said_code nibbles)), (check, refl, unknown))
-
-something_said : (nibbles : List ℕ) → Decided (said_check nibbles ≡ found_check nibbles) → (result : Result Packet PacketFault) × Reads nibbles result
-something_said nibbles (inl check) = checked_said nibbles check (word_said (said_code nibbles))
-something_said nibbles (inr other) = (Err (Crc (said_check nibbles) (found_check nibbles)), (refl, refl, other))
-
--- any nibbles say a packet, or something is wrong with them
-pub reads_something : (nibbles : List ℕ) → (result : Result Packet PacketFault) × Reads nibbles result
-reads_something nibbles = something_said nibbles (cases_eq (said_check nibbles) (found_check nibbles))

@@ -3,7 +3,7 @@
 
 ghost use Rattle.std.specs.Prelude.{◌≡◌, ◌≢◌, ℕ, ◌+◌, ◌<◌, ◌≤◌, ◌↔◌, List, [], ◌∷◌, ◌++◌, length, take, All, IsTrue, IfSome, IfNone};
 ghost use Rattle.session_model.specs.Decode.{HasPacketAt, nibbles_at};
-ghost use Rattle.lcas_packet.specs.Reading.{Reads};
+ghost use Rattle.session_model.specs.Packet.{read_of};
 ghost use Rattle.trace_core.specs.Decoder.{Stands, IsTaken};
 
 use h4_multiframe::{MfiLock, Place};
@@ -63,7 +63,7 @@ impl H4Decoder {
         ensures ends { IfSome result (λ found. (octets : List ℕ) → Stands self.old octets → found.0 + 16 ≡ length octets + 1) }
         ensures packet { IfSome result (λ found. (octets : List ℕ) → Stands self.old octets → HasPacketAt (octets ++ h4 ∷ []) found.0) }
         ensures reads { IfSome result (λ found. (octets : List ℕ) → Stands self.old octets →
-            Reads (nibbles_at (octets ++ h4 ∷ []) found.0) found.1) }
+            found.1 ≡ read_of (nibbles_at (octets ++ h4 ∷ []) found.0)) }
         ensures none { IfNone result ((octets : List ℕ) (place : ℕ) → Stands self.old octets →
             place + 16 ≡ length octets + 1 → ¬ HasPacketAt (octets ++ h4 ∷ []) place) }
     {

@@ -2,7 +2,7 @@
 #![tactic(auto)]
 
 ghost use Rattle.std.specs.Prelude.{◌≡◌, ◌≢◌, IfSome, IfNone};
-ghost use Rattle.vc_cell.specs.Code.{code_of};
+ghost use Rattle.vc_cell.specs.Code.{code_of, ctrl_of};
 
 /// The octets of payload in a VC-4 of one frame.
 pub const PAYLOAD: usize = 2340;
@@ -57,6 +57,7 @@ impl Ctrl {
 
     /// The word of a code, or `None` where the code is not one of the six.
     pub fn of(code: u8) -> Option<Ctrl>
+        ensures value { result ≡ ctrl_of code }
         ensures some { IfSome result (λ ctrl. code_of ctrl ≡ code) }
         ensures none { IfNone result ((ctrl : Ctrl) → code_of ctrl ≢ code) }
         ensures own { (ctrl : Ctrl) → code_of ctrl ≡ code → result ≡ Some ctrl }

@@ -4,11 +4,11 @@ use Rattle.std.proofs.lemmas.Bool.{cases_lt}
 use Rattle.std.proofs.lemmas.List.{flat_map_more, take_more, take_all}
 use Rattle.outside_io.specs.Transfer.{Appends, AppendsPart}
 use Rattle.outside_io.proofs.Parts.{Appends-none, Appends-then, AppendsPart-then, AppendsPart-longer}
-use Rattle.lcas_packet.specs.declared.Packet.{Packet}
-use Rattle.lcas_packet.specs.declared.PacketFault.{PacketFault}
-use Rattle.lcas_packet.specs.Reading.{Reads}
+use Rattle.session_model.specs.declared.packet.Packet.{Packet}
+use Rattle.session_model.specs.declared.packet.PacketFault.{PacketFault}
+use Rattle.session_model.specs.Packet.{read_of}
 use Rattle.session_model.specs.Decode.{HasPacketAt, nibbles_at}
-use Rattle.trace_core.proofs.DecideLaws.{decide_packet, reads_something}
+use Rattle.trace_core.proofs.DecideLaws.{decide_packet}
 use Rattle.vcat_walk.specs.Decoded.{Found, AreFound, found_text, found_texts, end_text, decoded_text}
 use Rattle.vcat_walk.specs.Top.{WritesDecoded, WritesDecodedPart}
 use Rattle.vcat_walk.specs.Written.{HasLines, HasLinesPart}
@@ -28,8 +28,8 @@ AreFound-step octets o found are =
           let ends : place + 16 ≡ length octets + 1 = omega arith in
           elim (decide_packet all place) [
             | inl packet ↦
-                let reading = reads_something (nibbles_at all place) in
-                ((place, reading.0) ∷ [], AreFound-one octets o found (place, reading.0) ends packet reading.1 are)
+                let reading = read_of (nibbles_at all place) in
+                ((place, reading) ∷ [], AreFound-one octets o found (place, reading) ends packet refl are)
             | inr none ↦
                 without (AreFound-none octets o found
                 (λ other there packet. none (subst (λ (n : ℕ). HasPacketAt all n) (let e : other ≡ place = omega arith in e) packet)) are)
@@ -69,7 +69,7 @@ none_more written faults before h4 packets start now has none =
 -- the line of one more packet
 pub one_more : {K : Type 0} (written : K → Option (List ℕ)) (faults : K → ℕ) (before : List ℕ) (h4 place packets : ℕ) (reading : Result Packet PacketFault) (line : List ℕ) (start old new : K)
     → HasLines written faults before start old packets → place + 16 ≡ length before + 1 → HasPacketAt (before ++ h4 ∷ []) place
-    → Reads (nibbles_at (before ++ h4 ∷ []) place) reading → line ≡ found_text place reading → Appends written faults old new line
+    → reading ≡ read_of (nibbles_at (before ++ h4 ∷ []) place) → line ≡ found_text place reading → Appends written faults old new line
     → HasLines written faults (before ++ h4 ∷ []) start new (packets + 1)
 one_more written faults before h4 place packets reading line start old new has ends packet reads says put = record {
   found = has.found ++ (place, reading) ∷ [];
@@ -84,7 +84,7 @@ one_more written faults before h4 place packets reading line start old new has e
 -- a prefix of it
 pub one_part : {K : Type 0} (written : K → Option (List ℕ)) (faults : K → ℕ) (before : List ℕ) (h4 place packets : ℕ) (reading : Result Packet PacketFault) (line : List ℕ) (start old new : K)
     → HasLines written faults before start old packets → place + 16 ≡ length before + 1 → HasPacketAt (before ++ h4 ∷ []) place
-    → Reads (nibbles_at (before ++ h4 ∷ []) place) reading → line ≡ found_text place reading → AppendsPart written faults old new line
+    → reading ≡ read_of (nibbles_at (before ++ h4 ∷ []) place) → line ≡ found_text place reading → AppendsPart written faults old new line
     → HasLinesPart written faults (before ++ h4 ∷ []) start new
 one_part written faults before h4 place packets reading line start old new has ends packet reads says stops = record {
   found = has.found ++ (place, reading) ∷ [];

@@ -3,19 +3,19 @@ use Rattle.std.proofs.Common.{◌≡◌, ℕ, ◌+◌, ◌<◌, ◌⊎◌, inl, 
 use Rattle.std.proofs.lemmas.Bool.{cases_lt}
 use Rattle.std.proofs.lemmas.List.{map-append, get_or_append_left, get_or-append-add}
 use Rattle.std.proofs.lemmas.List.Elements.{All-nil, All-push, All-weaker, Contains-append_left, Contains-append_right}
-use Rattle.lcas_packet.specs.Reading.{Reads}
+use Rattle.session_model.specs.Packet.{read_of}
 use Rattle.session_model.specs.Decode.{HasPacketAt, nibbles_at}
 use Rattle.trace_core.proofs.PacketLaws.{HasPacketAt_inside, HasPacketAt-append, HasPacketAt_before, nibbles_at-append}
 use Rattle.vcat_walk.specs.Decoded.{Found, AreFound}
 
 -- what a packet that was found is
 abbrev IsFound : List ℕ → Found → Type 0
-IsFound octets one = HasPacketAt octets one.0 × Reads (nibbles_at octets one.0) one.1
+IsFound octets one = HasPacketAt octets one.0 × (one.1 ≡ read_of (nibbles_at octets one.0))
 
 IsFound-append : (octets more : List ℕ) (one : Found) → IsFound octets one → IsFound (octets ++ more) one
 IsFound-append octets more one is =
     let inside = HasPacketAt_inside octets one.0 is.0 in
-    (HasPacketAt-append octets more one.0 is.0, subst (λ (nibbles : List ℕ). Reads nibbles one.1) (sym (nibbles_at-append octets more one.0 inside)) is.1)
+    (HasPacketAt-append octets more one.0 is.0, subst (λ (nibbles : List ℕ). one.1 ≡ read_of nibbles) (sym (nibbles_at-append octets more one.0 inside)) is.1)
 
 -- where a packet of one more octet stands
 place_of : (octets : List ℕ) (o place : ℕ) → HasPacketAt (octets ++ o ∷ []) place → HasPacketAt octets place ⊎ (place + 16 ≡ length octets + 1)
@@ -66,7 +66,7 @@ rising-push octets found last d i j ends are below inside =
     ]
 
 pub AreFound-one : (octets : List ℕ) (o : ℕ) (found : List Found) (last : Found) → last.0 + 16 ≡ length octets + 1 → HasPacketAt (octets ++ o ∷ []) last.0
-    → Reads (nibbles_at (octets ++ o ∷ []) last.0) last.1 → AreFound octets found → AreFound (octets ++ o ∷ []) (found ++ last ∷ [])
+    → last.1 ≡ read_of (nibbles_at (octets ++ o ∷ []) last.0) → AreFound octets found → AreFound (octets ++ o ∷ []) (found ++ last ∷ [])
 AreFound-one octets o found last ends packet reads are = record {
   rising = λ i j d. rising-push octets found last d i j ends are;
   each = All-push (IsFound (octets ++ o ∷ [])) found last

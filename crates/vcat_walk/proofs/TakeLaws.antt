@@ -7,7 +7,8 @@ use Rattle.session_model.specs.Delivery.{delivered}
 use Rattle.gfp_delineate.specs.declared.Step.{Step}
 use Rattle.gfp_delineate.specs.declared.Step.TheVariants.{Frame}
 use Rattle.std.specs.Option.{option_to_list}
-use Rattle.gfp_delineate.specs.Receiver.{Receiver, frame_of, told}
+use Rattle.gfp_delineate.specs.Receiver.{Receiver, frame_of}
+use Rattle.gfp_delineate.proofs.Frames.{told}
 use Rattle.vcat_walk.specs.Report.{got_text, got_texts}
 use Rattle.vcat_walk.specs.Written.{HasGot, StopsIn, StopsWithin}
 

@@ -4,10 +4,10 @@ use Rattle.std.specs.List.{flat_map}
 use Rattle.hex.specs.Hex.{encode_lower}
 use Rattle.vc_cell.specs.declared.Ctrl.{Ctrl}
 use Rattle.vc_cell.specs.declared.Ctrl.TheVariants.{Fixed, Add, Norm, Eos, Idle, Dnu}
-use Rattle.lcas_packet.specs.declared.Packet.{Packet}
-use Rattle.lcas_packet.specs.declared.PacketFault.{PacketFault}
-use Rattle.lcas_packet.specs.declared.PacketFault.TheVariants.{Crc, Ctrl as CtrlFault}
-use Rattle.lcas_packet.specs.Reading.{Reads}
+use Rattle.session_model.specs.declared.packet.Packet.{Packet}
+use Rattle.session_model.specs.declared.packet.PacketFault.{PacketFault}
+use Rattle.session_model.specs.declared.packet.PacketFault.TheVariants.{Crc, Ctrl as CtrlFault}
+use Rattle.session_model.specs.Packet.{read_of}
 use Rattle.session_model.specs.Decode.{HasPacketAt, nibbles_at}
 
 abbrev pub ctrl_text : Ctrl → List ℕ
@@ -47,7 +47,7 @@ Found = ℕ × Result Packet PacketFault
 -- these are the packets among octets, in order
 pub record AreFound (octets : List ℕ) (found : List Found) : Type 0 where
   pub rising : (i j : ℕ) (d : Found) → i < j → j < length found → (slice_index_or found i d).0 < (slice_index_or found j d).0
-  pub each : All (λ one. HasPacketAt octets one.0 × Reads (nibbles_at octets one.0) one.1) found
+  pub each : All (λ one. HasPacketAt octets one.0 × (one.1 ≡ read_of (nibbles_at octets one.0))) found
   pub all : (place : ℕ) → HasPacketAt octets place → Contains (map (λ one. one.0) found) place
 
 -- the lines of packets, and the last line of a decoding

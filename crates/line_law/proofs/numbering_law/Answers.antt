@@ -3,6 +3,7 @@ use Rattle.line_law.proofs.RunLaws.{are_numbered, are_in_step, are_expected}
 use Rattle.line_law.proofs.GoodLaws.{readable-good, good-readable}
 use Rattle.line_law.proofs.OctetLaws.{are_readable}
 use Rattle.line_law.proofs.CountLaws.{are_at}
+use Rattle.line_law.proofs.RowLaws.{are_read}
 use Rattle.line_law.proofs.numbering_law.Goals as goal
 
 pub returns-clause-numbered : goal.returns-clause-numbered
@@ -22,3 +23,6 @@ returns-clause-packets c carries k = (readable-good carries k, good-readable car
 
 pub returns-clause-readable : goal.returns-clause-readable
 returns-clause-readable c = are_readable
+
+pub returns-clause-read : goal.returns-clause-read
+returns-clause-read c = are_read

@@ -1,6 +1,7 @@
 -- More cells change nothing of what is decided.
 use Rattle.line_law.proofs.StableLaws.{verdict-stays, cells-part}
 use Rattle.line_law.proofs.OctetLaws.{octets_stay}
+use Rattle.line_law.proofs.RowLaws.{packets_stay, governing_stay, rows_stay, returns_stay}
 use Rattle.line_law.proofs.stable_law.Goals as goal
 
 pub returns-clause-verdicts : goal.returns-clause-verdicts
@@ -11,3 +12,15 @@ returns-clause-octets c = octets_stay
 
 pub returns-clause-cells : goal.returns-clause-cells
 returns-clause-cells c = cells-part
+
+pub returns-clause-packets : goal.returns-clause-packets
+returns-clause-packets c = packets_stay
+
+pub returns-clause-governing : goal.returns-clause-governing
+returns-clause-governing c = governing_stay
+
+pub returns-clause-rows : goal.returns-clause-rows
+returns-clause-rows c = rows_stay
+
+pub returns-clause-returns : goal.returns-clause-returns
+returns-clause-returns c = returns_stay

@@ -1,6 +1,6 @@
 -- The client's stream.
 use Rattle.session_law.proofs.SessionLaws.{Agree-first}
-use Rattle.session_law.proofs.ClientLaws.{stream_before-frames, stream_before-reaches, stream_before-fewest, stream_before-agree}
+use Rattle.session_law.proofs.ClientLaws.{stream_before-frames, stream_before-reaches, stream_before-fewest, stream_before-agree, payload-length}
 use Rattle.session_law.proofs.client_law.Goals as goal
 
 pub returns-clause-frames : goal.returns-clause-frames
@@ -14,3 +14,6 @@ returns-clause-cells c = λ scenario a b t same. stream_before-agree scenario a 
 
 pub returns-clause-fewest : goal.returns-clause-fewest
 returns-clause-fewest c = stream_before-fewest
+
+pub returns-clause-payload : goal.returns-clause-payload
+returns-clause-payload c = payload-length

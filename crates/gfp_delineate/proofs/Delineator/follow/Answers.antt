@@ -1,12 +1,25 @@
-use Rattle.std.proofs.Common.{◌+◌, [], sym, subst}
+use Rattle.std.proofs.Common.{◌≡◌, ◌*◌, ℕ, List, [], ◌∷◌, ◌++◌, get_or, take, sym, ◌∙◌, ap, subst}
 use Rattle.gfp_delineate.specs.declared.Phase.TheVariants.{SyncHeader}
-use Rattle.gfp_delineate.specs.Receiver.{Receiver, Takes}
-use Rattle.gfp_delineate.proofs.SearchSteps.{shifted}
-use Rattle.gfp_delineate.proofs.HeaderSteps.{Takes-follow-part}
+use Rattle.gfp_delineate.specs.Receiver.{Advances, Brings}
+use Rattle.gfp_delineate.proofs.ListLaws.{take_one, take_four}
+use Rattle.gfp_delineate.proofs.Taking.{Takes, tell, told, Takes-then}
+use Rattle.gfp_delineate.proofs.IdleLaws.{idles}
+use Rattle.gfp_delineate.proofs.HeaderSteps.{Takes-idles}
 use Rattle.gfp_delineate.proofs.Delineator.follow.Goals as goal
 
-pub returns-then-have-lt3-clause-takes : goal.returns-then-have-lt3-clause-takes
-returns-then-have-lt3-clause-takes c =
-    rw c.shifted-self-inside.ensures
-    (subst (λ (old : Receiver). Takes c.args.self.now (shifted old c.args.octet (SyncHeader (c.args.have + 1))) c.args.octet []) (sym c.self.view_is)
-    (Takes-follow-part c.args.self.now c.args.octet c.args.have c.if-have-lt3.true c.requires))
+pub returns-then-idles-gt0-clause-takes : goal.returns-then-idles-gt0-clause-takes
+returns-then-idles-gt0-clause-takes c =
+    rw c.idle_run-idles.ensures.run
+    (told _ _ _ _ (Takes-idles c.args.self.now.progress (c.requires.phase ∙ ap SyncHeader c.if-have-eq0.true) c.idle_run-idles.result))
+
+pub returns-then-piece-ge4-clause-takes : goal.returns-then-piece-ge4-clause-takes
+returns-then-piece-ge4-clause-takes c =
+    let piece : List ℕ = c.args.piece.now in
+    let three : List ℕ = get_or piece 0 0 ∷ get_or piece 1 0 ∷ get_or piece 2 0 ∷ [] in
+    rw (take_four piece c.if-piece-ge4.true)
+    (told _ _ _ _ (Takes-then c.args.self.now.progress c.take_three.new.self.progress c.take_header.new.self.progress three (get_or piece 3 0 ∷ []) []
+    (tell _ _ _ _ c.take_three.ensures.takes) (tell _ _ _ _ c.take_header.ensures)))
+
+pub returns-clause-takes : goal.returns-clause-takes
+returns-clause-takes c =
+    rw (take_one c.args.piece.now c.requires.some) c.follow_octet.ensures

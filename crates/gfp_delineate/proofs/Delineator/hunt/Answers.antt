@@ -1,19 +1,34 @@
-use Rattle.std.proofs.Common.{◌+◌, [], ◌∷◌, ◌++◌, drop, sym, ◌∙◌, ap, subst}
-use Rattle.session_model.specs.Core.{head}
-use Rattle.gfp_delineate.specs.declared.Phase.TheVariants.{Hunt}
-use Rattle.gfp_delineate.specs.Receiver.{Receiver, Takes, found_phase}
-use Rattle.gfp_delineate.proofs.SearchSteps.{shifted, Takes-hunt-part, Takes-hunt}
+use Rattle.std.proofs.Common.{◌≡◌, ◌+◌, ◌<◌, [], ◌∷◌, ◌++◌, drop, Some, sym, ◌∙◌, ap, subst, arith}
+use Rattle.gfp_delineate.specs.declared.Phase.TheVariants.{Hunt, PresyncArea, PresyncHeader}
+use Rattle.gfp_delineate.proofs.Taking.{seen, read-window}
+use Rattle.gfp_delineate.proofs.SearchSteps.{shifted, Takes-hunt-part, Takes-hunt-none, Takes-hunt-idle, Takes-hunt-client}
 use Rattle.gfp_delineate.proofs.Delineator.hunt.Goals as goal
-use Rattle.gfp_delineate.proofs.Delineator.hunt.Goals.{then-have-lt3, else-have-lt3}
 
-pub returns-clause-takes : goal.returns-clause-takes
-returns-clause-takes c =
+pub returns-then-have-lt3 : goal.returns-then-have-lt3
+returns-then-have-lt3 c =
     rw c.shifted-self-inside.ensures
-    (elim c.if-have-lt3.branch [
-      | then-have-lt3 w ↦ rw w.self-is
-          (subst (λ (old : Receiver). Takes c.args.self.now (shifted old c.args.octet (Hunt (c.args.have + 1))) c.args.octet []) (sym c.self.view_is)
-          (Takes-hunt-part c.args.self.now c.args.octet c.args.have w.if-have-lt3.true c.requires))
-      | else-have-lt3 w ↦ rw (w.self-is ∙ w.found_phase-self-inside.ensures ∙ ap (λ window. found_phase (head window)) c.shifted-self-inside.ensures)
-          (subst (λ (old : Receiver). Takes c.args.self.now (shifted old c.args.octet (found_phase (head (drop 1 old.window ++ c.args.octet ∷ [])))) c.args.octet []) (sym c.self.view_is)
-          (Takes-hunt c.args.self.now c.args.octet c.args.have w.if-have-lt3.false c.requires))
-    ])
+    (seen c.args.self.now _ (λ old. shifted old c.args.octet (Hunt (c.args.have + 1))) _ _ c.self.view_is
+    (Takes-hunt-part c.args.self.now.progress c.args.octet c.args.have c.if-have-lt3.true c.requires))
+
+pub returns-in-None : goal.returns-in-None
+returns-in-None c =
+    let found = read-window _ _ _ _ _ _ c.self.view_is c.shifted-self-inside.ensures c.read_core.ensures.value c.in-None.is in
+    rw c.shifted-self-inside.ensures
+    (seen c.args.self.now _ (λ old. shifted old c.args.octet (Hunt 3)) _ _ c.self.view_is
+    (Takes-hunt-none c.args.self.now.progress c.args.octet c.args.have c.if-have-lt3.false c.requires found))
+
+pub returns-in-Some-eq0 : goal.returns-in-Some-eq0
+returns-in-Some-eq0 c =
+    let found = read-window _ _ _ _ _ _ c.self.view_is c.shifted-self-inside.ensures c.read_core.ensures.value c.in-Some-eq0.is
+        ∙ ap (λ n. Some n) c.in-Some-eq0.field-0-test in
+    rw c.shifted-self-inside.ensures
+    (seen c.args.self.now _ (λ old. shifted old c.args.octet (PresyncHeader 0)) _ _ c.self.view_is
+    (Takes-hunt-idle c.args.self.now.progress c.args.octet c.args.have c.if-have-lt3.false c.requires found))
+
+pub returns-in-Some : goal.returns-in-Some
+returns-in-Some c =
+    let found = read-window _ _ _ _ _ _ c.self.view_is c.shifted-self-inside.ensures c.read_core.ensures.value c.in-Some.is in
+    let some : 0 < c.in-Some.pli = omega arith in
+    rw c.shifted-self-inside.ensures
+    (seen c.args.self.now _ (λ old. shifted old c.args.octet (PresyncArea c.in-Some.pli)) _ _ c.self.view_is
+    (Takes-hunt-client c.args.self.now.progress c.args.octet c.args.have c.in-Some.pli some c.if-have-lt3.false c.requires found))

@@ -1,43 +1,44 @@
-use Rattle.std.proofs.Common.{◌≡◌, ◌-◌, [], ◌∷◌, ◌++◌, take, None, Some, sym, ◌∙◌, ap, subst}
-use Rattle.session_model.specs.declared.Why.TheVariants.{Header}
+use Rattle.std.proofs.Common.{◌≡◌, ◌≢◌, ◌-◌, ◌<◌, ℕ, List, [], ◌∷◌, ◌++◌, Some, length, take, drop, sym, ◌∙◌, ap, subst, arith, length-take}
+use Rattle.std.specs.Prelude.{vec_len}
+use Rattle.std.proofs.lemmas.List.{take_all, take-append-drop, length-take-le}
 use Rattle.session_model.specs.TypeHeader.{type_fault}
-use Rattle.session_model.specs.Outcome.{dropping}
+use Rattle.session_model.specs.Outcome.{Outcome, outcome_by}
 use Rattle.gfp_delineate.specs.declared.Phase.TheVariants.{SyncHeader, SyncArea}
-use Rattle.gfp_delineate.specs.declared.Step.TheVariants.{Frame}
-use Rattle.gfp_delineate.specs.Receiver.{Receiver, Takes, told_outcomes}
-use Rattle.gfp_delineate.proofs.RunSteps.{holding}
-use Rattle.gfp_delineate.proofs.AreaSteps.{Descrambles, Takes-keep-part, Takes-frame, Takes-fault, type_right, type_wrong}
+use Rattle.gfp_delineate.specs.Receiver.{Receiver, IsWithin, outcomes_told}
+use Rattle.gfp_delineate.proofs.Taking.{Takes, seen}
+use Rattle.gfp_delineate.proofs.AreaSteps.{Descrambles, holding, Adds-area, Takes-keep-part, Takes-keep-whole}
 use Rattle.gfp_delineate.proofs.Delineator.keep.Goals as goal
 
-pub returns-then-left-gt1-clause-takes : goal.returns-then-left-gt1-clause-takes
-returns-then-left-gt1-clause-takes c =
-    rw c.push_reserved.ensures.items
-    (subst (λ (old : Receiver). Takes c.args.self.now (holding old (SyncArea (c.args.left - 1)) c.byte.new.self (old.area ++ c.byte.result ∷ [])) c.args.octet []) (sym c.self.view_is)
-    (Takes-keep-part c.args.self.now c.args.octet c.args.left c.byte.result c.byte.new.self
-    (subst (λ (old : Receiver). Descrambles old.descrambling c.byte.new.self c.args.octet c.byte.result) c.self.view_is (record { stands = c.byte.ensures.stands; answer = c.byte.ensures.answer }))
-    c.if-left-gt1.true c.requires))
+pub returns-then-piece-rest-clause-takes : goal.returns-then-piece-rest-clause-takes
+returns-then-piece-rest-clause-takes c =
+    let piece : List ℕ = c.args.piece.now in
+    let plain : List ℕ = drop (vec_len c.self.inside.area) c.keep.new.area.items in
+    rw (take_all (length piece) piece (omega arith), sym (take-append-drop (vec_len c.self.inside.area) c.keep.new.area.items), c.keep.ensures.front)
+    (seen c.args.self.now _ (λ old. holding old (SyncArea (c.args.left - length piece)) c.keep.new.descrambler (old.area ++ plain)) _ _ c.self.view_is
+    (Takes-keep-part c.args.self.now.progress piece c.args.left c.keep.new.descrambler plain c.requires.phase
+    (subst (λ (old : Receiver). Descrambles old.progress.descrambling c.keep.new.descrambler piece plain) c.self.view_is (record { stands = c.keep.ensures.stands; answer = c.keep.ensures.kept })) (omega arith)))
 
-pub returns-in-Ok-clause-takes : goal.returns-in-Ok-clause-takes
-returns-in-Ok-clause-takes c =
-    let front : c.first_four.result ≡ take 4 (c.self.inside.area.items ++ c.byte.result ∷ []) =
-    c.first_four.ensures ∙ ap (take 4) (c.deref.ensures.value ∙ c.push_reserved.ensures.items) in
-    rw c.push_reserved.ensures.items
-    (subst (λ (old : Receiver). Takes c.args.self.now (holding old (SyncHeader 0) c.byte.new.self (old.area ++ c.byte.result ∷ [])) c.args.octet
-    (told_outcomes (holding old (SyncHeader 0) c.byte.new.self (old.area ++ c.byte.result ∷ [])) Frame)) (sym c.self.view_is)
-    (Takes-frame c.args.self.now c.args.octet c.args.left c.byte.result c.byte.new.self
-    (subst (λ (old : Receiver). Descrambles old.descrambling c.byte.new.self c.args.octet c.byte.result) c.self.view_is (record { stands = c.byte.ensures.stands; answer = c.byte.ensures.answer }))
-    c.if-left-gt1.false c.requires
-    (subst (λ (old : Receiver). type_fault (take 4 (old.area ++ c.byte.result ∷ [])) ≡ None) c.self.view_is
-    (ap type_fault (sym front) ∙ type_right (type_fault c.first_four.result) c.read_type.result c.in-Ok.field-0 c.in-Ok.is c.read_type.ensures.value))))
+pub returns-clause-takes : goal.returns-clause-takes
+returns-clause-takes c =
+    let part : List ℕ = take c.from-rest.result c.args.piece.now in
+    let items : List ℕ = c.keep-2.new.area.items in
+    let plain : List ℕ = drop (vec_len c.self.inside.area) items in
+    let whole : List ℕ = c.args.self.now.progress.area ++ plain in
+    let come : List Outcome = outcomes_told (Some (drop 4 items)) c.step_of.result in
+    let same : items ≡ whole =
+    sym (take-append-drop (vec_len c.self.inside.area) items) ∙ ap (λ l. l ++ plain) c.keep-2.ensures.front ∙ ap (λ (old : Receiver). old.progress.area ++ plain) c.self.view_is in
+    let outcome : outcome_by (type_fault (take 4 whole)) whole ∷ [] ≡ come =
+    ap (λ l. outcome_by (type_fault (take 4 l)) l ∷ []) (sym (c.deref.ensures.value ∙ same)) ∙ sym c.step_of.ensures.outcome
+    ∙ ap (λ l. outcomes_told (Some (drop 4 l)) c.step_of.result) c.deref.ensures.value in
+    seen c.args.self.now _ (λ old. holding old (SyncHeader 0) c.keep-2.new.descrambler items) part come c.self.view_is
+    (subst (λ area. Takes c.args.self.now.progress (holding c.args.self.now.progress (SyncHeader 0) c.keep-2.new.descrambler area) part come) (sym same)
+    (Takes-keep-whole c.args.self.now.progress part c.args.left c.keep-2.new.descrambler plain c.requires.phase
+    (subst (λ (old : Receiver). Descrambles old.progress.descrambling c.keep-2.new.descrambler part plain) c.self.view_is (record { stands = c.keep-2.ensures.stands; answer = c.keep-2.ensures.kept }))
+    come (length-take-le c.from-rest.result c.args.piece.now c.if-piece-rest.false ∙ c.from-rest.ensures) outcome))
 
-pub returns-in-Err-clause-takes : goal.returns-in-Err-clause-takes
-returns-in-Err-clause-takes c =
-    let front : c.first_four.result ≡ take 4 (c.self.inside.area.items ++ c.byte.result ∷ []) =
-    c.first_four.ensures ∙ ap (take 4) (c.deref.ensures.value ∙ c.push_reserved.ensures.items) in
-    rw c.clear.ensures.items
-    (subst (λ (old : Receiver). Takes c.args.self.now (holding old (SyncHeader 0) c.byte.new.self []) c.args.octet (dropping (Header c.in-Err.fault) ∷ [])) (sym c.self.view_is)
-    (Takes-fault c.args.self.now c.args.octet c.args.left c.byte.result c.byte.new.self
-    (subst (λ (old : Receiver). Descrambles old.descrambling c.byte.new.self c.args.octet c.byte.result) c.self.view_is (record { stands = c.byte.ensures.stands; answer = c.byte.ensures.answer }))
-    c.in-Err.fault c.if-left-gt1.false c.requires
-    (subst (λ (old : Receiver). type_fault (take 4 (old.area ++ c.byte.result ∷ [])) ≡ Some c.in-Err.fault) c.self.view_is
-    (ap type_fault (sym front) ∙ type_wrong (type_fault c.first_four.result) c.read_type.result c.in-Err.fault c.in-Err.is c.read_type.ensures.value))))
+pub returns-clause-first : goal.returns-clause-first
+returns-clause-first c = λ _.
+    let part : List ℕ = take (c.from-rest.result - 1) c.args.piece.now in
+    let some : 0 < c.args.left =
+    (subst (λ phase. IsWithin phase (vec_len c.self.inside.area) c.self.inside.max) (ap (λ (old : Receiver). old.progress.phase) c.self.view_is ∙ c.requires.phase) c.self.invariant.bounds).0 in
+    Adds-area c.args.self.now.progress part c.args.left (omega (arith, length-take (c.from-rest.result - 1) c.args.piece.now, c.from-rest.ensures, some)) c.requires.phase

@@ -1,21 +1,31 @@
-use Rattle.std.proofs.Common.{◌-◌, [], ◌∷◌, sym, subst}
-use Rattle.session_model.specs.Outcome.{dropping}
+use Rattle.std.proofs.Common.{◌≡◌, ◌≢◌, ◌-◌, ◌<◌, ℕ, List, length, take, sym, ◌∙◌, ap, subst, arith, length-take}
+use Rattle.std.specs.Prelude.{vec_len}
+use Rattle.std.proofs.lemmas.List.{take_all, take-take, length-take-le}
+use Rattle.gfp_scramble.specs.Descrambler.{Continues}
 use Rattle.gfp_delineate.specs.declared.Phase.TheVariants.{SyncHeader, SyncPassing}
-use Rattle.gfp_delineate.specs.Receiver.{Receiver, Takes}
-use Rattle.gfp_delineate.proofs.RunSteps.{holding}
-use Rattle.gfp_delineate.proofs.AreaSteps.{Descrambles, Takes-pass-part, Takes-pass-last}
+use Rattle.gfp_delineate.specs.Receiver.{Receiver, IsWithin}
+use Rattle.gfp_delineate.proofs.Taking.{seen}
+use Rattle.gfp_delineate.proofs.AreaSteps.{holding, Adds-passing, Takes-pass-part, Takes-pass-whole}
 use Rattle.gfp_delineate.proofs.Delineator.pass.Goals as goal
 
-pub returns-then-left-gt1-clause-takes : goal.returns-then-left-gt1-clause-takes
-returns-then-left-gt1-clause-takes c =
-    subst (λ (old : Receiver). Takes c.args.self.now (holding old (SyncPassing (c.args.left - 1) c.args.why) c.byte.new.self old.area) c.args.octet []) (sym c.self.view_is)
-    (Takes-pass-part c.args.self.now c.args.octet c.args.left c.byte.result c.byte.new.self
-    (subst (λ (old : Receiver). Descrambles old.descrambling c.byte.new.self c.args.octet c.byte.result) c.self.view_is (record { stands = c.byte.ensures.stands; answer = c.byte.ensures.answer }))
-    c.args.why c.if-left-gt1.true c.requires)
+pub returns-then-piece-rest-clause-takes : goal.returns-then-piece-rest-clause-takes
+returns-then-piece-rest-clause-takes c =
+    let piece : List ℕ = c.args.piece.now in
+    rw (take_all (length piece) piece (omega arith))
+    (seen c.args.self.now _ (λ old. holding old (SyncPassing (c.args.left - length piece) c.args.why) c.pass_over.new.descrambler old.area) _ _ c.self.view_is
+    (Takes-pass-part c.args.self.now.progress piece c.args.left c.pass_over.new.descrambler c.args.why c.requires.phase
+    (subst (λ (old : Receiver). Continues old.progress.descrambling c.pass_over.new.descrambler piece) c.self.view_is c.pass_over.ensures) (omega arith)))
 
 pub returns-clause-takes : goal.returns-clause-takes
 returns-clause-takes c =
-    subst (λ (old : Receiver). Takes c.args.self.now (holding old (SyncHeader 0) c.byte.new.self old.area) c.args.octet (dropping c.args.why ∷ [])) (sym c.self.view_is)
-    (Takes-pass-last c.args.self.now c.args.octet c.args.left c.byte.result c.byte.new.self
-    (subst (λ (old : Receiver). Descrambles old.descrambling c.byte.new.self c.args.octet c.byte.result) c.self.view_is (record { stands = c.byte.ensures.stands; answer = c.byte.ensures.answer }))
-    c.args.why c.if-left-gt1.false c.requires)
+    let part : List ℕ = take c.from-rest.result c.args.piece.now in
+    seen c.args.self.now _ (λ old. holding old (SyncHeader 0) c.pass_over-2.new.descrambler old.area) part _ c.self.view_is
+    (Takes-pass-whole c.args.self.now.progress part c.args.left c.pass_over-2.new.descrambler c.args.why c.requires.phase
+    (subst (λ (old : Receiver). Continues old.progress.descrambling c.pass_over-2.new.descrambler part) c.self.view_is c.pass_over-2.ensures)
+    (length-take-le c.from-rest.result c.args.piece.now c.if-piece-rest.false ∙ c.from-rest.ensures))
+
+pub returns-clause-first : goal.returns-clause-first
+returns-clause-first c = λ _.
+    let part : List ℕ = take (c.from-rest.result - 1) c.args.piece.now in
+    let some : 0 < c.args.left = subst (λ phase. IsWithin phase (vec_len c.self.inside.area) c.self.inside.max) (ap (λ (old : Receiver). old.progress.phase) c.self.view_is ∙ c.requires.phase) c.self.invariant.bounds in
+    Adds-passing c.args.self.now.progress part c.args.left c.args.why (omega (arith, length-take (c.from-rest.result - 1) c.args.piece.now, c.from-rest.ensures, some)) c.requires.phase

@@ -1,13 +1,20 @@
-use Rattle.std.proofs.Common.{[], sym, subst}
-use Rattle.gfp_delineate.specs.Receiver.{Receiver, Takes}
+use Rattle.std.proofs.Common.{◌≡◌, ◌-◌, ℕ, List, length, take, sym, ◌∙◌, ap, subst, arith}
+use Rattle.std.proofs.lemmas.List.{take_all, length-take-le}
+use Rattle.gfp_delineate.specs.declared.Phase.TheVariants.{PresyncArea, PresyncHeader}
+use Rattle.gfp_delineate.proofs.Taking.{seen}
 use Rattle.gfp_delineate.proofs.SearchSteps.{in_phase, Takes-skip-part, Takes-skip-last}
 use Rattle.gfp_delineate.proofs.Delineator.skip.Goals as goal
-use Rattle.gfp_delineate.proofs.Delineator.skip.Goals.{then-left-gt1, else-left-gt1}
+
+pub returns-then-piece-rest-clause-takes : goal.returns-then-piece-rest-clause-takes
+returns-then-piece-rest-clause-takes c =
+    let piece : List ℕ = c.args.piece.now in
+    rw (take_all (length piece) piece (omega arith))
+    (seen c.args.self.now _ (λ old. in_phase old (PresyncArea (c.args.left - length piece))) _ _ c.self.view_is
+    (Takes-skip-part c.args.self.now.progress piece c.args.left c.requires.phase (omega arith)))
 
 pub returns-clause-takes : goal.returns-clause-takes
-returns-clause-takes c = λ octet.
-    subst (λ (old : Receiver). Takes c.args.self.now (in_phase old c.if-left-gt1.self) octet []) (sym c.self.view_is)
-    (elim c.if-left-gt1.branch [
-      | then-left-gt1 w ↦ rw w.self-is (Takes-skip-part c.args.self.now octet c.args.left w.if-left-gt1.true c.requires)
-      | else-left-gt1 w ↦ rw w.self-is (Takes-skip-last c.args.self.now octet c.args.left w.if-left-gt1.false c.requires)
-    ])
+returns-clause-takes c =
+    let part : List ℕ = take c.from-rest.result c.args.piece.now in
+    seen c.args.self.now _ (λ old. in_phase old (PresyncHeader 0)) part _ c.self.view_is
+    (Takes-skip-last c.args.self.now.progress part c.args.left c.requires.phase
+    (length-take-le c.from-rest.result c.args.piece.now c.if-piece-rest.false ∙ c.from-rest.ensures))

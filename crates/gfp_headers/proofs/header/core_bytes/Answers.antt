@@ -1,12 +1,14 @@
--- The octets are those of the PLI and of its check, under the mask.
-use Rattle.remainder.specs.Bits.{bits}
-use Rattle.remainder.proofs.RemainderLaws.{IsRemainder-remainder}
-use Rattle.hec16.specs.Hec.{crc16, hec_bits}
+-- The word has the PLI above its check, under the mask.
+use Rattle.std.proofs.Common.{rules, ◌≡◌, ◌+◌, ◌*◌, ◌^◌, bit_xor, w32, ap₂, ◌∙◌}
+use Rattle.std.specs.Int.{to_be_bytes}
 use Rattle.session_model.proofs.OctetsOfHeader.{written}
 use Rattle.gfp_headers.proofs.header.core_bytes.Goals as goal
 
 pub returns : goal.returns
 returns c =
-    written c.args.pli c.hec.result c.to_be_bytes.result c.to_be_bytes-2.result
-    (c.hec.ensures.only (hec_bits c.args.pli) (IsRemainder-remainder crc16 (bits 16 c.args.pli)))
-    c.to_be_bytes.ensures c.to_be_bytes-2.ensures
+    let pli : c.from.result ≡ c.args.pli = c.from.ensures in
+    let check : c.from-2.result ≡ c.hec.result = c.from-2.ensures in
+    let octets : c.to_le_bytes.result ≡ to_be_bytes w32 (bit_xor (c.from.result * 2 ^ 16 + c.from-2.result) 0xb6ab31e0) = search rules in
+    octets
+    ∙ ap₂ (λ a b. to_be_bytes w32 (bit_xor (a * 2 ^ 16 + b) 0xb6ab31e0)) pli check
+    ∙ written c.args.pli c.hec.result c.hec.type_inv c.hec.ensures.value

@@ -2,7 +2,7 @@
 use Rattle.std.proofs.Common.{◌≡◌, ℕ, ◌+◌, ◌-◌, ◌<◌, List, length, take, sym, subst, arith}
 use Rattle.std.proofs.lemmas.List.{length-take, take_all}
 use Rattle.session_model.specs.Decode.{good_cells}
-use Rattle.lcas_packet.specs.Reading.{Reads}
+use Rattle.session_model.specs.Packet.{read_of}
 use Rattle.trace_core.specs.Decoder.{Stands}
 use Rattle.trace_core.proofs.StepLaws.{Stands_unlocked, no_packet_unlocked, Stands_taken, no_packet_taken, IsWhole_taken, Stands_whole}
 use Rattle.trace_core.proofs.H4Decoder.octet.Goals as goal
@@ -80,4 +80,4 @@ returns-clause-reads c octets stands =
     let place = inside.given + 1 - 16 in
     let whole = IsWhole_taken inside.given inside.lock (take inside.begun inside.nibbles) nibbles octets c.args.h4 c.in-At.field-0 place
     (c.in-At.ensures.place (good_cells octets) before.lock) taken size before (grind arith) in
-    subst (λ l. Reads l c.read.result) whole.upper c.read.ensures.reads
+    subst (λ l. c.read.result ≡ read_of l) whole.upper c.read.ensures.value

@@ -1,5 +1,5 @@
 use Rattle.std.proofs.Common.{ℕ, ◌-◌, ◌≤◌, List, length, take}
-use Rattle.gfp_headers.specs.Piece.{Piece}
+use Rattle.session_model.specs.Piece.{Piece}
 use Rattle.gfp_fill.specs.Stream.{Stands, Fills}
 use Rattle.gfp_fill.proofs.filler.Filler.fill.Given as goal
 

@@ -1,0 +1,4 @@
+pub mod WindowLaws
+pub mod DamageLaws
+pub mod FaultLaws
+pub mod SlipLaws

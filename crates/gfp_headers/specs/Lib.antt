@@ -1,9 +1,0 @@
-pub use Rattle.hec16.specs.Hec
-pub use Rattle.session_model.specs.Scramble
-pub use Rattle.session_model.specs.Core
-pub use Rattle.session_model.specs.TypeHeader
-pub use Rattle.session_model.specs.Piece
-pub use Rattle.session_model.specs.Hunt
-pub use Rattle.session_model.specs.Run
-pub use Rattle.session_model.specs.Outcome
-pub use Rattle.session_model.specs.Delivery

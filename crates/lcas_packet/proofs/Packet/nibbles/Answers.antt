@@ -1,5 +1,0 @@
-use Rattle.std.proofs.Common.{refl}
-use Rattle.lcas_packet.proofs.Packet.nibbles.Goals as goal
-
-pub returns : goal.returns
-returns c = rw (c.nibble_hi.ensures, c.nibble_lo.ensures, c.crc8-check.ensures.value, c.copy_from_slice.ensures.after, c.covered-covered.ensures.value) refl

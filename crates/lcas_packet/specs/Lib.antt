@@ -1,2 +1,0 @@
-pub mod Packet
-pub mod Reading

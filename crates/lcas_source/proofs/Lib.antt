@@ -1,0 +1,9 @@
+pub mod FrontLaws
+pub mod OrderSteps
+pub mod KeepLaws
+pub mod ExchangeLaws
+pub mod FirstAddingLaws
+pub mod GroupBitLaws
+pub mod ForwardSteps
+pub mod CourseSteps
+pub mod SessionLaws

@@ -1,0 +1,9 @@
+use Rattle.std.proofs.Common.{◌∷◌, [], ◌++◌, false, drop, slice_index_or, ◌∙◌, ap}
+use Rattle.remainder.specs.Bits.{xor}
+use Rattle.lcas_source.proofs.GroupBitLaws.{bits-advanced}
+use Rattle.lcas_source.proofs.group_bits.GroupBits.advance.Goals as goal
+
+pub returns : goal.returns
+returns c =
+    bits-advanced c.self.inside.register c.self.invariant
+    ∙ ap (λ bits. drop 1 bits ++ xor (slice_index_or bits 0 false) (slice_index_or bits 1 false) ∷ []) c.self.view_is

@@ -1,0 +1,9 @@
+use Rattle.std.proofs.Common.{◌≡◌, ◌≤◌, map, filter, take, length}
+use Rattle.session_model.specs.Table.{is_normal}
+use Rattle.lcas_source.proofs.line_table.active.Given as goal
+
+abbrev pub invariant-loop-member : goal.invariant-loop-member
+invariant-loop-member l = record {
+  lines : l.lines.items ≡ map (λ member. member.line) (filter is_normal (take l.member-index l.members));
+  few : length l.lines.items ≤ l.member-index;
+}

@@ -1,0 +1,10 @@
+use Rattle.std.proofs.Common.{◌≡◌, ◌+◌, ◌*◌, ◌-◌, ◌∙◌, arith}
+use Rattle.session_model.specs.Told.{oks_in}
+use Rattle.lcas_source.proofs.KeepLaws.{keep-in_place, oks_in-size}
+use Rattle.lcas_source.proofs.line_table.keep.Goals as goal
+
+pub returns : goal.returns
+returns c =
+    let eight : 8 * c.args.group + 8 - 8 * c.args.group ≡ 8 = omega arith in
+    let said = c.copy_from_slice.ensures.after ∙ c.statuses_in.ensures in
+    rw (said, eight) (keep-in_place c.args.group (oks_in c.args.mst) c.args.statuses.now (oks_in-size c.args.mst) (omega arith))

@@ -1,0 +1,20 @@
+-- The cells that a carry gives.
+use Rattle.std.specs.Prelude.{List, [], ◌∷◌}
+use Rattle.vc_cell.specs.declared.Container.{Container}
+use Rattle.vc_cell.specs.declared.Cell.{Cell}
+use Rattle.vc_cell.specs.declared.Cell.TheVariants.{Good as GoodCell, Fail as FailCell, End as EndCell}
+use Rattle.line_core.specs.declared.carry.Carry.{Carry}
+use Rattle.line_core.specs.declared.carry.Carry.TheVariants.{Nothing, Good, Fail, End}
+use Rattle.line_core.specs.declared.carry.Out.{Out}
+use Rattle.line_core.specs.declared.carry.Out.TheVariants.{Nothing as NothingOut, One}
+
+abbrev pub out_cells : Out → List Cell
+out_cells NothingOut = []
+out_cells (One cell) = cell ∷ []
+
+-- where the container of a good cell lies in this place
+abbrev pub carry_cells : Carry → Container → List Cell
+carry_cells Nothing place = []
+carry_cells Good place = GoodCell place ∷ []
+carry_cells Fail place = FailCell ∷ []
+carry_cells End place = EndCell ∷ []

@@ -1,0 +1,85 @@
+-- A line, and the calls on it.
+use Rattle.std.specs.Prelude.{◌≡◌, ℕ, suc, ◌+◌, ◌-◌, ◌<◌, ◌≤◌, List, [], ◌∷◌, ◌++◌, length, drop}
+use Rattle.circular_buffer.specs.Buffer.{Buffer}
+use Rattle.vc_cell.specs.declared.Container.{Container}
+use Rattle.vc_cell.specs.declared.Cell.{Cell}
+use Rattle.session_model.specs.declared.window.Window.{Window}
+use Rattle.session_model.specs.Damage.{carried}
+use Rattle.session_model.specs.Path.{cells}
+
+-- what a line holds: its delay in containers, its windows and how many containers it carries in all; the containers that are on
+-- their way, and how often it was pushed and flushed
+pub record Line : Type 0 where
+  pub delay : ℕ
+  pub windows : List Window
+  pub total : ℕ
+  pub stored : List Container
+  pub pushed : ℕ
+  pub flushed : ℕ
+
+-- the calls on a line: at first its delay, its windows and how many containers it carries in all, then a push for each of these
+-- containers, and flushes
+pub record Calls : Type 0 where
+  pub delay : ℕ
+  pub windows : List Window
+  pub total : ℕ
+  pub containers : List Container
+  pub flushes : ℕ
+
+abbrev pub opened : ℕ → List Window → ℕ → Calls
+opened delay windows total = record { delay = delay; windows = windows; total = total; containers = []; flushes = 0 }
+
+abbrev pub and_push : Calls → Container → Calls
+and_push calls container = record {
+  delay = calls.delay;
+  windows = calls.windows;
+  total = calls.total;
+  containers = calls.containers ++ container ∷ [];
+  flushes = calls.flushes;
+}
+
+abbrev pub and_flush : Calls → Calls
+and_flush calls = record {
+  delay = calls.delay;
+  windows = calls.windows;
+  total = calls.total;
+  containers = calls.containers;
+  flushes = suc calls.flushes;
+}
+
+-- each push and each flush is a carry
+abbrev pub carries_of : Calls → ℕ
+carries_of calls = length calls.containers + calls.flushes
+
+-- the cells of the path so far
+abbrev pub path_cells : Calls → List Cell
+path_cells calls = cells (carried calls.windows) calls.delay calls.total calls.containers (carries_of calls)
+
+-- a line stands where these calls have brought it
+pub record Stands (line : Line) (calls : Calls) : Type 0 where
+  pub delay : line.delay ≡ calls.delay
+  pub windows : line.windows ≡ calls.windows
+  pub total : line.total ≡ calls.total
+  pub stored : line.stored ≡ drop (carries_of calls - calls.delay) calls.containers
+  pub pushed : line.pushed ≡ length calls.containers
+  pub flushed : line.flushed ≡ calls.flushes
+
+-- more pushes and flushes
+pub record Counts (before after : Line) (pushes flushes : ℕ) : Type 0 where
+  pub pushed : after.pushed ≡ before.pushed + pushes
+  pub flushed : after.flushed ≡ before.flushed + flushes
+  pub total : after.total ≡ before.total
+  pub delay : after.delay ≡ before.delay
+
+-- End was given
+abbrev pub IsEnded : Line → Type 0
+IsEnded line = line.delay < line.flushed
+
+-- what is true of the parts of a line: as many containers are on their way as were pushed and not let go, and no flush comes before
+-- the last push
+pub record IsLine (store : Buffer Container) (delay total pushed flushed : ℕ) : Type 0 where
+  pub room : store.capacity ≡ delay
+  pub stored : length store.items ≡ pushed - (pushed + flushed - delay)
+  pub within : pushed ≤ total
+  pub flushes : flushed ≤ delay + 1
+  pub order : 0 < flushed → pushed ≡ total

@@ -1,0 +1,160 @@
+//! A line with its delay and its windows.
+ghost use Rattle.std.specs.Prelude.{◌≡◌, ◌≢◌, ◌<◌, ◌≤◌, ◌↔◌, ◌++◌, IfOk, IsTrue, Contains};
+ghost use Rattle.line_core.specs.Carry.{carry_cells, out_cells};
+ghost use Rattle.line_core.specs.Line.{Line, IsLine, Calls, opened, and_push, and_flush, path_cells, Stands, Counts, IsEnded};
+
+use crate::carry::{Carry, Out};
+use crate::store::{Store, keep, let_go, pass};
+use circular_buffer::HeapCircularBuffer;
+use failure_window::Windows;
+use std::alloc::{AllocError, Global};
+use std::marker::Model;
+use vc_cell::{Cell, Container, PAYLOAD};
+
+/// A line: containers are pushed into it one by one, and after the last of them it is flushed. Each push and each flush is a
+/// carry, which gives a cell or nothing. Only the making of a line takes memory.
+#[derive(Drop)]
+pub struct LineCore {
+    windows: Windows,
+    store: Store,
+    delay: u16,
+    total: u32,
+    pushed: u32,
+    flushed: u32,
+}
+
+impl Model for LineCore {
+    ghost Value = { Line };
+
+    ghost view = { λ line. record {
+      delay = line.delay;
+      windows = line.windows;
+      total = line.total;
+      stored = line.store.items;
+      pushed = line.pushed;
+      flushed = line.flushed;
+    } };
+
+    ghost invariant = { λ line. IsLine line.store line.delay line.total line.pushed line.flushed };
+}
+
+impl LineCore {
+    /// A line with a delay in containers, and with room for as many; with its windows; and with the number of containers that
+    /// it will carry in all.
+    pub fn new(
+        alloc: Global,
+        delay: u16,
+        windows: Windows,
+        total: u32,
+    ) -> Result<LineCore, AllocError>
+        ensures { IfOk result (λ line. Stands line (opened delay windows total)) }
+    {
+        let store = HeapCircularBuffer::with_capacity(alloc, usize::from(delay))?;
+        Ok(LineCore {
+            windows,
+            store,
+            delay,
+            total,
+            pushed: 0,
+            flushed: 0,
+        })
+    }
+
+    /// Carries a container on, and gives the cell that comes out, if any.
+    pub fn push(&mut self, c: Container) -> Out
+        requires { self.old.pushed < self.old.total }
+        ensures stands { (calls : Calls) → Stands self.old calls →
+            Stands self.new (and_push calls c) }
+        ensures cells { (calls : Calls) → Stands self.old calls →
+            path_cells (and_push calls c) ≡ path_cells calls ++ out_cells result }
+        ensures counts { Counts self.old self.new 1 0 }
+    {
+        let mut place = blank();
+        self.push_from(&c, &mut place).out(&place)
+    }
+
+    /// Carries a container on as `push` does, and writes the container of a good cell to `out`, which else stays as it was.
+    pub fn push_from(&mut self, container: &Container, out: &mut Container) -> Carry
+        requires { self.old.pushed < self.old.total }
+        ensures stands { (calls : Calls) → Stands self.old calls →
+            Stands self.new (and_push calls container.now) }
+        ensures cells { (calls : Calls) → Stands self.old calls →
+            path_cells (and_push calls container.now)
+            ≡ path_cells calls ++ carry_cells result out.new }
+        ensures kept { result ≢ Carry.Good → out.new ≡ out.old }
+        ensures counts { Counts self.old self.new 1 0 }
+    {
+        let n = self.pushed;
+        self.pushed += 1;
+        if self.store.is_full() {
+            let fate = self.windows.at(n - u32::from(self.delay));
+            pass(&mut self.store, fate, container, out)
+        } else {
+            keep(&mut self.store, container);
+            Carry::Nothing
+        }
+    }
+
+    /// Makes a carry once all containers were pushed, and gives the cell that comes out, if any. After the cell of the last
+    /// container one carry gives the end.
+    pub fn flush(&mut self) -> Out
+        requires pushed { self.old.pushed ≡ self.old.total }
+        requires runs { self.old.flushed ≤ self.old.delay }
+        ensures stands { (calls : Calls) → Stands self.old calls →
+            Stands self.new (and_flush calls) }
+        ensures cells { (calls : Calls) → Stands self.old calls →
+            path_cells (and_flush calls) ≡ path_cells calls ++ out_cells result }
+        ensures counts { Counts self.old self.new 0 1 }
+    {
+        let mut place = blank();
+        self.flush_to(&mut place).out(&place)
+    }
+
+    /// Makes a carry as `flush` does, and writes the container of a good cell to `out`, which else stays as it was.
+    pub fn flush_to(&mut self, out: &mut Container) -> Carry
+        requires pushed { self.old.pushed ≡ self.old.total }
+        requires runs { self.old.flushed ≤ self.old.delay }
+        ensures stands { (calls : Calls) → Stands self.old calls →
+            Stands self.new (and_flush calls) }
+        ensures cells { (calls : Calls) → Stands self.old calls →
+            path_cells (and_flush calls) ≡ path_cells calls ++ carry_cells result out.new }
+        ensures kept { result ≢ Carry.Good → out.new ≡ out.old }
+        ensures counts { Counts self.old self.new 0 1 }
+    {
+        let left = u32::from(self.delay) - self.flushed;
+        self.flushed += 1;
+        if left > self.total {
+            Carry::Nothing
+        } else if left == 0 {
+            Carry::End
+        } else {
+            let fate = self.windows.at(self.total - left);
+            let_go(&mut self.store, fate, out)
+        }
+    }
+
+    /// Whether all containers were pushed.
+    pub fn all_pushed(&self) -> bool
+        ensures all { IsTrue result ↔ (self.now.pushed ≡ self.now.total) }
+        ensures within { self.now.pushed ≤ self.now.total }
+    {
+        self.pushed == self.total
+    }
+
+    /// Whether the end was given.
+    pub fn ended(&self) -> bool
+        ensures ended { IsTrue result ↔ IsEnded self.now }
+        ensures given { (calls : Calls) → Stands self.now calls →
+            IsTrue result ↔ Contains (path_cells calls) Cell.End }
+    {
+        self.flushed > u32::from(self.delay)
+    }
+}
+
+// A place for a container.
+fn blank() -> Container {
+    Container {
+        h4: 0,
+        payload: [0; PAYLOAD],
+    }
+}

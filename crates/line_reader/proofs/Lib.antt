@@ -1,0 +1,2 @@
+pub mod LockWording
+pub mod NumberLaws

@@ -1,0 +1,13 @@
+-- The bad numbers are passed first, and then the whole one.
+use Rattle.std.proofs.Common.{◌+◌, ◌%◌, refl, sym, subst, arith}
+use Rattle.line_reader.specs.Numbers.{Stands}
+use Rattle.line_reader.proofs.NumberLaws.{pass-bads}
+use Rattle.line_reader.proofs.numbers.LineNumbers.next.Goals as goal
+
+pub returns-then-self-gt0 : goal.returns-then-self-gt0
+returns-then-self-gt0 c = record {
+  stands = λ place cells t stands.
+      let inside = c.self.inside in
+      let before = subst (λ v. Stands v place cells t) (sym c.self.view_is) stands in
+      pass-bads inside.lock inside.next ((inside.next + 1) % 4096) t inside.bad inside.whole inside.ended place cells refl (grind (arith, c.if-self-gt0.true)) before;
+}

@@ -1,0 +1,20 @@
+-- Cells whose containers lie elsewhere, and verdicts, as the definitions have them.
+use Rattle.std.specs.Prelude.{Option, Some, None}
+use Rattle.vc_cell.specs.declared.Container.{Container}
+use Rattle.vc_cell.specs.declared.Cell.{Cell}
+use Rattle.vc_cell.specs.declared.Cell.TheVariants.{Good, Fail, End}
+use Rattle.line_reader.specs.declared.CellRef.{CellRef}
+use Rattle.line_reader.specs.declared.CellRef.TheVariants.{Good as GoodRef, Fail as FailRef, End as EndRef}
+use Rattle.line_reader.specs.declared.Verdict.{Verdict}
+use Rattle.line_reader.specs.declared.Verdict.TheVariants.{Whole, Bad}
+
+-- the cell
+abbrev pub cell_of : CellRef → Cell
+cell_of (GoodRef container) = Good container.now
+cell_of FailRef = Fail
+cell_of EndRef = End
+
+-- the container of a number that is whole, and none of a bad one
+abbrev pub told_by : Verdict → Option Container
+told_by (Whole container) = Some container.now
+told_by Bad = None

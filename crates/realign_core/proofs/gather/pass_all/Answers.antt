@@ -1,0 +1,20 @@
+-- One more line has passed its number.
+use Rattle.std.proofs.Common.{◌<◌, [], length, sym, ◌∙◌, arith}
+use Rattle.std.proofs.lemmas.Option.{slice_get-get_or}
+use Rattle.realign_core.proofs.DecidedLaws.{decided-shut}
+use Rattle.realign_core.proofs.GatherLaws.{passed_more}
+use Rattle.realign_core.proofs.gather.pass_all.Goals as goal
+
+pub pass-requires-clause-decided : goal.pass-requires-clause-decided
+pass-requires-clause-decided c =
+    let m = c.loop-m.m in
+    let inside : m < length c.loop-m.lines = omega arith in
+    let here = slice_get-get_or c.loop-m.lines m c.index-lines-m.result inside in
+    decided-shut c.args.lines.now m _ c.requires.decided (sym (c.loop-m.invariant.others m (omega arith)) ∙ here)
+
+pub loop-m-preserved : goal.loop-m-preserved
+loop-m-preserved c =
+    let m = c.loop-m.m in
+    let line = slice_get-get_or c.loop-m.lines m c.index-lines-m.result (omega arith) in
+    let place = slice_get-get_or c.args.places.now m (record { h4 = 0; payload = [] }) (omega arith) in
+    passed_more m c.args.j c.args.places.now c.args.lines.now c.loop-m.lines _ c.pass.new.self _ c.loop-m.invariant line place c.pass.ensures.stands

@@ -1,0 +1,4 @@
+pub mod Begun
+pub mod Line
+pub mod Gather
+pub mod Loops

@@ -1,0 +1,214 @@
+//! All lines of a group.
+
+ghost use Rattle.std.specs.Prelude.{◌≡◌, ℕ, ◌+◌, ◌%◌, ◌<◌, ◌≤◌, List, [], length, replicate, slice_get, Some, None, IfOk};
+ghost use Rattle.vc_cell.specs.declared.Container.{Container};
+ghost use Rattle.vc_cell.specs.declared.Cell.{Cell};
+ghost use Rattle.session_model.specs.Number.{verdict};
+ghost use Rattle.session_model.specs.Rows.{governing, first_open};
+ghost use Rattle.line_reader.specs.Told.{cell_of, told_by};
+ghost use Rattle.realign_core.specs.Gather.{Stands, line_count, IsOpenAt, AreDecided, decided_lines, waiting_of, Allows, with_cell};
+ghost use Rattle.realign_core.specs.Loops.{AreNew, ArePassed, AreRead};
+
+use crate::RowAnswer;
+use crate::line::GatherLine;
+use crate::nibbles::NIBBLES;
+use lcas_packet::Packet;
+use line_reader::{CellRef, Verdict, cell_ref};
+use std::alloc::{AllocError, Global};
+use std::marker::Model;
+use vc_cell::{Cell, Container, PAYLOAD};
+
+/// What stands in a place before the first container.
+const EMPTY: Container = Container {
+    h4: 0,
+    payload: [0; PAYLOAD],
+};
+
+/// Gathers the rows of a group from the cells of its lines.
+#[derive(Drop)]
+pub struct RowGather {
+    lines: Vec<GatherLine>,
+    places: Vec<Container>,
+    packets: Vec<Option<Packet>>,
+    /// How many lines before the first one on which the next row isn't decided.
+    decided: usize,
+    rows: u32,
+}
+
+impl Model for RowGather {
+    ghost use Rattle.std.specs.Prelude.{◌≡◌, ◌≤◌, length};
+    ghost use Rattle.realign_core.specs.Gather.{Gather, decided_lines};
+
+    ghost Value = { Gather };
+
+    ghost invariant = { λ gather. (length gather.lines.items ≤ 128) × (length gather.places.items ≡ length gather.lines.items)
+        × (length gather.packets.items ≡ length gather.lines.items) × (gather.decided ≡ decided_lines gather.lines.items) };
+
+    ghost view = { λ gather. record { lines = gather.lines.items; places = gather.places.items; packets = gather.packets.items; rows = gather.rows } };
+}
+
+impl RowGather {
+    /// The rows of a group of `lines` lines, of which no cell has come.
+    pub fn new(alloc: Global, lines: u8) -> Result<RowGather, AllocError>
+        requires least { 1 ≤ lines }
+        requires most { lines ≤ 128 }
+        ensures stands { IfOk result (λ gather. Stands gather (replicate lines [])) }
+        ensures lines { IfOk result (λ gather. line_count gather ≡ lines) }
+        ensures rows { IfOk result (λ gather. gather.rows ≡ 0) }
+    {
+        Ok(RowGather {
+            lines: new_lines(alloc, lines)?,
+            places: vec![in alloc; EMPTY; usize::from(lines)]?,
+            packets: no_packets(alloc, lines)?,
+            decided: 0,
+            rows: 0,
+        })
+    }
+
+    /// Whether the next row is decided on each line.
+    pub fn row(&self) -> RowAnswer
+        ensures answer { (cells : List (List Cell)) → Stands self.now cells →
+            waiting_of result ≡ first_open cells self.now.rows }
+        ensures allows { Allows self.now result }
+    {
+        if self.decided < self.lines.len() {
+            RowAnswer::Waiting {
+                line: self.decided as u8,
+            }
+        } else {
+            RowAnswer::Row
+        }
+    }
+
+    /// Takes the next cell of a line on which the next row isn't decided.
+    pub fn offer(&mut self, line: u8, cell: Cell)
+        requires line { line < line_count self.old }
+        requires open { IsOpenAt self.old line }
+        ensures stands { (cells : List (List Cell)) → Stands self.old cells →
+            Stands self.new (with_cell cells line cell) }
+        ensures lines { line_count self.new ≡ line_count self.old }
+        ensures rows { self.new.rows ≡ self.old.rows }
+    {
+        self.offer_from(line, cell_ref(&cell));
+    }
+
+    /// Takes the next cell as `offer` does, from where its container lies. Its payload is copied once, and only where it is whole.
+    pub fn offer_from(&mut self, line: u8, cell: CellRef<'_>)
+        requires line { line < line_count self.old }
+        requires open { IsOpenAt self.old line }
+        ensures stands { (cells : List (List Cell)) → Stands self.old cells →
+            Stands self.new (with_cell cells line (cell_of cell.entry)) }
+        ensures lines { line_count self.new ≡ line_count self.old }
+        ensures rows { self.new.rows ≡ self.old.rows }
+    {
+        let m = usize::from(line);
+        self.lines[m].cell(cell, &mut self.places[m]);
+        if m == self.decided {
+            self.decided += decided_lines(&self.lines[m..]);
+        }
+    }
+
+    /// What is said of the next row on a line, once it is decided on each line.
+    pub fn verdict(&self, line: u8) -> Verdict<'_>
+        requires line { line < line_count self.now }
+        requires decided { AreDecided self.now }
+        ensures { (cells : List (List Cell)) (own : List Cell) → Stands self.now cells →
+            slice_get cells line ≡ Some own → verdict own self.now.rows ≡ Some (told_by result) }
+    {
+        let m = usize::from(line);
+        self.lines[m].verdict(&self.places[m])
+    }
+
+    /// The containers of the lines on which the next row is decided as whole, each at the place of its line. What stands at the other
+    /// places says nothing.
+    pub fn containers(&self) -> &[Container]
+        ensures lines { length result.now ≡ line_count self.now }
+        ensures whole { (cells : List (List Cell)) (m : ℕ) (own : List Cell) (container : Container) →
+            Stands self.now cells → slice_get cells m ≡ Some own →
+            verdict own self.now.rows ≡ Some (Some container) → slice_get result.now m ≡ Some container }
+    {
+        &self.places
+    }
+
+    /// Passes the next row, which is decided on each line.
+    pub fn advance(&mut self)
+        requires decided { AreDecided self.old }
+        requires few { self.old.rows < 4294967295 }
+        ensures stands { (cells : List (List Cell)) → Stands self.old cells → Stands self.new cells }
+        ensures lines { line_count self.new ≡ line_count self.old }
+        ensures rows { self.new.rows ≡ self.old.rows + 1 }
+    {
+        let j = (self.rows % 16 + 8) as usize % NIBBLES;
+        pass_all(&mut self.lines, &self.places, j);
+        if j == NIBBLES - 1 {
+            read_all(&self.lines, &mut self.packets);
+        }
+        self.decided = decided_lines(&self.lines);
+        self.rows += 1;
+    }
+
+    /// The packets that govern the next row, by line: those read with the last packet row that was passed, and none before the first.
+    /// A line has none where it has no packet that can be read.
+    pub fn packets(&self) -> &[Option<Packet>]
+        ensures { (cells : List (List Cell)) → Stands self.now cells →
+            result.now ≡ governing cells self.now.rows }
+    {
+        &self.packets
+    }
+}
+
+/// A count of lines of which no cell has come.
+fn new_lines(alloc: Global, count: u8) -> Result<Vec<GatherLine>, AllocError>
+    ensures { IfOk result (λ lines. AreNew count lines.items) }
+{
+    let mut lines = Vec::with_capacity(alloc, usize::from(count))?;
+    for _ in 0..count {
+        lines.push(GatherLine::new())?;
+    }
+    Ok(lines)
+}
+
+/// No packet on a count of lines.
+fn no_packets(alloc: Global, count: u8) -> Result<Vec<Option<Packet>>, AllocError>
+    ensures { IfOk result (λ packets. packets.items ≡ replicate count None) }
+{
+    let mut packets = Vec::with_capacity(alloc, usize::from(count))?;
+    for _ in 0..count {
+        packets.push(None)?;
+    }
+    Ok(packets)
+}
+
+/// How many lines before the first one on which the next number isn't decided.
+fn decided_lines(lines: &[GatherLine]) -> usize
+    ensures { result ≡ decided_lines lines.now }
+{
+    for (m, line) in lines.iter().enumerate() {
+        if line.is_open() {
+            return m;
+        }
+    }
+    lines.len()
+}
+
+/// Passes the next number of each line, which is number `j` of a packet.
+fn pass_all(lines: &mut [GatherLine], places: &[Container], j: usize)
+    requires places { length places.now ≡ length lines.old }
+    requires decided { decided_lines lines.old ≡ length lines.old }
+    requires place { j < 16 }
+    ensures passed { ArePassed (length lines.old) j places.now lines.old lines.new }
+{
+    for m in 0..lines.len() {
+        lines[m].pass(&places[m], j);
+    }
+}
+
+/// The packet of each line whose last number was passed just now.
+fn read_all(lines: &[GatherLine], packets: &mut [Option<Packet>])
+    requires packets { length packets.old ≡ length lines.now }
+    ensures read { AreRead (length lines.now) lines.now packets.new }
+{
+    for m in 0..lines.len() {
+        packets[m] = lines[m].packet();
+    }
+}

@@ -1,0 +1,4 @@
+pub mod RowLaws
+pub mod WholeLaws
+pub mod DealtLaws
+pub mod ReturnLaws
