@@ -14,7 +14,7 @@ pub record Appends {K : Type 0} (written : K → Option (List ℕ)) (faults : K 
   pub appended : written new ≡ append_known (written old) text
   pub quiet : faults new ≡ faults old
 
--- a prefix of the text was appended to the sink, which may be nothing but is never the whole, and then one fault was counted
+-- a prefix of the text was appended to the sink, which may be nothing but is never the whole, and one fault was counted
 pub record AppendsPart {K : Type 0} (written : K → Option (List ℕ)) (faults : K → ℕ) (old new : K) (text : List ℕ) : Type 0 where
   pub part : List ℕ
   pub rest : List ℕ

@@ -50,7 +50,7 @@ pub fn walk_top<S: ByteSource, K: ByteSink, E: ByteSink>(
     ensures form_of_walk { result.status ≡ 9 → IsWalk words.now }
     ensures hex_of_decode { result.status ≡ 5 → IsDecode words.now }
 
-    // A call that fails is counted once, and is the last one. At every other status none failed.
+    // At these two statuses one call failed, and at every other status none did.
     ensures read_failed { result.status ≡ 3 → S.faults script.new ≡ one_more (S.faults script.old) }
     ensures read_quiet { result.status ≢ 3 → S.faults script.new ≡ S.faults script.old }
     ensures write_failed { result.status ≡ 4 → K.faults out.new ≡ one_more (K.faults out.old) }
