@@ -1,0 +1,53 @@
+//! Text to octets.
+
+ghost use Rattle.std.specs.Prelude.{◌≡◌, ◌≢◌, ℕ, ◌+◌, ◌*◌, ◌/◌, ◌≤◌, List, ◌++◌, length, Bool, true, false, Result, Ok, OnOk, OnErr, vec_len};
+ghost use Rattle.std.specs.Vec.{vec_capacity};
+ghost use Rattle.hex.specs.Hex.{decode_of};
+
+use crate::digits::{is_digit, value};
+
+/// A text that isn't pairs of hexadecimal digits.
+#[derive(Clone, Copy, Debug, PartialEq, Eq)]
+pub struct NotHex;
+
+/// Appends the octets that a text says, in digits of either case. Where it says none, the octets stay as they were. There has to be
+/// room for half as many octets as the text has characters.
+pub fn decode_into(text: &[u8], octets: &mut Vec<u8>) -> Result<(), NotHex>
+    requires room { vec_len octets.old + length text.now / 2 ≤ vec_capacity octets.old }
+    ensures ok { OnOk result ((bytes : List ℕ) × (decode_of text.now ≡ Ok bytes) × (octets.new.items ≡ octets.old.items ++ bytes)) }
+    ensures refused { OnErr result ((bytes : List ℕ) → decode_of text.now ≢ Ok bytes) }
+    ensures unchanged { OnErr result (octets.new.items ≡ octets.old.items) }
+    ensures capacity { vec_capacity octets.old ≤ vec_capacity octets.new }
+{
+    if text.len() % 2 == 1 {
+        return Err(NotHex);
+    }
+    let start = octets.len();
+    match octets.resize(start + text.len() / 2, 0) {
+        Ok(()) => {}
+        Err(_) => unreachable!(),
+    }
+    if decode(text, &mut octets[start..]) {
+        Ok(())
+    } else {
+        octets.truncate(start);
+        Err(NotHex)
+    }
+}
+
+// Writes the octets that pairs of digits say, and says whether all were digits. The test comes once, after the last pair, so that
+// nothing stands between the pairs.
+fn decode(text: &[u8], octets: &mut [u8]) -> bool
+    requires { length text.now ≡ 2 * length octets.old }
+    ensures yes { result ≡ true → decode_of text.now ≡ Ok octets.new }
+    ensures no { result ≡ false → (bytes : List ℕ) → decode_of text.now ≢ Ok bytes }
+{
+    let mut right = true;
+    for i in 0..octets.len() {
+        let upper = text[2 * i];
+        let lower = text[2 * i + 1];
+        right = right & is_digit(upper) & is_digit(lower);
+        octets[i] = value(upper) * 16 + value(lower);
+    }
+    right
+}
