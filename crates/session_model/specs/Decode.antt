@@ -1,8 +1,7 @@
 -- The control packets among the H4 octets of a line all of whose cells are good (G.707, G.7042), each at the place of its first
 -- octet, counted from 0.
-use Rattle.std.specs.Prelude.{◌≡◌, ℕ, ◌+◌, ◌<◌, drop, ◌/◌, ◌%◌, ◌==◌, nat_le, ◌&&◌, Bool, true, false, if◌then◌else◌, List, [], ◌∷◌, ◌++◌, length, map, take, slice_index, Option, Some, Result}
+use Rattle.std.specs.Prelude.{ℕ, ◌+◌, ◌/◌, ◌%◌, ◌==◌, nat_le, ◌&&◌, Bool, true, false, if◌then◌else◌, List, [], ◌∷◌, ◌++◌, length, map, take, slice_index, Option, Some, Result}
 use Rattle.std.specs.List.{list_all}
-use Rattle.vc_bits.specs.Lock.{IsAt}
 use Rattle.session_model.specs.declared.packet.Packet.{Packet}
 use Rattle.session_model.specs.declared.packet.PacketFault.{PacketFault}
 use Rattle.session_model.specs.Number.{Lock, unlocked, Sight, unknown, locks, at}
@@ -51,12 +50,3 @@ packets_on lock place (h4 ∷ octets) = packet_here lock place (h4 ∷ octets) +
 -- the packets of the octets of a line, in their order
 abbrev pub packets_in : List ℕ → List Found
 packets_in octets = packets_on unlocked 0 octets
-
--- a control packet stands at a place: its first octet has MFI1 8, and each of its sixteen octets came while the line was locked
-pub record HasPacketAt (octets : List ℕ) (place : ℕ) : Type 0 where
-  pub first : slice_index octets place % 16 ≡ 8
-  pub locked : (k : ℕ) → k < 16 → IsAt (good_cells octets) (place + k)
-
--- the nibbles of the packet: the upper halves of its octets
-abbrev pub nibbles_at : List ℕ → ℕ → List ℕ
-nibbles_at octets place = map (λ octet. octet / 16) (take 16 (drop place octets))
