@@ -1,13 +1,13 @@
 -- One octet more: what it does to the packets of the octets before it, and to one that has begun.
-use Rattle.std.proofs.Common.{◌≡◌, ℕ, zero, suc, ◌+◌, ◌-◌, ◌*◌, ◌/◌, ◌%◌, ◌<◌, ◌≤◌, ◌==◌, nat_lt, nat_le, ◌&&◌, Bool, true, false, if◌then◌else◌, inl, inr, List, [], ◌∷◌, ◌++◌, length, map, take, slice_index, Option, Some, refl, sym, ◌∙◌, ap, ap₂, subst, arith, append_assoc}
+use Rattle.std.proofs.Common.{◌≡◌, ℕ, suc, ◌+◌, ◌-◌, ◌/◌, ◌%◌, ◌<◌, ◌≤◌, ◌==◌, nat_lt, nat_le, ◌&&◌, Bool, true, false, if◌then◌else◌, inl, inr, List, [], ◌∷◌, ◌++◌, length, take, Some, refl, sym, ◌∙◌, ap, ap₂, subst, arith, append_assoc}
 use Rattle.std.specs.List.{list_all}
-use Rattle.std.proofs.Math.Bool.{and_assoc, and-true, and-false}
+use Rattle.std.proofs.Math.Bool.{and_assoc, and-true}
 use Rattle.std.proofs.lemmas.Bool.{cases_Bool, cases_lt, and_parts, and_cases, and_from, and_left, and_right, eqb-true, ne_eqb, lt-ltb, le-ltb, ltb-true, ltb-false, le-leb, lt-leb}
 use Rattle.std.proofs.lemmas.List.{append-nil, length-append, length-map, map-append, take_all, take-append-le}
 use Rattle.session_model.specs.Number.{Lock, locked, Sight, unknown, locks, at, sight_of, lock_after}
 use Rattle.session_model.specs.Sight.{lock_by, sights_on}
 use Rattle.session_model.specs.Packet.{read_of}
-use Rattle.session_model.specs.Decode.{good_cells, is_at, is_front, begins_packet, upper_halves, front_nibbles, Found, packet_here, packets_on}
+use Rattle.session_model.specs.Decode.{good_cells, is_at, is_front, upper_halves, Found, packet_here, packets_on}
 use Rattle.trace_core.specs.Decoder.{begun_on}
 
 -- what is known of the line after octets

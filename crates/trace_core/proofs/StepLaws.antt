@@ -1,9 +1,7 @@
 -- What a decoder knows after the next octet, from what the lock of its line says of that.
-use Rattle.std.proofs.Common.{◌≡◌, ◌≢◌, ℕ, zero, suc, ◌+◌, ◌-◌, ◌/◌, ◌%◌, ◌<◌, ◌==◌, nat_le, Bool, true, false, if◌then◌else◌, List, [], ◌∷◌, ◌++◌, length, take, slice_set, Option, Some, None, Result, refl, sym, ◌∙◌, ap, subst, arith}
-use Rattle.std.specs.Option.{option_to_list}
+use Rattle.std.proofs.Common.{◌≡◌, ◌≢◌, ℕ, zero, suc, ◌+◌, ◌-◌, ◌/◌, ◌%◌, ◌<◌, nat_le, Bool, true, false, List, [], ◌∷◌, ◌++◌, length, take, slice_set, Option, Some, Result, refl, sym, ◌∙◌, ap, subst, arith}
 use Rattle.std.proofs.lemmas.Bool.{ne_eqb, eq-eqb, le-leb, lt-leb}
 use Rattle.std.proofs.lemmas.List.{append-nil, length-append, length-map, length-set, length-take, map-append, take_all, take_more_set}
-use Rattle.vc_bits.specs.Lock.{IsAt}
 use Rattle.vc_bits.proofs.LockLaws.{IsFirstStep_only}
 use Rattle.h4_multiframe.specs.declared.MfiLock.{MfiLock}
 use Rattle.h4_multiframe.specs.declared.Place.{Place}
@@ -15,12 +13,12 @@ use Rattle.session_model.specs.declared.packet.PacketFault.{PacketFault}
 use Rattle.session_model.specs.Number.{Lock, unlocked, Sight, unknown, locks, at, sight_of}
 use Rattle.session_model.specs.Sight.{lock_by}
 use Rattle.session_model.specs.Packet.{read_of}
-use Rattle.session_model.specs.Decode.{good_cells, is_at, Found, packets_on, packets_in}
+use Rattle.session_model.specs.Decode.{Found, good_cells, is_at, packets_in}
 use Rattle.line_law.proofs.ListLaws.{append_one}
 use Rattle.line_law.proofs.SightLaws.{Stands as SightStands, IsSight, sight-is, stands-none}
 use Rattle.line_law.proofs.SignLaws.{stands-next}
-use Rattle.trace_core.specs.Decoder.{Decoding, begun_on, begun_in, Stands}
-use Rattle.trace_core.proofs.DecoderLaws.{lock_on, packets-out, grown, going_on, whole_at, Grows, packets-grow}
+use Rattle.trace_core.specs.Decoder.{Decoding, Stands}
+use Rattle.trace_core.proofs.DecoderLaws.{lock_on, packets-out, grown, Grows, packets-grow}
 
 -- ---- the cells of octets
 pub good_cells-append : (octets more : List ℕ) → good_cells (octets ++ more) ≡ good_cells octets ++ good_cells more
@@ -81,21 +79,21 @@ next_lock lock octets o stands = subst (LockStands lock) (sym (good_cells-append
 next_count : (given : ℕ) (octets : List ℕ) (o : ℕ) → given ≡ length octets → given + 1 ≡ length (octets ++ o ∷ [])
 next_count given octets o e = let more = length-append octets (o ∷ []) in omega arith
 
+-- what it knows then, and what is found
+abbrev pub Goes : Decoding → List ℕ → ℕ → List Found → Type 0
+Goes after octets o found = Stands after (octets ++ o ∷ []) × (packets_in (octets ++ o ∷ []) ≡ packets_in octets ++ found)
+
 -- after an octet that didn't come while the line was locked
-module _ (before : Decoding) (lock : MfiLock) (nibbles octets : List ℕ) (o : ℕ) (answer : Place)
-    (other : (number : ℕ) → answer ≡ At number → ⊥) (is : IsAnswer octets o answer) (lock_stands : LockStands lock (good_cells octets ++ Some o ∷ []))
-    (stands : Stands before octets) where
-  pub stands-out : Stands (record { given = before.given + 1; lock = lock; nibbles = nibbles; begun = 0 }) (octets ++ o ∷ [])
-  stands-out =
-      let none = packets-out octets unlocked 0 o (sight-here octets o answer is ∙ not_answer answer other) in
-      record { count = next_count before.given octets o stands.count; lock = next_lock lock octets o lock_stands; begun = sym none.0 }
+pub goes-out : (before : Decoding) (lock : MfiLock) (nibbles octets : List ℕ) (o : ℕ) (answer : Place) →
+    ((number : ℕ) → answer ≡ At number → ⊥) → IsAnswer octets o answer → LockStands lock (good_cells octets ++ Some o ∷ []) → Stands before octets →
+    Goes (record { given = before.given + 1; lock = lock; nibbles = nibbles; begun = 0 }) octets o []
+goes-out before lock nibbles octets o answer other is lock_stands stands =
+    let none = packets-out octets unlocked 0 o (sight-here octets o answer is ∙ not_answer answer other) in (
+      record { count = next_count before.given octets o stands.count; lock = next_lock lock octets o lock_stands; begun = sym none.0 },
+      none.1 ∙ sym (append-nil (packets_in octets)),
+    )
 
-  pub found-out : packets_in (octets ++ o ∷ []) ≡ packets_in octets ++ []
-  found-out =
-      let none = packets-out octets unlocked 0 o (sight-here octets o answer is ∙ not_answer answer other) in
-      none.1 ∙ sym (append-nil (packets_in octets))
-
--- ---- an octet that came while the line was locked, with the nibbles of a packet that has begun and of this octet
+-- after one that did, with the nibbles of a packet that has begun and of this octet
 module _ (before : Decoding) (lock : MfiLock) (nibbles octets grew : List ℕ) (o number : ℕ) (is : IsAnswer octets o (At number))
     (lock_stands : LockStands lock (good_cells octets ++ Some o ∷ [])) (stands : Stands before octets)
     (grew_is : grown (take before.begun before.nibbles) o ≡ grew) where
@@ -105,30 +103,31 @@ module _ (before : Decoding) (lock : MfiLock) (nibbles octets grew : List ℕ) (
       (packets-grow octets unlocked 0 o (sight-here octets o (At number) is))
 
   -- they are not a whole packet
-  pub stands-more : (count : ℕ) → length grew < 16 → take count nibbles ≡ grew →
-      Stands (record { given = before.given + 1; lock = lock; nibbles = nibbles; begun = count }) (octets ++ o ∷ [])
-  stands-more count few kept = record {
-    count = next_count before.given octets o stands.count;
-    lock = next_lock lock octets o lock_stands;
-    begun = kept ∙ sym (grows.0 ∙ (let short : nat_le 16 (length grew) ≡ false = lt-leb 16 (length grew) few in rw short refl));
-  }
-
-  pub found-more : length grew < 16 → packets_in (octets ++ o ∷ []) ≡ packets_in octets ++ []
-  found-more few = grows.1 ∙ (let short : nat_le 16 (length grew) ≡ false = lt-leb 16 (length grew) few in rw short refl)
+  pub goes-on : (count : ℕ) → length grew < 16 → take count nibbles ≡ grew →
+      Goes (record { given = before.given + 1; lock = lock; nibbles = nibbles; begun = count }) octets o []
+  goes-on count few kept =
+      let short : nat_le 16 (length grew) ≡ false = lt-leb 16 (length grew) few in (
+        record {
+          count = next_count before.given octets o stands.count;
+          lock = next_lock lock octets o lock_stands;
+          begun = kept ∙ sym (grows.0 ∙ rw short refl);
+        },
+        grows.1 ∙ rw short refl,
+      )
 
   -- they are
-  pub stands-whole : length grew ≡ 16 → Stands (record { given = before.given + 1; lock = lock; nibbles = nibbles; begun = 0 }) (octets ++ o ∷ [])
-  stands-whole size = record {
-    count = next_count before.given octets o stands.count;
-    lock = next_lock lock octets o lock_stands;
-    begun = sym (grows.0 ∙ (let long : nat_le 16 (length grew) ≡ true = le-leb 16 (length grew) (omega arith) in rw long refl));
-  }
-
-  pub found-whole : (reading : Result Packet PacketFault) → length grew ≡ 16 → reading ≡ read_of grew →
-      packets_in (octets ++ o ∷ []) ≡ packets_in octets ++ (before.given + 1 - 16, reading) ∷ []
-  found-whole reading size read =
-      let place : 0 + (length octets + 1) - 16 ≡ before.given + 1 - 16 = omega (arith, stands.count) in
-      grows.1 ∙ (let long : nat_le 16 (length grew) ≡ true = le-leb 16 (length grew) (omega arith) in rw (long, read, place) refl)
+  pub goes-whole : (reading : Result Packet PacketFault) → length grew ≡ 16 → reading ≡ read_of grew →
+      Goes (record { given = before.given + 1; lock = lock; nibbles = nibbles; begun = 0 }) octets o ((before.given + 1 - 16, reading) ∷ [])
+  goes-whole reading size read =
+      let long : nat_le 16 (length grew) ≡ true = le-leb 16 (length grew) (omega arith) in
+      let place : 0 + (length octets + 1) - 16 ≡ before.given + 1 - 16 = omega (arith, stands.count) in (
+        record {
+          count = next_count before.given octets o stands.count;
+          lock = next_lock lock octets o lock_stands;
+          begun = sym (grows.0 ∙ rw long refl);
+        },
+        grows.1 ∙ rw (long, read, place) refl,
+      )
 
 -- ---- those nibbles
 -- none has begun, and none begins

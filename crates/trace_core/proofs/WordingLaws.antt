@@ -1,22 +1,20 @@
 -- The packets that are computed of octets are those that are worded, and no others are.
-use Rattle.std.proofs.Common.{◌≡◌, ℕ, zero, suc, ◌+◌, ◌*◌, ◌/◌, ◌%◌, ◌<◌, ◌≤◌, ◌==◌, nat_le, ◌&&◌, Bool, true, false, if◌then◌else◌, inl, inr, List, [], ◌∷◌, ◌++◌, length, map, take, drop, slice_index, slice_get, Option, Some, Result, refl, sym, ◌∙◌, ap, ap₂, subst, arith, append_assoc, length-take}
+use Rattle.std.proofs.Common.{◌≡◌, ℕ, zero, suc, ◌+◌, ◌%◌, ◌<◌, ◌≤◌, ◌==◌, nat_le, Bool, true, inl, inr, List, [], ◌∷◌, ◌++◌, length, take, drop, slice_index, slice_get, Option, Some, refl, sym, ◌∙◌, ap, subst, arith, append_assoc, length-take}
 use Rattle.std.specs.List.{list_all}
 use Rattle.std.proofs.Math.Nat.{eq-or-lt_of_le}
 use Rattle.std.proofs.Math.Seq.{drop-append_seam}
 use Rattle.std.proofs.lemmas.Option.{slice_get_within}
 use Rattle.std.proofs.lemmas.Bool.{cases_Bool, both_ways, cases_order, and_parts, and_from, eqb-true, eq-eqb, leb-true, le-leb}
-use Rattle.std.proofs.lemmas.List.{append-nil, length-append, take-append-drop, length-drop}
-use Rattle.vc_bits.specs.Lock.{IsInStep, IsAt}
+use Rattle.std.proofs.lemmas.List.{append-nil, length-append, take-append-drop}
+use Rattle.vc_bits.specs.Lock.{IsAt}
 use Rattle.vc_bits.proofs.LockLaws.{IsInStep-append, IsInStep_before, IsInStep-inside, IsAt-append}
-use Rattle.session_model.specs.declared.packet.Packet.{Packet}
-use Rattle.session_model.specs.declared.packet.PacketFault.{PacketFault}
-use Rattle.session_model.specs.Number.{Lock, unlocked, Sight, at, sight_of}
+use Rattle.session_model.specs.Number.{Lock, unlocked, at, sight_of}
 use Rattle.session_model.specs.Sight.{sights_on, lock_by}
 use Rattle.session_model.specs.Packet.{read_of}
 use Rattle.session_model.specs.Decode.{good_cells, is_at, is_front, begins_packet, front_nibbles, Found, packet_here, packets_on, packets_in}
 use Rattle.line_law.proofs.ListLaws.{append_one, slice_get-inside}
 use Rattle.line_law.proofs.SightLaws.{Stands as SightStands, IsSight}
-use Rattle.line_law.proofs.SignLaws.{stands-next, sights-each, IsSight_only, length-sights_on}
+use Rattle.line_law.proofs.SignLaws.{sights-each, IsSight_only, length-sights_on}
 use Rattle.trace_core.specs.Wording.{HasPacketAt, AreFound, AreWorded, AreOnly, PacketsStay}
 use Rattle.trace_core.proofs.DecoderLaws.{lock_on, is_at-at, packets-out, packets-grow}
 use Rattle.trace_core.proofs.StepLaws.{good_cells-append, length-good_cells, stands-of}

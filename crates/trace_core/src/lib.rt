@@ -82,7 +82,8 @@ impl H4Decoder {
             return None;
         }
         self.begun = 0;
-        Some((self.given - 16, read(&self.nibbles)))
+        let found = read(&self.nibbles);
+        Some((self.given - 16, found))
     }
 }
 
