@@ -1,4 +1,4 @@
--- What a good cell is behind those that the lock has seen, and what it leaves.
+-- What a good cell is after those that the lock has seen, and what it leaves.
 use Rattle.std.proofs.Common.{◌≡◌, ◌≢◌, ℕ, ◌+◌, ◌*◌, ◌/◌, ◌%◌, ◌<◌, List, [], ◌∷◌, ◌++◌, length, Option, Some, slice_get, refl, sym, ◌∙◌, ap, subst, arith}
 use Rattle.std.proofs.lemmas.List.{length-append}
 use Rattle.vc_bits.specs.Lock.{HasMfi1, IsOutOfStep}
@@ -26,18 +26,18 @@ IsPlace_only cells place (At a) (LocksAnswer b) p q =
     let same : p.0.0 ≡ q.0.0 = IsFirstStep_only cells p.0.0 q.0.0 place p.0.1 q.0.1 in
     absurd (omega (arith, p.0.2, q.0.2))
 
--- and more cells behind it change nothing of it
+-- and more cells after it change nothing of it
 pub IsPlace-append : (cells more : List (Option ℕ)) (place : ℕ) (a : Place) → place < length cells → IsPlace cells place a → IsPlace (cells ++ more) place a
 IsPlace-append cells more place Unknown inside out = IsOutOfStep-append cells more place inside out
 IsPlace-append cells more place (LocksAnswer a) inside p = (Locks-append cells more place p.0, HasNumber-append cells more place a p.1)
 IsPlace-append cells more place (At a) inside p = (IsAt-append cells more place p.0, HasNumber-append cells more place a p.1)
 
--- ---- the cell behind a list
+-- ---- the cell after a list
 only_last : (cells : List (Option ℕ)) (entry : Option ℕ) (place : ℕ) → IsLast (cells ++ entry ∷ []) place → place ≡ length cells
 only_last cells entry place last = omega (arith, length-append cells (entry ∷ []))
 
-entry_behind : (cells : List (Option ℕ)) (entry : Option ℕ) (place : ℕ) → IsLast cells place → slice_get (cells ++ entry ∷ []) (place + 1) ≡ Some entry
-entry_behind cells entry place last =
+entry_after : (cells : List (Option ℕ)) (entry : Option ℕ) (place : ℕ) → IsLast cells place → slice_get (cells ++ entry ∷ []) (place + 1) ≡ Some entry
+entry_after cells entry place last =
     subst (λ n. slice_get (cells ++ entry ∷ []) n ≡ Some entry) (sym last) (slice_get-append_seam cells entry [])
 
 inside : (cells : List (Option ℕ)) (place : ℕ) → IsLast cells place → place < length cells
@@ -51,14 +51,14 @@ locks_place cells octet h4 octet_small small first (place, last, out, here, zero
     let within = inside cells place last in
     subst (λ n. IsPlace (cells ++ more) n (LocksAnswer (16 * (16 * (octet / 16) + h4 / 16) + 1))) last
     (Locks_next (cells ++ more) place octet h4 octet_small small (IsOutOfStep-append cells more place within out)
-    (slice_get-append cells more place within ∙ here) zeroth (entry_behind cells (Some h4) place last) first)
+    (slice_get-append cells more place within ∙ here) zeroth (entry_after cells (Some h4) place last) first)
 
 pub at_place : (cells : List (Option ℕ)) (number h4 : ℕ) → h4 % 16 ≡ (number + 1) % 4096 % 16 → Stands (Locked number) cells →
     IsPlace (cells ++ Some h4 ∷ []) (length cells) (At ((number + 1) % 4096))
 at_place cells number h4 next (place, last, has) =
     let more = Some h4 ∷ [] in
     subst (λ n. IsPlace (cells ++ more) n (At ((number + 1) % 4096))) last
-    (IsAt_next (cells ++ more) place number (HasNumber-append cells more place number has) (h4, entry_behind cells (Some h4) place last, next))
+    (IsAt_next (cells ++ more) place number (HasNumber-append cells more place number has) (h4, entry_after cells (Some h4) place last, next))
 
 pub unlocked_unknown : (cells : List (Option ℕ)) (h4 : ℕ) → Stands Unlocked cells → IsOutOfStep (cells ++ Some h4 ∷ []) (length cells)
 unlocked_unknown [] h4 stands = λ from step. let later = step.later in absurd (omega arith)
@@ -77,7 +77,7 @@ begun_unknown cells octet h4 other (place, last, out, here, zeroth) =
     let more = Some h4 ∷ [] in
     subst (IsOutOfStep (cells ++ more)) last
     (IsOutOfStep_next (cells ++ more) place 0 (h4 % 16) (octet, slice_get-append cells more place (inside cells place last) ∙ here, zeroth)
-    (h4, entry_behind cells (Some h4) place last, refl) other)
+    (h4, entry_after cells (Some h4) place last, refl) other)
 
 next_lower_half : (number : ℕ) → (number % 16 + 1) % 16 ≡ (number + 1) % 4096 % 16
 next_lower_half number = omega arith
@@ -89,11 +89,11 @@ locked_unknown cells number h4 other (place, last, has) =
     subst (IsOutOfStep (cells ++ more)) last
     (IsOutOfStep_next (cells ++ more) place (number % 16) (h4 % 16)
     (HasNumber-mfi1 (cells ++ more) place number (HasNumber-append cells more place number has))
-    (h4, entry_behind cells (Some h4) place last, refl) (λ e. other (e ∙ next_lower_half number)))
+    (h4, entry_after cells (Some h4) place last, refl) (λ e. other (e ∙ next_lower_half number)))
 
 -- ---- what it leaves
-pub unlocked_behind : (cells : List (Option ℕ)) (h4 : ℕ) → h4 % 16 ≢ 0 → IsOutOfStep (cells ++ Some h4 ∷ []) (length cells) → Stands Unlocked (cells ++ Some h4 ∷ [])
-unlocked_behind cells h4 other out place last =
+pub unlocked_after : (cells : List (Option ℕ)) (h4 : ℕ) → h4 % 16 ≢ 0 → IsOutOfStep (cells ++ Some h4 ∷ []) (length cells) → Stands Unlocked (cells ++ Some h4 ∷ [])
+unlocked_after cells h4 other out place last =
     let more = Some h4 ∷ [] in
     let same = only_last cells (Some h4) place last in (
       subst (IsOutOfStep (cells ++ more)) (sym same) out,

@@ -1,4 +1,4 @@
--- G.707, multiframe alignment: what the lock of a line knows behind a list of cells.
+-- G.707, multiframe alignment: what the lock of a line knows after a list of cells.
 use Rattle.std.specs.Prelude.{◌≡◌, ℕ, ◌+◌, ◌%◌, List, length, Option, Some, slice_get}
 use Rattle.vc_bits.specs.Lock.{HasMfi1, IsOutOfStep, HasNumber}
 use Rattle.h4_multiframe.specs.declared.State.{State}

@@ -1,4 +1,6 @@
-//! The multiframe of virtual concatenation (G.707): the H4 octet, and the lock of a line on it.
+//! The multiframe of virtual concatenation (G.707): the H4 octet of a frame, and the lock of a line on the octets that come. Begin
+//! with `h4` and `MfiLock`. Numbers are known modulo 4,096 here; which frame of all a cell has is not said, nor what a packet
+//! says.
 #![tactic(auto)]
 
 ghost use Rattle.std.specs.Prelude.{◌≡◌, ℕ, ◌+◌, ◌*◌, ◌%◌, ◌<◌, List, [], ◌∷◌, ◌++◌, length, Option, Some, None};
@@ -16,18 +18,18 @@ pub fn h4(t: u64, nibble: u8) -> u8
     join_nibbles(nibble, (t % 16) as u8)
 }
 
-/// What a good cell is to the lock of its line. The numbers are those of its frame, modulo 4,096.
+/// What a good cell is to the lock of its line. Numbers of frames are given modulo 4,096.
 #[derive(Clone, Copy, Debug, PartialEq, Eq)]
 pub enum Place {
-    /// The line is not locked behind this cell.
+    /// The line is not locked after this cell.
     Unknown,
-    /// This cell locks the line.
+    /// The cell locks the line, and its frame has this number.
     Locks(u16),
-    /// The line is locked.
+    /// The line was locked before this cell and stays so, and its frame has this number.
     At(u16),
 }
 
-/// What the lock knows behind the last cell.
+/// What the lock knows after the last cell.
 #[derive(Clone, Copy)]
 enum State {
     /// The line is not locked, and the next cell can't lock it.
@@ -86,12 +88,12 @@ impl MfiLock {
             IsPlace (cells ++ Some h4 ∷ []) (length cells) result }
     {
         let place = place_of(self.state, h4);
-        self.state = state_behind(place, h4);
+        self.state = state_after(place, h4);
         place
     }
 }
 
-/// What a good cell with this H4 octet is, behind this state.
+/// What a good cell with this H4 octet is, after this state.
 fn place_of(state: State, h4: u8) -> Place
     ensures { (cells : List (Option ℕ)) → Stands state cells → IsPlace (cells ++ Some h4 ∷ []) (length cells) result }
 {
@@ -107,7 +109,7 @@ fn place_of(state: State, h4: u8) -> Place
             }
         }
         State::Locked { number } => {
-            let next = number_after(number);
+            let next = number.wrapping_add(1) % 4096;
             if u16::from(mfi1) == next % 16 {
                 Place::At(next)
             } else {
@@ -117,15 +119,8 @@ fn place_of(state: State, h4: u8) -> Place
     }
 }
 
-/// The number of the next frame.
-fn number_after(number: u16) -> u16
-    ensures { result ≡ (number + 1) % 4096 }
-{
-    number.wrapping_add(1) % 4096
-}
-
-/// The state behind a good cell with this H4 octet, from what the cell is.
-fn state_behind(place: Place, h4: u8) -> State
+/// The state after a good cell with this H4 octet, from what the cell is.
+fn state_after(place: Place, h4: u8) -> State
     ensures { (cells : List (Option ℕ)) → IsPlace (cells ++ Some h4 ∷ []) (length cells) place →
         Stands result (cells ++ Some h4 ∷ []) }
 {
@@ -156,7 +151,7 @@ mod tests {
     #[test]
     fn places(rt: HostRuntime) {
         let cells = [
-            // No cell locks but one with MFI1 1 behind one with MFI1 0.
+            // No cell locks but one with MFI1 1 after one with MFI1 0.
             Some((0x21, Place::Unknown)),
             Some((0x32, Place::Unknown)),
             Some((0x20, Place::Unknown)),
@@ -178,7 +173,7 @@ mod tests {
             // Another MFI1 than the next one unlocks.
             Some((0x43, Place::Unknown)),
             Some((0x44, Place::Unknown)),
-            // The numbers begin again behind 4,095.
+            // The numbers begin again after 4,095.
             Some((0xf0, Place::Unknown)),
             Some((0xf1, Place::Locks(4081))),
             Some((0x02, Place::At(4082))),

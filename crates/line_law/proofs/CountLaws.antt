@@ -49,7 +49,7 @@ pub stands-of : (cells : List Cell) → HasNoEnd cells → Stands (reading_of ce
 stands-of cells more = stands-on cells (record { lock = unlocked; verdicts = [] }) [] more stands-none
 
 -- ---- at each place
-IsSight-append : (signs more : List (Option ℕ)) (place : ℕ) (sight : Sight) → place < length signs → IsSight signs place sight → IsSight (signs ++ more) place sight
+pub IsSight-append : (signs more : List (Option ℕ)) (place : ℕ) (sight : Sight) → place < length signs → IsSight signs place sight → IsSight (signs ++ more) place sight
 IsSight-append signs more place unknown inside is = IsOutOfStep-append signs more place inside is
 IsSight-append signs more place (locks number) inside (is, before, mfi2, next, has, e) = (Locks-append signs more place is, before, mfi2, next, HasMfi2-append signs more before mfi2 has, e)
 IsSight-append signs more place at inside is = IsAt-append signs more place is
@@ -60,7 +60,7 @@ none-in (suc n) zero c e = absurd cc
 none-in (suc n) (suc k) c e = none-in n k c e
 
 -- no cell is in step at one that isn't good
-out-here : (signs : List (Option ℕ)) (i : ℕ) → slice_get signs i ≡ Some None → IsOutOfStep signs i
+pub out-here : (signs : List (Option ℕ)) (i : ℕ) → slice_get signs i ≡ Some None → IsOutOfStep signs i
 out-here signs i here from step =
     let later = step.later in
     let has = step.rises i (omega arith) (omega arith) in

@@ -10,3 +10,4 @@ pub mod WorkedLaws
 pub mod OctetLaws
 pub mod EndLaws
 pub mod RowLaws
+pub mod SignLaws

@@ -3,3 +3,4 @@ pub mod Wording
 pub mod Stable
 pub mod Worked
 pub mod StableRows
+pub mod Sights

@@ -6,6 +6,7 @@
 
 ghost use Rattle.line_law.specs.Numbering.{AreNumbered, AreAt, AreInStep, AreExpected, ArePackets, AreReadable, AreRead};
 ghost use Rattle.line_law.specs.Wording.{IsWorded, IsOnlyCount, AreWhole, AreDecided, EndDecides};
+ghost use Rattle.line_law.specs.Sights.{AreAtSights, AreLockingSights, AreUnknownSights};
 ghost use Rattle.line_law.specs.Stable.{VerdictsStay, OctetsStay, CellsStay};
 ghost use Rattle.line_law.specs.StableRows.{PacketsStay, GoverningStay, RowsStay, ReturnsStay};
 ghost use Rattle.line_law.specs.Worked.{IsMet, AreSummed, AreSeventeen};
@@ -28,6 +29,13 @@ pub fn reading_law()
     ensures whole { AreWhole }
     ensures decided { AreDecided }
     ensures end { EndDecides }
+{}
+
+/// What is computed of each cell of a line is the one thing that G.707 words of it.
+pub fn sight_law()
+    ensures at { AreAtSights }
+    ensures locks { AreLockingSights }
+    ensures unknown { AreUnknownSights }
 {}
 
 /// What is decided of a line, and of all lines of a group, stays so.

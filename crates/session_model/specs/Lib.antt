@@ -7,7 +7,6 @@ pub mod Run
 pub mod Outcome
 pub mod Delivery
 pub mod Packet
-pub mod Decode
 pub mod Damage
 pub mod Path
 pub mod Number
@@ -24,6 +23,10 @@ pub mod Client
 pub mod Line
 pub mod Sign
 pub mod MemberPacket
+pub mod Sight
+pub mod Decode
+pub mod PacketText
+pub mod DecodeText
 pub mod Accepted
 pub mod Journal
 pub mod Rows

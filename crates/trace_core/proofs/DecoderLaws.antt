@@ -1,244 +1,254 @@
--- The octets of a packet: more octets behind it change nothing, and no octet is in two packets.
-use Rattle.std.proofs.Common.{◌≡◌, ℕ, zero, suc, ◌+◌, ◌-◌, ◌/◌, ◌%◌, ◌<◌, ◌≤◌, inl, inr, List, [], ◌∷◌, ◌++◌, length, map, drop, slice_index, Option, Some, slice_get, refl, sym, ◌∙◌, ap, subst, arith}
-use Rattle.std.proofs.Math.Nat.{eq-or-lt_of_le}
-use Rattle.std.proofs.lemmas.Bool.{cases_eq}
-use Rattle.std.proofs.lemmas.List.{take_all, length-append, length-map, map-append, get_or_append_left, drop-append-le, drop_all, length-drop}
-use Rattle.vc_bits.specs.Lock.{HasMfi1, IsAt}
-use Rattle.vc_bits.proofs.LockLaws.{IsInStep-append, IsInStep_before, IsInStep-inside, IsInStep-next, IsAt-append, HasMfi1_only, IsFirstStep_only}
-use Rattle.h4_multiframe.specs.declared.Place.TheVariants.{Unknown, Locks as LocksAnswer}
-use Rattle.h4_multiframe.specs.Place.{IsPlace}
-use Rattle.session_model.specs.Decode.{good_cells, HasPacketAt, nibbles_at}
-use Rattle.trace_core.specs.Decoder.{IsFront, HasBegun, IsIdle, IsBegun, IsTaken}
+-- One octet more: what it does to the packets of the octets before it, and to one that has begun.
+use Rattle.std.proofs.Common.{◌≡◌, ℕ, suc, ◌+◌, ◌-◌, ◌/◌, ◌%◌, ◌<◌, ◌≤◌, ◌==◌, nat_lt, nat_le, ◌&&◌, Bool, true, false, if◌then◌else◌, inl, inr, List, [], ◌∷◌, ◌++◌, length, take, Some, refl, sym, ◌∙◌, ap, ap₂, subst, arith, append_assoc}
+use Rattle.std.specs.List.{list_all}
+use Rattle.std.proofs.Math.Bool.{and_assoc, and-true}
+use Rattle.std.proofs.lemmas.Bool.{cases_Bool, cases_lt, and_parts, and_cases, and_from, and_left, and_right, eqb-true, ne_eqb, lt-ltb, le-ltb, ltb-true, ltb-false, le-leb, lt-leb}
+use Rattle.std.proofs.lemmas.List.{append-nil, length-append, length-map, map-append, take_all, take-append-le}
+use Rattle.session_model.specs.Number.{Lock, locked, Sight, unknown, locks, at, sight_of, lock_after}
+use Rattle.session_model.specs.Sight.{lock_by, sights_on}
+use Rattle.session_model.specs.Packet.{read_of}
+use Rattle.session_model.specs.Decode.{good_cells, is_at, is_front, upper_halves, Found, packet_here, packets_on}
+use Rattle.trace_core.specs.Decoder.{begun_on}
 
--- ---- the cells of octets
-pub good_cells-append : (octets more : List ℕ) → good_cells (octets ++ more) ≡ good_cells octets ++ good_cells more
-good_cells-append octets more = map-append Some octets more
+-- what is known of the line after octets
+unfoldable pub lock_on : Lock → List ℕ → Lock
+lock_on lock [] = lock
+lock_on lock (h4 ∷ octets) = lock_on (lock_by lock (Some h4)) octets
 
-pub length-good_cells : (octets : List ℕ) → length (good_cells octets) ≡ length octets
-length-good_cells octets = length-map octets Some
+-- ---- octets that come while the line is locked
+abbrev are_at : Lock → List ℕ → Bool
+are_at lock octets = list_all is_at (sights_on lock (good_cells octets))
 
-slice_get-good_cells : (octets : List ℕ) (k : ℕ) → k < length octets → slice_get (good_cells octets) k ≡ Some (Some (slice_index octets k))
-slice_get-good_cells [] k h = absurd (omega arith)
-slice_get-good_cells (o ∷ octets) zero h = refl
-slice_get-good_cells (o ∷ octets) (suc k) h = slice_get-good_cells octets k (omega arith)
+are_at-more : (octets : List ℕ) (lock : Lock) (o : ℕ) → are_at lock (octets ++ o ∷ []) ≡ (are_at lock octets && is_at (sight_of (lock_on lock octets) o))
+unfolding sights_on lock_on
+are_at-more [] lock o = and-true (is_at (sight_of lock o))
+are_at-more (h4 ∷ octets) lock o =
+    ap (λ b. is_at (sight_of lock h4) && b) (are_at-more octets (lock_by lock (Some h4)) o)
+    ∙ sym (and_assoc (is_at (sight_of lock h4)) (are_at (lock_by lock (Some h4)) octets) (is_at (sight_of (lock_on (lock_by lock (Some h4)) octets) o)))
 
-slice_get_index : (octets : List ℕ) (k octet : ℕ) → slice_get octets k ≡ Some octet → slice_index octets k ≡ octet
-slice_get_index [] k octet e = cc
-slice_get_index (o ∷ octets) zero octet e = cc
-slice_get_index (o ∷ octets) (suc k) octet e = slice_get_index octets k octet e
+front-more : (h4 : ℕ) (octets : List ℕ) (lock : Lock) (o : ℕ) →
+    is_front lock (h4 ∷ octets ++ o ∷ []) ≡ (is_front lock (h4 ∷ octets) && is_at (sight_of (lock_on lock (h4 ∷ octets)) o))
+front-more h4 octets lock o =
+    ap (λ b. h4 % 16 == 8 && b) (are_at-more (h4 ∷ octets) lock o)
+    ∙ sym (and_assoc (h4 % 16 == 8) (are_at lock (h4 ∷ octets)) (is_at (sight_of (lock_on lock (h4 ∷ octets)) o)))
 
-slice_index-append : (octets more : List ℕ) (place : ℕ) → place < length octets → slice_index (octets ++ more) place ≡ slice_index octets place
-slice_index-append octets more place inside = get_or_append_left octets more 0 place inside
+-- ---- the packet at the front of octets
+not_here : (lock : Lock) (place : ℕ) (octets : List ℕ) → is_front lock (take 16 octets) ≡ false → packet_here lock place octets ≡ []
+not_here lock place octets other = rw (and_right (nat_le 16 (length octets)) (is_front lock (take 16 octets)) other) refl
 
-slice_index-seam : (octets : List ℕ) (o : ℕ) → slice_index (octets ++ o ∷ []) (length octets) ≡ o
-slice_index-seam [] o = refl
-slice_index-seam (x ∷ octets) o = slice_index-seam octets o
+few_here : (lock : Lock) (place : ℕ) (octets : List ℕ) → length octets < 16 → packet_here lock place octets ≡ []
+few_here lock place octets few =
+    rw (and_left (nat_le 16 (length octets)) (is_front lock (take 16 octets)) (lt-leb 16 (length octets) few)) refl
 
--- ---- octets that came while the line was locked
-pub IsAt_inside : (octets : List ℕ) (place : ℕ) → IsAt (good_cells octets) place → place < length octets
-IsAt_inside octets place at =
-    subst (λ n. place < n) (length-good_cells octets) (IsInStep-inside (good_cells octets) at.0 place at.1.in_step)
+whole_here : (lock : Lock) (place : ℕ) (octets : List ℕ) → length octets ≡ 16 → is_front lock octets ≡ true →
+    packet_here lock place octets ≡ (place, read_of (upper_halves octets)) ∷ []
+whole_here lock place octets size is =
+    let whole : take 16 octets ≡ octets = take_all 16 octets (omega arith) in
+    rw (whole, is, le-leb 16 (length octets) (omega arith)) refl
 
-IsAt_before : (cells more : List (Option ℕ)) (place : ℕ) → place < length cells → IsAt (cells ++ more) place → IsAt cells place
-IsAt_before cells more place inside at = (
-  at.0,
-  record {
-    in_step = IsInStep_before cells more at.0 place inside at.1.in_step;
-    first = λ k before step. at.1.first k before (IsInStep-append cells more k place step);
-  },
-  at.2,
-)
+same_here : (lock : Lock) (place : ℕ) (octets : List ℕ) (o : ℕ) → 16 ≤ length octets → packet_here lock place (octets ++ o ∷ []) ≡ packet_here lock place octets
+same_here lock place octets o enough =
+    let more : 16 ≤ length (octets ++ o ∷ []) = omega (arith, length-append octets (o ∷ [])) in
+    let first : take 16 (octets ++ o ∷ []) ≡ take 16 octets = take-append-le 16 octets (o ∷ []) enough in
+    rw (le-leb 16 (length (octets ++ o ∷ [])) more, le-leb 16 (length octets) enough, first) refl
 
-good_at-append : (octets more : List ℕ) (place : ℕ) → IsAt (good_cells octets) place → IsAt (good_cells (octets ++ more)) place
-good_at-append octets more place at =
-    subst (λ cells. IsAt cells place) (sym (good_cells-append octets more)) (IsAt-append (good_cells octets) (good_cells more) place at)
+-- fewer than sixteen octets have none
+pub few_packets : (octets : List ℕ) (lock : Lock) (place : ℕ) → length octets < 16 → packets_on lock place octets ≡ []
+unfolding packets_on
+few_packets [] lock place few = refl
+few_packets (h4 ∷ octets) lock place few =
+    rw (few_here lock place (h4 ∷ octets) few) (few_packets octets (lock_by lock (Some h4)) (place + 1) (omega arith))
 
-good_at_before : (octets more : List ℕ) (place : ℕ) → place < length octets → IsAt (good_cells (octets ++ more)) place → IsAt (good_cells octets) place
-good_at_before octets more place inside at =
-    IsAt_before (good_cells octets) (good_cells more) place (subst (λ n. place < n) (sym (length-good_cells octets)) inside)
-    (subst (λ cells. IsAt cells place) (good_cells-append octets more) at)
-
--- what is not answered to be one is none
-pub Unknown-not_at : (cells : List (Option ℕ)) (place : ℕ) → IsPlace cells place Unknown → IsAt cells place → ⊥
-Unknown-not_at cells place out at = out at.0 at.1.in_step
-
-pub Locks-not_at : (cells : List (Option ℕ)) (place number : ℕ) → IsPlace cells place (LocksAnswer number) → IsAt cells place → ⊥
-Locks-not_at cells place number locks at =
-    let same : locks.0.0 ≡ at.0 = IsFirstStep_only cells locks.0.0 at.0 place locks.0.1 at.1 in
-    omega (arith, locks.0.2, at.2)
-
--- ---- the first octets of a packet
-IsFront_shorter : (octets : List ℕ) (place count less : ℕ) → less ≤ count → IsFront octets place count → IsFront octets place less
-IsFront_shorter octets place count less h front = record { first = front.first; locked = λ k below. front.locked k (omega arith) }
-
-IsFront_inside : (octets : List ℕ) (place count : ℕ) → 0 < count → IsFront octets place count → place < length octets
-IsFront_inside octets place count some front =
-    let inside = IsAt_inside octets (place + 0) (front.locked 0 some) in
-    omega arith
-
-pub IsFront-append : (octets more : List ℕ) (place count : ℕ) → 0 < count → IsFront octets place count → IsFront (octets ++ more) place count
-IsFront-append octets more place count some front = record {
-  first = rw (slice_index-append octets more place (IsFront_inside octets place count some front)) front.first;
-  locked = λ k below. good_at-append octets more (place + k) (front.locked k below);
-}
-
-pub IsFront_before : (octets more : List ℕ) (place count : ℕ) → 0 < count → place + count ≤ length octets → IsFront (octets ++ more) place count → IsFront octets place count
-IsFront_before octets more place count some inside front = record {
-  first = rw (slice_index-append octets more place (omega arith)) at front.first;
-  locked = λ k below. good_at_before octets more (place + k) (omega arith) (front.locked k below);
-}
-
-next_mfi1 : (k : ℕ) → ((8 + k) % 16 + 1) % 16 ≡ (8 + suc k) % 16
-next_mfi1 k = omega arith
-
--- MFI1 counts them from 8 on
-IsFront-mfi1 : (octets : List ℕ) (place count k : ℕ) → k < count → IsFront octets place count → HasMfi1 (good_cells octets) (place + k) ((8 + k) % 16)
-IsFront-mfi1 octets place count zero inside front =
-    let within = IsFront_inside octets place count inside front in
-    let here : slice_get (good_cells octets) (place + 0) ≡ Some (Some (slice_index octets place)) =
-    subst (λ n. slice_get (good_cells octets) n ≡ Some (Some (slice_index octets place))) (let e : place ≡ place + 0 = omega arith in e)
-    (slice_get-good_cells octets place within) in
-    (slice_index octets place, here, front.first)
-IsFront-mfi1 octets place count (suc k) inside front =
-    let cells = good_cells octets in
-    let before = IsFront-mfi1 octets place count k (omega arith) front in
-    let e : place + suc k ≡ place + k + 1 = omega arith in
-    let at = subst (IsAt cells) e (front.locked (suc k) inside) in
-    let later : at.0 < place + k + 1 = at.1.in_step.later in
-    let next = at.1.in_step.rises (place + k + 1) (omega arith) (omega arith) in
-    let same = IsInStep-next cells at.0 (place + k) ((8 + k) % 16) ((place + k + 1 - at.0) % 16) at.1.in_step before next in
-    subst (λ n. HasMfi1 cells n ((8 + suc k) % 16)) (sym e) (subst (HasMfi1 cells (place + k + 1)) (same ∙ next_mfi1 k) next)
-
-same_count : (m n : ℕ) → (8 + m) % 16 ≡ (8 + n) % 16 → suc m % 16 ≡ suc n % 16
-same_count m n e = omega arith
-
--- so those that end at one octet are as many, modulo sixteen
-IsFront_only : (octets : List ℕ) (a b m n : ℕ) → 0 < m → 0 < n → a + m ≡ b + n → IsFront octets a m → IsFront octets b n → m % 16 ≡ n % 16
-IsFront_only octets a b zero n p q e front other = absurd (omega arith)
-IsFront_only octets a b (suc m) zero p q e front other = absurd (omega arith)
-IsFront_only octets a b (suc m) (suc n) p q e front other =
-    let one = IsFront-mfi1 octets a (suc m) m (omega arith) front in
-    let two = IsFront-mfi1 octets b (suc n) n (omega arith) other in
-    let here = subst (λ k. HasMfi1 (good_cells octets) k ((8 + n) % 16)) (let e : b + n ≡ a + m = omega arith in e) two in
-    same_count m n (HasMfi1_only (good_cells octets) (a + m) ((8 + m) % 16) ((8 + n) % 16) one here)
-
--- ---- the next octet
-last_at : (octets : List ℕ) (o place count : ℕ) → 0 < count → place + count ≡ length octets + 1 → IsFront (octets ++ o ∷ []) place count →
-    IsAt (good_cells (octets ++ o ∷ [])) (length octets)
-last_at octets o place count some last front =
-    subst (IsAt (good_cells (octets ++ o ∷ []))) (let e : place + (count - 1) ≡ length octets = omega arith in e) (front.locked (count - 1) (omega arith))
-
-pub length_push : (octets : List ℕ) (o : ℕ) → length (octets ++ o ∷ []) ≡ length octets + 1
-length_push octets o = length-append octets (o ∷ [])
-
--- one that did not come while the line was locked ends what has begun
-pub IsIdle_unlocked : (octets : List ℕ) (o : ℕ) → (IsAt (good_cells (octets ++ o ∷ [])) (length octets) → ⊥) → IsIdle (octets ++ o ∷ [])
-IsIdle_unlocked octets o not_at place count some few last front = not_at (last_at octets o place count some (last ∙ length_push octets o) front)
-
-pub packet_front : (octets : List ℕ) (place : ℕ) → HasPacketAt octets place → IsFront octets place 16
-packet_front octets place packet = record { first = packet.first; locked = packet.locked }
-
-pub none_unlocked : (octets : List ℕ) (o place : ℕ) → (IsAt (good_cells (octets ++ o ∷ [])) (length octets) → ⊥) → place + 16 ≡ length octets + 1 →
-    HasPacketAt (octets ++ o ∷ []) place → ⊥
-none_unlocked octets o place not_at last packet = not_at (last_at octets o place 16 (omega arith) last (packet_front (octets ++ o ∷ []) place packet))
-
--- one that did begins a packet,
-HasBegun_one : (octets : List ℕ) (o : ℕ) → IsAt (good_cells (octets ++ o ∷ [])) (length octets) → o % 16 ≡ 8 → HasBegun (octets ++ o ∷ []) (o / 16 ∷ [])
-HasBegun_one octets o at begins = record {
-  place = length octets;
-  last = sym (length_push octets o);
-  front = record {
-    first = rw (slice_index-seam octets o) begins;
-    locked = λ k below. subst (IsAt (good_cells (octets ++ o ∷ []))) (let e : length octets ≡ length octets + k = omega arith in e) at;
-  };
-  upper = sym (ap (map (λ octet. octet / 16)) (drop-append-le (length octets) octets (o ∷ []) (omega arith) ∙ ap (λ l. l ++ o ∷ []) (drop_all (length octets) octets (omega arith))));
-}
-
--- begins none,
-IsIdle_other : (octets : List ℕ) (o : ℕ) → IsIdle octets → (o % 16 ≡ 8 → ⊥) → IsIdle (octets ++ o ∷ [])
-IsIdle_other octets o idle other place zero some few last front = absurd (omega arith)
-IsIdle_other octets o idle other place (suc zero) some few last front =
-    let here : place ≡ length octets = omega (arith, last ∙ length_push octets o) in
-    other (rw (slice_index-seam octets o) at (subst (λ n. slice_index (octets ++ o ∷ []) n % 16 ≡ 8) here front.first))
-IsIdle_other octets o idle other place (suc (suc k)) some few last front =
-    let ends : place + suc (suc k) ≡ length octets + 1 = last ∙ length_push octets o in
-    idle place (suc k) (omega arith) (omega arith) (omega arith)
-    (IsFront_before octets (o ∷ []) place (suc k) (omega arith) (omega arith) (IsFront_shorter (octets ++ o ∷ []) place (suc (suc k)) (suc k) (omega arith) front))
-
--- or goes on with one
-HasBegun_more : (octets nibbles : List ℕ) (o : ℕ) → IsAt (good_cells (octets ++ o ∷ [])) (length octets) → 0 < length nibbles → HasBegun octets nibbles →
-    HasBegun (octets ++ o ∷ []) (nibbles ++ o / 16 ∷ [])
-HasBegun_more octets nibbles o at some begun =
-    let all = octets ++ o ∷ [] in
-    let last = begun.last in
-    let place = begun.place in
-    let inside = IsFront_inside octets place (length nibbles) some begun.front in
-    record {
-      place = place;
-      last = omega (arith, length_push octets o, length-append nibbles (o / 16 ∷ []));
-      front = record {
-        first = rw (slice_index-append octets (o ∷ []) place inside) begun.front.first;
-        locked = λ k below.
-            let within : k ≤ length nibbles = omega (arith, length-append nibbles (o / 16 ∷ [])) in
-            elim (eq-or-lt_of_le within) [
-              | inl same ↦ subst (IsAt (good_cells all)) (let e : length octets ≡ place + k = omega arith in e) at
-              | inr before ↦ good_at-append octets (o ∷ []) (place + k) (begun.front.locked k before)
-            ];
-      };
-      upper = ap (λ l. l ++ o / 16 ∷ []) begun.upper
-          ∙ sym (ap (map (λ octet. octet / 16)) (drop-append-le place octets (o ∷ []) (omega arith)) ∙ map-append (λ octet. octet / 16) (drop place octets) (o ∷ []));
-    }
-
-pub IsBegun_taken : (octets old new : List ℕ) (o : ℕ) → IsAt (good_cells (octets ++ o ∷ [])) (length octets) → IsBegun octets old → IsTaken o old new →
-    IsBegun (octets ++ o ∷ []) new
-IsBegun_taken octets [] new o at begun taken =
-    elim (cases_eq (o % 16) 8) [
-      | inl begins ↦ subst (IsBegun (octets ++ o ∷ [])) (sym (taken.0 begins)) (HasBegun_one octets o at begins)
-      | inr other ↦ subst (IsBegun (octets ++ o ∷ [])) (sym (taken.1 other)) (IsIdle_other octets o begun other)
+-- the packet at the front, of octets and of one more
+here-more : (lock : Lock) (place : ℕ) (octets : List ℕ) (o : ℕ) → (nat_lt (length octets) 16 && is_front lock (octets ++ o ∷ [])) ≡ false →
+    packet_here lock place (octets ++ o ∷ []) ≡ packet_here lock place octets
+here-more lock place octets o other =
+    elim (cases_lt (length octets) 16) [
+      | inl few ↦
+          let front : is_front lock (octets ++ o ∷ []) ≡ false = rw (lt-ltb (length octets) 16 few) at other in
+          let all : take 16 (octets ++ o ∷ []) ≡ octets ++ o ∷ [] = take_all 16 (octets ++ o ∷ []) (omega (arith, length-append octets (o ∷ []))) in
+          not_here lock place (octets ++ o ∷ []) (ap (is_front lock) all ∙ front) ∙ sym (few_here lock place octets few)
+      | inr enough ↦ same_here lock place octets o enough
     ]
-IsBegun_taken octets (n ∷ old) new o at begun taken =
-    subst (IsBegun (octets ++ o ∷ [])) (sym taken) (HasBegun_more octets (n ∷ old) o at (omega arith) begun)
 
-few_counts : (m : ℕ) → m < 15 → m % 16 ≡ 15 % 16 → ⊥
-few_counts m h e = omega arith
+-- ---- an octet that doesn't come while the line is locked
+pub packets-out : (octets : List ℕ) (lock : Lock) (place o : ℕ) → is_at (sight_of (lock_on lock octets) o) ≡ false →
+    (begun_on lock (octets ++ o ∷ []) ≡ []) × (packets_on lock place (octets ++ o ∷ []) ≡ packets_on lock place octets)
+unfolding begun_on packets_on lock_on sights_on
+packets-out [] lock place o out =
+    (rw (and_right (o % 16 == 8) (is_at (sight_of lock o) && true) (and_left (is_at (sight_of lock o)) true out)) refl, refl)
+packets-out (h4 ∷ octets) lock place o out =
+    let more = packets-out octets (lock_by lock (Some h4)) (place + 1) o out in
+    let all = h4 ∷ octets ++ o ∷ [] in
+    let front : is_front lock all ≡ false = front-more h4 octets lock o ∙ and_right (is_front lock (h4 ∷ octets)) (is_at (sight_of (lock_on lock (h4 ∷ octets)) o)) out in (
+      rw (and_right (nat_lt (length all) 16) (is_front lock all) front) more.0,
+      ap₂ (λ (a b : List Found). a ++ b)
+          (here-more lock place (h4 ∷ octets) o (and_right (nat_lt (length (h4 ∷ octets)) 16) (is_front lock all) front)) more.1,
+    )
 
-pub none_taken : (octets old new : List ℕ) (o place : ℕ) → IsBegun octets old → IsTaken o old new →
-    length new < 16 → place + 16 ≡ length octets + 1 → HasPacketAt (octets ++ o ∷ []) place → ⊥
-none_taken octets [] new o place begun taken few last packet =
-    begun place 15 (omega arith) (omega arith) (omega arith)
-    (IsFront_before octets (o ∷ []) place 15 (omega arith) (omega arith)
-    (IsFront_shorter (octets ++ o ∷ []) place 16 15 (omega arith) (packet_front (octets ++ o ∷ []) place packet)))
-none_taken octets (n ∷ old) new o place begun taken few last packet =
-    let front = IsFront_before octets (o ∷ []) place 15 (omega arith) (omega arith)
-    (IsFront_shorter (octets ++ o ∷ []) place 16 15 (omega arith) (packet_front (octets ++ o ∷ []) place packet)) in
-    let size = ap length taken ∙ length-append (n ∷ old) (o / 16 ∷ []) in
-    let ends = begun.last in
-    few_counts (length (n ∷ old)) (omega arith)
-    (IsFront_only octets begun.place place (length (n ∷ old)) 15 (omega arith) (omega arith) (omega arith) begun.front front)
+-- ---- octets that come while the line is locked have rising MFI1
+pub is_at-at : (sight : Sight) → is_at sight ≡ true → sight ≡ at
+is_at-at unknown e = absurd cc
+is_at-at (locks number) e = absurd cc
+is_at-at at e = refl
 
--- ---- a whole packet
-pub IsBegun-HasBegun : (octets nibbles : List ℕ) → IsBegun octets nibbles → length nibbles ≡ 16 → HasBegun octets nibbles
-IsBegun-HasBegun octets [] begun all = absurd (omega arith)
-IsBegun-HasBegun octets (n ∷ nibbles) begun all = begun
+due-mfi1 : (mfi1 o : ℕ) → is_at (sight_of (locked mfi1) o) ≡ true → o % 16 ≡ (mfi1 + 1) % 16
+due-mfi1 mfi1 o e =
+    elim (cases_Bool (o % 16 == (mfi1 + 1) % 16)) [
+      | inl due ↦ eqb-true (o % 16) ((mfi1 + 1) % 16) due
+      | inr other ↦ let never : is_at unknown ≡ true = rw other at e in absurd cc
+    ]
 
-place_of : (octets nibbles : List ℕ) (place : ℕ) (begun : HasBegun octets nibbles) → length nibbles ≡ 16 → place + 16 ≡ length octets → begun.place ≡ place
-place_of octets nibbles place begun all last = let ends = begun.last in omega arith
+lock-at : (lock : Lock) (o : ℕ) → is_at (sight_of lock o) ≡ true → lock_by lock (Some o) ≡ locked (o % 16)
+lock-at lock o e = ap (λ sight. lock_after sight o) (is_at-at (sight_of lock o) e)
 
-pub HasBegun-packet : (octets nibbles : List ℕ) (place : ℕ) → HasBegun octets nibbles → length nibbles ≡ 16 → place + 16 ≡ length octets → HasPacketAt octets place
-HasBegun-packet octets nibbles place begun all last =
-    let front = subst (λ n. IsFront octets n (length nibbles)) (place_of octets nibbles place begun all last) begun.front in
-    record { first = front.first; locked = λ k below. front.locked k (omega arith) }
+not_eight : (mfi1 j o : ℕ) → mfi1 ≡ (8 + j) % 16 → j < 15 → o % 16 ≡ (mfi1 + 1) % 16 → (o % 16 ≡ 8 → ⊥) × (o % 16 ≡ (8 + suc j) % 16)
+not_eight mfi1 j o e few due = (λ eight. omega arith, omega arith)
 
-pub HasBegun-nibbles : (octets nibbles : List ℕ) (place : ℕ) → HasBegun octets nibbles → length nibbles ≡ 16 → place + 16 ≡ length octets → nibbles ≡ nibbles_at octets place
-HasBegun-nibbles octets nibbles place begun all last =
-    begun.upper ∙ ap (λ n. map (λ octet. octet / 16) (drop n octets)) (place_of octets nibbles place begun all last)
-    ∙ ap (map (λ octet. octet / 16)) (sym (take_all 16 (drop place octets) (omega (arith, length-drop place octets))))
+-- so none of the fifteen after one with MFI1 8 has it again
+none_later : (octets : List ℕ) (mfi1 j : ℕ) → mfi1 ≡ (8 + j) % 16 → j + length octets ≤ 15 → are_at (locked mfi1) octets ≡ true → begun_on (locked mfi1) octets ≡ []
+unfolding begun_on sights_on
+none_later [] mfi1 j e few all = refl
+none_later (o ∷ octets) mfi1 j e few all =
+    let both = and_parts (is_at (sight_of (locked mfi1) o)) (are_at (lock_by (locked mfi1) (Some o)) octets) all in
+    let next = not_eight mfi1 j o e (omega arith) (due-mfi1 mfi1 o both.0) in
+    let lock : lock_by (locked mfi1) (Some o) ≡ locked (o % 16) = lock-at (locked mfi1) o both.0 in
+    let front : is_front (locked mfi1) (o ∷ octets) ≡ false = and_left (o % 16 == 8) (are_at (locked mfi1) (o ∷ octets)) (ne_eqb (o % 16) 8 next.0) in
+    let rest = none_later octets (o % 16) (suc j) next.1 (omega arith) (subst (λ l. are_at l octets ≡ true) lock both.1) in
+    rw (and_right (nat_lt (length (o ∷ octets)) 16) (is_front (locked mfi1) (o ∷ octets)) front)
+    (subst (λ l. begun_on l octets ≡ []) (sym lock) rest)
 
-whole_counts : (count : ℕ) → 0 < count → count < 16 → 16 % 16 ≡ count % 16 → ⊥
-whole_counts count some few e = omega arith
+-- ---- an octet that does
+-- the nibbles of a packet that has begun and of this octet, or those of one that begins with it
+abbrev pub grown : List ℕ → ℕ → List ℕ
+grown [] o = if o % 16 == 8 then o / 16 ∷ [] else []
+grown (nibble ∷ nibbles) o = (nibble ∷ nibbles) ++ o / 16 ∷ []
 
-pub IsIdle_complete : (octets nibbles : List ℕ) → HasBegun octets nibbles → length nibbles ≡ 16 → IsIdle octets
-IsIdle_complete octets nibbles begun all place count some few last front =
-    let ends = begun.last in
-    let whole = subst (IsFront octets begun.place) all begun.front in
-    whole_counts count some few (IsFront_only octets begun.place place 16 count (omega arith) some (omega arith) whole front)
+-- a packet that isn't whole goes on
+abbrev pub going_on : List ℕ → List ℕ
+going_on nibbles = if nat_le 16 (length nibbles) then [] else nibbles
+
+-- and one that is whole is read
+abbrev pub whole_at : ℕ → List ℕ → List Found
+whole_at place nibbles = if nat_le 16 (length nibbles) then (place, read_of nibbles) ∷ [] else []
+
+-- what a further octet does, where these are the nibbles with it
+abbrev pub Grows : Lock → ℕ → List ℕ → ℕ → List ℕ → Type 0
+Grows lock place octets o nibbles =
+    (begun_on lock (octets ++ o ∷ []) ≡ going_on nibbles)
+    × (packets_on lock place (octets ++ o ∷ []) ≡ packets_on lock place octets ++ whole_at (place + (length octets + 1) - 16) nibbles)
+
+begun-front : (h4 : ℕ) (octets : List ℕ) (lock : Lock) → length (h4 ∷ octets) < 16 → is_front lock (h4 ∷ octets) ≡ true →
+    begun_on lock (h4 ∷ octets) ≡ upper_halves (h4 ∷ octets)
+unfolding begun_on
+begun-front h4 octets lock few front =
+    rw (and_from (nat_lt (length (h4 ∷ octets)) 16) (is_front lock (h4 ∷ octets)) (lt-ltb (length (h4 ∷ octets)) 16 few) front) refl
+
+begun-other : (h4 : ℕ) (octets : List ℕ) (lock : Lock) → (nat_lt (length (h4 ∷ octets)) 16 && is_front lock (h4 ∷ octets)) ≡ false →
+    begun_on lock (h4 ∷ octets) ≡ begun_on (lock_by lock (Some h4)) octets
+unfolding begun_on
+begun-other h4 octets lock other = rw other refl
+
+packets-first : (h4 : ℕ) (octets : List ℕ) (lock : Lock) (place : ℕ) →
+    packets_on lock place (h4 ∷ octets) ≡ packet_here lock place (h4 ∷ octets) ++ packets_on (lock_by lock (Some h4)) (place + 1) octets
+unfolding packets_on
+packets-first h4 octets lock place = refl
+
+front-same : (h4 : ℕ) (octets : List ℕ) (lock : Lock) (o : ℕ) → is_at (sight_of (lock_on lock (h4 ∷ octets)) o) ≡ true →
+    is_front lock (h4 ∷ octets ++ o ∷ []) ≡ is_front lock (h4 ∷ octets)
+front-same h4 octets lock o comes =
+    front-more h4 octets lock o ∙ ap (λ b. is_front lock (h4 ∷ octets) && b) comes ∙ and-true (is_front lock (h4 ∷ octets))
+
+-- a packet that has begun goes on
+front-grows : (h4 : ℕ) (octets : List ℕ) (lock : Lock) (place o : ℕ) → is_at (sight_of (lock_on lock (h4 ∷ octets)) o) ≡ true →
+    is_front lock (h4 ∷ octets) ≡ true → length (h4 ∷ octets) < 15 → Grows lock place (h4 ∷ octets) o (upper_halves (h4 ∷ octets ++ o ∷ []))
+front-grows h4 octets lock place o comes front few =
+    let all = h4 ∷ octets ++ o ∷ [] in
+    let size : length all ≡ length octets + 2 = let more = length-append octets (o ∷ []) in omega arith in
+    let short : nat_le 16 (length (upper_halves all)) ≡ false = lt-leb 16 (length (upper_halves all)) (omega (arith, length-map all (λ octet. octet / 16))) in (
+      rw short (begun-front h4 (octets ++ o ∷ []) lock (omega arith) (front-same h4 octets lock o comes ∙ front)),
+      rw short (few_packets all lock place (omega arith) ∙ sym (append-nil (packets_on lock place (h4 ∷ octets)) ∙ few_packets (h4 ∷ octets) lock place (omega arith))),
+    )
+
+-- or is whole
+front-whole : (h4 : ℕ) (octets : List ℕ) (lock : Lock) (place o : ℕ) → is_at (sight_of (lock_on lock (h4 ∷ octets)) o) ≡ true →
+    is_front lock (h4 ∷ octets) ≡ true → length (h4 ∷ octets) ≡ 15 → Grows lock place (h4 ∷ octets) o (upper_halves (h4 ∷ octets ++ o ∷ []))
+unfolding sights_on
+front-whole h4 octets lock place o comes front size =
+    let all = h4 ∷ octets ++ o ∷ [] in
+    let next : Lock = lock_by lock (Some h4) in
+    let rest : List ℕ = octets ++ o ∷ [] in
+    let sixteen : length all ≡ 16 = let more = length-append octets (o ∷ []) in omega arith in
+    let long : nat_le 16 (length (upper_halves all)) ≡ true = le-leb 16 (length (upper_halves all)) (omega (arith, length-map all (λ octet. octet / 16))) in
+    let is : is_front lock all ≡ true = front-same h4 octets lock o comes ∙ front in
+    let parts = and_parts (h4 % 16 == 8) (are_at lock all) is in
+    let both = and_parts (is_at (sight_of lock h4)) (are_at next rest) parts.1 in
+    let locked_next : next ≡ locked (h4 % 16) = lock-at lock h4 both.0 in
+    let none : begun_on next rest ≡ [] =
+    subst (λ l. begun_on l rest ≡ []) (sym locked_next)
+    (none_later rest (h4 % 16) 0 (eqb-true (h4 % 16) 8 parts.0) (omega arith) (subst (λ l. are_at l rest ≡ true) locked_next both.1)) in
+    let other : (nat_lt (length all) 16 && is_front lock all) ≡ false = and_left (nat_lt (length all) 16) (is_front lock all) (le-ltb (length all) 16 (omega arith)) in
+    let here : packet_here lock place all ≡ (place, read_of (upper_halves all)) ∷ [] = whole_here lock place all sixteen is in
+    let there : place ≡ place + (length (h4 ∷ octets) + 1) - 16 = omega arith in (
+      rw long (begun-other h4 rest lock other ∙ none),
+      rw long
+          (packets-first h4 rest lock place
+          ∙ ap₂ (λ (a b : List Found). a ++ b) here (few_packets rest next (place + 1) (omega arith))
+          ∙ ap (λ (n : ℕ). (n, read_of (upper_halves all)) ∷ []) there
+          ∙ ap (λ (l : List Found). l ++ (place + (length (h4 ∷ octets) + 1) - 16, read_of (upper_halves all)) ∷ []) (sym (few_packets (h4 ∷ octets) lock place (omega arith)))),
+    )
+
+-- the octets before it are one more octet before others, from which on the packet that has begun is looked for
+front-passes : (h4 : ℕ) (octets : List ℕ) (lock : Lock) (place o : ℕ) (nibbles : List ℕ) → is_at (sight_of (lock_on lock (h4 ∷ octets)) o) ≡ true →
+    (nat_lt (length (h4 ∷ octets)) 16 && is_front lock (h4 ∷ octets)) ≡ false → Grows (lock_by lock (Some h4)) (place + 1) octets o nibbles →
+    Grows lock place (h4 ∷ octets) o nibbles
+front-passes h4 octets lock place o nibbles comes other (goes_on, packets) =
+    let all = h4 ∷ octets ++ o ∷ [] in
+    let next : Lock = lock_by lock (Some h4) in
+    let same = front-same h4 octets lock o comes in
+    let still : (nat_lt (length (h4 ∷ octets)) 16 && is_front lock all) ≡ false = ap (λ b. nat_lt (length (h4 ∷ octets)) 16 && b) same ∙ other in
+    let passed : (nat_lt (length all) 16 && is_front lock all) ≡ false =
+    elim (and_cases (nat_lt (length (h4 ∷ octets)) 16) (is_front lock all) still) [
+      | inl long ↦ and_left (nat_lt (length all) 16) (is_front lock all) (le-ltb (length all) 16 (omega (arith, ltb-false (length (h4 ∷ octets)) 16 long, length-append octets (o ∷ []))))
+      | inr not_front ↦ and_right (nat_lt (length all) 16) (is_front lock all) not_front
+    ] in
+    let there : place + 1 + (length octets + 1) - 16 ≡ place + (length (h4 ∷ octets) + 1) - 16 = omega arith in (
+      begun-other h4 (octets ++ o ∷ []) lock passed ∙ goes_on,
+      packets-first h4 (octets ++ o ∷ []) lock place
+          ∙ ap₂ (λ (a b : List Found). a ++ b) (here-more lock place (h4 ∷ octets) o still) packets
+          ∙ sym (append_assoc (packet_here lock place (h4 ∷ octets)) (packets_on next (place + 1) octets) (whole_at (place + 1 + (length octets + 1) - 16) nibbles))
+          ∙ ap (λ (l : List Found). l ++ whole_at (place + 1 + (length octets + 1) - 16) nibbles) (sym (packets-first h4 octets lock place))
+          ∙ ap (λ (n : ℕ). packets_on lock place (h4 ∷ octets) ++ whole_at n nibbles) there,
+    )
+
+first-grows : (lock : Lock) (place o : ℕ) → is_at (sight_of lock o) ≡ true → Grows lock place [] o (grown [] o)
+unfolding begun_on packets_on sights_on
+first-grows lock place o comes =
+    elim (cases_Bool (o % 16 == 8)) [
+      | inl eight ↦ (rw (eight, comes) refl, rw eight refl)
+      | inr other ↦ (rw other refl, rw other refl)
+    ]
+
+pub packets-grow : (octets : List ℕ) (lock : Lock) (place o : ℕ) → is_at (sight_of (lock_on lock octets) o) ≡ true →
+    Grows lock place octets o (grown (begun_on lock octets) o)
+unfolding lock_on begun_on
+packets-grow [] lock place o comes = first-grows lock place o comes
+packets-grow (h4 ∷ octets) lock place o comes =
+    let P : List ℕ → Type 0 = λ nibbles. Grows lock place (h4 ∷ octets) o (grown nibbles o) in
+    elim (cases_Bool (nat_lt (length (h4 ∷ octets)) 16 && is_front lock (h4 ∷ octets))) [
+      | inl is ↦
+          let both = and_parts (nat_lt (length (h4 ∷ octets)) 16) (is_front lock (h4 ∷ octets)) is in
+          let few = ltb-true (length (h4 ∷ octets)) 16 both.0 in
+          let halves : grown (upper_halves (h4 ∷ octets)) o ≡ upper_halves (h4 ∷ octets ++ o ∷ []) =
+          ap (λ l. h4 / 16 ∷ l) (sym (map-append (λ octet. octet / 16) octets (o ∷ []))) in
+          subst P (sym (begun-front h4 octets lock few both.1))
+          (subst (Grows lock place (h4 ∷ octets) o) (sym halves)
+          (elim (cases_lt (length (h4 ∷ octets)) 15) [
+            | inl short ↦ front-grows h4 octets lock place o comes both.1 short
+            | inr full ↦ front-whole h4 octets lock place o comes both.1 (omega arith)
+          ]))
+      | inr other ↦
+          subst P (sym (begun-other h4 octets lock other))
+          (front-passes h4 octets lock place o (grown (begun_on (lock_by lock (Some h4)) octets) o) comes other
+          (packets-grow octets (lock_by lock (Some h4)) (place + 1) o comes))
+    ]

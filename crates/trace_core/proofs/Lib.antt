@@ -1,4 +1,4 @@
 pub mod DecoderLaws
 pub mod StepLaws
-pub mod PacketLaws
-pub mod DecideLaws
+pub mod WordingLaws
+pub mod WorkedLaws

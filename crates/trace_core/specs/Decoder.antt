@@ -1,45 +1,31 @@
--- G.7042 and G.707, the control packets of a line: what a decoder of H4 octets knows.
-use Rattle.std.specs.Prelude.{◌≡◌, ℕ, ◌+◌, ◌/◌, ◌%◌, ◌<◌, List, [], ◌∷◌, ◌++◌, length, map, drop, slice_index}
-use Rattle.vc_bits.specs.Lock.{IsAt}
+-- What a decoder of the H4 octets of a line knows after some of them (G.707, G.7042).
+use Rattle.std.specs.Prelude.{◌≡◌, ℕ, nat_lt, ◌&&◌, if◌then◌else◌, List, [], ◌∷◌, length, take, Some}
 use Rattle.h4_multiframe.specs.declared.MfiLock.{MfiLock}
 use Rattle.h4_multiframe.specs.Stands.{Stands as LockStands}
-use Rattle.session_model.specs.Decode.{good_cells}
+use Rattle.session_model.specs.Number.{Lock, unlocked}
+use Rattle.session_model.specs.Sight.{lock_by}
+use Rattle.session_model.specs.Decode.{good_cells, is_front, upper_halves}
 
--- how many octets were given, the lock of the line, and the nibbles of a packet that has begun
+-- how many octets were given, the lock of the line, and sixteen nibbles of which the first `begun` are those of a packet that has
+-- begun
 pub record Decoding : Type 0 where
   pub given : ℕ
   pub lock : MfiLock
   pub nibbles : List ℕ
+  pub begun : ℕ
 
--- so many octets from a place on are the first ones of a packet: it begins with MFI1 8, and they came while the line was locked
-pub record IsFront (octets : List ℕ) (place count : ℕ) : Type 0 where
-  pub first : slice_index octets place % 16 ≡ 8
-  pub locked : (k : ℕ) → k < count → IsAt (good_cells octets) (place + k)
+-- the nibbles of a packet that has begun among octets that come after others, and is not whole: the last octets are the first
+-- ones of a packet, and fewer than sixteen
+unfoldable pub begun_on : Lock → List ℕ → List ℕ
+begun_on lock [] = []
+begun_on lock (h4 ∷ octets) =
+    if nat_lt (length (h4 ∷ octets)) 16 && is_front lock (h4 ∷ octets) then upper_halves (h4 ∷ octets) else begun_on (lock_by lock (Some h4)) octets
 
--- a packet has begun: the last octets are the first ones of it, and these are their upper halves
-pub record HasBegun (octets nibbles : List ℕ) : Type 0 where
-  pub place : ℕ
-  pub last : place + length nibbles ≡ length octets
-  pub front : IsFront octets place (length nibbles)
-  pub upper : nibbles ≡ map (λ octet. octet / 16) (drop place octets)
-
--- none has: no last octets, fewer than sixteen, are the first ones of a packet
-abbrev pub IsIdle : List ℕ → Type 0
-IsIdle octets = (place count : ℕ) → 0 < count → count < 16 → place + count ≡ length octets → ¬ IsFront octets place count
-
-abbrev pub IsBegun : List ℕ → List ℕ → Type 0
-IsBegun octets [] = IsIdle octets
-IsBegun octets (nibble ∷ nibbles) = HasBegun octets (nibble ∷ nibbles)
+abbrev pub begun_in : List ℕ → List ℕ
+begun_in octets = begun_on unlocked octets
 
 -- these octets were given
 pub record Stands (decoding : Decoding) (octets : List ℕ) : Type 0 where
   pub count : decoding.given ≡ length octets
   pub lock : LockStands decoding.lock (good_cells octets)
-  pub few : length decoding.nibbles < 16
-  pub begun : IsBegun octets decoding.nibbles
-
--- the nibbles behind an octet that came while the line was locked: it begins a packet if its MFI1 is 8, and goes on with one
--- that has begun
-abbrev pub IsTaken : ℕ → List ℕ → List ℕ → Type 0
-IsTaken octet [] new = (octet % 16 ≡ 8 → new ≡ octet / 16 ∷ []) × ((octet % 16 ≡ 8 → ⊥) → new ≡ [])
-IsTaken octet (nibble ∷ nibbles) new = new ≡ (nibble ∷ nibbles) ++ octet / 16 ∷ []
+  pub begun : take decoding.begun decoding.nibbles ≡ begun_in octets

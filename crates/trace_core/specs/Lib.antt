@@ -1,1 +1,3 @@
 pub mod Decoder
+pub mod Wording
+pub mod Worked

@@ -1,33 +1,38 @@
-//! What the terminals of a group tell each other, made visible.
+//! Finds the control packets of a line in its H4 octets, octet by octet. Begin with `H4Decoder`; `packets_law` says that its
+//! definition is what is worded of packets. How a packet is read is not said here, nor how it is printed.
 #![tactic(auto)]
 
-ghost use Rattle.std.specs.Prelude.{◌≡◌, ◌≢◌, ℕ, ◌+◌, ◌<◌, ◌≤◌, ◌↔◌, List, [], ◌∷◌, ◌++◌, length, take, All, IsTrue, IfSome, IfNone};
-ghost use Rattle.session_model.specs.Decode.{HasPacketAt, nibbles_at};
-ghost use Rattle.session_model.specs.Packet.{read_of};
-ghost use Rattle.trace_core.specs.Decoder.{Stands, IsTaken};
+ghost use Rattle.std.specs.Prelude.{◌≡◌, ℕ, ◌+◌, ◌<◌, List, [], ◌∷◌, ◌++◌};
+ghost use Rattle.std.specs.Option.{option_to_list};
+ghost use Rattle.session_model.specs.Decode.{packets_in};
+ghost use Rattle.trace_core.specs.Decoder.{Stands};
+ghost use Rattle.trace_core.specs.Wording.{AreWorded, AreOnly, PacketsStay};
+ghost use Rattle.trace_core.specs.Worked.{AreRead, IsRefused};
 
 use h4_multiframe::{MfiLock, Place};
 use lcas_packet::{Packet, PacketFault, read};
 use std::marker::Model;
 use vc_bits::{nibble_hi, nibble_lo};
 
-/// Finds the control packets in the H4 octets of a line, octet by octet.
-#[derive(Drop)]
+/// Finds the control packets in the H4 octets of a line, all of whose cells are good.
+#[derive(Clone, Copy)]
 pub struct H4Decoder {
+    given: u64,
     lock: MfiLock,
-    /// The nibbles of a packet that has begun, and how many those are: none where none has begun.
+    /// The nibbles of a packet that has begun are the first `begun`; none has where that is 0.
     nibbles: [u8; 16],
     begun: usize,
-    given: u64,
 }
 
 impl Model for H4Decoder {
-    ghost use Rattle.std.specs.Prelude.{◌<◌, ◌≤◌, All, take};
+    ghost use Rattle.std.specs.Prelude.{◌<◌, ◌≤◌, All};
     ghost use Rattle.trace_core.specs.Decoder.{Decoding};
 
     ghost Value = { Decoding };
 
-    ghost view = { λ decoder. record { given = decoder.given; lock = decoder.lock; nibbles = take decoder.begun decoder.nibbles } };
+    ghost view = { λ decoder. record { given = decoder.given; lock = decoder.lock; nibbles = decoder.nibbles; begun = decoder.begun } };
+
+    ghost inverse = { λ decoding. record { given = decoding.given; lock = decoding.lock; nibbles = decoding.nibbles; begun = decoding.begun } };
 
     ghost invariant = { λ decoder. (decoder.begun < 16) × (decoder.begun ≤ decoder.given) × All (λ nibble. nibble < 16) decoder.nibbles };
 }
@@ -47,58 +52,53 @@ impl H4Decoder {
         ensures stands { Stands result [] }
     {
         H4Decoder {
+            given: 0,
             lock: MfiLock::new(),
             nibbles: [0; 16],
             begun: 0,
-            given: 0,
         }
     }
 
-    /// Takes the next H4 octet. At the last octet of a packet all of whose octets came while the line was locked, the answer is
-    /// the place of its first octet, counted from 0, and what it says or why it is none.
+    /// Takes the next H4 octet. The answer comes at the last octet of a packet all of whose octets came while the line was locked:
+    /// the place of its first octet, counted from 0, and what is read of it.
     pub fn octet(&mut self, h4: u8) -> Option<(u64, Result<Packet, PacketFault>)>
         requires { self.old.given < 4294967295 }
         ensures given { self.new.given ≡ self.old.given + 1 }
         ensures stands { (octets : List ℕ) → Stands self.old octets → Stands self.new (octets ++ h4 ∷ []) }
-        ensures ends { IfSome result (λ found. (octets : List ℕ) → Stands self.old octets → found.0 + 16 ≡ length octets + 1) }
-        ensures packet { IfSome result (λ found. (octets : List ℕ) → Stands self.old octets → HasPacketAt (octets ++ h4 ∷ []) found.0) }
-        ensures reads { IfSome result (λ found. (octets : List ℕ) → Stands self.old octets →
-            found.1 ≡ read_of (nibbles_at (octets ++ h4 ∷ []) found.0)) }
-        ensures none { IfNone result ((octets : List ℕ) (place : ℕ) → Stands self.old octets →
-            place + 16 ≡ length octets + 1 → ¬ HasPacketAt (octets ++ h4 ∷ []) place) }
+        ensures packets { (octets : List ℕ) → Stands self.old octets →
+            packets_in (octets ++ h4 ∷ []) ≡ packets_in octets ++ option_to_list result }
     {
         self.given += 1;
         let Place::At(_) = self.lock.good(h4) else {
             self.begun = 0;
             return None;
         };
-        if !take_locked(h4, &mut self.nibbles, &mut self.begun) {
+        if self.begun == 0 && nibble_lo(h4) != 8 {
+            return None;
+        }
+        self.nibbles[self.begun] = nibble_hi(h4);
+        self.begun += 1;
+        if self.begun < 16 {
             return None;
         }
         self.begun = 0;
-        Some((self.given - 16, read(&self.nibbles)))
+        let found = read(&self.nibbles);
+        Some((self.given - 16, found))
     }
 }
 
-/// Adds the nibble of an octet that came while the line was locked to those of a packet that has begun, or begins one if it is
-/// the first octet of a packet. Says whether the packet is whole.
-fn take_locked(h4: u8, nibbles: &mut [u8; 16], begun: &mut usize) -> bool
-    requires few { begun.old < 16 }
-    requires below { All (λ nibble. nibble < 16) nibbles.old }
-    ensures taken { IsTaken h4 (take begun.old nibbles.old) (take begun.new nibbles.new) }
-    ensures below { All (λ nibble. nibble < 16) nibbles.new }
-    ensures size { length nibbles.new ≡ 16 }
-    ensures bound { begun.new ≤ 16 }
-    ensures step { begun.new ≤ begun.old + 1 }
-    ensures whole { IsTrue result ↔ (begun.new ≡ 16) }
-{
-    if *begun == 0 && nibble_lo(h4) != 8 {
-        return false;
-    }
-    nibbles[*begun] = nibble_hi(h4);
-    *begun += 1;
-    *begun == 16
-}
+/// The packets that are computed of octets are those that are worded of them, and no others are. More octets have these first.
+pub fn packets_law()
+    ensures worded { AreWorded }
+    ensures only { AreOnly }
+    ensures stay { PacketsStay }
+{}
+
+/// What is written of the octets of a line with two packets, and with a wrong check in the second.
+pub fn worked_law()
+    ensures read { AreRead }
+    ensures refused { IsRefused }
+{}
 
 #[cfg(test)]
 mod tests {

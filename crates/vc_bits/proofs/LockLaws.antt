@@ -1,4 +1,4 @@
--- Cells in step: more cells behind a cell change nothing of it, and how one cell follows from the cell before it.
+-- Cells in step: more cells after a cell change nothing of it, and how one cell follows from the cell before it.
 use Rattle.std.proofs.Common.{◌≡◌, ℕ, zero, suc, ◌+◌, ◌-◌, ◌*◌, ◌/◌, ◌%◌, ◌<◌, ◌≤◌, inl, inr, List, [], ◌∷◌, ◌++◌, length, Option, Some, slice_get, refl, sym, ◌∙◌, ap, subst, arith}
 use Rattle.std.proofs.Math.Nat.{eq-or-lt_of_le}
 use Rattle.std.proofs.lemmas.Bool.{cases_order}
@@ -159,7 +159,7 @@ first_number : (place upper lower : ℕ) → upper < 256 → lower < 256 →
     16 * (16 * (upper / 16) + lower / 16) + 1 ≡ (16 * (16 * (upper / 16) + lower / 16) + (place + 1 - place)) % 4096
 first_number place upper lower p q = omega arith
 
--- a cell with MFI1 1 locks behind one with MFI1 0 that is out of step
+-- a cell with MFI1 1 locks after one with MFI1 0 that is out of step
 pub Locks_next : (cells : List (Option ℕ)) (place upper lower : ℕ) → upper < 256 → lower < 256 → IsOutOfStep cells place →
     slice_get cells place ≡ Some (Some upper) → upper % 16 ≡ 0 → slice_get cells (place + 1) ≡ Some (Some lower) → lower % 16 ≡ 1 →
     Locks cells (place + 1) × HasNumber cells (place + 1) (16 * (16 * (upper / 16) + lower / 16) + 1)
@@ -189,7 +189,7 @@ IsAt_next cells place number has next =
 pub IsOutOfStep_next : (cells : List (Option ℕ)) (place mfi1 next : ℕ) → HasMfi1 cells place mfi1 → HasMfi1 cells (place + 1) next → (next ≡ (mfi1 + 1) % 16 → ⊥) → IsOutOfStep cells (place + 1)
 IsOutOfStep_next cells place mfi1 next here there other from step = other (IsInStep-next cells from place mfi1 next step here there)
 
--- nor is any cell in step behind one that is out of step and has no MFI1 0
+-- nor is any cell in step after one that is out of step and has no MFI1 0
 pub IsOutOfStep_goes_on : (cells : List (Option ℕ)) (place : ℕ) → IsOutOfStep cells place → (HasMfi1 cells place 0 → ⊥) → IsOutOfStep cells (place + 1)
 IsOutOfStep_goes_on cells place out no_begin from step =
     let later = step.later in

@@ -1,4 +1,5 @@
-//! Nibbles, and the check of a control packet.
+//! Halves of octets, and the check of a control packet over them; begin with `crc8`. The crate also holds the words for the lock of a
+//! line on the multiframe (G.707), which h4_multiframe meets: no code of this crate keeps one.
 #![tactic(auto)]
 
 ghost use Rattle.std.specs.Prelude.{◌≡◌, ℕ, ◌+◌, ◌*◌, ◌/◌, ◌%◌, ◌<◌, Bool, List, All};

@@ -1,42 +1,62 @@
-//! What a line carries: containers, cells, and the codes of a control packet.
+//! What a line carries: containers and cells (G.707), and the control words of LCAS with their codes (G.7042). Begin with `Cell` and
+//! `Ctrl`. What containers hold, and what comes of them on a line, is not said here.
 #![tactic(auto)]
 
 ghost use Rattle.std.specs.Prelude.{◌≡◌, ◌≢◌, IfSome, IfNone};
 ghost use Rattle.vc_cell.specs.Code.{code_of, ctrl_of};
 
-/// The octets of payload in a VC-4 of one frame.
+/// The payload octets of a VC-4 of one frame.
 pub const PAYLOAD: usize = 2340;
 
-/// A VC-4 of one frame: its multiframe octet H4 and its payload (G.707).
+/// A container of one frame. It has room for the payload of a VC-4 whatever its size; a VC-3 has 756 octets of it, and the others
+/// are 0.
 #[derive(Clone, Copy, Debug, PartialEq, Eq)]
 pub struct Container {
+    /// The multiframe octet of the path: a nibble of the control packet in its upper half, and MFI1 in its lower half.
     pub h4: u8,
+    /// The payload, always 2,340 octets.
     pub payload: [u8; PAYLOAD],
 }
 
-/// What a line gives in the place of a container: the container as it was sent, the sign of a failure, or the end.
+/// A container has room for 2,340 octets of payload.
+pub fn payload_law()
+    ensures { PAYLOAD ≡ 2340 }
+{}
+
+/// What a line gives in the place of a container.
 #[derive(Clone, Copy, Debug, PartialEq, Eq)]
 pub enum Cell {
+    /// The container as it was sent.
     Good(Container),
+    /// The sign of a failure.
     Fail,
+    /// The line has ended.
     End,
 }
 
-/// What the return path gives in the place of a return packet: its sixteen nibbles in the order of sending, or its loss.
+/// What the return path gives in the place of a return packet.
 #[derive(Clone, Copy, Debug, PartialEq, Eq)]
 pub enum BackCell {
+    /// The sixteen nibbles of a packet in the order of sending, one in each octet.
     Packet([u8; 16]),
+    /// A packet was lost.
     Lost,
 }
 
 /// The control word of a member (G.7042, CTRL).
 #[derive(Clone, Copy, Debug, PartialEq, Eq)]
 pub enum Ctrl {
+    /// The member carries payload, and its group has no LCAS.
     Fixed,
+    /// The member is to be added to the group.
     Add,
+    /// The member carries payload, and another one has the highest sequence number.
     Norm,
+    /// The member carries payload, and has the highest sequence number of those that do.
     Eos,
+    /// The line is not a member of the group.
     Idle,
+    /// The member carries no payload, since the sink reports its failure.
     Dnu,
 }
 

@@ -26,7 +26,7 @@ pub returns-then-from-next : goal.returns-then-from-next
 returns-then-from-next c cells stands =
     let number = c.in-Locked.number in
     let h4 = c.args.h4 in
-    let next : (number + 1) % 4096 ≡ c.number_after-next.result = omega arith in
+    let next : (number + 1) % 4096 ≡ (number + 1) % 65536 % 4096 = omega arith in
     subst (λ n. IsPlace (cells ++ Some h4 ∷ []) (length cells) (At n)) next
     (at_place cells number h4 (omega arith) (subst (λ state. Stands state cells) c.in-Locked.is stands))
 

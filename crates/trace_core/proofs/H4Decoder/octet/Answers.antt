@@ -1,83 +1,61 @@
--- What the decoder knows behind the octet, by what the lock said of it.
-use Rattle.std.proofs.Common.{◌≡◌, ℕ, ◌+◌, ◌-◌, ◌<◌, List, length, take, sym, subst, arith}
-use Rattle.std.proofs.lemmas.List.{length-take, take_all}
-use Rattle.session_model.specs.Decode.{good_cells}
+-- What the decoder knows after the octet, by what the lock said of it.
+use Rattle.std.proofs.Common.{◌≡◌, ℕ, ◌+◌, ◌%◌, ◌<◌, List, [], length, take, slice_set, refl, sym, ◌∙◌, ap, subst, arith}
 use Rattle.session_model.specs.Packet.{read_of}
-use Rattle.trace_core.specs.Decoder.{Stands}
-use Rattle.trace_core.proofs.StepLaws.{Stands_unlocked, no_packet_unlocked, Stands_taken, no_packet_taken, IsWhole_taken, Stands_whole}
+use Rattle.session_model.specs.Decode.{good_cells}
+use Rattle.trace_core.specs.Decoder.{Decoding, Stands}
+use Rattle.trace_core.proofs.StepLaws.{goes-out, goes-on, goes-whole, grown-none, grown-take, length-grown, all-grown}
 use Rattle.trace_core.proofs.H4Decoder.octet.Goals as goal
+use Rattle.trace_core.proofs.H4Decoder.octet.Goals.{else-self-eq0-via-then-self-eq0+else-nibble_lo-ne8, else-self-eq0-via-else-self-eq0}
 
-pub returns-in_default-clause-stands : goal.returns-in_default-clause-stands
-returns-in_default-clause-stands c octets stands =
+abbrev next_given : {a b : Decoding} → a ≡ b → a.given + 1 ≡ b.given + 1
+next_given e = ap (λ (v : Decoding). v.given + 1) e
+
+pub returns-in_default : goal.returns-in_default
+returns-in_default c =
+    let after = λ (octets : List ℕ) (stands : Stands c.args.self.now octets).
+    let before = subst (λ v. Stands v octets) (sym c.self.view_is) stands in
+    goes-out _ c.good.new.self c.self.inside.nibbles octets c.args.h4 c.good.result c.in_default.not-At
+    (c.good.ensures.place (good_cells octets) before.lock) (c.good.ensures.stands (good_cells octets) before.lock) before in
+    record { given = next_given c.self.view_is; stands = λ octets stands. (after octets stands).0; packets = λ octets stands. (after octets stands).1 }
+
+pub returns-then-nibble_lo-ne8 : goal.returns-then-nibble_lo-ne8
+returns-then-nibble_lo-ne8 c =
     let inside = c.self.inside in
+    let none = grown-none inside.nibbles inside.begun c.args.h4 c.if-self-eq0.true (omega arith) in
+    let kept : take inside.begun inside.nibbles ≡ [] = ap (λ n. take n inside.nibbles) c.if-self-eq0.true in
+    let after = λ (octets : List ℕ) (stands : Stands c.args.self.now octets).
     let before = subst (λ v. Stands v octets) (sym c.self.view_is) stands in
-    Stands_unlocked inside.given inside.lock c.good.new.self (take inside.begun inside.nibbles) octets c.args.h4 c.good.result
-    c.in_default.not-At (c.good.ensures.place (good_cells octets) before.lock) (c.good.ensures.stands (good_cells octets) before.lock) before
+    goes-on _ c.good.new.self inside.nibbles octets [] c.args.h4 c.in-At.field-0
+    (c.in-At.ensures.place (good_cells octets) before.lock) (c.good.ensures.stands (good_cells octets) before.lock) before none inside.begun (omega arith) kept in
+    record { given = next_given c.self.view_is; stands = λ octets stands. (after octets stands).0; packets = λ octets stands. (after octets stands).1 }
 
-pub returns-in_default-clause-none : goal.returns-in_default-clause-none
-returns-in_default-clause-none c octets place stands =
-    let before = subst (λ v. Stands v octets) (sym c.self.view_is) stands in
-    no_packet_unlocked octets c.args.h4 c.good.result c.in_default.not-At (c.good.ensures.place (good_cells octets) before.lock) place
-
-few : (nibbles : List ℕ) (begun : ℕ) → begun < 16 → length (take begun nibbles) < 16
-few nibbles begun h = omega (arith, length-take begun nibbles)
-
-pub returns-then-not-take_locked-clause-stands : goal.returns-then-not-take_locked-clause-stands
-returns-then-not-take_locked-clause-stands c octets stands =
+pub returns-then-self-lt16 : goal.returns-then-self-lt16
+returns-then-self-lt16 c =
     let inside = c.self.inside in
+    let first : inside.begun ≡ 0 → c.args.h4 % 16 ≡ 8 =
+    elim c.else-self-eq0.branch [ else-self-eq0-via-then-self-eq0+else-nibble_lo-ne8 w ↦ λ _. omega arith | else-self-eq0-via-else-self-eq0 w ↦ λ h. absurd (w.if-self-eq0.false h) ] in
+    let within : inside.begun < length inside.nibbles = omega (arith, c.self.invariant.0, c.self.told) in
+    let grew = grown-take inside.nibbles inside.begun c.args.h4 c.nibble_hi.result within first c.nibble_hi.ensures in
+    let size = length-grown inside.nibbles inside.begun c.nibble_hi.result within in
+    let after = λ (octets : List ℕ) (stands : Stands c.args.self.now octets).
     let before = subst (λ v. Stands v octets) (sym c.self.view_is) stands in
-    let begun = c.take_locked.new.begun in
-    let nibbles = c.take_locked.new.nibbles in
-    Stands_taken inside.given inside.lock c.good.new.self (take inside.begun inside.nibbles) (take begun nibbles) octets c.args.h4 c.in-At.field-0
-    (c.in-At.ensures.place (good_cells octets) before.lock) (c.good.ensures.stands (good_cells octets) before.lock)
-    c.take_locked.ensures.taken (few nibbles begun (grind arith)) before
+    goes-on _ c.good.new.self (slice_set inside.nibbles inside.begun c.nibble_hi.result) octets (take (inside.begun + 1) (slice_set inside.nibbles inside.begun c.nibble_hi.result)) c.args.h4
+    c.in-At.field-0 (c.in-At.ensures.place (good_cells octets) before.lock) (c.good.ensures.stands (good_cells octets) before.lock) before grew (inside.begun + 1) (omega arith) refl in
+    record { given = next_given c.self.view_is; stands = λ octets stands. (after octets stands).0; packets = λ octets stands. (after octets stands).1 }
 
-pub returns-then-not-take_locked-clause-none : goal.returns-then-not-take_locked-clause-none
-returns-then-not-take_locked-clause-none c octets place stands =
+pub returns : goal.returns
+returns c =
     let inside = c.self.inside in
+    let first : inside.begun ≡ 0 → c.args.h4 % 16 ≡ 8 =
+    elim c.else-self-eq0.branch [ else-self-eq0-via-then-self-eq0+else-nibble_lo-ne8 w ↦ λ _. omega arith | else-self-eq0-via-else-self-eq0 w ↦ λ h. absurd (w.if-self-eq0.false h) ] in
+    let few : inside.begun < 16 = c.self.invariant.0 in
+    let within : inside.begun < length inside.nibbles = omega (arith, c.self.told) in
+    let grew = grown-take inside.nibbles inside.begun c.args.h4 c.nibble_hi.result within first c.nibble_hi.ensures in
+    let size = length-grown inside.nibbles inside.begun c.nibble_hi.result within in
+    let all = all-grown inside.nibbles inside.begun c.nibble_hi.result (omega arith) c.self.told in
+    let after = λ (octets : List ℕ) (stands : Stands c.args.self.now octets).
     let before = subst (λ v. Stands v octets) (sym c.self.view_is) stands in
-    let begun = c.take_locked.new.begun in
-    let nibbles = c.take_locked.new.nibbles in
-    no_packet_taken inside.given inside.lock (take inside.begun inside.nibbles) (take begun nibbles) octets c.args.h4
-    c.take_locked.ensures.taken (few nibbles begun (grind arith)) before place
-
--- sixteen nibbles are all
-all_nibbles : (nibbles : List ℕ) (begun : ℕ) → begun ≡ 16 → length nibbles ≡ 16 → take begun nibbles ≡ nibbles
-all_nibbles nibbles begun h size = take_all begun nibbles (omega arith)
-
-pub returns-clause-stands : goal.returns-clause-stands
-returns-clause-stands c octets stands =
-    let inside = c.self.inside in
-    let before = subst (λ v. Stands v octets) (sym c.self.view_is) stands in
-    let begun = c.take_locked.new.begun in
-    let nibbles = c.take_locked.new.nibbles in
-    let size = c.take_locked.ensures.size in
-    let taken = rw (all_nibbles nibbles begun (grind arith) size) at c.take_locked.ensures.taken in
-    Stands_whole inside.given inside.lock c.good.new.self (take inside.begun inside.nibbles) nibbles octets c.args.h4 c.in-At.field-0
-    (c.in-At.ensures.place (good_cells octets) before.lock) (c.good.ensures.stands (good_cells octets) before.lock) taken size before
-
-pub returns-clause-packet : goal.returns-clause-packet
-returns-clause-packet c octets stands =
-    let inside = c.self.inside in
-    let before = subst (λ v. Stands v octets) (sym c.self.view_is) stands in
-    let begun = c.take_locked.new.begun in
-    let nibbles = c.take_locked.new.nibbles in
-    let size = c.take_locked.ensures.size in
-    let taken = rw (all_nibbles nibbles begun (grind arith) size) at c.take_locked.ensures.taken in
-    let place = inside.given + 1 - 16 in
-    let whole = IsWhole_taken inside.given inside.lock (take inside.begun inside.nibbles) nibbles octets c.args.h4 c.in-At.field-0 place
-    (c.in-At.ensures.place (good_cells octets) before.lock) taken size before (grind arith) in
-    whole.packet
-
-pub returns-clause-reads : goal.returns-clause-reads
-returns-clause-reads c octets stands =
-    let inside = c.self.inside in
-    let before = subst (λ v. Stands v octets) (sym c.self.view_is) stands in
-    let begun = c.take_locked.new.begun in
-    let nibbles = c.take_locked.new.nibbles in
-    let size = c.take_locked.ensures.size in
-    let taken = rw (all_nibbles nibbles begun (grind arith) size) at c.take_locked.ensures.taken in
-    let place = inside.given + 1 - 16 in
-    let whole = IsWhole_taken inside.given inside.lock (take inside.begun inside.nibbles) nibbles octets c.args.h4 c.in-At.field-0 place
-    (c.in-At.ensures.place (good_cells octets) before.lock) taken size before (grind arith) in
-    subst (λ l. c.read.result ≡ read_of l) whole.upper c.read.ensures.value
+    goes-whole _ c.good.new.self (slice_set inside.nibbles inside.begun c.nibble_hi.result) octets (take (inside.begun + 1) (slice_set inside.nibbles inside.begun c.nibble_hi.result)) c.args.h4
+    c.in-At.field-0 (c.in-At.ensures.place (good_cells octets) before.lock) (c.good.ensures.stands (good_cells octets) before.lock) before grew
+    c.read-found.result (omega arith) (c.read-found.ensures.value ∙ ap read_of (sym all)) in
+    record { given = next_given c.self.view_is; stands = λ octets stands. (after octets stands).0; packets = λ octets stands. (after octets stands).1 }
