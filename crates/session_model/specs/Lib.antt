@@ -37,3 +37,4 @@ pub mod Loss
 pub mod SessionStream
 pub mod Counts
 pub mod Plan
+pub mod Interleave
