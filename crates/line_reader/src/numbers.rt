@@ -113,8 +113,8 @@ impl LineNumbers {
     /// Passes the next number, which is decided.
     pub fn next(&mut self)
         requires decided { IsOpen self.old → ⊥ }
-        ensures stands { (place : Container) (cells : List Cell) (t : ℕ) → Stands self.old place cells t →
-            Stands self.new place cells (t + 1) }
+        ensures stands { (place : Container) (cells : List Cell) (t : ℕ) →
+            Stands self.old place cells t → Stands self.new place cells (t + 1) }
     {
         self.next = (self.next + 1) % NUMBERS;
         if self.bad > 0 {

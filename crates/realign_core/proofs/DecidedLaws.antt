@@ -57,18 +57,6 @@ drop-at [] i x e = absurd cc
 drop-at (y ∷ ys) zero x e = ap (λ y. y ∷ ys) (let same : y ≡ x = cc in same)
 drop-at (y ∷ ys) (suc i) x e = drop-at ys i x e
 
-pub decided-more : (lines : List Line) (i : ℕ) (line : Line) → slice_get lines i ≡ Some line → is_open line.numbers ≡ false → decided_lines lines ≡ i + decided_lines (drop i lines) →
-    decided_lines lines ≡ i + 1 + decided_lines (drop (i + 1) lines)
-decided-more lines i line e shut so =
-    let here : decided_lines (drop i lines) ≡ suc (decided_lines (drop (suc i) lines)) = ap decided_lines (drop-at lines i line e) ∙ (rw shut refl) in
-    let next : decided_lines (drop (i + 1) lines) ≡ decided_lines (drop (suc i) lines) = ap (λ i. decided_lines (drop i lines)) (let e : i + 1 ≡ suc i = omega arith in e) in
-    omega (arith, so, here, next)
-
-pub decided-stop : (lines : List Line) (i : ℕ) (line : Line) → slice_get lines i ≡ Some line → is_open line.numbers ≡ true → decided_lines lines ≡ i + decided_lines (drop i lines) → decided_lines lines ≡ i
-decided-stop lines i line e open' so =
-    let here : decided_lines (drop i lines) ≡ 0 = ap decided_lines (drop-at lines i line e) ∙ (rw open' refl) in
-    omega (arith, so, here)
-
 -- ---- a line that has changed
 pub decided-split : (lines : List Line) (m : ℕ) → m ≤ decided_lines lines → decided_lines lines ≡ m + decided_lines (drop m lines)
 decided-split lines zero low = omega arith

@@ -10,9 +10,6 @@ use Rattle.session_model.specs.MemberPacket.{upper_of, with_last, uppers}
 use Rattle.session_model.specs.Rows.{packet_in}
 use Rattle.realign_core.specs.Begun.{HasNibbles, packet_at}
 
-pub has-none : (nibbles : List ℕ) (own : List Cell) → HasNibbles (record { nibbles = nibbles; whole = false }) own 0
-has-none nibbles own = record { early = λ e. refl; part = λ k j e some most. absurd (omega arith) }
-
 -- ---- a number that is whole
 both : (whole : Bool) (before after : List ℕ) (x : ℕ) → after ≡ before ++ x ∷ [] → with_last (if whole then Some before else None) (Some x) ≡ (if whole then Some after else None)
 both true before after x e = ap Some (sym e)
@@ -82,7 +79,3 @@ whole-packet nibbles whole own t size has last =
 pub packet-some : (nibbles : List ℕ) (whole : Bool) (own : List Cell) (t : ℕ) → whole ≡ true → length nibbles ≡ 16 → HasNibbles (record { nibbles = nibbles; whole = whole }) own t → t % 16 ≡ 8 →
     packet_at own t ≡ packet_in (Some nibbles)
 packet-some nibbles whole own t is size has last = whole-packet nibbles whole own t size has last ∙ ap (λ whole. packet_in (if whole then Some nibbles else None)) is
-
-pub packet-none : (nibbles : List ℕ) (whole : Bool) (own : List Cell) (t : ℕ) → whole ≡ false → length nibbles ≡ 16 → HasNibbles (record { nibbles = nibbles; whole = whole }) own t → t % 16 ≡ 8 →
-    packet_at own t ≡ None
-packet-none nibbles whole own t is size has last = whole-packet nibbles whole own t size has last ∙ ap (λ whole. packet_in (if whole then Some nibbles else None)) is

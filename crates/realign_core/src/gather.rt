@@ -123,9 +123,10 @@ impl RowGather {
     /// places says nothing.
     pub fn containers(&self) -> &[Container]
         ensures lines { length result.now ≡ line_count self.now }
-        ensures whole { (cells : List (List Cell)) (m : ℕ) (own : List Cell) (container : Container) →
+        ensures whole { (cells : List (List Cell)) (m : ℕ) (own : List Cell) (found : Container) →
             Stands self.now cells → slice_get cells m ≡ Some own →
-            verdict own self.now.rows ≡ Some (Some container) → slice_get result.now m ≡ Some container }
+            verdict own self.now.rows ≡ Some (Some found) →
+            slice_get result.now m ≡ Some found }
     {
         &self.places
     }
@@ -134,7 +135,8 @@ impl RowGather {
     pub fn advance(&mut self)
         requires decided { AreDecided self.old }
         requires few { self.old.rows < 4294967295 }
-        ensures stands { (cells : List (List Cell)) → Stands self.old cells → Stands self.new cells }
+        ensures stands { (cells : List (List Cell)) → Stands self.old cells →
+            Stands self.new cells }
         ensures lines { line_count self.new ≡ line_count self.old }
         ensures rows { self.new.rows ≡ self.old.rows + 1 }
     {

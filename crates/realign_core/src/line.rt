@@ -76,8 +76,8 @@ impl GatherLine {
     pub(crate) fn pass(&mut self, place: &Container, j: usize)
         requires decided { IsOpen self.old.numbers → ⊥ }
         requires place { j < 16 }
-        ensures stands { (own : List Cell) (t : ℕ) → LineStands self.old place.now own t → j ≡ (t + 8) % 16 →
-            LineStands self.new place.now own (t + 1) }
+        ensures stands { (own : List Cell) (t : ℕ) → LineStands self.old place.now own t →
+            j ≡ (t + 8) % 16 → LineStands self.new place.now own (t + 1) }
     {
         let upper = upper_half(self.verdict(place));
         self.nibbles.take(j, upper);

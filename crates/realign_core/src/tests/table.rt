@@ -13,18 +13,21 @@ pub(crate) struct Path {
 }
 
 pub(crate) const PATHS: [Path; 60] = [
+    // One sign, for container 100; then the line locks by the containers 144 and 145.
     Path {
         windows: &[(100, 140, 39)],
         total: 200,
         bad: &[(0, 2), (100, 146)],
         unread: &[(5, 9)],
     },
+    // It locks by the containers 4,512 and 4,513, whose number is sent as 417.
     Path {
         windows: &[(3500, 4501, 1000)],
         total: 5000,
         bad: &[(0, 2), (3500, 4514)],
         unread: &[(218, 282)],
     },
+    // Sixteen containers lie between two windows, by which 2,047 vanish.
     Path {
         windows: &[(100, 1505, 1023), (1521, 2913, 1024)],
         total: 3000,
