@@ -1,0 +1,5 @@
+use Rattle.std.proofs.Common.{refl}
+use Rattle.lcas_sink.proofs.SinkTable.new.Goals as goal
+
+pub returns-clause-stands : goal.returns-clause-stands
+returns-clause-stands c = record { taken = refl; ack = refl; states = c.all_idle.ensures }

@@ -1,0 +1,11 @@
+use Rattle.std.proofs.Common.{◌≡◌, ◌+◌, ◌-◌, ◌<◌, ◌^◌, map, not}
+use Rattle.std.specs.List.{range_with_len}
+use Rattle.remainder.specs.Bits.{number_behind}
+use Rattle.session_model.specs.ReturnPacket.{status_of, mst_of}
+use Rattle.lcas_sink.proofs.member_status.Given as goal
+
+abbrev pub invariant-loop-place : goal.invariant-loop-place
+invariant-loop-place l = record {
+  value : number_behind l.mst (map (λ sq. not (status_of l.row sq)) (range_with_len (l.first + l.place) (8 - l.place))) ≡ mst_of l.row l.first;
+  small : l.mst < 2 ^ l.place;
+}
