@@ -27,5 +27,5 @@ abbrev pub end_text : ℕ → ℕ → List ℕ
 end_text octets packets = codes "end octets " ++ decimal octets ++ codes " packets " ++ decimal packets ++ codes "\n"
 
 -- the text of the octets of a line
-abbrev pub decoded_text : List ℕ → List ℕ
+unfoldable pub decoded_text : List ℕ → List ℕ
 decoded_text octets = found_texts (packets_in octets) ++ end_text (length octets) (length (packets_in octets))

@@ -6,6 +6,5 @@ pub mod TakeLaws
 pub mod PlaceLaws
 pub mod CarryLaws
 pub mod ReportLaws
-pub mod FoundLaws
 pub mod DecodedLaws
 pub mod HexLineLaws

@@ -2,7 +2,6 @@ pub mod Form
 pub mod Report
 pub mod Walk
 pub mod HexLines
-pub mod Decoded
 pub mod Top
 pub mod Line
 pub mod Stop

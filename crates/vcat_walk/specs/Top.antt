@@ -3,9 +3,9 @@
 use Rattle.std.specs.Prelude.{◌≡◌, ℕ, ◌⊎◌, ◌==◌, ◌||◌, Bool, List, [], ◌∷◌, ◌++◌, Option, String, map, string_bytes, codes, decimal}
 use Rattle.std.specs.declared.alloc.Global.{Global}
 use Rattle.outside_io.specs.Transfer.{Appends, AppendsPart}
+use Rattle.session_model.specs.DecodeText.{decoded_text}
 use Rattle.vcat_walk.specs.Form.{IsForm}
 use Rattle.vcat_walk.specs.HexLines.{IsHexText}
-use Rattle.vcat_walk.specs.Decoded.{IsDecoded}
 use Rattle.vcat_walk.specs.Walk.{report}
 
 -- ---- the words
@@ -48,20 +48,13 @@ abbrev pub WritesReportPart : {K : Type 0} → (K → Option (List ℕ)) → (K 
 WritesReportPart written faults old new script = (ticks : ℕ) × (frames : List (List ℕ)) × IsForm script ticks frames
     × AppendsPart written faults old new (report ticks frames)
 
--- the lines of the packets in octets, and the last line
-abbrev pub WritesDecoded : {K : Type 0} → (K → Option (List ℕ)) → (K → ℕ) → K → K → List ℕ → Type 0
-WritesDecoded written faults old new octets = (lines : List ℕ) × IsDecoded octets lines × Appends written faults old new lines
-
--- a prefix of them
-abbrev pub WritesDecodedPart : {K : Type 0} → (K → Option (List ℕ)) → (K → ℕ) → K → K → List ℕ → Type 0
-WritesDecodedPart written faults old new octets = (lines : List ℕ) × IsDecoded octets lines × AppendsPart written faults old new lines
-
--- the same of the octets that a text of hexadecimal lines says
+-- the text of a decoding, of the octets that a text of hexadecimal lines says
 abbrev pub WritesPackets : {K : Type 0} → (K → Option (List ℕ)) → (K → ℕ) → K → K → List ℕ → Type 0
-WritesPackets written faults old new text = (octets : List ℕ) × IsHexText text octets × WritesDecoded written faults old new octets
+WritesPackets written faults old new text = (octets : List ℕ) × IsHexText text octets × Appends written faults old new (decoded_text octets)
 
+-- a prefix of it
 abbrev pub WritesPacketsPart : {K : Type 0} → (K → Option (List ℕ)) → (K → ℕ) → K → K → List ℕ → Type 0
-WritesPacketsPart written faults old new text = (octets : List ℕ) × IsHexText text octets × WritesDecodedPart written faults old new octets
+WritesPacketsPart written faults old new text = (octets : List ℕ) × IsHexText text octets × AppendsPart written faults old new (decoded_text octets)
 
 -- ---- what is said on `notes`
 -- the note on a line that is not hexadecimal

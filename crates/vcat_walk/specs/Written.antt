@@ -2,22 +2,19 @@
 -- line, and `now` is the sink as it is.
 use Rattle.std.specs.Prelude.{◌≡◌, ℕ, ◌≤◌, List, ◌++◌, length, take, Option}
 use Rattle.outside_io.specs.Transfer.{Appends, AppendsPart}
+use Rattle.session_model.specs.Decode.{packets_in}
+use Rattle.session_model.specs.DecodeText.{found_texts}
 use Rattle.session_model.specs.Delivery.{delivered}
-use Rattle.vcat_walk.specs.Decoded.{Found, AreFound, found_texts}
 use Rattle.vcat_walk.specs.Report.{got_texts}
 
 -- the lines of the packets in these octets are written, and `packets` is their number
 pub record HasLines {K : Type 0} (written : K → Option (List ℕ)) (faults : K → ℕ) (octets : List ℕ) (start now : K) (packets : ℕ) : Type 0 where
-  pub found : List Found
-  pub are : AreFound octets found
-  pub count : packets ≡ length found
-  pub lines : Appends written faults start now (found_texts found)
+  pub count : packets ≡ length (packets_in octets)
+  pub lines : Appends written faults start now (found_texts (packets_in octets))
 
 -- a fault came in those lines
-pub record HasLinesPart {K : Type 0} (written : K → Option (List ℕ)) (faults : K → ℕ) (octets : List ℕ) (start now : K) : Type 0 where
-  pub found : List Found
-  pub are : AreFound octets found
-  pub part : AppendsPart written faults start now (found_texts found)
+abbrev pub HasLinesPart : {K : Type 0} → (K → Option (List ℕ)) → (K → ℕ) → List ℕ → K → K → Type 0
+HasLinesPart written faults octets start now = AppendsPart written faults start now (found_texts (packets_in octets))
 
 -- the lines of the frames that are delivered of these octets are written, and `got` is their number
 pub record HasGot {K : Type 0} (written : K → Option (List ℕ)) (faults : K → ℕ) (octets : List ℕ) (start now : K) (got : ℕ) : Type 0 where

@@ -1,7 +1,8 @@
 //! The packets in the H4 octets of a line are found, and a line is written of each.
 ghost use Rattle.std.specs.Prelude.{◌≡◌, ℕ, ◌+◌, ◌<◌, ◌≤◌, List, [], ◌∷◌, ◌++◌, length, IfOk, OnOk, OnErr};
+ghost use Rattle.outside_io.specs.Transfer.{Appends, AppendsPart};
+ghost use Rattle.session_model.specs.DecodeText.{decoded_text};
 ghost use Rattle.trace_core.specs.Decoder.{Stands};
-ghost use Rattle.vcat_walk.specs.Top.{WritesDecoded, WritesDecodedPart};
 ghost use Rattle.vcat_walk.specs.Written.{HasLines, HasLinesPart};
 
 use crate::report::{FOUND_ROOM, end_line, found_line};
@@ -39,8 +40,8 @@ fn take_h4<K: ByteSink>(
 /// Writes a line for each control packet in the H4 octets of a line, and the last line.
 pub fn write_packets<K: ByteSink>(octets: &[u8], out: &mut K) -> Result<(), Failed>
     requires { length octets.now ≤ 33554432 }
-    ensures ok { OnOk result (WritesDecoded K.written K.faults out.old out.new octets.now) }
-    ensures err { OnErr result (WritesDecodedPart K.written K.faults out.old out.new octets.now) }
+    ensures ok { OnOk result (Appends K.written K.faults out.old out.new (decoded_text octets.now)) }
+    ensures err { OnErr result (AppendsPart K.written K.faults out.old out.new (decoded_text octets.now)) }
 {
     let mut decoder = H4Decoder::new();
     let mut line = [0u8; FOUND_ROOM];

@@ -3,7 +3,8 @@ ghost use Rattle.std.specs.Prelude.{◌≡◌, ◌+◌, ◌*◌, ◌≤◌, leng
 ghost use Rattle.vcat_walk.specs.Line.{Extends, HasRoom};
 ghost use Rattle.vcat_walk.specs.Report.{got_text, total_text};
 ghost use Rattle.vcat_walk.specs.Stop.{note_of};
-ghost use Rattle.vcat_walk.specs.Decoded.{ctrl_text, bit_text, nibble_text, found_text, end_text};
+ghost use Rattle.session_model.specs.DecodeText.{found_text, end_text};
+ghost use Rattle.session_model.specs.PacketText.{ctrl_text, bit_text, nibble_text};
 
 use crate::commands::Stop;
 use crate::line::LineCursor;
