@@ -1,11 +1,14 @@
--- Which frames are accepted.
+-- Which frames are accepted, and how many may wait. The limits are this project's own.
 use Rattle.std.specs.Prelude.{ℕ, ◌<◌, ◌≤◌, ◌⊎◌}
-use Rattle.gfp_fill.specs.declared.queue.TheConstants.{MIN_FRAME, MAX_FRAME}
 
 -- a length that is accepted
 abbrev pub IsFrameLength : ℕ → Type 0
-IsFrameLength n = (MIN_FRAME ≤ n) × (n ≤ MAX_FRAME)
+IsFrameLength n = (64 ≤ n) × (n ≤ 9600)
 
 -- a length that is refused
 abbrev pub IsOtherLength : ℕ → Type 0
-IsOtherLength n = (n < MIN_FRAME) ⊎ (MAX_FRAME < n)
+IsOtherLength n = (n < 64) ⊎ (9600 < n)
+
+-- how many frames may wait
+abbrev pub most_waiting : ℕ
+most_waiting = 256

@@ -1,7 +1,7 @@
 ghost use Rattle.std.specs.Prelude.{◌≡◌, ℕ, ◌+◌, ◌<◌, ◌≤◌, ◌↔◌, List, [], ◌∷◌, ◌++◌, length, map, take, drop, IsOk, IfOk, OnOk, OnErr, IfSome, IfNone, vec_len};
 ghost use Rattle.std.specs.Vec.{vec_capacity};
 ghost use Rattle.std.specs.VecDeque.{deque_len, deque_capacity};
-ghost use Rattle.gfp_fill.specs.Queue.{IsFrameLength, IsOtherLength};
+ghost use Rattle.gfp_fill.specs.Queue.{IsFrameLength, IsOtherLength, most_waiting};
 ghost use Rattle.gfp_fill.specs.Store.{IsStore};
 
 use crate::octets::copy_some;
@@ -52,8 +52,9 @@ impl FrameQueue {
     /// Accepts a frame, or refuses it and stays as it was.
     pub fn push(&mut self, frame: &[u8]) -> Result<(), AcceptFault>
         ensures length { (result ≡ Err (AcceptFault.Length (length frame.now))) ↔ IsOtherLength (length frame.now) }
-        ensures full { (result ≡ Err (AcceptFault.QueueFull 256)) ↔ (IsFrameLength (length frame.now) × (length self.old ≡ MAX_WAITING)) }
-        ensures ok { IsOk result ↔ (IsFrameLength (length frame.now) × (length self.old < MAX_WAITING)) }
+        ensures full { (result ≡ Err (AcceptFault.QueueFull most_waiting)) ↔
+            (IsFrameLength (length frame.now) × (length self.old ≡ most_waiting)) }
+        ensures ok { IsOk result ↔ (IsFrameLength (length frame.now) × (length self.old < most_waiting)) }
         ensures accepted { OnOk result (self.new ≡ self.old ++ frame.now ∷ []) }
         ensures unchanged { OnErr result (self.new ≡ self.old) }
     {
@@ -74,16 +75,16 @@ impl FrameQueue {
     /// How many frames wait.
     pub fn waiting(&self) -> u16
         ensures count { result ≡ length self.now }
-        ensures within { result ≤ MAX_WAITING }
+        ensures within { result ≤ most_waiting }
     {
         self.waiting.len() as u16
     }
 
     // Takes the oldest frame, and writes its octets at the front of `out`.
     pub(crate) fn take(&mut self, out: &mut [u8]) -> Option<usize>
-        requires { MAX_FRAME ≤ length out.old }
+        requires { 9600 ≤ length out.old }
         ensures none { IfNone result (self.old ≡ []) }
-        ensures within { IfSome result (λ n. n ≤ MAX_FRAME) }
+        ensures within { IfSome result (λ n. n ≤ 9600) }
         ensures frame { IfSome result (λ n. self.old ≡ take n out.new ∷ self.new) }
         ensures taken { self.new ≡ drop 1 self.old }
     {
