@@ -15,3 +15,4 @@ pub mod Table
 pub mod Source
 pub mod Back
 pub mod Client
+pub mod Interleave
