@@ -1,0 +1,5 @@
+pub mod RowLaws
+pub mod LaneLaws
+pub mod PlaceLaws
+pub mod MemberLaws
+pub mod SpreadLaws

@@ -1,0 +1,4 @@
+pub mod Square
+pub mod Gathered
+pub mod Members
+pub mod Spread
