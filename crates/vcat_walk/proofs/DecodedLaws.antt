@@ -45,7 +45,7 @@ module _ {K : Type 0} (written : K → Option (List ℕ)) (faults : K → ℕ) (
         let f = ap (λ (found : List Found). length found) one in
         let size = length-append (packets_in before) ((place, reading) ∷ []) in
         omega arith
-    );
+        );
     lines =
         let P : List ℕ → Type 0 = λ text. Appends written faults start new text in
         subst P (found_texts-more (packets_in before) place reading line says ∙ sym (ap found_texts one))
