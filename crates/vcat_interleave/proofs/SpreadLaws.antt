@@ -8,12 +8,10 @@ use Rattle.vc_cell.specs.declared.Container.{Container}
 use Rattle.session_model.specs.Interleave.{part_of}
 use Rattle.vcat_interleave.specs.Members.{with_octets, AreLines}
 use Rattle.vcat_interleave.specs.Spread.{SpreadsTo, Spreads, AreDistinct}
+use Rattle.vcat_interleave.proofs.PlaceLaws.{put_at}
 use Rattle.vcat_interleave.proofs.RowLaws.{part_of-append, length-part_of}
 
 -- ---- octets put at a place
-abbrev put_at : ℕ → List ℕ → List ℕ → List ℕ
-put_at place octets payload = take place payload ++ (octets ++ drop (place + length octets) payload)
-
 front-size : (place : ℕ) (payload : List ℕ) → place ≤ length payload → length (take place payload) ≡ place
 front-size place payload within = length-take place payload ∙ (let e : min place (length payload) ≡ place = omega arith in e)
 
@@ -107,13 +105,6 @@ with_octets-more place n xs ys container size =
     ∙ ap (with_payload container) (put-more place xs ys container.payload)
 
 -- ---- rows over members
-pub spreads-none : (place places : ℕ) (row active : List ℕ) (containers : List Container) → SpreadsTo 0 place places row active containers containers
-spreads-none place places row active containers = record {
-  members = λ rank d below. absurd (omega arith);
-  others = λ line d none. refl;
-  lines = refl;
-}
-
 -- one member more, or again
 pub spreads-step : (upto rank place places : ℕ) (row active : List ℕ) (before middle after : List Container) →
     AreDistinct active → AreLines (length middle) active → rank < length active → rank ≤ upto → upto ≤ length active → place + places ≤ 2340 →

@@ -1,3 +1,4 @@
+-- The octets of two vectors of sixteen, in turn.
 use Rattle.vcat_interleave.proofs.LaneLaws.{front_is, back_is}
 use Rattle.vcat_interleave.proofs.square.in_turn.Goals as goal
 

@@ -1,3 +1,4 @@
+-- A vector has the octets of the slice that it was read from.
 use Rattle.std.proofs.Common.{◌≡◌, ◌+◌, ◌-◌, take, drop, get_or, ap, ◌∙◌, arith}
 use Rattle.std.proofs.lemmas.List.{get_or-take, get_or-drop}
 use Rattle.std.proofs.lemmas.Simd.{get_or-chunk}

@@ -1,3 +1,4 @@
+-- The rows of the two halves up to here stand in turn.
 use Rattle.std.proofs.Common.{◌≡◌, ℕ, ◌+◌, ◌*◌, ◌/◌, ◌%◌, ◌<◌, length}
 use Rattle.vcat_interleave.specs.Square.{octet_at}
 use Rattle.vcat_interleave.proofs.square.round.Given as goal
