@@ -1,3 +1,4 @@
+-- The parts of a script, and of its lines of frames.
 use Rattle.std.proofs.Common.{◌≡◌, ◌≢◌, ℕ, ◌+◌, ◌<◌, ◌≤◌, ◌/◌, ◌%◌, List, [], ◌∷◌, ◌++◌, length, arith, All, refl, ap, ◌^◌, decimal, drop, ◌∙◌, sym, codes, append_assoc, Some, None}
 use Rattle.std.specs.Prelude.{Ok}
 use Rattle.std.specs.Prelude.{slice_index}

@@ -1,5 +1,6 @@
-use Rattle.std.proofs.Common.{◌≡◌, ℕ, zero, suc, ◌+◌, ◌-◌, ◌<◌, ◌≤◌, ◌/◌, ◌%◌, ◌==◌, List, [], ◌∷◌, ◌++◌, length, map, reverse, arith, refl, ap, sym, ◌∙◌, ap₂, subst, get_or, take, drop, All, Bool, true, false, inl, inr}
-use Rattle.std.specs.Prelude.{Option, Some, None}
+-- Lines of hexadecimal digits: how a text is cut, trimmed and read line by line.
+use Rattle.std.proofs.Common.{◌≡◌, ℕ, zero, suc, ◌+◌, ◌-◌, ◌<◌, ◌≤◌, ◌==◌, List, [], ◌∷◌, ◌++◌, length, map, reverse, arith, refl, ap, sym, ◌∙◌, ap₂, subst, get_or, take, drop, All, Bool, true, false, inl, inr}
+use Rattle.std.specs.Prelude.{Option, Some}
 use Rattle.std.specs.List.{slice_split, flat_map}
 use Rattle.std.specs.Str.Lines.{lines, lines_of_parts, strip_carriage_return}
 use Rattle.std.proofs.lemmas.Bool.{cases_eq}
@@ -7,10 +8,8 @@ use Rattle.std.proofs.lemmas.List.{length-reverse, reverse-append, length-drop, 
 use Rattle.std.proofs.lemmas.List.Splits.{slice_split_none, slice_split_at, length-slice_split}
 use Rattle.std.proofs.lemmas.Grind.{flat_map-append}
 use Rattle.std.proofs.lemmas.Bool.Decides.{nat_tests}
-use Rattle.hex.specs.Hex.{decode_of, decode_sized}
-use Rattle.hex.proofs.HexLemmas.{decode_sized-twice, decode_sized-odd, decode_of-odd}
 use Rattle.vcat_walk.specs.Form.{IsLine}
-use Rattle.vcat_walk.specs.HexLines.{behind_spaces, line_octets, Takes, IsHexText, IsFirstFault}
+use Rattle.vcat_walk.specs.HexLines.{behind_spaces, line_octets, Takes}
 
 parts_more : (part : List ℕ) (parts : List (List ℕ)) → 0 < length parts → lines_of_parts (part ∷ parts) ≡ strip_carriage_return part ∷ lines_of_parts parts
 parts_more part [] some = absurd (omega arith)
@@ -100,23 +99,11 @@ behind_last_other text n d size other =
 pub length_end : (text : List ℕ) → length (reverse (behind_spaces (reverse text))) ≤ length text
 length_end text = omega (arith, length-reverse text, length-reverse (behind_spaces (reverse text)), length-behind_spaces (reverse text))
 
--- room for half of the digits
-pub decode_sized-half : (digits : List ℕ) → decode_sized digits (length digits / 2) ≡ decode_of digits
-decode_sized-half digits =
-    elim (cases_eq (length digits % 2) 1) [
-      | inl odd ↦ decode_sized-odd digits _ odd ∙ sym (decode_of-odd digits odd)
-      | inr even ↦ decode_sized-twice digits _ (omega arith)
-    ]
-
 -- lines none of which is faulty, and their octets
 pub record HasParts (before : List (List ℕ)) (octets : List ℕ) : Type 0 where
   pub parts : List (List ℕ)
   pub each : map line_octets before ≡ map Some parts
   pub all : octets ≡ flat_map (λ part. part) parts
-
-pub no_parts : (octets : List ℕ) → length octets ≡ 0 → HasParts [] octets
-no_parts [] none = record { parts = []; each = refl; all = refl }
-no_parts (c ∷ octets) none = absurd (omega arith)
 
 pub one_more_part : (before : List (List ℕ)) (octets line part : List ℕ) → HasParts before octets → line_octets line ≡ Some part → HasParts (before ++ line ∷ []) (octets ++ part)
 one_more_part before octets line part has said =
@@ -136,9 +123,6 @@ pub record IsRead (text rest : List ℕ) (number : ℕ) (octets : List ℕ) : Ty
   pub count : number ≡ length before
   pub parts : HasParts before octets
 
-pub IsRead-start : (text octets : List ℕ) → length octets ≡ 0 → IsRead text text 0 octets
-IsRead-start text octets none = record { before = []; here = refl; count = refl; parts = no_parts octets none }
-
 pub IsRead-next : (text rest : List ℕ) (number : ℕ) (octets line now : List ℕ) (more : List ℕ) (sound : Bool) → IsRead text rest number octets
     → lines rest ≡ line ∷ lines now → sound ≡ true → Takes sound (line_octets line) octets more → IsRead text now (number + 1) more
 IsRead-next text rest number octets line now more sound read first is said =
@@ -148,28 +132,6 @@ IsRead-next text rest number octets line now more sound read first is said =
       here = one_more_line (lines text) read.before line (lines rest) (lines now) read.here first;
       count = omega (arith, read.count, length-append read.before (line ∷ []));
       parts = subst (λ (o : List ℕ). HasParts (read.before ++ line ∷ []) o) (sym takes.2) (one_more_part read.before octets line takes.0 read.parts takes.1);
-    }
-
-pub IsRead-end : (text rest : List ℕ) (number : ℕ) (octets : List ℕ) → IsRead text rest number octets → lines rest ≡ [] → IsHexText text octets
-IsRead-end text rest number octets read none =
-    record {
-      parts = read.parts.parts;
-      each = ap (λ (ls : List (List ℕ)). map line_octets ls) (read.here ∙ ap (λ (ls : List (List ℕ)). read.before ++ ls) none ∙ append-nil read.before) ∙ read.parts.each;
-      all = read.parts.all;
-    }
-
-pub IsRead-fault : (text rest : List ℕ) (number : ℕ) (octets line : List ℕ) (behind : List (List ℕ)) → IsRead text rest number octets
-    → lines rest ≡ line ∷ behind → line_octets line ≡ None → IsFirstFault text (number + 1)
-IsRead-fault text rest number octets line behind read first faulty =
-    record {
-      before = read.before;
-      line = line;
-      behind = behind;
-      here = read.here ∙ ap (λ (ls : List (List ℕ)). read.before ++ ls) first;
-      count = omega (arith, read.count);
-      faulty = faulty;
-      parts = read.parts.parts;
-      sound = read.parts.each;
     }
 
 pub lines_nothing : (text : List ℕ) (n : ℕ) → n ≡ 0 → lines (take n (drop (length text) text)) ≡ []

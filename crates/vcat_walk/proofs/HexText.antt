@@ -1,3 +1,4 @@
+-- Lower-case hexadecimal digits and the octets that they stand for.
 use Rattle.std.proofs.Common.{◌≡◌, ℕ, ◌<◌, ◌≤◌, ◌*◌, inl, inr, List, length, get_or, arith, sym, ◌∙◌, ap, All, subst, take, ◌++◌}
 use Rattle.std.specs.Prelude.{Result, Ok, Err, MatchResult}
 use Rattle.std.proofs.lemmas.Bool.{cases_lt}

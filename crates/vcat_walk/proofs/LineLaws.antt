@@ -1,3 +1,4 @@
+-- Texts in which no line ends.
 use Rattle.std.proofs.Common.{◌≡◌, ℕ, ◌+◌, List, ◌∷◌, ◌++◌, length, get_or, arith, refl, ap, ◌∙◌}
 use Rattle.std.proofs.lemmas.List.{get_or_at, length-append}
 use Rattle.vcat_walk.specs.Form.{IsLine}

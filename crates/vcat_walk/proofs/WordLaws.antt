@@ -1,3 +1,4 @@
+-- Words of a command line: a list of one word.
 use Rattle.std.proofs.Common.{◌≡◌, ℕ, Bool, List, [], ◌∷◌, map, ap, ◌∙◌, sym, IsTrue, ◌↔◌, Global}
 use Rattle.std.specs.Prelude.{String, string_bytes}
 use Rattle.std.specs.Str.{bytes_eq}

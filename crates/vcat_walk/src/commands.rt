@@ -1,8 +1,8 @@
 //! The two commands: each reads its input whole before it writes.
-ghost use Rattle.std.specs.Prelude.{◌≡◌, ◌≢◌, ℕ, ◌<◌, ◌≤◌, length, IfSome, OnOk, IfErr};
+ghost use Rattle.std.specs.Prelude.{◌≡◌, ◌≢◌, ◌⊎◌, ℕ, ◌<◌, ◌≤◌, length, vec_len, IfSome, IfOk, OnOk, IfErr};
 ghost use Rattle.std.specs.Io.KnownBytes.{IsAtEnd};
 ghost use Rattle.outside_io.specs.Faults.{one_more};
-ghost use Rattle.outside_io.specs.Transfer.{Tells};
+ghost use Rattle.outside_io.specs.Transfer.{GivesAll, Tells};
 ghost use Rattle.vcat_walk.specs.HexLines.{IsFirstFault};
 ghost use Rattle.vcat_walk.specs.Stop.{HasReadAll, note_of};
 ghost use Rattle.vcat_walk.specs.Top.{most_octets, IsOtherForm, WritesReport, WritesReportPart, WritesPackets, WritesPacketsPart};
@@ -39,6 +39,23 @@ pub enum Stop {
     Memory,
 }
 
+/// Reads the whole input of a command.
+fn read_input<S: ByteSource>(alloc: Global, script: &mut S) -> Result<Vec<u8>, Stop>
+    ensures whole { IfOk result (λ text. GivesAll S.left script.old script.new text.items) }
+    ensures fits { IfOk result (λ text. vec_len text ≤ most_octets) }
+    ensures causes { IfErr result (λ stop. (stop ≡ Stop.Read) ⊎ ((stop ≡ Stop.TooLong) ⊎ (stop ≡ Stop.Memory))) }
+    ensures long { result ≡ Err Stop.TooLong → IfSome (S.left script.old) (λ text. most_octets < length text) }
+    ensures read_failed { result ≡ Err Stop.Read → S.faults script.new ≡ one_more (S.faults script.old) }
+    ensures read_quiet { result ≢ Err Stop.Read → S.faults script.new ≡ S.faults script.old }
+{
+    match read_all(alloc, script, MOST) {
+        Ok(text) => Ok(text),
+        Err(ReadEnd::Memory) => Err(Stop::Memory),
+        Err(ReadEnd::Failed) => Err(Stop::Read),
+        Err(ReadEnd::TooLong) => Err(Stop::TooLong),
+    }
+}
+
 /// Reads a script of one line, runs it and writes its report.
 pub fn walk<S: ByteSource, K: ByteSink>(
     alloc: Global,
@@ -60,11 +77,9 @@ pub fn walk<S: ByteSource, K: ByteSink>(
     ensures write_failed { result ≡ Err Stop.Write → K.faults out.new ≡ one_more (K.faults out.old) }
     ensures write_quiet { result ≢ Err Stop.Write → K.faults out.new ≡ K.faults out.old }
 {
-    let text = match read_all(alloc, script, MOST) {
+    let text = match read_input(alloc, script) {
         Ok(text) => text,
-        Err(ReadEnd::Memory) => return Err(Stop::Memory),
-        Err(ReadEnd::Failed) => return Err(Stop::Read),
-        Err(ReadEnd::TooLong) => return Err(Stop::TooLong),
+        Err(stop) => return Err(stop),
     };
     let Ok(mut queue) = FrameQueue::new(alloc) else {
         return Err(Stop::Memory);
@@ -103,11 +118,9 @@ pub fn decode<S: ByteSource, K: ByteSink>(
     ensures write_failed { result ≡ Err Stop.Write → K.faults out.new ≡ one_more (K.faults out.old) }
     ensures write_quiet { result ≢ Err Stop.Write → K.faults out.new ≡ K.faults out.old }
 {
-    let text = match read_all(alloc, script, MOST) {
+    let text = match read_input(alloc, script) {
         Ok(text) => text,
-        Err(ReadEnd::Memory) => return Err(Stop::Memory),
-        Err(ReadEnd::Failed) => return Err(Stop::Read),
-        Err(ReadEnd::TooLong) => return Err(Stop::TooLong),
+        Err(stop) => return Err(stop),
     };
     let octets = match read_octets(alloc, text.as_slice()) {
         Ok(octets) => octets,

@@ -1,3 +1,4 @@
+-- Part by part; a text that is refused is no script.
 use Rattle.std.proofs.Common.{◌∙◌}
 use Rattle.vcat_walk.proofs.FormLaws.{form_text-parts, behind_head, behind_ticks, behind_add, is_form}
 use Rattle.vcat_walk.proofs.form.read_form.Goals as goal

@@ -1,3 +1,4 @@
+-- A text that is refused begins with the line of no frame.
 use Rattle.std.proofs.Common.{◌≡◌, sym, ◌∙◌, codes, ◌++◌, ◌∷◌}
 use Rattle.std.proofs.lemmas.List.{append_cancel_left}
 use Rattle.hex.specs.Hex.{encode_lower}

@@ -1,3 +1,4 @@
+-- The frames so far are in the queue.
 use Rattle.std.proofs.Common.{◌≡◌, ◌≤◌, length, ◌++◌, All}
 use Rattle.vcat_walk.specs.Form.{IsFrame, frame_lines}
 use Rattle.vcat_walk.proofs.form.read_frames.Given as goal

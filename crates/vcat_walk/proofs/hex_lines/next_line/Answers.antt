@@ -1,3 +1,4 @@
+-- The first line, and the lines of the rest.
 use Rattle.std.proofs.Common.{◌<◌, ℕ, List, ◌∷◌, length, arith, ap, ◌∙◌, sym, rules}
 use Rattle.vcat_walk.proofs.HexLineLaws.{lines_last, lines_behind, lines_nothing, IsLine-none}
 use Rattle.vcat_walk.proofs.hex_lines.next_line.Goals as goal

@@ -1,3 +1,4 @@
+-- Line by line.
 use Rattle.std.proofs.Common.{arith}
 use Rattle.vcat_walk.proofs.HexLineLaws.{IsRead-next}
 use Rattle.vcat_walk.proofs.hex_lines.read_octets.Goals as goal

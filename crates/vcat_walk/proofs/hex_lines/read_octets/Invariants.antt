@@ -1,3 +1,4 @@
+-- The lines so far are read, and none was faulty.
 use Rattle.std.proofs.Common.{◌+◌, ◌*◌, ◌≤◌, length, vec_len}
 use Rattle.vcat_walk.proofs.HexLineLaws.{IsRead}
 use Rattle.vcat_walk.proofs.hex_lines.read_octets.Given as goal

@@ -1,3 +1,4 @@
+-- A trimmed line is not longer than the line.
 use Rattle.std.proofs.Common.{ℕ, List, length, arith, ap}
 use Rattle.vcat_walk.proofs.HexLineLaws.{length-behind_spaces, length_end}
 use Rattle.vcat_walk.proofs.hex_lines.trim.Goals as goal

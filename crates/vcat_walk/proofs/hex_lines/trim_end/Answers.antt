@@ -1,3 +1,4 @@
+-- One space less, or none at the end.
 use Rattle.std.proofs.Common.{◌≡◌, ℕ, List, reverse, length, ◌-◌, arith, ap, sym, ◌∙◌}
 use Rattle.std.proofs.lemmas.List.{reverse-reverse, length-reverse}
 use Rattle.std.proofs.lemmas.Bool.Decides.{nat_tests}

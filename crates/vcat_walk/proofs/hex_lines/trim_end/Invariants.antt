@@ -1,3 +1,4 @@
+-- Only spaces were left out.
 use Rattle.std.proofs.Common.{◌≡◌, length, reverse}
 use Rattle.vcat_walk.specs.HexLines.{behind_spaces}
 use Rattle.vcat_walk.proofs.hex_lines.trim_end.Given as goal

@@ -1,3 +1,4 @@
+-- One space less, or none at the start.
 use Rattle.std.proofs.Common.{◌≡◌, length, arith, sym, ◌∙◌}
 use Rattle.std.proofs.lemmas.Bool.Decides.{nat_tests}
 use Rattle.vcat_walk.proofs.HexLineLaws.{behind_first, behind_first_other, behind_nothing}

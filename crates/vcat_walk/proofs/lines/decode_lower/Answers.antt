@@ -1,3 +1,4 @@
+-- Digits that are encoded again as they were are lower-case digits of octets.
 use Rattle.std.proofs.Common.{rules, arith, sym, ◌∙◌, ◌≡◌, ap, List, ℕ}
 use Rattle.std.proofs.lemmas.Bool.{OnFalse_from, false≢true}
 use Rattle.std.proofs.lemmas.Bool.Decides.{Decides-eqb}

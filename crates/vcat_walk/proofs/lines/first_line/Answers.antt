@@ -1,3 +1,4 @@
+-- A text with no LF has no line.
 use Rattle.std.proofs.Common.{rules}
 use Rattle.vcat_walk.specs.Form.{IsLine}
 use Rattle.vcat_walk.proofs.LineLaws.{not_line}

@@ -1,3 +1,4 @@
+-- Other digits are those of no frame.
 use Rattle.std.proofs.Common.{rules, arith}
 use Rattle.vcat_walk.proofs.HexText.{length_of_digits, IsFrame-front}
 use Rattle.vcat_walk.proofs.lines.read_hex.Goals as goal

@@ -1,3 +1,4 @@
+-- A word that is refused is the decimal text of no number of ticks.
 use Rattle.std.proofs.Common.{arith, sym, ◌∙◌, ◌≡◌, ap, decimal, ℕ, not}
 use Rattle.std.proofs.lemmas.Bool.{false≢true}
 use Rattle.std.proofs.lemmas.Fmt.{parse-decimal, IsAscii-decimal}

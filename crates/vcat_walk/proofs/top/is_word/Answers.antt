@@ -1,3 +1,4 @@
+-- One word, and the octets of it are those wanted.
 use Rattle.std.proofs.Common.{ap, ◌∙◌, rules, List, ℕ}
 use Rattle.std.proofs.lemmas.List.{nil_from_length}
 use Rattle.std.specs.Str.{bytes_eq}
