@@ -5,7 +5,7 @@ use Rattle.std.proofs.lemmas.List.{append-nil}
 use Rattle.gfp_scramble.specs.Descrambler.{Descrambling}
 use Rattle.gfp_scramble.specs.Descrambler as descrambler
 use Rattle.session_model.specs.declared.Why.TheVariants.{Unsettled, TooLong}
-use Rattle.session_model.specs.Core.{core_header, head}
+use Rattle.session_model.specs.Core.{head}
 use Rattle.session_model.specs.Piece.{joined}
 use Rattle.session_model.specs.Run.{Run}
 use Rattle.session_model.specs.Outcome.{client_outcome, outcomes}
@@ -104,7 +104,13 @@ module _ (old : Progress) (longest : ℕ) (first : Bool) (octets : List ℕ) (oc
 
     follow-found : Heads old longest first octets (octet ∷ []) (drop 1 old.window ++ octet ∷ [])
     follow-found = record {
-      ended = is.ended; settled = is.settled; before = is.before; was = sync-was; four = length-shifted old.window is.run.window octet; leaves = sync-leaves; given = is.run.given;
+      ended = is.ended;
+      settled = is.settled;
+      before = is.before;
+      was = sync-was;
+      four = length-shifted old.window is.run.window octet;
+      leaves = sync-leaves;
+      given = is.run.given;
     }
 
 -- ---- the same for all octets that may have come, where the fourth octet of a header is the next

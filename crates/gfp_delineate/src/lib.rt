@@ -89,8 +89,8 @@ impl Model for Delineator {
     ghost Value = { Receiver };
 
     ghost view = { λ s. record {
-        progress = record { longest = s.max; phase = s.phase; window = s.window; descrambling = s.descrambler; area = s.area.items };
-        holds = s.holds;
+      progress = record { longest = s.max; phase = s.phase; window = s.window; descrambling = s.descrambler; area = s.area.items };
+      holds = s.holds;
     } };
 
     ghost invariant = { λ s. IsSound s.max (vec_capacity s.area) (vec_len s.area) s.phase };

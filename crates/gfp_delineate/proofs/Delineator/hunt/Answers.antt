@@ -1,4 +1,4 @@
-use Rattle.std.proofs.Common.{◌≡◌, ◌+◌, ◌<◌, [], ◌∷◌, ◌++◌, drop, Some, sym, ◌∙◌, ap, subst, arith}
+use Rattle.std.proofs.Common.{◌+◌, ◌<◌, Some, ◌∙◌, ap, arith}
 use Rattle.gfp_delineate.specs.declared.Phase.TheVariants.{Hunt, PresyncArea, PresyncHeader}
 use Rattle.gfp_delineate.proofs.Taking.{seen, read-window}
 use Rattle.gfp_delineate.proofs.SearchSteps.{shifted, Takes-hunt-part, Takes-hunt-none, Takes-hunt-idle, Takes-hunt-client}
@@ -20,7 +20,7 @@ returns-in-None c =
 pub returns-in-Some-eq0 : goal.returns-in-Some-eq0
 returns-in-Some-eq0 c =
     let found = read-window _ _ _ _ _ _ c.self.view_is c.shifted-self-inside.ensures c.read_core.ensures.value c.in-Some-eq0.is
-        ∙ ap (λ n. Some n) c.in-Some-eq0.field-0-test in
+    ∙ ap (λ n. Some n) c.in-Some-eq0.field-0-test in
     rw c.shifted-self-inside.ensures
     (seen c.args.self.now _ (λ old. shifted old c.args.octet (PresyncHeader 0)) _ _ c.self.view_is
     (Takes-hunt-idle c.args.self.now.progress c.args.octet c.args.have c.if-have-lt3.false c.requires found))

@@ -1,4 +1,4 @@
-use Rattle.std.proofs.Common.{true, false, ◌≡◌, ◌+◌, ◌<◌, ◌≤◌, [], ◌∷◌, ◌++◌, drop, Some, sym, ◌∙◌, ap, subst, arith}
+use Rattle.std.proofs.Common.{true, false, [], ◌∷◌, ◌++◌, drop, Some, ◌∙◌, ap, subst, arith}
 use Rattle.session_model.specs.declared.Why.TheVariants.{Unsettled, TooLong}
 use Rattle.gfp_delineate.specs.declared.Phase.TheVariants.{SyncHeader, SyncArea, SyncPassing}
 use Rattle.gfp_delineate.specs.Receiver.{Receiver}
@@ -17,7 +17,7 @@ returns-in_default c =
 pub returns-then-pli-eq0 : goal.returns-then-pli-eq0
 returns-then-pli-eq0 c =
     let found = read-window _ _ _ _ _ _ c.self.view_is c.shifted-self-inside.ensures c.read_core.ensures.value c.in-Some.is
-        ∙ ap (λ n. Some n) c.if-pli-eq0.true in
+    ∙ ap (λ n. Some n) c.if-pli-eq0.true in
     rw (c.clear.ensures.items, c.shifted-self-inside.ensures)
     (seen c.args.self.now _ (λ old. followed old (drop 1 old.window ++ c.args.octet ∷ []) (SyncHeader 0)) _ _ c.self.view_is
     (Takes-idle c.args.self.now.progress c.args.octet c.requires found))
