@@ -1,23 +1,22 @@
 -- More octets of an area in SYNC.
-use Rattle.std.proofs.Common.{◌≡◌, ℕ, ◌+◌, ◌-◌, ◌<◌, ◌≤◌, Bool, true, List, [], ◌∷◌, ◌++◌, length, take, drop, inl, inr, Option, Some, None, refl, sym, ◌∙◌, ap, subst, arith, append_assoc, length-append}
+use Rattle.std.proofs.Common.{◌≡◌, ℕ, ◌+◌, ◌-◌, ◌<◌, ◌≤◌, Bool, true, List, [], ◌∷◌, ◌++◌, length, take, drop, inl, inr, Some, sym, ◌∙◌, ap, subst, arith, append_assoc, length-append}
 use Rattle.std.specs.Prelude.{◌⊎◌}
 use Rattle.std.proofs.lemmas.List.{append-nil, drop-append-le}
 use Rattle.gfp_scramble.specs.Descrambler.{Descrambling, Continues, DescramblesTo}
 use Rattle.gfp_scramble.specs.Descrambler as descrambler
 use Rattle.session_model.specs.declared.Why.{Why}
-use Rattle.session_model.specs.Core.{head, IsPli}
+use Rattle.session_model.specs.Core.{head}
 use Rattle.session_model.specs.Scramble.{descrambled_octets}
 use Rattle.session_model.specs.Piece.{joined}
 use Rattle.session_model.specs.TypeHeader.{type_fault}
 use Rattle.session_model.specs.Run.{Run}
-use Rattle.session_model.specs.Outcome.{Outcome, delivery, dropping, outcome_by, outcome_of, outcomes}
-use Rattle.session_model.proofs.CoreLaws.{IsPli-head}
+use Rattle.session_model.specs.Outcome.{Outcome, dropping, outcome_by, outcome_of, outcomes}
 use Rattle.session_model.proofs.ScrambledOctets.{length-descrambled_octets}
 use Rattle.session_model.proofs.AreaLaws.{length-descrambled_single}
 use Rattle.gfp_delineate.specs.declared.Phase.{Phase}
 use Rattle.gfp_delineate.specs.declared.Phase.TheVariants.{SyncHeader, SyncArea, SyncPassing}
 use Rattle.gfp_delineate.specs.Standing.{running, Leaves}
-use Rattle.gfp_delineate.specs.Receiver.{Progress, Follows, Headed, InSyncArea, InSyncPassing, IsIn, IsAt}
+use Rattle.gfp_delineate.specs.Receiver.{Progress, Follows, Headed, InSyncArea, InSyncPassing, IsIn}
 use Rattle.gfp_delineate.proofs.StandingLaws.{Becomes-area, Leaves-longer, Leaves-goes_on}
 use Rattle.gfp_delineate.proofs.Known.{outcomes_with, outcomes-area, nothing, window-none}
 use Rattle.gfp_delineate.proofs.Taking.{Takes, Adds, Taken, Takes-in}

@@ -1,5 +1,5 @@
 -- The frames that are delivered of each front of a stream are those whose piece ends in it.
-use Rattle.std.proofs.Common.{◌≡◌, ℕ, ◌+◌, ◌-◌, ◌<◌, ◌≤◌, true, false, not, List, [], ◌∷◌, ◌++◌, length, map, filter, replicate, take, drop, All, inl, inr, Some, None, refl, sym, ◌∙◌, ap, ap₂, subst, arith, length-append, length-take}
+use Rattle.std.proofs.Common.{◌≡◌, ℕ, ◌+◌, ◌-◌, ◌<◌, ◌≤◌, true, false, List, [], ◌∷◌, ◌++◌, length, map, filter, replicate, take, drop, All, inl, inr, Some, None, refl, sym, ◌∙◌, ap, ap₂, subst, arith, length-append, length-take}
 use Rattle.std.specs.Prelude.{nat_le}
 use Rattle.std.specs.List.{flat_map}
 use Rattle.std.proofs.lemmas.List.{drop_at, append-nil, map-append}

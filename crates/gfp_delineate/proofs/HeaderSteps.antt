@@ -5,7 +5,7 @@ use Rattle.std.proofs.lemmas.List.{append-nil}
 use Rattle.gfp_scramble.specs.Descrambler.{Descrambling}
 use Rattle.gfp_scramble.specs.Descrambler as descrambler
 use Rattle.session_model.specs.declared.Why.TheVariants.{Unsettled, TooLong}
-use Rattle.session_model.specs.Core.{core_header, head}
+use Rattle.session_model.specs.Core.{head}
 use Rattle.session_model.specs.Piece.{joined}
 use Rattle.session_model.specs.Run.{Run}
 use Rattle.session_model.specs.Outcome.{client_outcome, outcomes}

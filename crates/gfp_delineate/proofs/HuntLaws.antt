@@ -1,6 +1,6 @@
 -- The laws of the search, with any reader of headers: what is found depends neither on the number of its first place nor on how
 -- many steps it may take.
-use Rattle.std.proofs.Common.{◌≡◌, ℕ, zero, suc, ◌+◌, ◌-◌, ◌<◌, ◌≤◌, Bool, true, List, [], ◌∷◌, ◌++◌, length, take, drop, Option, Some, None, refl, sym, ◌∙◌, ap, inl, inr, arith, length-append, length-drop, zero-add}
+use Rattle.std.proofs.Common.{◌≡◌, ℕ, zero, suc, ◌+◌, ◌-◌, ◌<◌, ◌≤◌, Bool, true, List, [], ◌∷◌, ◌++◌, length, drop, Option, Some, None, refl, sym, ◌∙◌, ap, inl, inr, arith, length-append, length-drop, zero-add}
 use Rattle.std.proofs.lemmas.List.{take_at}
 use Rattle.std.proofs.lemmas.Bool.{le-leb, lt-leb, cases_lt}
 use Rattle.session_model.specs.Hunt.{Confirmed, header_with, confirm_by, confirm_with, hunt_by, hunt_within, hunt_with}

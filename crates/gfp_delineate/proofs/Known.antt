@@ -9,7 +9,7 @@ use Rattle.session_model.specs.Outcome.{Outcome, client_outcome, run_outcomes, o
 use Rattle.gfp_delineate.specs.declared.Phase.{Phase}
 use Rattle.gfp_delineate.specs.declared.Phase.TheVariants.{Hunt, PresyncArea, PresyncHeader, SyncHeader, SyncArea, SyncPassing}
 use Rattle.gfp_delineate.specs.Standing.{Standing, searching, running, Leaves}
-use Rattle.gfp_delineate.specs.Receiver.{Progress, Searches, Follows, Headed, InHunt, IsIn, IsAt, in_sync}
+use Rattle.gfp_delineate.specs.Receiver.{Progress, Searches, Headed, InHunt, IsIn, IsAt, in_sync}
 use Rattle.gfp_delineate.proofs.StandingLaws.{Rests, Rests-few, Rests-unconfirmed, Rests-header, Rests-area, Leaves-none, runs-Leaves, sync-Leaves}
 use Rattle.gfp_delineate.proofs.OutcomeLaws.{outcomes_of-push}
 

@@ -2,15 +2,12 @@
 use Rattle.std.proofs.Common.{◌≡◌, ℕ, ◌+◌, ◌<◌, ◌≤◌, Bool, true, false, not, List, [], ◌∷◌, ◌++◌, length, take, drop, Option, Some, None, refl, sym, ◌∙◌, ap, ap₂, arith, append_assoc, length-append}
 use Rattle.std.proofs.lemmas.List.{take_at, drop_at, append-nil, drop-append-le}
 use Rattle.session_model.specs.Hunt.{header_with}
-use Rattle.session_model.specs.Run.{Followed, area_then, no_area, follow_with, Run, Delineated, no_run, run_then, runs_then, delineate_with}
+use Rattle.session_model.specs.Run.{Followed, area_then, no_area, follow_with, Run, Delineated, run_then, runs_then, delineate_with}
 use Rattle.gfp_delineate.specs.Standing.{Standing, searching, running, found_with, Leaves}
-use Rattle.gfp_delineate.proofs.HuntLaws.{no_header, header-window, search, search-on, search-few, search-short, search-refused, search-confirmed}
+use Rattle.gfp_delineate.proofs.HuntLaws.{header-window, search, search-on, search-few, search-short, search-refused, search-confirmed}
 use Rattle.gfp_delineate.proofs.RunLaws.{not-not, follow-few, follow-lost, follow-part, follow-whole, delineate_from, delineate-open, sync-same}
 
 -- ---- what is found after runs
-runs_then-none : (found : Delineated) → runs_then [] found ≡ found
-runs_then-none found = refl
-
 runs_then-twice : (runs more : List Run) (found : Delineated) → runs_then runs (runs_then more found) ≡ runs_then (runs ++ more) found
 runs_then-twice runs more found = ap (λ all. record { runs = all; sync = found.sync }) (sym (append_assoc runs more found.runs))
 

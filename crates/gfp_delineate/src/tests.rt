@@ -1,3 +1,8 @@
+//! Streams from outside, octet by octet and in pieces.
+
+ghost use Rattle.std.specs.Prelude.{◌≡◌, ◌<◌, IsSome};
+ghost use Rattle.gfp_delineate.specs.Receiver.{frame_of};
+
 use super::*;
 use std::process::Abort;
 use std::test::Fail;
@@ -25,28 +30,73 @@ const FROM_THE_MIDDLE: &str =
     52c11356933785ffb6ad51266ad376d15103";
 
 /// What octets complete: after how many of them, what, and the frame that is held.
-type Answers<'a> = &'a [(usize, Step, &'a str)];
+type Answer<'a> = (usize, Step, &'a str);
+
+/// What the stream of two frames completes in a receiver that was broken.
+const AFTER_A_BREAK: &[Answer<'static>] = &[
+    (80, Step::Dropped(Why::Unsettled), ""),
+    (152, Step::Frame, ZEROS),
+];
+
+fn answer_is(
+    rt: &(impl Abort + AllocGlobal),
+    delineator: &Delineator,
+    place: usize,
+    step: Step,
+    wanted: Option<&Answer<'_>>,
+) -> Result<(), Fail>
+    requires { step ≡ Step.Frame → IsSome (frame_of delineator.now) }
+{
+    let (at, want, frame) = wanted.ok_or("an answer too much")?;
+    assert_eq!(rt; place, *at);
+    assert_eq!(rt; step, *want);
+    if step == Step::Frame {
+        assert_eq!(rt;
+            delineator.frame(),
+            hex::decode(rt.alloc(), *frame)?.as_slice()
+        );
+    }
+    Ok(())
+}
 
 fn answers_are(
     rt: &(impl Abort + AllocGlobal),
     delineator: &mut Delineator,
     text: &str,
-    answers: Answers<'_>,
+    answers: &[Answer<'_>],
 ) -> Result<(), Fail> {
     let mut wanted = answers.iter();
     for (at, octet) in hex::decode(rt.alloc(), text)?.iter().enumerate() {
         let step = delineator.byte(*octet);
-        if step == Step::Nothing {
-            continue;
+        if step != Step::Nothing {
+            answer_is(rt, delineator, at + 1, step, wanted.next())?;
         }
-        let (place, want, frame) = wanted.next().ok_or("an answer too much")?;
-        assert_eq!(rt; at + 1, *place);
-        assert_eq!(rt; step, *want);
-        if step == Step::Frame {
-            assert_eq!(rt;
-                delineator.frame(),
-                hex::decode(rt.alloc(), *frame)?.as_slice()
-            );
+    }
+    assert!(rt; wanted.next().is_none());
+    Ok(())
+}
+
+/// The same, where the octets come in pieces of `size`.
+fn fed_answers_are(
+    rt: &(impl Abort + AllocGlobal),
+    delineator: &mut Delineator,
+    text: &str,
+    size: usize,
+    answers: &[Answer<'_>],
+) -> Result<(), Fail>
+    requires { 0 < size }
+{
+    let mut wanted = answers.iter();
+    let mut place = 0usize;
+    for piece in hex::decode(rt.alloc(), text)?.chunks(size) {
+        let mut at = 0;
+        while at < piece.len() {
+            let (taken, step) = delineator.feed(&piece[at..]);
+            at += taken;
+            place = place.wrapping_add(taken);
+            if step != Step::Nothing {
+                answer_is(rt, delineator, place, step, wanted.next())?;
+            }
         }
     }
     assert!(rt; wanted.next().is_none());
@@ -63,15 +113,7 @@ fn answers_of_streams(rt: HostRuntime) -> Result<(), Fail> {
         &[(80, Step::Frame, ZEROS), (152, Step::Frame, ZEROS)],
     )?;
     delineator.broken();
-    answers_are(
-        &rt,
-        &mut delineator,
-        TWO_FRAMES,
-        &[
-            (80, Step::Dropped(Why::Unsettled), ""),
-            (152, Step::Frame, ZEROS),
-        ],
-    )?;
+    answers_are(&rt, &mut delineator, TWO_FRAMES, AFTER_A_BREAK)?;
     let mut delineator = Delineator::new(rt.alloc(), 64)?;
     answers_are(
         &rt,
@@ -108,7 +150,29 @@ fn answers_of_streams(rt: HostRuntime) -> Result<(), Fail> {
     )
 }
 
-/// The state behind each octet of two idles, and where an octet comes before them.
+/// A receiver that is broken at once, and takes the stream octet by octet and in pieces.
+#[test]
+fn answers_after_a_break(rt: HostRuntime) -> Result<(), Fail> {
+    let mut delineator = Delineator::new(rt.alloc(), 64)?;
+    delineator.broken();
+    answers_are(&rt, &mut delineator, TWO_FRAMES, AFTER_A_BREAK)?;
+    after_a_break_in_pieces(&rt, 1)?;
+    after_a_break_in_pieces(&rt, 7)?;
+    after_a_break_in_pieces(&rt, 8)?;
+    after_a_break_in_pieces(&rt, 200)
+}
+
+fn after_a_break_in_pieces(rt: &(impl Abort + AllocGlobal), size: usize) -> Result<(), Fail>
+    requires { 0 < size }
+{
+    let mut delineator = Delineator::new(rt.alloc(), 64)?;
+    delineator.broken();
+    fed_answers_are(rt, &mut delineator, TWO_FRAMES, size, AFTER_A_BREAK)?;
+    assert_eq!(rt; delineator.feed(&[]), (0, Step::Nothing));
+    Ok(())
+}
+
+/// The state after each octet of two idles, and where an octet comes before them.
 #[test]
 fn states_of_idles(rt: HostRuntime) -> Result<(), Fail> {
     let idles = [0x00, 0xb6, 0xab, 0x31, 0xe0, 0xb6, 0xab, 0x31, 0xe0];

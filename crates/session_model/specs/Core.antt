@@ -8,7 +8,8 @@ use Rattle.hec16.specs.Hec.{hec_bits}
 unfoldable pub core_header : ℕ → List ℕ
 core_header pli = octets_of 4 (xors (bits 32 0xb6ab31e0) (bits 16 pli ++ hec_bits pli))
 
--- a PLI that a header may have: that of an idle frame, or room for a type header
+-- a PLI that a header may have: that of an idle frame, or room for a type header. That 1 to 3 are refused is this project's own
+-- rule
 abbrev pub IsPli : ℕ → Type 0
 IsPli pli = (pli < 2 ^ 16) × ((pli ≡ 0) ⊎ (4 ≤ pli))
 

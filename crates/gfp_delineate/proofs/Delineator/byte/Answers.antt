@@ -1,9 +1,9 @@
-use Rattle.std.proofs.Common.{◌≡◌, ◌+◌, ◌≤◌, ◌∷◌, [], ℕ, ◌++◌, Some, length, take, sym, ◌∙◌, ap, subst, arith}
+use Rattle.std.proofs.Common.{◌≤◌, ◌∷◌, [], ◌++◌, length, sym, ◌∙◌, ap, subst, arith}
 use Rattle.std.specs.Prelude.{IfSome}
 use Rattle.session_model.specs.Outcome.{outcomes}
-use Rattle.gfp_delineate.specs.Receiver.{Receiver, frame_of, outcomes_told, told_outcomes}
+use Rattle.gfp_delineate.specs.Receiver.{Receiver, frame_of, told_outcomes}
 use Rattle.gfp_delineate.proofs.ListLaws.{part_of_one}
-use Rattle.gfp_delineate.proofs.Taking.{Takes, Goes, Adds, tell}
+use Rattle.gfp_delineate.proofs.Taking.{Goes}
 use Rattle.gfp_delineate.proofs.Frames.{outcomes-held, short-held}
 use Rattle.gfp_delineate.proofs.Delineator.byte.Goals as goal
 

@@ -1,8 +1,7 @@
-use Rattle.std.proofs.Common.{◌≡◌, ◌+◌, ◌≤◌, ℕ, Bool, ◌++◌, Some, length, take, drop, sym, ◌∙◌, ap, subst, arith}
-use Rattle.std.specs.Prelude.{IsTrue, IfSome}
+use Rattle.std.proofs.Common.{◌≤◌, ◌++◌, length, take, sym, ◌∙◌, ap, subst, arith}
+use Rattle.std.specs.Prelude.{IfSome}
 use Rattle.session_model.specs.Outcome.{outcomes}
-use Rattle.gfp_delineate.specs.declared.Step.TheVariants.{Frame}
-use Rattle.gfp_delineate.specs.Receiver.{Receiver, frame_of, outcomes_told, told_outcomes}
+use Rattle.gfp_delineate.specs.Receiver.{Receiver, frame_of, told_outcomes}
 use Rattle.gfp_delineate.proofs.Taking.{Goes}
 use Rattle.gfp_delineate.proofs.Frames.{outcomes-held, short-held}
 use Rattle.gfp_delineate.proofs.Delineator.feed.Goals as goal

@@ -1,9 +1,7 @@
-use Rattle.std.proofs.Common.{◌≡◌, ◌*◌, ℕ, List, [], ◌∷◌, ◌++◌, get_or, take, sym, ◌∙◌, ap, subst}
+use Rattle.std.proofs.Common.{ℕ, List, [], ◌∷◌, get_or, ◌∙◌, ap}
 use Rattle.gfp_delineate.specs.declared.Phase.TheVariants.{SyncHeader}
-use Rattle.gfp_delineate.specs.Receiver.{Advances, Brings}
 use Rattle.gfp_delineate.proofs.ListLaws.{take_one, take_four}
-use Rattle.gfp_delineate.proofs.Taking.{Takes, tell, told, Takes-then}
-use Rattle.gfp_delineate.proofs.IdleLaws.{idles}
+use Rattle.gfp_delineate.proofs.Taking.{tell, told, Takes-then}
 use Rattle.gfp_delineate.proofs.HeaderSteps.{Takes-idles}
 use Rattle.gfp_delineate.proofs.Delineator.follow.Goals as goal
 

@@ -1,4 +1,4 @@
-use Rattle.std.proofs.Common.{◌+◌, [], ◌∷◌}
+use Rattle.std.proofs.Common.{◌+◌}
 use Rattle.gfp_delineate.specs.declared.Phase.TheVariants.{SyncHeader}
 use Rattle.gfp_delineate.proofs.Taking.{seen}
 use Rattle.gfp_delineate.proofs.SearchSteps.{shifted}

@@ -1,4 +1,4 @@
-use Rattle.std.proofs.Common.{◌≡◌, ◌+◌, ◌<◌, [], ◌∷◌, ◌++◌, drop, Some, sym, ◌∙◌, ap, subst, arith}
+use Rattle.std.proofs.Common.{◌+◌, ◌<◌, Some, ◌∙◌, ap, arith}
 use Rattle.gfp_delineate.specs.declared.Phase.TheVariants.{Hunt, PresyncArea, PresyncHeader}
 use Rattle.gfp_delineate.proofs.Taking.{seen, read-window}
 use Rattle.gfp_delineate.proofs.SearchSteps.{shifted, Takes-hunt-part, Takes-hunt-none, Takes-hunt-idle, Takes-hunt-client}

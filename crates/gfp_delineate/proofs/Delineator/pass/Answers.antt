@@ -1,6 +1,6 @@
-use Rattle.std.proofs.Common.{◌≡◌, ◌≢◌, ◌-◌, ◌<◌, ℕ, List, length, take, sym, ◌∙◌, ap, subst, arith, length-take}
+use Rattle.std.proofs.Common.{◌-◌, ◌<◌, ℕ, List, length, take, ◌∙◌, ap, subst, arith, length-take}
 use Rattle.std.specs.Prelude.{vec_len}
-use Rattle.std.proofs.lemmas.List.{take_all, take-take, length-take-le}
+use Rattle.std.proofs.lemmas.List.{take_all, length-take-le}
 use Rattle.gfp_scramble.specs.Descrambler.{Continues}
 use Rattle.gfp_delineate.specs.declared.Phase.TheVariants.{SyncHeader, SyncPassing}
 use Rattle.gfp_delineate.specs.Receiver.{Receiver, IsWithin}

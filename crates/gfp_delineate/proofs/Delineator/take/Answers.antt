@@ -1,4 +1,4 @@
-use Rattle.std.proofs.Common.{◌≡◌, ◌+◌, ◌-◌, ◌≤◌, ℕ, List, [], ◌∷◌, ◌++◌, Some, length, take, drop, sym, ◌∙◌, ap, subst, arith, length-take, length-drop}
+use Rattle.std.proofs.Common.{◌≡◌, ◌+◌, ◌-◌, ◌≤◌, ℕ, List, [], Some, length, take, drop, ◌∙◌, ap, subst, arith, length-take, length-drop}
 use Rattle.session_model.specs.Outcome.{Outcome}
 use Rattle.gfp_delineate.specs.Receiver.{Progress, outcomes_told}
 use Rattle.gfp_delineate.proofs.ListLaws.{taken_more}

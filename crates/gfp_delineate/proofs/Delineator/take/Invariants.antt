@@ -1,4 +1,4 @@
-use Rattle.std.proofs.Common.{◌≡◌, ◌-◌, ◌≤◌, [], length, take}
+use Rattle.std.proofs.Common.{◌-◌, ◌≤◌, [], length, take}
 use Rattle.gfp_delineate.specs.Receiver.{Advances, Brings}
 use Rattle.gfp_delineate.proofs.Delineator.take.Given as goal
 

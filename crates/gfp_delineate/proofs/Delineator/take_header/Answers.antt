@@ -1,4 +1,4 @@
-use Rattle.std.proofs.Common.{true, false, ◌≡◌, ◌+◌, ◌<◌, ◌≤◌, [], ◌∷◌, ◌++◌, drop, Some, sym, ◌∙◌, ap, subst, arith}
+use Rattle.std.proofs.Common.{true, false, [], ◌∷◌, ◌++◌, drop, Some, ◌∙◌, ap, subst, arith}
 use Rattle.session_model.specs.declared.Why.TheVariants.{Unsettled, TooLong}
 use Rattle.gfp_delineate.specs.declared.Phase.TheVariants.{SyncHeader, SyncArea, SyncPassing}
 use Rattle.gfp_delineate.specs.Receiver.{Receiver}

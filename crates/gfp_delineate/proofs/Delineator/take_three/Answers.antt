@@ -1,4 +1,3 @@
-use Rattle.std.proofs.Common.{◌≡◌, [], ◌∷◌, ◌++◌, drop, sym, ◌∙◌, ap}
 use Rattle.gfp_delineate.specs.declared.Phase.TheVariants.{SyncHeader}
 use Rattle.gfp_delineate.proofs.Taking.{seen}
 use Rattle.gfp_delineate.proofs.SearchSteps.{shifted}

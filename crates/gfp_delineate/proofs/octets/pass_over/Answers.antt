@@ -1,4 +1,4 @@
-use Rattle.std.proofs.Common.{◌≡◌, ◌-◌, ℕ, List, false, [], length, take, drop, subst, arith, length-drop}
+use Rattle.std.proofs.Common.{◌-◌, ℕ, List, false, [], length, drop, subst, arith, length-drop}
 use Rattle.std.proofs.lemmas.List.{take_all}
 use Rattle.gfp_scramble.specs.Descrambler.{Stands}
 use Rattle.gfp_delineate.proofs.SettleLaws.{Continues-last}
