@@ -9,7 +9,7 @@ use Rattle.session_model.specs.Outcome.{Outcome, client_outcome, run_outcomes, o
 use Rattle.gfp_delineate.specs.declared.Phase.{Phase}
 use Rattle.gfp_delineate.specs.declared.Phase.TheVariants.{Hunt, PresyncArea, PresyncHeader, SyncHeader, SyncArea, SyncPassing}
 use Rattle.gfp_delineate.specs.Standing.{Standing, searching, running, Leaves}
-use Rattle.gfp_delineate.specs.Receiver.{Progress, Searches, Headed, InHunt, IsIn, IsAt, in_sync}
+use Rattle.gfp_delineate.specs.Receiver.{Progress, Searches, Headed, InHunt, IsIn, IsAt}
 use Rattle.gfp_delineate.proofs.StandingLaws.{Rests, Rests-few, Rests-unconfirmed, Rests-header, Rests-area, Leaves-none, runs-Leaves, sync-Leaves}
 use Rattle.gfp_delineate.proofs.OutcomeLaws.{outcomes_of-push}
 
@@ -87,6 +87,15 @@ module _ (window : List ℕ) (four : length window ≡ 4) where
   window-none = drop_all 4 window (omega (arith, four))
 
 -- ---- the state
+-- a phase of SYNC
+abbrev pub in_sync : Phase → Bool
+in_sync (Hunt have) = false
+in_sync (PresyncArea left) = false
+in_sync (PresyncHeader have) = false
+in_sync (SyncHeader have) = true
+in_sync (SyncArea left) = true
+in_sync (SyncPassing left why) = true
+
 is_sync-search : (first : Bool) (octets : List ℕ) (ended : List Run) (standing : Standing) → Leaves head head first octets ended standing → Rests head head standing [] false → is_sync octets ≡ false
 is_sync-search first octets ended standing leaves rests = sync-Leaves head head first octets ended standing [] false leaves rests false
 

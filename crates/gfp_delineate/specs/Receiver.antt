@@ -1,5 +1,5 @@
 -- G.7041, frame delineation: what a receiver knows of the octets of a segment that have come.
-use Rattle.std.specs.Prelude.{◌≡◌, ℕ, ◌+◌, ◌-◌, ◌^◌, ◌<◌, ◌≤◌, ◌&&◌, nat_le, Bool, true, false, List, [], ◌∷◌, ◌++◌, length, map, drop, All, Option, Some, None, if◌then◌else◌}
+use Rattle.std.specs.Prelude.{◌≡◌, ℕ, ◌+◌, ◌-◌, ◌^◌, ◌<◌, ◌≤◌, ◌&&◌, nat_le, Bool, true, List, [], ◌∷◌, ◌++◌, length, map, drop, All, Option, Some, None, if◌then◌else◌}
 use Rattle.std.specs.Option.{option_to_list}
 use Rattle.gfp_scramble.specs.Descrambler.{Descrambling, IsKnown}
 use Rattle.gfp_scramble.specs.Descrambler as descrambler
@@ -164,15 +164,6 @@ pub record IsClientFrame (longest : ℕ) (frame : List ℕ) : Type 0 where
   pub octets : All (λ octet. octet < 2 ^ 8) frame
 
 -- ---- what is true of every receiver
--- a phase of SYNC
-abbrev pub in_sync : Phase → Bool
-in_sync (Hunt have) = false
-in_sync (PresyncArea left) = false
-in_sync (PresyncHeader have) = false
-in_sync (SyncHeader have) = true
-in_sync (SyncArea left) = true
-in_sync (SyncPassing left why) = true
-
 -- a phase within its bounds, where a number of octets is kept
 abbrev pub IsWithin : Phase → ℕ → ℕ → Type 0
 IsWithin (Hunt have) kept longest = have < 4

@@ -10,7 +10,7 @@ ghost use Rattle.session_model.specs.Piece.{stream_of, opening, frames_by};
 ghost use Rattle.session_model.specs.Run.{is_sync};
 ghost use Rattle.session_model.specs.Outcome.{outcomes};
 ghost use Rattle.session_model.specs.Delivery.{delivered};
-ghost use Rattle.gfp_delineate.specs.Receiver.{most, StandsIn, Advances, Brings, frame_of, told_outcomes, IsClientFrame, in_sync};
+ghost use Rattle.gfp_delineate.specs.Receiver.{most, StandsIn, Advances, Brings, frame_of, told_outcomes, IsClientFrame};
 
 mod octets;
 mod steps;
@@ -54,17 +54,6 @@ enum Phase {
     SyncArea { left: u16 },
     /// SYNC, in an area that is dropped, of which a number of octets is left to come.
     SyncPassing { left: u16, why: Why },
-}
-
-impl Phase {
-    fn is_sync(self) -> bool
-        ensures { result ≡ in_sync self }
-    {
-        match self {
-            Phase::Hunt { .. } | Phase::PresyncArea { .. } | Phase::PresyncHeader { .. } => false,
-            Phase::SyncHeader { .. } | Phase::SyncArea { .. } | Phase::SyncPassing { .. } => true,
-        }
-    }
 }
 
 /// Finds the frames in a stream.
@@ -167,7 +156,10 @@ impl Delineator {
         ensures { (longest : ℕ) (first : Bool) (octets : List ℕ) → StandsIn self.now longest first octets →
             result ≡ is_sync octets }
     {
-        self.phase.is_sync()
+        match self.phase {
+            Phase::Hunt { .. } | Phase::PresyncArea { .. } | Phase::PresyncHeader { .. } => false,
+            Phase::SyncHeader { .. } | Phase::SyncArea { .. } | Phase::SyncPassing { .. } => true,
+        }
     }
 }
 
