@@ -9,7 +9,7 @@ use Rattle.vc_cell.specs.declared.Container.{Container}
 use Rattle.vc_cell.specs.declared.Cell.{Cell}
 use Rattle.session_model.specs.declared.packet.Packet.{Packet}
 use Rattle.session_model.specs.Number.{Lock, reading_of, verdict_over, verdict_or, verdict}
-use Rattle.session_model.specs.Rows.{packet_in, read_packet, read_packets, governing, active_of, container_in, container_on, with_first, containers_at, joined, row_by, row_under}
+use Rattle.session_model.specs.Rows.{packet_in, read_packet, read_packets, governing, active_of, container_in, container_on, with_first, containers_at, carried_row, row_by, row_under}
 use Rattle.session_model.specs.ReturnPacket.{leader, return_of}
 use Rattle.session_model.specs.Damage.{carried, is_readable}
 use Rattle.session_model.specs.Line.{sent_nibbles}
@@ -96,7 +96,7 @@ containers-stay cells longer t (line ∷ lines) are decided =
 row-stays : (first : Option Packet) (lines : List ℕ) (size : ℕ) (cells longer : List (List Cell)) (t : ℕ) → IsLonger cells longer → AreDecidedAt cells t → row_by first lines size longer t ≡ row_by first lines size cells t
 row-stays None lines size cells longer t are decided = refl
 row-stays (Some packet) lines size cells longer t are decided =
-    ap (λ containers. if length lines == packet.act then option_map (λ given. joined given 0 size) containers else None) (containers-stay cells longer t lines are decided)
+    ap (λ containers. if length lines == packet.act then option_map (λ given. carried_row given size) containers else None) (containers-stay cells longer t lines are decided)
 
 pub rows_stay : RowsStay
 rows_stay size cells longer t are decided =

@@ -5,7 +5,8 @@ use Rattle.std.proofs.lemmas.Bool.{cases_Bool, ltb-false}
 use Rattle.std.proofs.lemmas.List.{length-map, nil_from_length}
 use Rattle.std.proofs.lemmas.List.FromFn.{fill_by_all}
 use Rattle.vc_cell.specs.declared.Container.{Container}
-use Rattle.session_model.specs.Rows.{joined}
+use Rattle.session_model.specs.Interleave.{octets_at, octets_from}
+use Rattle.session_model.specs.Rows.{carried_row}
 use Rattle.session_model.specs.Scenario.{Scenario}
 use Rattle.session_model.specs.Table.{Told, active}
 use Rattle.session_model.specs.Source.{table_of}
@@ -13,6 +14,9 @@ use Rattle.session_model.specs.Client.{width}
 use Rattle.session_model.specs.Payload.{payload_of}
 use Rattle.session_law.proofs.ClientLaws.{payload-length}
 use Rattle.row_law.specs.Received.{AreDealt, IsDealtRow, row_octets}
+
+payloads : List Container → List (List ℕ)
+payloads containers = map (λ container. container.payload) containers
 
 -- two runs of numbers, one after the other
 map-range : (g : ℕ → ℕ) (a m n : ℕ) → map g (range_with_len a m) ++ map g (range_with_len (a + m) n) ≡ map g (range_with_len a (m + n))
@@ -29,11 +33,11 @@ map-range g a (suc m) n =
 -- one place of each container
 place-map : (octet : ℕ → ℕ) (place from : ℕ) (containers : List Container) →
     ((r : ℕ) (container : Container) → slice_get containers r ≡ Some container → slice_index container.payload place ≡ octet (from + r)) →
-    map (λ container. slice_index container.payload place) containers ≡ map octet (range_with_len from (length containers))
+    octets_at place (payloads containers) ≡ map octet (range_with_len from (length containers))
 place-map octet place from [] dealt = refl
 place-map octet place from (container ∷ containers) dealt =
     let zero_on : from + 0 ≡ from = omega arith in
-    ap (λ o. o ∷ map (λ c. slice_index c.payload place) containers) (dealt 0 container refl ∙ ap octet zero_on)
+    ap (λ o. o ∷ octets_at place (payloads containers)) (dealt 0 container refl ∙ ap octet zero_on)
     ∙ ap (λ rest. octet from ∷ rest)
     (place-map octet place (from + 1) containers
     (λ r c here. let e : from + suc r ≡ from + 1 + r = omega arith in dealt (suc r) c here ∙ ap octet e))
@@ -45,19 +49,19 @@ next_size : (n x : ℕ) → suc n * x ≡ x + n * x
 next_size n x = omega arith
 
 joined-from : (octet : ℕ → ℕ) (containers : List Container) (size : ℕ) → AreDealt octet containers size → (p n : ℕ) → p + n ≤ size →
-    joined containers p n ≡ map octet (range_with_len (p * length containers) (n * length containers))
-unfolding joined
+    octets_from p n (payloads containers) ≡ map octet (range_with_len (p * length containers) (n * length containers))
+unfolding octets_from
 joined-from octet containers size dealt p zero fits = let e : 0 ≡ 0 * length containers = omega arith in ap (λ c. map octet (range_with_len (p * length containers) c)) e
 joined-from octet containers size dealt p (suc n) fits =
     let x = length containers in
-    ap (λ front. front ++ joined containers (p + 1) n) (place-map octet p (p * x) containers (λ r c here. dealt r p c here (omega arith)))
+    ap (λ front. front ++ octets_from (p + 1) n (payloads containers)) (place-map octet p (p * x) containers (λ r c here. dealt r p c here (omega arith)))
     ∙ ap (λ rest. map octet (range_with_len (p * x) x) ++ rest)
     (joined-from octet containers size dealt (p + 1) n (omega arith) ∙ ap (λ c. map octet (range_with_len c (n * x))) (next_place p x))
     ∙ map-range octet (p * x) x (n * x)
     ∙ ap (λ c. map octet (range_with_len (p * x) c)) (sym (next_size n x))
 
 pub joined-dealt : (octet : ℕ → ℕ) (containers : List Container) (size : ℕ) → AreDealt octet containers size →
-    joined containers 0 size ≡ map octet (range_with_len 0 (size * length containers))
+    carried_row containers size ≡ map octet (range_with_len 0 (size * length containers))
 joined-dealt octet containers size dealt =
     let e : 0 * length containers ≡ 0 = omega arith in
     joined-from octet containers size dealt 0 size (omega arith) ∙ ap (λ c. map octet (range_with_len c (size * length containers))) e
@@ -75,14 +79,14 @@ row-payload scenario returns sent t dealt =
       | inl early ↦
           let none : width scenario returns t ≡ 0 = rw early refl in
           let size : length octets ≡ 0 = long ∙ ap (λ n. scenario.size * n) none ∙ (let e : scenario.size * 0 ≡ 0 = omega arith in e) in
-          ap (λ b. if b then [] else joined (map sent (active (table_of scenario returns ((t - 24) / 16)))) 0 scenario.size) early
+          ap (λ b. if b then [] else carried_row (map sent (active (table_of scenario returns ((t - 24) / 16)))) scenario.size) early
           ∙ sym (nil_from_length octets size)
       | inr late ↦
           let act = active (table_of scenario returns ((t - 24) / 16)) in
           let lines : width scenario returns t ≡ length act = rw late refl in
           let count : scenario.size * length (map sent act) ≡ scenario.size * length act = ap (λ n. scenario.size * n) (length-map act sent) in
           let whole = joined-dealt (λ place. slice_index octets place) (map sent act) scenario.size (dealt (ltb-false t 24 late)) in
-          let row : joined (map sent act) 0 scenario.size ≡ octets =
+          let row : carried_row (map sent act) scenario.size ≡ octets =
           whole ∙ listed octets (scenario.size * length (map sent act)) (long ∙ ap (λ n. scenario.size * n) lines ∙ sym count) in
-          ap (λ b. if b then [] else joined (map sent act) 0 scenario.size) late ∙ row
+          ap (λ b. if b then [] else carried_row (map sent act) scenario.size) late ∙ row
     ]

@@ -13,7 +13,7 @@ use Rattle.session_model.specs.Table.{Told, is_norm, is_normal, active}
 use Rattle.session_model.specs.Source.{table_of}
 use Rattle.session_model.specs.Forward.{forward_packet}
 use Rattle.session_model.specs.ReturnPacket.{leader}
-use Rattle.session_model.specs.Rows.{active_of, container_on, with_first, containers_at, joined, row_by, row_under, row_at}
+use Rattle.session_model.specs.Rows.{active_of, container_on, with_first, containers_at, carried_row, row_by, row_under, row_at}
 use Rattle.session_model.specs.SessionRows.{packet_if, packets_of, is_whole_under, is_whole_row}
 use Rattle.session_law.specs.Feedback.{lines_of}
 use Rattle.session_law.proofs.PlanLaws.{times, IsBelow}
@@ -24,7 +24,7 @@ use Rattle.row_law.proofs.RowLaws.{all_read, carrying, inside, count-all, all-fi
 -- the row by the packet of the leader, where all say the same number
 abbrev pub row_if : Bool → ℕ → List ℕ → ℕ → List (List Cell) → ℕ → Option (List ℕ)
 row_if heard act lines size cells t =
-    if heard then (if length lines == act then option_map (λ containers. joined containers 0 size) (containers_at cells t lines) else None) else None
+    if heard then (if length lines == act then option_map (λ containers. carried_row containers size) (containers_at cells t lines) else None) else None
 
 row_by-leader : (packets : ℕ → Packet) (act : ℕ) → ((l : ℕ) → (packets l).act ≡ act) → (readable : ℕ → Bool) (lines : List ℕ) (size : ℕ) (cells : List (List Cell)) (t a n : ℕ) →
     row_by (leader (all_read (λ l. packet_if (readable l) (packets l)) a n)) lines size cells t ≡ row_if (list_any readable (range_with_len a n)) act lines size cells t
@@ -106,23 +106,23 @@ row-counted r g act give =
 row-under : (scenario : Scenario) (returns : List (Option Told)) (sent : ℕ → Container) (cells : List (List Cell)) (k t : ℕ) → length scenario.windows ≤ 128 →
     ((line : ℕ) → line < length scenario.windows → container_on (slice_get cells line) t ≡ (if is_good (carried_by scenario line) t then Some (sent line) else None)) →
     row_under (packets_of scenario returns k) scenario.size cells t
-    ≡ (if is_whole_under scenario returns k t then Some (joined (map sent (active (table_of scenario returns k))) 0 scenario.size) else None)
+    ≡ (if is_whole_under scenario returns k t then Some (carried_row (map sent (active (table_of scenario returns k))) scenario.size) else None)
 row-under scenario returns sent cells k t limit told =
     let table = table_of scenario returns k in
     let act = active table in
     let readable = λ (line : ℕ). is_read scenario line k in
     let good = λ (line : ℕ). is_good (carried_by scenario line) t in
     let lines = length scenario.windows in
-    let give = λ (found : List ℕ). joined (map sent found) 0 scenario.size in
+    let give = λ (found : List ℕ). carried_row (map sent found) scenario.size in
     let found = active_of-filter scenario returns k readable limit in
     let below = AreBelow-filter lines readable act (AreBelow-carrying lines table.order (below-after scenario returns k)) in
     row_by-leader (λ line. forward_packet table line k) (length act) (λ line. refl) readable (active_of (packets_of scenario returns k)) scenario.size cells t 0 lines
     ∙ ap (λ line. row_if (list_any readable (range_with_len 0 lines)) (length act) line scenario.size cells t) found
     ∙ ap (λ heard. row_if heard (length act) (filter readable act) scenario.size cells t) (heard-any scenario k)
-    ∙ ap (λ containers. if is_heard scenario k then (if length (filter readable act) == length act then option_map (λ xs. joined xs 0 scenario.size) containers else None) else None)
+    ∙ ap (λ containers. if is_heard scenario k then (if length (filter readable act) == length act then option_map (λ xs. carried_row xs scenario.size) containers else None) else None)
     (containers_at-good cells t lines good sent told (filter readable act) below)
     ∙ ap (λ row. if is_heard scenario k then (if length (filter readable act) == length act then row else None) else None)
-    (option_map-if (λ xs. joined xs 0 scenario.size) (list_all good (filter readable act)) (map sent (filter readable act)))
+    (option_map-if (λ xs. carried_row xs scenario.size) (list_all good (filter readable act)) (map sent (filter readable act)))
     ∙ ap (λ row. if is_heard scenario k then row else None)
     (both_if (length (filter readable act) == length act) (list_all good (filter readable act)) (give (filter readable act)) ∙ row-counted readable good act give)
     ∙ both_if (is_heard scenario k) (list_all (λ line. readable line && good line) act) (give act)

@@ -6,7 +6,7 @@ use Rattle.session_model.specs.Damage.{is_good}
 use Rattle.session_model.specs.Scenario.{Scenario, carried_by}
 use Rattle.session_model.specs.Table.{Told, active}
 use Rattle.session_model.specs.Source.{table_of}
-use Rattle.session_model.specs.Rows.{read_packets, container_on, joined}
+use Rattle.session_model.specs.Rows.{read_packets, container_on, carried_row}
 use Rattle.session_model.specs.SessionRows.{packets_of}
 use Rattle.session_model.specs.Payload.{payload_of}
 
@@ -24,7 +24,7 @@ pub record TellsRow (scenario : Scenario) (returns : List (Option Told)) (sent :
 abbrev pub row_octets : Scenario → List (Option Told) → (ℕ → Container) → ℕ → List ℕ
 row_octets scenario returns sent t =
     if nat_lt t 24 then []
-    else joined (map sent (active (table_of scenario returns ((t - 24) / 16)))) 0 scenario.size
+    else carried_row (map sent (active (table_of scenario returns ((t - 24) / 16)))) scenario.size
 
 -- octets are dealt to containers in turn: of x containers, container r has octet p x + r at place p
 abbrev pub AreDealt : (ℕ → ℕ) → List Container → ℕ → Type 0

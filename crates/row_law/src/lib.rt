@@ -16,7 +16,7 @@ ghost use Rattle.session_model.specs.Table.{Told, active};
 ghost use Rattle.session_model.specs.Source.{table_of};
 ghost use Rattle.session_model.specs.Back.{return_packet};
 ghost use Rattle.session_model.specs.Told.{told_by, told_in};
-ghost use Rattle.session_model.specs.Rows.{active_of, row_at, return_at, joined};
+ghost use Rattle.session_model.specs.Rows.{active_of, row_at, return_at, carried_row};
 ghost use Rattle.session_model.specs.SessionRows.{packets_from, is_whole_row};
 ghost use Rattle.session_model.specs.Payload.{payload_of};
 ghost use Rattle.row_law.specs.Received.{HasPackets, TellsRow, row_octets, AreDealt, IsDealtRow};
@@ -42,7 +42,7 @@ pub fn row_law()
         row_octets scenario returns sent t ≡ payload_of scenario returns t }
     ensures joined { (octet : ℕ → ℕ) (containers : List Container) (size : ℕ) →
         AreDealt octet containers size →
-        joined containers 0 size ≡ map octet (range_with_len 0 (size * length containers)) }
+        carried_row containers size ≡ map octet (range_with_len 0 (size * length containers)) }
 {}
 
 /// What the return packet that a sink makes of its cells tells the source, and what its nibbles tell, is what the definition of a

@@ -14,6 +14,7 @@ use Rattle.session_model.specs.Packet.{read_of}
 use Rattle.session_model.specs.Number.{verdict}
 use Rattle.session_model.specs.MemberPacket.{nibbles_of}
 use Rattle.session_model.specs.ReturnPacket.{leader, return_of}
+use Rattle.session_model.specs.Interleave.{row_of}
 
 -- ---- the packets that are read
 abbrev pub packet_in : Option (List ℕ) → Option Packet
@@ -81,18 +82,16 @@ abbrev pub containers_at : List (List Cell) → ℕ → List ℕ → Option (Lis
 containers_at cells t [] = Some []
 containers_at cells t (line ∷ lines) = with_first (container_on (slice_get cells line) t) (containers_at cells t lines)
 
--- the octets of containers, dealt to them in turn: a count of places of each, from a place on
-unfoldable pub joined : List Container → ℕ → ℕ → List ℕ
-joined containers place zero = []
-joined containers place (suc count) =
-    map (λ container. slice_index container.payload place) containers ++ joined containers (place + 1) count
+-- the row that containers carry, dealt to them in turn: a size of payload octets each
+abbrev pub carried_row : List Container → ℕ → List ℕ
+carried_row containers size = row_of size (map (λ container. container.payload) containers)
 
 -- by the packets that govern it: the row is whole where they have a leader, the lines that carry payload number its ACT, and each of
 -- them is whole
 abbrev pub row_by : Option Packet → List ℕ → ℕ → List (List Cell) → ℕ → Option (List ℕ)
 row_by None lines size cells t = None
 row_by (Some packet) lines size cells t =
-    if length lines == packet.act then option_map (λ containers. joined containers 0 size) (containers_at cells t lines) else None
+    if length lines == packet.act then option_map (λ containers. carried_row containers size) (containers_at cells t lines) else None
 
 abbrev pub row_under : List (Option Packet) → ℕ → List (List Cell) → ℕ → Option (List ℕ)
 row_under packets size cells t = row_by (leader packets) (active_of packets) size cells t
