@@ -32,6 +32,7 @@ pub mod Journal
 pub mod Rows
 pub mod SessionRows
 pub mod Payload
+pub mod Sent
 pub mod Segment
 pub mod Loss
 pub mod SessionStream
