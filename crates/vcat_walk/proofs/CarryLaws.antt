@@ -13,7 +13,7 @@ use Rattle.gfp_fill.specs.Stream.{Stands as Sends}
 use Rattle.gfp_fill.proofs.StreamLaws.{append-next_pieces, take-stream_of, next_pieces-zero}
 use Rattle.gfp_delineate.specs.Receiver.{Receiver, Stands, IsClientFrame}
 use Rattle.vcat_walk.specs.Form.{IsFrame}
-use Rattle.vcat_walk.specs.Report.{got_texts, got_text}
+use Rattle.report_text.specs.Report.{got_texts, got_text}
 use Rattle.vcat_walk.specs.Written.{HasGot, StopsWithin}
 use Rattle.vcat_walk.proofs.PlaceLaws.{begun_pieces, frames_by-begun, frames_by-grow, frames_by-zero}
 

@@ -3,7 +3,7 @@ use Rattle.std.proofs.Common.{◌≡◌, ℕ, ◌-◌, ◌*◌, List, ◌++◌, 
 use Rattle.outside_io.specs.Transfer.{Appends, AppendsPart}
 use Rattle.outside_io.proofs.Parts.{Appends-then, AppendsPart-then, AppendsPart-longer}
 use Rattle.session_model.specs.Piece.{frames_by, opening}
-use Rattle.vcat_walk.specs.Report.{got_texts, total_text}
+use Rattle.report_text.specs.Report.{got_texts, total_text}
 use Rattle.vcat_walk.specs.Walk.{row_octets, empty_rows, carried, report}
 
 -- the line of totals of a script
