@@ -1,5 +1,8 @@
 -- A text of which a prefix is put and the rest waits.
-use Rattle.std.proofs.Common.{◌≡◌, ℕ, List, [], ◌++◌, Option, refl, sym, ap, ◌∙◌, append_assoc, subst}
+use Rattle.std.proofs.Common.{◌≡◌, ℕ, ◌+◌, ◌≤◌, List, [], ◌++◌, length, take, Option, refl, sym, ap, ◌∙◌, append_assoc, append-nil, subst}
+use Rattle.std.proofs.Math.Seq.{take-append-add}
+use Rattle.std.proofs.lemmas.List.{take-append-le, length-take-le}
+use borrow.Rule.Slice.PartMut.{put_mid, post_of}
 use Rattle.outside_io.specs.Transfer.{Appends, AppendsPart}
 use Rattle.outside_io.proofs.Parts.{Appends-none, Appends-then, AppendsPart-then}
 use Rattle.vcat_walk.specs.Written.{Holds}
@@ -36,3 +39,17 @@ pub Holds-put : {K : Type 0} (written : K → Option (List ℕ)) (faults : K →
 Holds-put written faults start old new waiting text next before put =
     let P : List ℕ → Type 0 = λ t. Appends written faults start new t in
     subst P (text_then before.put waiting text next before.all) (Appends-then written faults start old new before.put (waiting ++ next) before.appends put)
+
+-- all that waited is put
+pub Holds-all : {K : Type 0} (written : K → Option (List ℕ)) (faults : K → ℕ) (old new : K) (put text : List ℕ) → put ≡ text
+    → Appends written faults old new put → Holds written faults old new [] text
+Holds-all written faults old new put text is appends = record { put = put; appends = appends; all = append-nil put ∙ is }
+
+-- the front of a block, after a line was put together behind what waits
+pub front_added : (len n k : ℕ) (octets out waiting text : List ℕ) → len ≤ length octets → n ≤ length out → waiting ≡ take len octets → take n out ≡ text
+    → take (len + n) (put_mid len k octets out) ≡ waiting ++ text
+front_added len n k octets out waiting text within room before is =
+    ap (λ (m : ℕ). take (m + n) (put_mid len k octets out)) (sym (length-take-le len octets within))
+    ∙ take-append-add (take len octets) (out ++ post_of len k octets) n
+    ∙ ap (λ (t : List ℕ). take len octets ++ t) (take-append-le n out (post_of len k octets) room ∙ is)
+    ∙ ap (λ (t : List ℕ). t ++ text) (sym before)

@@ -1,7 +1,7 @@
 -- What further octets do to the lines that are written.
-use Rattle.std.proofs.Common.{◌≡◌, ℕ, ◌+◌, ◌≤◌, List, [], ◌∷◌, ◌++◌, length, take, drop, Option, Some, refl, sym, ap, ◌∙◌, append_assoc, append-nil, length-append, length-drop, arith, subst}
+use Rattle.std.proofs.Common.{◌≡◌, ℕ, ◌+◌, ◌-◌, ◌≤◌, List, [], ◌∷◌, ◌++◌, length, take, drop, Option, Some, refl, sym, ap, ◌∙◌, append_assoc, append-nil, length-append, length-drop, arith, subst}
 use Rattle.std.proofs.Math.Seq.{take-add}
-use Rattle.std.proofs.lemmas.List.{flat_map_more}
+use Rattle.std.proofs.lemmas.List.{flat_map_more, take_all}
 use Rattle.std.specs.Option.{option_to_list}
 use Rattle.outside_io.specs.Transfer.{AppendsPart}
 use Rattle.session_model.specs.Delivery.{delivered}
@@ -74,24 +74,36 @@ none_taken written faults before start now waiting got has =
     let Q : ℕ → Type 0 = λ n. HasGot written faults before start now waiting n in
     subst P (sym (append-nil before)) (subst Q (let e : got ≡ got + 0 = omega arith in e) has)
 
+-- the octets of a row after a place
+abbrev pub rest_of : ℕ → List ℕ → List ℕ
+rest_of at row = take (length row - at) (drop at row)
+
+rest_is : (at : ℕ) (row : List ℕ) → rest_of at row ≡ drop at row
+rest_is at row = take_all (length row - at) (drop at row) (omega (arith, length-drop at row))
+
+pub length_rest : (at : ℕ) (row : List ℕ) → length (rest_of at row) ≡ length row - at
+length_rest at row = ap (λ (os : List ℕ). length os) (rest_is at row) ∙ length-drop at row
+
 -- the octets of a row so far, and some more
-pub some_more : (before row : List ℕ) (at n : ℕ) → (before ++ take at row) ++ take n (drop at row) ≡ before ++ take (at + n) row
+pub some_more : (before row : List ℕ) (at n : ℕ) → (before ++ take at row) ++ take n (rest_of at row) ≡ before ++ take (at + n) row
 some_more before row at n =
-    append_assoc before (take at row) (take n (drop at row)) ∙ ap (λ (front : List ℕ). before ++ front) (sym (take-add at n row))
+    append_assoc before (take at row) (take n (rest_of at row))
+    ∙ ap (λ (more : List ℕ). before ++ (take at row ++ take n more)) (rest_is at row)
+    ∙ ap (λ (front : List ℕ). before ++ front) (sym (take-add at n row))
 
 -- some more are taken
 pub more_taken : {K : Type 0} (written : K → Option (List ℕ)) (faults : K → ℕ) (before row : List ℕ) (at n : ℕ) (start now : K) (waiting : List ℕ) (got count lines : ℕ)
-    → HasGot written faults ((before ++ take at row) ++ take n (drop at row)) start now waiting ((got + count) + lines)
+    → HasGot written faults ((before ++ take at row) ++ take n (rest_of at row)) start now waiting ((got + count) + lines)
     → HasGot written faults (before ++ take (at + n) row) start now waiting (got + (count + lines))
 more_taken written faults before row at n start now waiting got count lines has =
     let P : List ℕ → Type 0 = λ os. HasGot written faults os start now waiting (got + (count + lines)) in
-    let Q : ℕ → Type 0 = λ k. HasGot written faults ((before ++ take at row) ++ take n (drop at row)) start now waiting k in
+    let Q : ℕ → Type 0 = λ k. HasGot written faults ((before ++ take at row) ++ take n (rest_of at row)) start now waiting k in
     subst P (some_more before row at n) (subst Q (let e : (got + count) + lines ≡ got + (count + lines) = omega arith in e) has)
 
 -- the text stops in some more
 pub stops_at : {K : Type 0} (written : K → Option (List ℕ)) (faults : K → ℕ) (before row : List ℕ) (at : ℕ) (start now : K) → at ≤ length row
-    → StopsWithin written faults (before ++ take at row) (drop at row) start now → StopsWithin written faults before row start now
+    → StopsWithin written faults (before ++ take at row) (rest_of at row) start now → StopsWithin written faults before row start now
 stops_at written faults before row at start now within stops =
     let P : List ℕ → Type 0 = λ os. StopsIn written faults os start now in
     let some = stops.within in
-    record { count = at + stops.count; within = omega (arith, length-drop at row); part = subst P (some_more before row at stops.count) stops.part }
+    record { count = at + stops.count; within = omega (arith, length_rest at row); part = subst P (some_more before row at stops.count) stops.part }
