@@ -26,13 +26,41 @@ fn lines_of_delivered_frames(rt: HostRuntime) -> Result<(), Fail> {
 fn lines_of_refused_items(rt: HostRuntime) -> Result<(), Fail> {
     let mut out = [0u8; REFUSED_ROOM];
     for (item, why, text) in [
-        (3, Refusal::Frame(AcceptFault::Length { n: 63 }), "refused 3 length 63\n"),
-        (0, Refusal::Frame(AcceptFault::Length { n: 9601 }), "refused 0 length 9601\n"),
-        (256, Refusal::Frame(AcceptFault::QueueFull { waiting: 256 }), "refused 256 queue\n"),
-        (2, Refusal::Command(CommandFault::UnknownLine { lines: 1 }), "refused 2 unknown\n"),
-        (1, Refusal::Command(CommandFault::AlreadyIn), "refused 1 already in\n"),
-        (2, Refusal::Command(CommandFault::NotIn), "refused 2 not in\n"),
-        (64, Refusal::Command(CommandFault::TooManyPending { pending: 64 }), "refused 64 pending\n"),
+        (
+            3,
+            Refusal::Frame(AcceptFault::Length { n: 63 }),
+            "refused 3 length 63\n",
+        ),
+        (
+            0,
+            Refusal::Frame(AcceptFault::Length { n: 9601 }),
+            "refused 0 length 9601\n",
+        ),
+        (
+            256,
+            Refusal::Frame(AcceptFault::QueueFull { waiting: 256 }),
+            "refused 256 queue\n",
+        ),
+        (
+            2,
+            Refusal::Command(CommandFault::UnknownLine { lines: 1 }),
+            "refused 2 unknown\n",
+        ),
+        (
+            1,
+            Refusal::Command(CommandFault::AlreadyIn),
+            "refused 1 already in\n",
+        ),
+        (
+            2,
+            Refusal::Command(CommandFault::NotIn),
+            "refused 2 not in\n",
+        ),
+        (
+            64,
+            Refusal::Command(CommandFault::TooManyPending { pending: 64 }),
+            "refused 64 pending\n",
+        ),
     ] {
         let end = refused_line(item, &why, &mut out);
         assert_eq!(rt; &out[..end], text.as_bytes());
@@ -44,12 +72,51 @@ fn lines_of_refused_items(rt: HostRuntime) -> Result<(), Fail> {
 fn lines_of_totals(rt: HostRuntime) -> Result<(), Fail> {
     let mut out = [0u8; TOTAL_ROOM];
     for (ticks, taken, frames, commands, refused, got, text) in [
-        (1, 1, 0, 0, 0, 0, "total ticks 1 taken 1 frames 0 commands 0 refused 0 got 0\n"),
-        (41, 41, 1, 1, 0, 1, "total ticks 41 taken 41 frames 1 commands 1 refused 0 got 1\n"),
-        (1, 1, 0, 1, 3, 0, "total ticks 1 taken 1 frames 0 commands 1 refused 3 got 0\n"),
-        (700, 660, 2, 3, 4, 5, "total ticks 700 taken 660 frames 2 commands 3 refused 4 got 5\n"),
+        (
+            1,
+            1,
+            0,
+            0,
+            0,
+            0,
+            "total ticks 1 taken 1 frames 0 commands 0 refused 0 got 0\n",
+        ),
+        (
+            41,
+            41,
+            1,
+            1,
+            0,
+            1,
+            "total ticks 41 taken 41 frames 1 commands 1 refused 0 got 1\n",
+        ),
+        (
+            1,
+            1,
+            0,
+            1,
+            3,
+            0,
+            "total ticks 1 taken 1 frames 0 commands 1 refused 3 got 0\n",
+        ),
+        (
+            700,
+            660,
+            2,
+            3,
+            4,
+            5,
+            "total ticks 700 taken 660 frames 2 commands 3 refused 4 got 5\n",
+        ),
     ] {
-        let totals = Totals { ticks, taken, frames, commands, refused, got };
+        let totals = Totals {
+            ticks,
+            taken,
+            frames,
+            commands,
+            refused,
+            got,
+        };
         let end = total_line(&totals, &mut out);
         assert_eq!(rt; &out[..end], text.as_bytes());
     }
