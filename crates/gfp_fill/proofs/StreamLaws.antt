@@ -4,7 +4,7 @@ use Rattle.std.proofs.lemmas.List.{append-nil, drop_all, length-map, length-repl
 use Rattle.session_model.specs.Piece.{Piece, idle, client, area_of, joined, stream_of, size_of, opening}
 use Rattle.session_model.proofs.StreamLaws.{stream_behind, stream_of-append}
 use Rattle.session_model.proofs.StreamLaws.{length-stream_of-append as length_of_both, length-stream_of-cons as length_of_first}
-use Rattle.session_model.specs.Client.{Stream, next_by, begun}
+use Rattle.session_model.specs.Client.{Stream, begun}
 use Rattle.gfp_fill.specs.Stream.{next_pieces}
 
 -- the octets of pieces behind one another

@@ -1,5 +1,5 @@
 -- What one step of a fill does to what stands, and how steps follow one another.
-use Rattle.std.proofs.Common.{◌≡◌, ℕ, zero, suc, ◌+◌, ◌-◌, ◌<◌, ◌≤◌, List, [], ◌∷◌, ◌++◌, length, map, take, drop, refl, sym, ap, ap₂, subst, ◌∙◌, arith, append_assoc, length-append, length-take-le, length-drop}
+use Rattle.std.proofs.Common.{◌≡◌, ℕ, ◌+◌, ◌<◌, ◌≤◌, List, [], ◌∷◌, ◌++◌, length, map, take, drop, refl, sym, ap, ap₂, subst, ◌∙◌, arith, append_assoc, length-append, length-take-le, length-drop}
 use Rattle.std.proofs.Math.Seq.{take-add, take-append-add}
 use Rattle.std.proofs.lemmas.List.{append-nil, map-append, take_at, drop_at, drop_all, take-append-drop, take-append-le, drop-append-le, drop-drop}
 use Rattle.std.proofs.lemmas.List.Sums.{sum-map}
@@ -12,7 +12,7 @@ use Rattle.session_model.proofs.CutLaws.{joined-append}
 use Rattle.session_model.proofs.ScrambledOctets.{length-scrambled_octets, scrambled_octets-append}
 use Rattle.session_model.proofs.StreamLaws.{stream_behind, stream_of-append, stream_of-push, length-stream_of}
 use Rattle.session_model.proofs.ReachLaws.{reaching-here, reached-next, reached-join, reached-fewest}
-use Rattle.gfp_scramble.specs.Scrambler.{Scrambling, Stands as HasScrambled, Continues, ScramblesTo}
+use Rattle.gfp_scramble.specs.Scrambler.{Stands as HasScrambled, Continues, ScramblesTo}
 use Rattle.gfp_fill.specs.Queue.{Held}
 use Rattle.gfp_fill.specs.Stream.{Sender, head_of, Stands, HasWritten}
 

@@ -1,5 +1,5 @@
 -- Each way in which octets are written is one step of the stream.
-use Rattle.std.proofs.Common.{◌≡◌, [], length, refl, sym, ap, ◌∙◌, arith}
+use Rattle.std.proofs.Common.{◌≡◌, [], refl, sym, ap, ◌∙◌, arith}
 use Rattle.std.proofs.lemmas.List.{drop_all, length-take-le}
 use Rattle.gfp_fill.specs.Stream.{head_of}
 use Rattle.gfp_fill.proofs.StreamSteps.{head_written, frame_written, client_written, none_of}

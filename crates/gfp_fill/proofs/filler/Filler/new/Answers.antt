@@ -1,5 +1,5 @@
 -- Two idles are begun, and no octet of a frame.
-use Rattle.std.proofs.Common.{◌≡◌, [], refl, arith}
+use Rattle.std.proofs.Common.{[], refl, arith}
 use Rattle.gfp_fill.proofs.IdleLaws.{two_idles}
 use Rattle.gfp_fill.proofs.filler.Filler.new.Goals as goal
 

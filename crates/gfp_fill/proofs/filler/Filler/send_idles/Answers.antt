@@ -1,7 +1,6 @@
 -- The first octets of one idle are written.
-use Rattle.std.proofs.Common.{◌++◌, take, drop, ap, ap₂, sym, ◌∙◌, arith}
-use Rattle.gfp_fill.specs.Stream.{head_of}
-use Rattle.gfp_fill.proofs.IdleLaws.{idle_header, first_of_idle}
+use Rattle.std.proofs.Common.{◌++◌, ap₂, sym, ◌∙◌}
+use Rattle.gfp_fill.proofs.IdleLaws.{first_of_idle}
 use Rattle.gfp_fill.proofs.filler.Filler.send_idles.Goals as goal
 
 pub returns-clause-octets : goal.returns-clause-octets
