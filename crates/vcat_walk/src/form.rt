@@ -1,6 +1,7 @@
 //! The script of one line: its ticks, and the frames that wait from the start.
 ghost use Rattle.std.specs.Prelude.{◌≡◌, ◌≢◌, ℕ, ◌≤◌, List, [], ◌++◌, take, IfSome, IfNone};
 ghost use Rattle.std.specs.Bool.{OnTrue, OnFalse};
+ghost use Rattle.gfp_fill.specs.Queue.{unbegun};
 ghost use Rattle.vcat_walk.specs.Form.{IsFrame, AreFrames, IsForm, frame_line};
 
 use crate::lines::{behind, first_line, read_hex, read_ticks};
@@ -36,9 +37,10 @@ fn read_frame<'a>(text: &'a [u8], octets: &mut [u8; MAX_FRAME]) -> Option<(usize
 
 /// Reads frame lines into an empty queue, and says whether the text is made of them and they fit.
 fn read_frames(text: &[u8], queue: &mut FrameQueue) -> bool
-    requires { queue.old ≡ [] }
-    ensures yes { OnTrue result (AreFrames text.now queue.new) }
+    requires { queue.old ≡ unbegun [] }
+    ensures yes { OnTrue result (AreFrames text.now queue.new.waiting) }
     ensures no { OnFalse result ((frames : List (List ℕ)) → ¬ AreFrames text.now frames) }
+    ensures unsent { queue.new.begun ≡ [] }
 {
     let mut octets = [0u8; MAX_FRAME];
     let mut rest = text;
@@ -56,9 +58,10 @@ fn read_frames(text: &[u8], queue: &mut FrameQueue) -> bool
 
 /// Reads a script of one line into an empty queue, and gives its number of ticks.
 pub fn read_form(text: &[u8], queue: &mut FrameQueue) -> Option<u32>
-    requires { queue.old ≡ [] }
-    ensures some { IfSome result (λ ticks. IsForm text.now ticks queue.new) }
+    requires { queue.old ≡ unbegun [] }
+    ensures some { IfSome result (λ ticks. IsForm text.now ticks queue.new.waiting) }
     ensures none { IfNone result ((ticks : ℕ) (frames : List (List ℕ)) → ¬ IsForm text.now ticks frames) }
+    ensures unsent { IfSome result (λ ticks. queue.new.begun ≡ []) }
 {
     let Some(rest) = behind(text, HEAD) else {
         return None;

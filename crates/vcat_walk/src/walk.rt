@@ -91,14 +91,15 @@ fn carry<K: ByteSink>(
     block: &mut LineBlock,
     out: &mut K,
 ) -> Result<u64, Failed>
-    requires frames { All IsFrame queue.old }
+    requires frames { All IsFrame queue.old.waiting }
+    requires unsent { queue.old.begun ≡ [] }
     requires fresh { Stands delineator.old 9600 [] }
     requires none { block.old ≡ [] }
-    ensures ok { let frames = frames_by (row_octets * rows) (opening queue.old 0) in
+    ensures ok { let frames = frames_by (row_octets * rows) (opening queue.old.waiting 0) in
         OnOk result (Holds K.written K.faults out.old out.new block.new (got_texts frames)) }
-    ensures count { let frames = frames_by (row_octets * rows) (opening queue.old 0) in
+    ensures count { let frames = frames_by (row_octets * rows) (opening queue.old.waiting 0) in
         IfOk result (λ got. got ≡ length frames) }
-    ensures err { let frames = frames_by (row_octets * rows) (opening queue.old 0) in
+    ensures err { let frames = frames_by (row_octets * rows) (opening queue.old.waiting 0) in
         OnErr result (AppendsPart K.written K.faults out.old out.new (got_texts frames)) }
 {
     delivery_law();
@@ -123,10 +124,11 @@ pub fn run<K: ByteSink>(
     out: &mut K,
 ) -> Result<(), Failed>
     requires ticks { IsTicks ticks }
-    requires frames { All IsFrame queue.old }
+    requires frames { All IsFrame queue.old.waiting }
+    requires unsent { queue.old.begun ≡ [] }
     requires fresh { Stands delineator.old 9600 [] }
-    ensures ok { OnOk result (Appends K.written K.faults out.old out.new (report ticks queue.old)) }
-    ensures err { OnErr result (AppendsPart K.written K.faults out.old out.new (report ticks queue.old)) }
+    ensures ok { OnOk result (Appends K.written K.faults out.old out.new (report ticks queue.old.waiting)) }
+    ensures err { OnErr result (AppendsPart K.written K.faults out.old out.new (report ticks queue.old.waiting)) }
 {
     let frames = queue.waiting();
     let mut block = LineBlock::new();
