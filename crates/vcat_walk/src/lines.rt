@@ -7,6 +7,7 @@ ghost use Rattle.vcat_walk.specs.Form.{IsTicks, IsFrame, IsLine, HasNoCapital};
 
 use gfp_fill::{MAX_FRAME, MIN_FRAME};
 use hex_text::{NotHex, decode_into};
+use memchr::memchr;
 
 /// The most ticks that a script may have.
 const MOST_TICKS: u32 = 1_000_000;
@@ -25,7 +26,7 @@ pub fn first_line(text: &[u8]) -> Option<(&[u8], &[u8])>
     ensures some { IfSome result (λ parts. text.now ≡ parts.0.now ++ 10 ∷ parts.1.now) }
     ensures none { IfNone result ((line rest : List ℕ) → text.now ≢ line ++ 10 ∷ rest) }
 {
-    let Some(end) = text.iter().position(|octet| *octet == b'\n') else {
+    let Some(end) = memchr(b'\n', text) else {
         return None;
     };
     Some((&text[..end], &text[end + 1..]))
