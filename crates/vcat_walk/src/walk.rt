@@ -33,7 +33,8 @@ fn take_some<K: ByteSink>(
         IfOk result (λ taken. Stands delineator.new 9600 (before ++ take taken.0 piece.now)) }
     ensures ok { (before : List ℕ) (start : K) (got : ℕ) → Stands delineator.old 9600 before →
         HasGot K.written K.faults before start out.old block.old got →
-        IfOk result (λ taken. HasGot K.written K.faults (before ++ take taken.0 piece.now) start out.new block.new (got + taken.1)) }
+        IfOk result (λ taken. let octets = before ++ take taken.0 piece.now in
+        HasGot K.written K.faults octets start out.new block.new (got + taken.1)) }
     ensures err { (before : List ℕ) (start : K) (got : ℕ) → Stands delineator.old 9600 before →
         HasGot K.written K.faults before start out.old block.old got →
         OnErr result (StopsWithin K.written K.faults before piece.now start out.new) }
@@ -62,7 +63,8 @@ fn take_row<K: ByteSink>(
         OnOk result (Stands delineator.new 9600 (before ++ row.now)) }
     ensures ok { (before : List ℕ) (start : K) (got : ℕ) → Stands delineator.old 9600 before →
         HasGot K.written K.faults before start out.old block.old got →
-        IfOk result (λ n. HasGot K.written K.faults (before ++ row.now) start out.new block.new (got + n)) }
+        IfOk result (λ n. let octets = before ++ row.now in
+        HasGot K.written K.faults octets start out.new block.new (got + n)) }
     ensures err { (before : List ℕ) (start : K) (got : ℕ) → Stands delineator.old 9600 before →
         HasGot K.written K.faults before start out.old block.old got →
         OnErr result (StopsWithin K.written K.faults before row.now start out.new) }
@@ -127,8 +129,10 @@ pub fn run<K: ByteSink>(
     requires frames { All IsFrame queue.old.waiting }
     requires unsent { queue.old.begun ≡ [] }
     requires fresh { Stands delineator.old 9600 [] }
-    ensures ok { OnOk result (Appends K.written K.faults out.old out.new (report ticks queue.old.waiting)) }
-    ensures err { OnErr result (AppendsPart K.written K.faults out.old out.new (report ticks queue.old.waiting)) }
+    ensures ok { let text = report ticks queue.old.waiting in
+        OnOk result (Appends K.written K.faults out.old out.new text) }
+    ensures err { let text = report ticks queue.old.waiting in
+        OnErr result (AppendsPart K.written K.faults out.old out.new text) }
 {
     let frames = queue.waiting();
     let mut block = LineBlock::new();
