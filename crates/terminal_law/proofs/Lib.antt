@@ -1,2 +1,5 @@
 pub mod SentLaws
 pub mod DealtLaws
+pub mod CellLaws
+pub mod RowLaws
+pub mod CourseLaws

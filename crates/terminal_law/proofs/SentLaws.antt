@@ -103,7 +103,7 @@ module _ (scenario : Scenario) (returns : List (Option Told)) (limit : length sc
       }
 
 -- ---- the list of them
-range-at : (a n k : ℕ) → k < n → slice_get (range_with_len a n) k ≡ Some (a + k)
+pub range-at : (a n k : ℕ) → k < n → slice_get (range_with_len a n) k ≡ Some (a + k)
 range-at a zero k low = absurd (omega arith)
 range-at a (suc n) zero low = ap Some (let e : a ≡ a + 0 = omega arith in e)
 range-at a (suc n) (suc k) low = range-at (a + 1) n k (omega arith) ∙ ap Some (let e : a + 1 + k ≡ a + suc k = omega arith in e)
