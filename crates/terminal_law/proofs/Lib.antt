@@ -3,3 +3,4 @@ pub mod DealtLaws
 pub mod CellLaws
 pub mod RowLaws
 pub mod CourseLaws
+pub mod KeepLaws
