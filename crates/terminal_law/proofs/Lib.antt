@@ -4,3 +4,4 @@ pub mod CellLaws
 pub mod RowLaws
 pub mod CourseLaws
 pub mod KeepLaws
+pub mod LoopLaws
