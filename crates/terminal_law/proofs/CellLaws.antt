@@ -1,6 +1,6 @@
 -- What has come of the lines of a session: their containers where those are good, and their packets where those can be read.
 use Rattle.std.specs.Prelude.{IsSome}
-use Rattle.std.proofs.Common.{◌≡◌, ℕ, zero, suc, ◌+◌, ◌-◌, ◌*◌, ◌/◌, ◌<◌, ◌≤◌, min, nat_lt, Bool, true, false, if◌then◌else◌, inl, inr, List, [], ◌∷◌, ◌++◌, map, take, drop, length, slice_get, slice_index_or, Option, Some, None, refl, sym, ◌∙◌, ap, ap₂, subst, arith}
+use Rattle.std.proofs.Common.{◌≡◌, ℕ, suc, ◌+◌, ◌-◌, ◌*◌, ◌/◌, ◌<◌, ◌≤◌, min, Bool, true, false, if◌then◌else◌, inl, inr, List, [], ◌∷◌, ◌++◌, map, length, slice_get, slice_index_or, Option, Some, None, refl, sym, ◌∙◌, ap, ap₂, subst, arith}
 use Rattle.std.specs.List.{range_with_len}
 use Rattle.std.specs.Result.{result_ok}
 use Rattle.std.proofs.lemmas.Bool.{cases_lt}
@@ -10,10 +10,10 @@ use Rattle.vc_cell.specs.declared.Container.{Container}
 use Rattle.vc_cell.specs.declared.Cell.{Cell}
 use Rattle.session_model.specs.declared.window.Window.{Window}
 use Rattle.session_model.specs.declared.packet.Packet.{Packet}
-use Rattle.session_model.specs.Damage.{is_good, is_readable, carried}
+use Rattle.session_model.specs.Damage.{is_good}
 use Rattle.session_model.specs.Path.{path, end_of, cells}
 use Rattle.session_model.specs.Number.{verdict}
-use Rattle.session_model.specs.Line.{IsLine, expected, sent_nibbles}
+use Rattle.session_model.specs.Line.{IsLine, sent_nibbles}
 use Rattle.session_model.specs.Packet.{packet_nibbles, read_of}
 use Rattle.session_model.proofs.PacketLaws.{read_of-packet_nibbles}
 use Rattle.session_model.specs.Scenario.{Scenario, carried_by, is_read}
@@ -31,7 +31,7 @@ use Rattle.line_law.proofs.StableLaws.{verdict-stays}
 use Rattle.line_law.proofs.RowLaws.{earlier, packets_stay, are_read}
 use Rattle.row_law.specs.Received.{HasPackets, TellsRow}
 use Rattle.terminal_law.specs.Lines.{HasLines, given, ComesOf, ComeOf}
-use Rattle.terminal_law.proofs.SentLaws.{forward-packet, container-at, containers-size, containers-part, are-sent, packet-nibbles}
+use Rattle.terminal_law.proofs.SentLaws.{forward-packet, container-at, containers-size, are-sent, packet-nibbles}
 
 -- ---- one line
 abbrev windows_of : Scenario → ℕ → List Window

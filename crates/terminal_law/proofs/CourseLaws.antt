@@ -1,22 +1,20 @@
 -- Return cells that the sink made of what came, told to the source which made what came, are those of the session.
-use Rattle.std.proofs.Common.{◌≡◌, ℕ, zero, suc, ◌+◌, ◌-◌, ◌*◌, ◌/◌, ◌<◌, ◌≤◌, List, [], ◌∷◌, ◌++◌, map, take, length, slice_get, Option, Some, None, option_map, refl, sym, ◌∙◌, ap, subst, arith}
+use Rattle.std.proofs.Common.{◌≡◌, ℕ, zero, suc, ◌+◌, ◌-◌, ◌*◌, ◌/◌, ◌<◌, ◌≤◌, List, [], ◌∷◌, ◌++◌, map, take, length, slice_get, Option, Some, option_map, refl, sym, ◌∙◌, ap, arith}
 use Rattle.std.specs.List.{range_with_len}
-use Rattle.std.proofs.lemmas.List.FromFn.{length-map-range_with_len, get_or-map-range_with_len, take-map-range_with_len, fill_by_all}
+use Rattle.std.proofs.lemmas.List.FromFn.{length-map-range_with_len, get_or-map-range_with_len, fill_by_all}
 use Rattle.std.proofs.lemmas.List.{take_all}
 use Rattle.std.proofs.lemmas.Option.{slice_get-map}
-use Rattle.vc_cell.specs.declared.Container.{Container}
 use Rattle.vc_cell.specs.declared.Cell.{Cell}
 use Rattle.session_model.specs.Path.{cells}
 use Rattle.session_model.specs.Scenario.{Scenario, carried_by, packets, steps_in}
 use Rattle.session_model.specs.Table.{Told}
 use Rattle.session_model.specs.Told.{told_in}
 use Rattle.session_model.specs.Back.{return_cell, cells_before, session_cells}
-use Rattle.session_model.specs.Sent.{container_of, containers_of, frame_of}
-use Rattle.line_law.specs.StableRows.{AreDecidedAt}
+use Rattle.session_model.specs.Sent.{container_of}
 use Rattle.line_law.proofs.ListLaws.{take-next}
 use Rattle.session_law.specs.Session.{AgreeBefore}
-use Rattle.session_law.proofs.SessionLaws.{return_cell-agree, Agree-take, cells_before-length, cells_before-prefix}
-use Rattle.terminal_law.specs.Lines.{HasLines, given, ComesOf, ComeOf}
+use Rattle.session_law.proofs.SessionLaws.{return_cell-agree, Agree-take, cells_before-prefix}
+use Rattle.terminal_law.specs.Lines.{HasLines, ComesOf, ComeOf}
 use Rattle.terminal_law.specs.Course.{back_of, told_of, IsCourse}
 use Rattle.terminal_law.proofs.SentLaws.{range-at}
 use Rattle.terminal_law.proofs.DealtLaws.{container-same}

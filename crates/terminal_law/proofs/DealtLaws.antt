@@ -1,16 +1,14 @@
 -- What the containers of a frame carry of the client's stream, and which return cells they depend on.
-use Rattle.std.proofs.Common.{◌≡◌, ℕ, zero, suc, ◌+◌, ◌-◌, ◌*◌, ◌/◌, ◌%◌, ◌<◌, ◌≤◌, ◌==◌, nat_lt, true, false, if◌then◌else◌, inl, inr, List, [], ◌∷◌, ◌++◌, map, filter, take, drop, replicate, length, slice_get, slice_index, Option, Some, None, option_map, refl, sym, ◌∙◌, ap, ap₂, subst, arith, length-append}
+use Rattle.std.proofs.Common.{◌≡◌, ℕ, zero, suc, ◌+◌, ◌-◌, ◌*◌, ◌/◌, ◌%◌, ◌<◌, ◌≤◌, ◌==◌, nat_lt, true, false, if◌then◌else◌, inl, inr, List, [], ◌∷◌, map, filter, take, drop, replicate, length, slice_get, slice_index, Option, Some, None, refl, sym, ◌∙◌, ap, arith, length-append}
 use Rattle.std.specs.List.{position_from}
-use Rattle.std.proofs.lemmas.Bool.{cases_Bool, cases_eq, ltb-true, ltb-false, eq-eqb, eqb-true, ne_eqb}
+use Rattle.std.proofs.lemmas.Bool.{cases_Bool, ltb-false, eq-eqb, ne_eqb}
 use Rattle.std.proofs.lemmas.List.{length-map, length-replicate, get_or_append_left}
-
-use Rattle.std.proofs.lemmas.Option.{slice_get-map, slice_get_within}
 use Rattle.vc_cell.specs.declared.Container.{Container}
 use Rattle.vcat_interleave.proofs.RowLaws.{length-part_of, get-part_of}
 use Rattle.session_model.specs.declared.table.Member.{Member}
 use Rattle.session_model.specs.Scenario.{Scenario}
 use Rattle.session_model.specs.Table.{Told, is_norm, is_normal, active}
-use Rattle.session_model.specs.Source.{after, table_of}
+use Rattle.session_model.specs.Source.{table_of}
 use Rattle.session_model.specs.Client.{width, place_of, stream_before}
 use Rattle.session_model.specs.Interleave.{part_of}
 use Rattle.session_model.specs.Payload.{payload_of}

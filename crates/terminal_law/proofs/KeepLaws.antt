@@ -1,7 +1,6 @@
 -- What each event of a session leaves of its course.
 use Rattle.std.specs.Prelude.{IsSome}
-use Rattle.std.proofs.Common.{◌≡◌, ℕ, zero, suc, ◌+◌, ◌-◌, ◌*◌, ◌/◌, ◌<◌, ◌≤◌, min, nat_lt, true, false, if◌then◌else◌, inl, inr, List, [], ◌∷◌, ◌++◌, map, take, drop, length, replicate, slice_get, Option, Some, None, refl, sym, ◌∙◌, ap, subst, arith}
-use Rattle.std.specs.List.{range_with_len}
+use Rattle.std.proofs.Common.{◌≡◌, ℕ, zero, suc, ◌+◌, ◌*◌, ◌<◌, ◌≤◌, min, nat_lt, false, if◌then◌else◌, inl, inr, List, [], ◌∷◌, ◌++◌, take, drop, length, replicate, slice_get, Option, Some, refl, sym, ◌∙◌, ap, subst, arith}
 use Rattle.std.proofs.lemmas.Bool.{cases_eq}
 use Rattle.std.proofs.lemmas.List.{length-replicate, take-append-drop}
 use Rattle.std.proofs.lemmas.List.FromFn.{take-map-range_with_len}
@@ -10,21 +9,20 @@ use Rattle.vc_cell.specs.declared.Cell.{Cell}
 use Rattle.vc_cell.specs.declared.Cell.TheVariants.{End}
 use Rattle.vc_cell.specs.declared.BackCell.TheVariants.{Packet as Nibbles, Lost}
 use Rattle.session_model.specs.Packet.{packet_nibbles}
-use Rattle.session_model.specs.Path.{path, end_of}
+use Rattle.session_model.specs.Path.{path}
 use Rattle.session_model.specs.Number.{verdict}
-use Rattle.session_model.specs.Scenario.{Scenario, carried_by, is_lost, packets, steps_in}
+use Rattle.session_model.specs.Scenario.{Scenario, is_lost, packets, steps_in}
 use Rattle.session_model.specs.Table.{Told}
 use Rattle.session_model.specs.Told.{told_in}
-use Rattle.session_model.specs.Rows.{return_at}
 use Rattle.line_law.specs.StableRows.{IsLonger, AreDecidedAt}
 use Rattle.line_law.proofs.ListLaws.{is-some, slice_get-inside}
 use Rattle.line_law.proofs.StableLaws.{verdict-stays}
 use Rattle.line_law.proofs.RowLaws.{returns_stay}
 use Rattle.session_law.specs.Session.{AgreeBefore}
-use Rattle.terminal_law.specs.Lines.{HasLines, given, ComesOf, ComeOf}
+use Rattle.terminal_law.specs.Lines.{given, ComesOf, ComeOf}
 use Rattle.terminal_law.specs.Course.{back_of, told_of, IsCourse}
 use Rattle.terminal_law.proofs.CellLaws.{given-whole}
-use Rattle.terminal_law.proofs.CourseLaws.{same-range, agree-sooner, come-same}
+use Rattle.terminal_law.proofs.CourseLaws.{same-range, come-same}
 
 -- ---- the start
 none-given : (scenario : Scenario) (returns : List (Option Told)) (line : ℕ) → given scenario returns line 0 0 0 ≡ []

@@ -1,8 +1,7 @@
 -- A course by the session's own return cells.
-use Rattle.std.proofs.Common.{◌≡◌, ℕ, suc, ◌+◌, ◌-◌, ◌*◌, ◌/◌, ◌<◌, ◌≤◌, if◌then◌else◌, List, [], ◌∷◌, ◌++◌, take, length, Option, Some, None, sym, ◌∙◌, ap, subst, arith}
+use Rattle.std.proofs.Common.{◌≡◌, ℕ, suc, ◌+◌, ◌-◌, ◌*◌, ◌/◌, ◌<◌, ◌≤◌, if◌then◌else◌, List, [], ◌∷◌, ◌++◌, take, length, Some, None, sym, ◌∙◌, ap, arith}
 use Rattle.vc_cell.specs.declared.Cell.{Cell}
 use Rattle.session_model.specs.Scenario.{Scenario, packets, steps_in}
-use Rattle.session_model.specs.Table.{Told}
 use Rattle.session_model.specs.Told.{told_in}
 use Rattle.session_model.specs.Back.{return_cell, cells_before, session_cells}
 use Rattle.session_model.specs.Payload.{payload_of}

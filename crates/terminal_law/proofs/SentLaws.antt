@@ -1,17 +1,16 @@
 -- The containers that the source makes: their H4 octets say their numbers and its packets.
-use Rattle.std.proofs.Common.{◌≡◌, ℕ, zero, suc, ◌+◌, ◌-◌, ◌*◌, ◌/◌, ◌%◌, ◌<◌, ◌≤◌, ◌==◌, nat_lt, true, false, if◌then◌else◌, inl, inr, List, [], ◌∷◌, map, filter, take, drop, length, slice_get, slice_index, Option, Some, None, option_map, refl, sym, ◌∙◌, ap, subst, arith, lit<}
+use Rattle.std.proofs.Common.{◌≡◌, ℕ, zero, suc, ◌+◌, ◌-◌, ◌*◌, ◌/◌, ◌%◌, ◌<◌, ◌≤◌, ◌==◌, nat_lt, true, false, if◌then◌else◌, inl, inr, List, [], ◌∷◌, map, filter, take, drop, length, slice_get, slice_index, Option, Some, option_map, refl, sym, ◌∙◌, ap, subst, arith, lit<}
 use Rattle.std.specs.List.{range_with_len, list_any}
 use Rattle.std.proofs.lemmas.Bool.{cases_Bool, ltb-true, ltb-false}
 use Rattle.std.proofs.lemmas.List.{length-map}
 use Rattle.std.proofs.lemmas.List.FromFn.{fill_by_all}
 use Rattle.std.proofs.lemmas.Option.{slice_get-map, slice_get_within}
 use Rattle.vc_cell.specs.declared.Container.{Container}
-use Rattle.session_model.specs.declared.packet.Packet.{Packet}
 use Rattle.session_model.specs.declared.table.Member.{Member}
 use Rattle.session_model.specs.Packet.{IsPacket, packet_nibbles}
 use Rattle.session_model.proofs.PacketLaws.{length-packet_nibbles, packet_nibbles_below}
 use Rattle.session_model.specs.Scenario.{Scenario}
-use Rattle.session_model.specs.Table.{Table, Told, is_normal, active}
+use Rattle.session_model.specs.Table.{Told, is_normal}
 use Rattle.session_model.specs.Source.{table_of}
 use Rattle.session_model.specs.Forward.{ctrl_by, place_in, forward_packet}
 use Rattle.session_model.specs.Line.{HasPlace, AreSent, sent_nibbles}
