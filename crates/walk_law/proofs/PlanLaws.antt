@@ -1,17 +1,16 @@
 -- The plan of a script's walk, and its lines.
-use Rattle.std.proofs.Common.{◌≡◌, ℕ, zero, suc, ◌+◌, ◌-◌, ◌*◌, ◌<◌, ◌≤◌, List, [], ◌∷◌, map, length, slice_get, slice_index_or, Option, Some, refl, sym, ◌∙◌, ap, subst, arith}
+use Rattle.std.proofs.Common.{◌≡◌, ℕ, zero, suc, ◌+◌, ◌<◌, ◌≤◌, List, [], ◌∷◌, map, length, slice_get, slice_index_or, Some, refl, ◌∙◌, ap, subst, arith}
 use Rattle.std.specs.List.{range_with_len}
 use Rattle.vc_cell.specs.declared.Container.{Container}
 use Rattle.session_model.specs.declared.window.Window.{Window}
 use Rattle.session_model.specs.declared.script.Script.{Script}
-use Rattle.session_model.specs.Damage.{carried, AreWindows, slip_of}
+use Rattle.session_model.specs.Damage.{carried, slip_of}
 use Rattle.session_model.specs.Line.{IsLine}
 use Rattle.session_model.specs.Scenario.{Scenario, scenario_of}
 use Rattle.session_model.specs.Back.{session_cells}
-use Rattle.session_model.specs.Counts.{LinePath}
-use Rattle.session_model.specs.Plan.{path_of, paths_of, greatest, greatest_slip}
+use Rattle.session_model.specs.Plan.{path_of, paths_of, greatest_slip}
 use Rattle.progress_law.specs.Progress.{IsPlan}
-use Rattle.progress_law.specs.Lines.{AreSentBy, CanRun}
+use Rattle.progress_law.specs.Lines.{AreSentBy}
 use Rattle.progress_law.proofs.LineLaws.{can_run-plan}
 use Rattle.terminal_law.specs.Lines.{HasLines}
 use Rattle.terminal_law.proofs.SentLaws.{containers-size}
@@ -93,4 +92,4 @@ pub line-path : (script : Script) → CanWalk script → (line : ℕ) → line <
 line-path script can line inside =
     path-at (sent_on (scenario_of script)) script.config.windows script.config.delays 0 line can.delays inside
     ∙ (let e : 0 + line ≡ line = omega arith in
-        ap (λ k. Some (path_of (carried (slice_index_or script.config.windows line [])) (slice_index_or script.config.delays line 0) (sent_on (scenario_of script) k))) e)
+    ap (λ k. Some (path_of (carried (slice_index_or script.config.windows line [])) (slice_index_or script.config.delays line 0) (sent_on (scenario_of script) k))) e)

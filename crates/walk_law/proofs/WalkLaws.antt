@@ -1,8 +1,8 @@
 -- What the counts of a walk say of the cells that were popped.
 use Rattle.std.specs.Prelude.{IsSome}
-use Rattle.std.proofs.Common.{◌≡◌, ℕ, zero, suc, ◌+◌, ◌-◌, ◌*◌, ◌/◌, ◌<◌, ◌≤◌, min, if◌then◌else◌, List, [], ◌∷◌, ◌++◌, map, take, drop, length, slice_get, slice_index_or, Option, Some, None, option_map, refl, sym, ◌∙◌, ap, subst, arith}
+use Rattle.std.proofs.Common.{◌≡◌, ℕ, zero, suc, ◌+◌, ◌-◌, ◌*◌, ◌/◌, ◌<◌, ◌≤◌, if◌then◌else◌, List, [], ◌∷◌, ◌++◌, map, take, drop, length, slice_get, slice_index_or, Option, Some, None, option_map, refl, sym, ◌∙◌, ap, subst, arith}
 use Rattle.std.specs.List.{range_with_len}
-use Rattle.std.proofs.lemmas.List.{length-map, take-append-drop, take-append-le}
+use Rattle.std.proofs.lemmas.List.{take-append-drop, take-append-le}
 use Rattle.std.proofs.lemmas.List.FromFn.{length-map-range_with_len, map-range_with_len_more}
 use Rattle.std.proofs.lemmas.Option.{slice_get-map, slice_get_within}
 use Rattle.vc_cell.specs.declared.Container.{Container}
@@ -11,7 +11,7 @@ use Rattle.session_model.specs.declared.window.Carried.{Carried}
 use Rattle.session_model.specs.declared.script.Script.{Script}
 use Rattle.session_model.specs.Path.{cells}
 use Rattle.session_model.specs.Number.{verdict}
-use Rattle.session_model.specs.Scenario.{Scenario, scenario_of, carried_by, packets_in, packets, steps_in}
+use Rattle.session_model.specs.Scenario.{Scenario, scenario_of, carried_by, packets_in}
 use Rattle.session_model.specs.Table.{Told}
 use Rattle.session_model.specs.Told.{told_in}
 use Rattle.session_model.specs.Back.{cells_before, session_cells}
@@ -19,20 +19,20 @@ use Rattle.session_model.specs.Payload.{payload_of}
 use Rattle.session_model.specs.Rows.{row_at}
 use Rattle.session_model.specs.SessionRows.{is_whole_row}
 use Rattle.session_model.specs.Sent.{frame_of}
-use Rattle.session_model.specs.Counts.{LinePath, LineCounts, Counts, used_in}
+use Rattle.session_model.specs.Counts.{LinePath, LineCounts, Counts}
 use Rattle.session_model.specs.Plan.{all_cells, path_of}
 use Rattle.line_law.specs.StableRows.{AreDecidedAt}
 use Rattle.line_law.proofs.StableLaws.{cells-part}
 use Rattle.progress_law.specs.Progress.{Each, LineFits, Fits}
 use Rattle.progress_law.proofs.LineLaws.{is_decided}
 use Rattle.progress_law.proofs.MoveLaws.{reached-fits}
-use Rattle.terminal_law.specs.Lines.{HasLines, given, ComesOf, ComeOf}
+use Rattle.terminal_law.specs.Lines.{given, ComesOf, ComeOf}
 use Rattle.terminal_law.specs.Course.{back_of, told_of}
 use Rattle.terminal_law.proofs.SentLaws.{range-at, containers-size}
 use Rattle.terminal_law.proofs.CellLaws.{given-whole}
 use Rattle.terminal_law.proofs.RowLaws.{row-told}
 use Rattle.terminal_law.proofs.LoopLaws.{frame-same, next-cell}
-use Rattle.walk_law.specs.Walk.{sent_on, walk_plan, CanWalk, IsWalked, counts_at, cells_on, popped_on, popped_cells}
+use Rattle.walk_law.specs.Walk.{sent_on, walk_plan, CanWalk, IsWalked, counts_at, popped_on, popped_cells}
 use Rattle.walk_law.proofs.PlanLaws.{has-lines, has-plan, line-path}
 
 each-there : (P : LinePath → LineCounts → Type 0) (paths : List LinePath) (lines : List LineCounts) (m : ℕ) (path : LinePath) (d : LineCounts) → Each P paths lines →
