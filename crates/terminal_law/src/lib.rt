@@ -23,6 +23,7 @@ ghost use Rattle.session_law.specs.Session.{AgreeBefore};
 ghost use Rattle.row_law.specs.Received.{HasPackets, TellsRow, IsDealtRow};
 ghost use Rattle.terminal_law.specs.Lines.{HasLines, given, ComesOf, ComeOf};
 ghost use Rattle.terminal_law.specs.Course.{back_of, told_of, IsCourse};
+ghost use Rattle.terminal_law.specs.Worked.{two_lines, h4_from, no_packet, first_added, first_in_use, second_added, first_told, first_cells, dealt};
 
 /// The containers that the source makes, whatever it was told. Their H4 octets say their numbers, and the nibbles of each packet
 /// stand in them in their order; their payload is that of a VC-4 in length, and the lines that carry payload are dealt the octets of
@@ -131,4 +132,16 @@ pub fn loop_law()
         ComeOf scenario (session_cells scenario) frames cells → AreDecidedAt cells (16 * k + 23) →
         cells_before scenario (suc k)
         ≡ cells_before scenario k ++ told_in (back_of scenario cells k) ∷ [] }
+{}
+
+/// A worked session, computed: H4 octets, what the sink tells of the first cells, and a row that is dealt.
+pub fn worked_law()
+    ensures zeros { h4_from 0 0 8 ≡ no_packet }
+    ensures add { h4_from 0 8 16 ≡ first_added }
+    ensures eos { h4_from 0 40 16 ≡ first_in_use }
+    ensures add_second { h4_from 1 40 16 ≡ second_added }
+    ensures told { told_of two_lines first_cells 1 ≡ first_told }
+    ensures cells { take 1 (session_cells two_lines) ≡ first_told }
+    ensures first { dealt 1 ≡ 10 ∷ 12 ∷ 0 ∷ 0 ∷ [] }
+    ensures second { dealt 0 ≡ 11 ∷ 13 ∷ 0 ∷ 0 ∷ [] }
 {}
