@@ -1,3 +1,4 @@
+pub mod ListLaws
 pub mod SentLaws
 pub mod DealtLaws
 pub mod CellLaws

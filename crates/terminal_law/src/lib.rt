@@ -9,20 +9,21 @@ ghost use Rattle.vc_cell.specs.declared.Cell.{Cell};
 ghost use Rattle.session_model.specs.Scenario.{Scenario, packets, steps_in};
 ghost use Rattle.session_model.specs.Table.{Told};
 ghost use Rattle.session_model.specs.Told.{told_in};
-ghost use Rattle.session_model.specs.Source.{table_of};
+ghost use Rattle.session_model.specs.Source.{after, table_of};
 ghost use Rattle.session_model.specs.Back.{return_cell, cells_before, session_cells};
 ghost use Rattle.session_model.specs.Packet.{IsPacket, packet_nibbles};
+ghost use Rattle.session_model.specs.Client.{stream_before};
 ghost use Rattle.session_model.specs.Payload.{payload_of};
 ghost use Rattle.session_model.specs.Forward.{forward_packet};
 ghost use Rattle.session_model.specs.Line.{AreSent, sent_nibbles};
-ghost use Rattle.session_model.specs.Rows.{row_at};
+ghost use Rattle.session_model.specs.Rows.{row_at, return_at};
 ghost use Rattle.session_model.specs.SessionRows.{is_whole_row};
 ghost use Rattle.session_model.specs.Sent.{container_of, containers_of, frame_of};
 ghost use Rattle.line_law.specs.StableRows.{IsLonger, AreDecidedAt};
 ghost use Rattle.session_law.specs.Session.{AgreeBefore};
 ghost use Rattle.row_law.specs.Received.{HasPackets, TellsRow, IsDealtRow};
 ghost use Rattle.terminal_law.specs.Lines.{HasLines, given, ComesOf, ComeOf};
-ghost use Rattle.terminal_law.specs.Course.{back_of, told_of, IsCourse};
+ghost use Rattle.terminal_law.specs.Course.{back_of, packet_by, told_of, IsCourse};
 ghost use Rattle.terminal_law.specs.Worked.{two_lines, h4_from, no_packet, first_added, first_in_use, second_added, first_told, first_cells, dealt};
 
 /// The containers that the source makes, whatever it was told. Their H4 octets say their numbers, and the nibbles of each packet
@@ -77,6 +78,10 @@ pub fn rows_law()
         (cells : List (List Cell)) → HasLines scenario → ComeOf scenario returns frames cells →
         16 * k + 23 < scenario.ticks → AreDecidedAt cells (16 * k + 23) →
         told_in (back_of scenario cells k) ≡ return_cell scenario returns k }
+    ensures packets { (scenario : Scenario) (returns : List (Option Told)) (frames k : ℕ)
+        (cells : List (List Cell)) → HasLines scenario → ComeOf scenario returns frames cells →
+        16 * k + 23 < scenario.ticks → AreDecidedAt cells (16 * k + 23) →
+        return_at cells k ≡ packet_by scenario returns k }
 {}
 
 /// Packets give tables, tables give rows, and rows give packets: where the source was told just what the sink says by the cells that
@@ -102,6 +107,10 @@ pub fn course_law()
         HasLines scenario → 0 < scenario.lag → IsCourse scenario frames n cells →
         16 * k + 23 < scenario.ticks → AreDecidedAt cells (16 * k + 23) →
         told_in (back_of scenario cells k) ≡ return_cell scenario (session_cells scenario) k }
+    ensures packets { (scenario : Scenario) (frames n k : ℕ) (cells : List (List Cell)) →
+        HasLines scenario → 0 < scenario.lag → IsCourse scenario frames n cells →
+        16 * k + 23 < scenario.ticks → AreDecidedAt cells (16 * k + 23) →
+        return_at cells k ≡ packet_by scenario (session_cells scenario) k }
 {}
 
 /// A course begins with nothing, and each event keeps it: a frame is made, for whose decision step the return cell has come; more
@@ -120,13 +129,20 @@ pub fn keep_law()
         IsCourse scenario frames n cells → IsCourse scenario frames (suc n) cells }
 {}
 
-/// The same by the session's own return cells, event by event: a frame that is made by those that have come is the session's, and
-/// what the sink says next is the session's next return cell.
+/// By the session's own return cells, event by event: a frame that is made by those that have come is the session's, and so are the
+/// source's table and the client's stream; and what the sink says next is the session's next return cell.
 pub fn loop_law()
     ensures frames { (scenario : Scenario) (n frames t : ℕ) → n ≤ packets scenario →
         steps_in frames ≤ n + scenario.lag → t < frames →
         frame_of scenario (cells_before scenario n) t
         ≡ frame_of scenario (session_cells scenario) t }
+    ensures sources { (scenario : Scenario) (n frames j : ℕ) → n ≤ packets scenario →
+        steps_in frames ≤ n + scenario.lag → j ≤ steps_in frames →
+        after scenario (cells_before scenario n) j ≡ after scenario (session_cells scenario) j }
+    ensures streams { (scenario : Scenario) (n frames t : ℕ) → n ≤ packets scenario →
+        steps_in frames ≤ n + scenario.lag → t ≤ frames →
+        stream_before scenario (cells_before scenario n) t
+        ≡ stream_before scenario (session_cells scenario) t }
     ensures next { (scenario : Scenario) (frames k : ℕ) (cells : List (List Cell)) →
         HasLines scenario → 0 < scenario.lag → k < packets scenario →
         ComeOf scenario (session_cells scenario) frames cells → AreDecidedAt cells (16 * k + 23) →

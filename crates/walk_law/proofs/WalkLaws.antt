@@ -11,9 +11,11 @@ use Rattle.session_model.specs.declared.window.Carried.{Carried}
 use Rattle.session_model.specs.declared.script.Script.{Script}
 use Rattle.session_model.specs.Path.{cells}
 use Rattle.session_model.specs.Number.{verdict}
-use Rattle.session_model.specs.Scenario.{Scenario, scenario_of, carried_by, packets_in}
+use Rattle.session_model.specs.Scenario.{Scenario, scenario_of, carried_by, packets_in, packets, steps_in}
 use Rattle.session_model.specs.Table.{Told}
 use Rattle.session_model.specs.Told.{told_in}
+use Rattle.session_model.specs.Source.{after}
+use Rattle.session_model.specs.Client.{stream_before}
 use Rattle.session_model.specs.Back.{cells_before, session_cells}
 use Rattle.session_model.specs.Payload.{payload_of}
 use Rattle.session_model.specs.Rows.{row_at}
@@ -28,10 +30,11 @@ use Rattle.progress_law.proofs.LineLaws.{is_decided}
 use Rattle.progress_law.proofs.MoveLaws.{reached-fits}
 use Rattle.terminal_law.specs.Lines.{given, ComesOf, ComeOf}
 use Rattle.terminal_law.specs.Course.{back_of, told_of}
-use Rattle.terminal_law.proofs.SentLaws.{range-at, containers-size}
+use Rattle.terminal_law.proofs.SentLaws.{containers-size}
+use Rattle.terminal_law.proofs.ListLaws.{range-at}
 use Rattle.terminal_law.proofs.CellLaws.{given-whole}
 use Rattle.terminal_law.proofs.RowLaws.{row-told}
-use Rattle.terminal_law.proofs.LoopLaws.{frame-same, next-cell}
+use Rattle.terminal_law.proofs.LoopLaws.{frame-same, source-same, stream-same, next-cell}
 use Rattle.walk_law.specs.Walk.{sent_on, walk_plan, CanWalk, IsWalked, counts_at, popped_on, popped_cells}
 use Rattle.walk_law.proofs.PlanLaws.{has-lines, has-plan, line-path}
 
@@ -147,6 +150,15 @@ module _ (script : Script) (s : Counts) (can : CanWalk script) (walked : IsWalke
   frames-are t low =
       let used = fits.used in
       frame-same scenario s.backs s.ticks t (few-packets s.rows script.config.ticks s.backs fits.rows fits.backs) (omega arith) low
+
+  few : s.backs ≤ packets scenario
+  few = few-packets s.rows script.config.ticks s.backs fits.rows fits.backs
+
+  pub sources-are : (j : ℕ) → j ≤ steps_in s.ticks → after scenario (cells_before scenario s.backs) j ≡ after scenario session j
+  sources-are j low = let used = fits.used in source-same scenario s.backs s.ticks j few (omega arith) low
+
+  pub streams-are : (t : ℕ) → t ≤ s.ticks → stream_before scenario (cells_before scenario s.backs) t ≡ stream_before scenario session t
+  streams-are t low = let used = fits.used in stream-same scenario s.backs s.ticks t few (omega arith) low
 
   told-first : (n : ℕ) → n ≤ s.backs → told_of scenario (popped_cells script s.lines) n ≡ cells_before scenario n
   unfolding cells_before

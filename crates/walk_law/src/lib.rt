@@ -3,9 +3,11 @@
 //! source are the session's. There is no code here. Begin at `walk_law`.
 #![tactic(auto)]
 
-ghost use Rattle.std.specs.Prelude.{◌≡◌, ℕ, ◌<◌, if◌then◌else◌, Option, Some, None};
+ghost use Rattle.std.specs.Prelude.{◌≡◌, ℕ, ◌<◌, ◌≤◌, if◌then◌else◌, Option, Some, None};
 ghost use Rattle.session_model.specs.declared.script.Script.{Script};
-ghost use Rattle.session_model.specs.Scenario.{scenario_of};
+ghost use Rattle.session_model.specs.Scenario.{scenario_of, steps_in};
+ghost use Rattle.session_model.specs.Source.{after};
+ghost use Rattle.session_model.specs.Client.{stream_before};
 ghost use Rattle.session_model.specs.Back.{cells_before, session_cells};
 ghost use Rattle.session_model.specs.Payload.{payload_of};
 ghost use Rattle.session_model.specs.Rows.{row_at};
@@ -24,13 +26,21 @@ pub fn plan_law()
     ensures plan { (script : Script) → CanWalk script → IsPlan (walk_plan script) }
 {}
 
-/// After any list of events: the frames made by the return cells that have come are the session's; the cells that were popped come of
-/// them, and decide all rows that were taken; each of these rows is whole exactly where the session's is, with its octets; and the
+/// After any list of events: the frames made by the return cells that have come are the session's, and so are the source's table and
+/// the client's stream; the cells that were popped come of these frames, and decide all rows that were taken; each of these rows is whole exactly where the session's is, with its octets; and the
 /// return cells that have come are the session's first.
 pub fn walk_law()
     ensures frames { (script : Script) (s : Counts) (t : ℕ) → CanWalk script → IsWalked script s →
         t < s.ticks → frame_of (scenario_of script) (cells_before (scenario_of script) s.backs) t
         ≡ frame_of (scenario_of script) (session_cells (scenario_of script)) t }
+    ensures sources { (script : Script) (s : Counts) (j : ℕ) → CanWalk script →
+        IsWalked script s → j ≤ steps_in s.ticks →
+        after (scenario_of script) (cells_before (scenario_of script) s.backs) j
+        ≡ after (scenario_of script) (session_cells (scenario_of script)) j }
+    ensures streams { (script : Script) (s : Counts) (t : ℕ) → CanWalk script →
+        IsWalked script s → t ≤ s.ticks →
+        stream_before (scenario_of script) (cells_before (scenario_of script) s.backs) t
+        ≡ stream_before (scenario_of script) (session_cells (scenario_of script)) t }
     ensures come { (script : Script) (s : Counts) → CanWalk script → IsWalked script s →
         ComeOf (scenario_of script) (session_cells (scenario_of script)) s.ticks
         (popped_cells script s.lines) }

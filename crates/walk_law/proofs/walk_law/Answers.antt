@@ -1,5 +1,5 @@
 -- A walk is a course of the session.
-use Rattle.walk_law.proofs.WalkLaws.{frames-are, cells-come, cells-decide, rows-are, backs-are}
+use Rattle.walk_law.proofs.WalkLaws.{frames-are, sources-are, streams-are, cells-come, cells-decide, rows-are, backs-are}
 use Rattle.walk_law.proofs.walk_law.Goals as goal
 
 pub returns-clause-frames : goal.returns-clause-frames
@@ -16,3 +16,9 @@ returns-clause-rows c script s t can walked = rows-are script s can walked t
 
 pub returns-clause-backs : goal.returns-clause-backs
 returns-clause-backs c = backs-are
+
+pub returns-clause-sources : goal.returns-clause-sources
+returns-clause-sources c script s j can walked = sources-are script s can walked j
+
+pub returns-clause-streams : goal.returns-clause-streams
+returns-clause-streams c script s t can walked = streams-are script s can walked t
