@@ -1,9 +1,10 @@
 -- Laws of the pieces that come next, and of the lengths of streams.
-use Rattle.std.proofs.Common.{◌≡◌, ℕ, zero, suc, ◌+◌, ◌-◌, ◌*◌, ◌≤◌, List, [], ◌∷◌, ◌++◌, length, map, take, drop, replicate, refl, sym, ap, ◌∙◌, arith, append_assoc, length-append, length-take}
-use Rattle.std.proofs.lemmas.List.{length-map, length-replicate, replicate-append-replicate, take_all, take-append-le}
+use Rattle.std.proofs.Common.{◌≡◌, ℕ, zero, suc, ◌+◌, ◌-◌, ◌*◌, ◌≤◌, List, [], ◌∷◌, ◌++◌, length, map, take, drop, replicate, refl, sym, ap, ap₂, ◌∙◌, arith, append_assoc, length-append, length-take}
+use Rattle.std.proofs.lemmas.List.{append-nil, drop_all, length-map, length-replicate, replicate-append-replicate, take_all, take-append-le}
 use Rattle.session_model.specs.Piece.{Piece, idle, client, area_of, joined, stream_of, size_of, opening}
 use Rattle.session_model.proofs.StreamLaws.{stream_behind, stream_of-append}
 use Rattle.session_model.proofs.StreamLaws.{length-stream_of-append as length_of_both, length-stream_of-cons as length_of_first}
+use Rattle.session_model.specs.Client.{Stream, begun}
 use Rattle.gfp_fill.specs.Stream.{next_pieces}
 
 -- the octets of pieces behind one another
@@ -99,3 +100,21 @@ next_pieces_reach pieces n waiting =
 pub take-stream_of : (n : ℕ) (pieces more : List Piece) → n ≤ length (stream_of pieces) → take n (stream_of (pieces ++ more)) ≡ take n (stream_of pieces)
 take-stream_of n pieces more within =
     ap (λ octets. take n octets) (stream_of-append pieces more) ∙ take-append-le n (stream_of pieces) (stream_behind (joined (map area_of pieces)) more) within
+
+-- pieces that are begun one by one
+begun_of : (n : ℕ) (waiting : List (List ℕ)) (pieces : List Piece) → begun n (record { pieces = pieces; waiting = waiting }) ≡ record { pieces = pieces ++ next_pieces n waiting; waiting = drop n waiting }
+unfolding begun
+begun_of zero waiting pieces =
+    let none : pieces ++ next_pieces 0 waiting ≡ pieces = ap (λ ps. pieces ++ ps) (next_pieces-zero waiting) ∙ append-nil pieces in
+    ap (λ ps. record { pieces = ps; waiting = waiting }) (sym none)
+begun_of (suc n) [] pieces =
+    let one : (pieces ++ idle ∷ []) ++ next_pieces n [] ≡ pieces ++ next_pieces (suc n) [] =
+    append_assoc pieces (idle ∷ []) (next_pieces n []) ∙ ap (λ ps. pieces ++ ps) (ap (λ ps. idle ∷ ps) (next_pieces-nil n) ∙ sym (next_pieces-nil (suc n))) in
+    begun_of n [] (pieces ++ idle ∷ []) ∙ ap₂ (λ ps ws. record { pieces = ps; waiting = ws }) one (drop_all n [] (omega arith) ∙ sym (drop_all (suc n) [] (omega arith)))
+begun_of (suc n) (frame ∷ waiting) pieces =
+    let one : (pieces ++ client frame ∷ []) ++ next_pieces n waiting ≡ pieces ++ next_pieces (suc n) (frame ∷ waiting) =
+    append_assoc pieces (client frame ∷ []) (next_pieces n waiting) ∙ ap (λ ps. pieces ++ ps) (sym (next_pieces-cons n frame waiting)) in
+    begun_of n waiting (pieces ++ client frame ∷ []) ∙ ap (λ ps. record { pieces = ps; waiting = drop n waiting }) one
+
+pub begun-next_pieces : (n : ℕ) (stream : Stream) → begun n stream ≡ record { pieces = stream.pieces ++ next_pieces n stream.waiting; waiting = drop n stream.waiting }
+begun-next_pieces n stream = begun_of n stream.waiting stream.pieces

@@ -7,3 +7,4 @@ pub mod AreaLaws
 pub mod StreamLaws
 pub mod OctetsOfHeader
 pub mod ReachLaws
+pub mod PathLaws
