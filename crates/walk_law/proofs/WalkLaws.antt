@@ -1,6 +1,7 @@
 -- What the counts of a walk say of the cells that were popped.
-use Rattle.std.specs.Prelude.{IsSome}
-use Rattle.std.proofs.Common.{◌≡◌, ℕ, zero, suc, ◌+◌, ◌-◌, ◌*◌, ◌/◌, ◌<◌, ◌≤◌, if◌then◌else◌, List, [], ◌∷◌, ◌++◌, map, take, drop, length, slice_get, slice_index_or, Option, Some, None, option_map, refl, sym, ◌∙◌, ap, subst, arith}
+use Rattle.std.specs.Prelude.{IsSome, ◌↔◌, nat_le, is_none, false, true}
+use Rattle.std.proofs.lemmas.Bool.{cases_lt, le-leb, lt-leb}
+use Rattle.std.proofs.Common.{inl, inr, ◌≡◌, ℕ, zero, suc, ◌+◌, ◌-◌, ◌*◌, ◌/◌, ◌<◌, ◌≤◌, if◌then◌else◌, List, [], ◌∷◌, ◌++◌, map, take, drop, length, slice_get, slice_index_or, Option, Some, None, option_map, refl, sym, ◌∙◌, ap, subst, arith}
 use Rattle.std.specs.List.{range_with_len}
 use Rattle.std.proofs.lemmas.List.{take-append-drop, take-append-le}
 use Rattle.std.proofs.lemmas.List.FromFn.{length-map-range_with_len, map-range_with_len_more}
@@ -9,6 +10,7 @@ use Rattle.vc_cell.specs.declared.Container.{Container}
 use Rattle.vc_cell.specs.declared.Cell.{Cell}
 use Rattle.session_model.specs.declared.window.Carried.{Carried}
 use Rattle.session_model.specs.declared.script.Script.{Script}
+use Rattle.session_model.specs.Valid.{IsValid}
 use Rattle.session_model.specs.Path.{cells}
 use Rattle.session_model.specs.Number.{verdict}
 use Rattle.session_model.specs.Scenario.{Scenario, scenario_of, carried_by, packets_in, packets, steps_in}
@@ -35,7 +37,7 @@ use Rattle.terminal_law.proofs.ListLaws.{range-at}
 use Rattle.terminal_law.proofs.CellLaws.{given-whole}
 use Rattle.terminal_law.proofs.RowLaws.{row-told}
 use Rattle.terminal_law.proofs.LoopLaws.{frame-same, source-same, stream-same, next-cell}
-use Rattle.walk_law.specs.Walk.{sent_on, walk_plan, CanWalk, IsWalked, counts_at, popped_on, popped_cells}
+use Rattle.walk_law.specs.Walk.{sent_on, walk_plan, IsWalked, counts_at, popped_on, popped_cells, path_on}
 use Rattle.walk_law.proofs.PlanLaws.{has-lines, has-plan, line-path}
 
 each-there : (P : LinePath → LineCounts → Type 0) (paths : List LinePath) (lines : List LineCounts) (m : ℕ) (path : LinePath) (d : LineCounts) → Each P paths lines →
@@ -55,7 +57,25 @@ first-given carries delay containers x y low fits =
     let (more, e) = cells-part carries delay containers x (length containers + delay + 1) low in
     ap (take y) e ∙ take-append-le y (cells carries delay (length containers) containers x) more fits
 
-module _ (script : Script) (s : Counts) (can : CanWalk script) (walked : IsWalked script s) where
+-- ---- a line that doesn't decide a row
+open-or : (v : Option (Option Container)) (d t : ℕ) → (IsSome v ↔ (t < d)) → is_none v ≡ nat_le d t
+open-or None d t same = elim (cases_lt t d) [
+  | inl low ↦ absurd (let e : false ≡ true = same.1 low in cc)
+  | inr high ↦ sym (le-leb d t high)
+]
+open-or (Some told) d t same = let low = same.0 refl in sym (lt-leb d t low)
+
+pub line-open : (script : Script) (lines : List LineCounts) (line t : ℕ) → t < script.config.ticks →
+    is_none (verdict (popped_on script lines line) t) ≡ nat_le ((path_on script line).decided (counts_at lines line).popped) t
+line-open script lines line t low =
+    let scenario : Scenario = scenario_of script in
+    let delay : ℕ = slice_index_or script.config.delays line 0 in
+    let y : ℕ = (counts_at lines line).popped in
+    let size : length (sent_on scenario line) ≡ script.config.ticks = containers-size scenario (session_cells scenario) line scenario.ticks in
+    open-or (verdict (popped_on script lines line) t) ((path_on script line).decided y) t
+    (is_decided (carried_by scenario line) (sent_on scenario line) delay y t (omega arith))
+
+module _ (script : Script) (s : Counts) (valid : IsValid script) (walked : IsWalked script s) where
   abbrev scenario : Scenario
   scenario = scenario_of script
 
@@ -63,7 +83,7 @@ module _ (script : Script) (s : Counts) (can : CanWalk script) (walked : IsWalke
   session = session_cells (scenario_of script)
 
   fits : Fits (walk_plan script) s
-  fits = reached-fits (walk_plan script) s (has-plan script can) walked
+  fits = reached-fits (walk_plan script) s (has-plan script valid) walked
 
   abbrev delay_of : ℕ → ℕ
   delay_of line = slice_index_or script.config.delays line 0
@@ -72,7 +92,7 @@ module _ (script : Script) (s : Counts) (can : CanWalk script) (walked : IsWalke
       LineFits script.config.ticks script.config.ring s.ticks s.rows (path_of (carried_by scenario line) (delay_of line) (sent_on scenario line)) (counts_at s.lines line)
   line-fits line inside =
       each-there (LineFits script.config.ticks script.config.ring s.ticks s.rows) (walk_plan script).paths s.lines line
-      (path_of (carried_by scenario line) (delay_of line) (sent_on scenario line)) (record { carried = 0; popped = 0 }) fits.lines (line-path script can line inside)
+      (path_of (carried_by scenario line) (delay_of line) (sent_on scenario line)) (record { carried = 0; popped = 0 }) fits.lines (line-path script valid line inside)
 
   popped-comes : (line : ℕ) → line < length script.config.windows → ComesOf scenario session line s.ticks (popped_on script s.lines line)
   popped-comes line inside =
@@ -134,11 +154,11 @@ module _ (script : Script) (s : Counts) (can : CanWalk script) (walked : IsWalke
       row_at script.config.size (popped_cells script s.lines) t ≡ (if is_whole_row scenario session t then Some (payload_of scenario session t) else None)
   rows-are t low =
       let rows = fits.rows in
-      row-told scenario session s.ticks (popped_cells script s.lines) t (has-lines script can) cells-come (omega arith) (cells-decide t low)
+      row-told scenario session s.ticks (popped_cells script s.lines) t (has-lines script valid) cells-come (omega arith) (cells-decide t low)
 
   -- ---- the return path
   lag : 0 < scenario.lag
-  lag = let fits_lag = can.lag in omega arith
+  lag = let fits_lag = valid.network.lag.0 in omega arith
 
   few-packets : (rows ticks n : ℕ) → rows ≤ ticks → n ≤ (rows - 8) / 16 → n ≤ (ticks - 8) / 16
   few-packets rows ticks n low most = omega arith
@@ -172,7 +192,7 @@ module _ (script : Script) (s : Counts) (can : CanWalk script) (walked : IsWalke
       ap (λ k. map f (range_with_len 0 k)) e
       ∙ map-range_with_len_more f 0 n n (omega arith)
       ∙ ap (λ l. l ++ f n ∷ []) (told-first n (omega arith))
-      ∙ sym (next-cell scenario s.ticks n popped (has-lines script can) lag (few-packets s.rows script.config.ticks (suc n) fits.rows inside) cells-come
+      ∙ sym (next-cell scenario s.ticks n popped (has-lines script valid) lag (few-packets s.rows script.config.ticks (suc n) fits.rows inside) cells-come
       (cells-decide (16 * n + 23) (ends s.rows n inside)))
 
   pub backs-are : told_of scenario (popped_cells script s.lines) s.backs ≡ cells_before scenario s.backs

@@ -1,16 +1,14 @@
 -- A walk of a script: its counts, and the cells that they speak of.
-use Rattle.std.specs.Prelude.{◌≡◌, ℕ, ◌<◌, ◌≤◌, List, map, take, length, slice_index_or, All}
+use Rattle.std.specs.Prelude.{ℕ, List, map, take, length, slice_index_or}
 use Rattle.std.specs.List.{range_with_len}
-use Rattle.std.specs.List.Sorted.{IsNonDecreasing}
 use Rattle.vc_cell.specs.declared.Container.{Container}
 use Rattle.vc_cell.specs.declared.Cell.{Cell}
 use Rattle.session_model.specs.declared.script.Script.{Script}
-use Rattle.session_model.specs.Damage.{AreWindows}
 use Rattle.session_model.specs.Scenario.{Scenario, scenario_of, carried_by}
 use Rattle.session_model.specs.Back.{session_cells}
 use Rattle.session_model.specs.Sent.{containers_of}
-use Rattle.session_model.specs.Counts.{Plan, LineCounts, Counts, frame_dues, command_dues, dues_of}
-use Rattle.session_model.specs.Plan.{all_cells, plan_of, FitsRing, FitsLag}
+use Rattle.session_model.specs.Counts.{LinePath, Plan, LineCounts, Counts}
+use Rattle.session_model.specs.Plan.{all_cells, path_of, plan_of}
 use Rattle.progress_law.specs.Progress.{IsReached}
 
 -- ---- the walk in numbers
@@ -25,20 +23,6 @@ sent_of scenario = map (sent_on scenario) (range_with_len 0 (length scenario.win
 -- the plan of a script's walk
 abbrev pub walk_plan : Script → Plan
 walk_plan script = plan_of script.config script.items (sent_of (scenario_of script))
-
--- ---- what is asked of a script: one line at least and at most 128, each with a delay, and with windows in order and apart; due ticks
--- that never fall; and rings that fit
-pub record CanWalk (script : Script) : Type 0 where
-  pub some : 0 < length script.config.windows
-  pub few : length script.config.windows ≤ 128
-  pub delays : length script.config.delays ≡ length script.config.windows
-  pub apart : All (AreWindows 0) script.config.windows
-  pub frames : IsNonDecreasing (frame_dues (dues_of script.items))
-  pub commands : IsNonDecreasing (command_dues (dues_of script.items))
-  pub some_room : 1 ≤ script.config.ring
-  pub room : script.config.ring ≤ 2048
-  pub ring : FitsRing script.config
-  pub lag : FitsLag script.config
 
 -- some list of events leads to these counts
 abbrev pub IsWalked : Script → Counts → Type 0
@@ -60,3 +44,8 @@ popped_on script lines line =
 -- and of each line
 abbrev pub popped_cells : Script → List LineCounts → List (List Cell)
 popped_cells script lines = map (popped_on script lines) (range_with_len 0 (length script.config.windows))
+
+-- that line in numbers: how many cells its carries give, and how many numbers its first cells decide
+abbrev pub path_on : Script → ℕ → LinePath
+path_on script line =
+    path_of (carried_by (scenario_of script) line) (slice_index_or script.config.delays line 0) (sent_on (scenario_of script) line)
