@@ -4,7 +4,7 @@
 //! `cells_law` and `rows_law` are what it stands on, each for any return cells.
 #![tactic(auto)]
 
-ghost use Rattle.std.specs.Prelude.{◌≡◌, ℕ, suc, ◌+◌, ◌-◌, ◌*◌, ◌/◌, ◌<◌, ◌≤◌, min, if◌then◌else◌, [], ◌∷◌, ◌++◌, List, length, take, replicate, Option, Some, None};
+ghost use Rattle.std.specs.Prelude.{◌≡◌, ℕ, suc, ◌+◌, ◌-◌, ◌*◌, ◌/◌, ◌<◌, ◌≤◌, min, if◌then◌else◌, All, [], ◌∷◌, ◌++◌, List, length, take, replicate, Option, Some, None};
 ghost use Rattle.vc_cell.specs.declared.Cell.{Cell};
 ghost use Rattle.session_model.specs.Scenario.{Scenario, packets, steps_in};
 ghost use Rattle.session_model.specs.Table.{Told};
@@ -27,7 +27,7 @@ ghost use Rattle.terminal_law.specs.Course.{back_of, packet_by, told_of, IsCours
 ghost use Rattle.terminal_law.specs.Worked.{two_lines, h4_from, no_packet, first_added, first_in_use, second_added, first_told, first_cells, dealt};
 
 /// The containers that the source makes, whatever it was told. Their H4 octets say their numbers, and the nibbles of each packet
-/// stand in them in their order; their payload is that of a VC-4 in length, and the lines that carry payload are dealt the octets of
+/// stand in them in their order; their payload is that of a VC-4 in length, in octets, and the lines that carry payload are dealt the octets of
 /// the client's stream. Return cells change no container of a frame before the decision steps that take them.
 pub fn sent_law()
     ensures places { (scenario : Scenario) (returns : List (Option Told)) (line frames : ℕ) →
@@ -41,6 +41,8 @@ pub fn sent_law()
         ≡ packet_nibbles (forward_packet (table_of scenario returns k) line k) }
     ensures payload { (scenario : Scenario) (returns : List (Option Told)) (line t : ℕ) →
         scenario.size ≤ 2340 → length (container_of scenario returns line t).payload ≡ 2340 }
+    ensures octets { (scenario : Scenario) (returns : List (Option Told)) (line t : ℕ) →
+        All (λ o. o < 256) (container_of scenario returns line t).payload }
     ensures dealt { (scenario : Scenario) (returns : List (Option Told)) (t : ℕ) →
         IsDealtRow scenario returns (λ line. container_of scenario returns line t) t }
     ensures cells { (scenario : Scenario) (a b : List (Option Told)) (line t : ℕ) →

@@ -45,7 +45,7 @@ popped_on script lines line =
 abbrev pub popped_cells : Script → List LineCounts → List (List Cell)
 popped_cells script lines = map (popped_on script lines) (range_with_len 0 (length script.config.windows))
 
--- that line in numbers: how many cells its carries give, and how many numbers its first cells decide
+-- ---- a line in numbers: how many cells its carries give, and how many numbers its first cells decide
 abbrev pub path_on : Script → ℕ → LinePath
 path_on script line =
     path_of (carried_by (scenario_of script) line) (slice_index_or script.config.delays line 0) (sent_on (scenario_of script) line)
