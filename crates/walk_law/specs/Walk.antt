@@ -1,15 +1,24 @@
 -- A walk of a script: its counts, and the cells that they speak of.
-use Rattle.std.specs.Prelude.{ℕ, List, map, take, length, slice_index_or}
+use Rattle.std.specs.Prelude.{ℕ, List, map, take, length, slice_index_or, Option}
 use Rattle.std.specs.List.{range_with_len}
 use Rattle.vc_cell.specs.declared.Container.{Container}
 use Rattle.vc_cell.specs.declared.Cell.{Cell}
 use Rattle.session_model.specs.declared.script.Script.{Script}
 use Rattle.session_model.specs.Scenario.{Scenario, scenario_of, carried_by}
-use Rattle.session_model.specs.Back.{session_cells}
+use Rattle.session_model.specs.Table.{Told}
+use Rattle.session_model.specs.Back.{cells_before, session_cells}
 use Rattle.session_model.specs.Sent.{containers_of}
 use Rattle.session_model.specs.Counts.{LinePath, Plan, LineCounts, Counts}
 use Rattle.session_model.specs.Plan.{all_cells, path_of, plan_of}
 use Rattle.progress_law.specs.Progress.{IsReached}
+
+-- ---- the session of a script
+-- its return cells, and the first of them
+abbrev pub session_of : Script → List (Option Told)
+session_of script = session_cells (scenario_of script)
+
+abbrev pub told_first : Script → ℕ → List (Option Told)
+told_first script n = cells_before (scenario_of script) n
 
 -- ---- the walk in numbers
 -- the containers of a line of a session

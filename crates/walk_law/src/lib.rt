@@ -9,7 +9,6 @@ ghost use Rattle.session_model.specs.Valid.{IsValid};
 ghost use Rattle.session_model.specs.Scenario.{scenario_of, steps_in};
 ghost use Rattle.session_model.specs.Source.{after};
 ghost use Rattle.session_model.specs.Client.{stream_before};
-ghost use Rattle.session_model.specs.Back.{cells_before, session_cells};
 ghost use Rattle.session_model.specs.Payload.{payload_of};
 ghost use Rattle.session_model.specs.Number.{verdict};
 ghost use Rattle.session_model.specs.Rows.{row_at};
@@ -20,7 +19,7 @@ ghost use Rattle.line_law.specs.StableRows.{AreDecidedAt};
 ghost use Rattle.progress_law.specs.Progress.{IsPlan};
 ghost use Rattle.terminal_law.specs.Lines.{HasLines, ComeOf};
 ghost use Rattle.terminal_law.specs.Course.{told_of};
-ghost use Rattle.walk_law.specs.Walk.{walk_plan, IsWalked, counts_at, popped_on, popped_cells, path_on};
+ghost use Rattle.walk_law.specs.Walk.{session_of, told_first, walk_plan, IsWalked, counts_at, popped_on, popped_cells, path_on};
 
 /// A script that can be walked has a plan of its walk, whose lines are what the session sends on them.
 pub fn plan_law()
@@ -40,31 +39,31 @@ pub fn line_law()
 {}
 
 /// After any list of events: the frames made by the return cells that have come are the session's, and so are the source's table and
-/// the client's stream; the cells that were popped come of these frames, and decide all rows that were taken; each of these rows is whole exactly where the session's is, with its octets; and the
-/// return cells that have come are the session's first.
+/// the client's stream; the cells that were popped come of these frames, and decide all rows that were taken; each of these rows is
+/// whole exactly where the session's is, with its octets; and the return cells that have come are the session's first.
 pub fn walk_law()
-    ensures frames { (script : Script) (s : Counts) (t : ℕ) → IsValid script → IsWalked script s →
-        t < s.ticks → frame_of (scenario_of script) (cells_before (scenario_of script) s.backs) t
-        ≡ frame_of (scenario_of script) (session_cells (scenario_of script)) t }
+    ensures frames { (script : Script) (s : Counts) (t : ℕ) → IsValid script →
+        IsWalked script s → t < s.ticks →
+        frame_of (scenario_of script) (told_first script s.backs) t
+        ≡ frame_of (scenario_of script) (session_of script) t }
     ensures sources { (script : Script) (s : Counts) (j : ℕ) → IsValid script →
         IsWalked script s → j ≤ steps_in s.ticks →
-        after (scenario_of script) (cells_before (scenario_of script) s.backs) j
-        ≡ after (scenario_of script) (session_cells (scenario_of script)) j }
+        after (scenario_of script) (told_first script s.backs) j
+        ≡ after (scenario_of script) (session_of script) j }
     ensures streams { (script : Script) (s : Counts) (t : ℕ) → IsValid script →
         IsWalked script s → t ≤ s.ticks →
-        stream_before (scenario_of script) (cells_before (scenario_of script) s.backs) t
-        ≡ stream_before (scenario_of script) (session_cells (scenario_of script)) t }
+        stream_before (scenario_of script) (told_first script s.backs) t
+        ≡ stream_before (scenario_of script) (session_of script) t }
     ensures come { (script : Script) (s : Counts) → IsValid script → IsWalked script s →
-        ComeOf (scenario_of script) (session_cells (scenario_of script)) s.ticks
-        (popped_cells script s.lines) }
+        ComeOf (scenario_of script) (session_of script) s.ticks (popped_cells script s.lines) }
     ensures decided { (script : Script) (s : Counts) (t : ℕ) → IsValid script →
         IsWalked script s → t < s.rows → AreDecidedAt (popped_cells script s.lines) t }
-    ensures rows { (script : Script) (s : Counts) (t : ℕ) → IsValid script → IsWalked script s →
-        t < s.rows → row_at script.config.size (popped_cells script s.lines) t
-        ≡ (if is_whole_row (scenario_of script) (session_cells (scenario_of script)) t
-        then Some (payload_of (scenario_of script) (session_cells (scenario_of script)) t)
-        else None) }
+    ensures rows { (script : Script) (s : Counts) (t : ℕ) → IsValid script →
+        IsWalked script s → t < s.rows →
+        row_at script.config.size (popped_cells script s.lines) t
+        ≡ (if is_whole_row (scenario_of script) (session_of script) t
+        then Some (payload_of (scenario_of script) (session_of script) t) else None) }
     ensures backs { (script : Script) (s : Counts) → IsValid script → IsWalked script s →
         told_of (scenario_of script) (popped_cells script s.lines) s.backs
-        ≡ cells_before (scenario_of script) s.backs }
+        ≡ told_first script s.backs }
 {}
