@@ -50,9 +50,15 @@ pub fn sent_law()
         container_of scenario a line t ≡ container_of scenario b line t }
 {}
 
-/// What has come of the lines, whatever the source was told: any first cells that they give of the containers made so far. A number
-/// that is decided on each line tells its containers where they are good, and the packets that can be read are those that were sent.
+/// What has come of the lines, whatever the source was told: any first cells that they give of the containers made so far, which are
+/// those that they give of all containers. A number that is decided on each line tells its containers where they are good, and the
+/// packets that can be read are those that were sent.
 pub fn cells_law()
+    ensures made { (scenario : Scenario) (returns : List (Option Told))
+        (line frames delay carries : ℕ) → frames ≤ scenario.ticks →
+        min carries scenario.ticks ≤ frames →
+        given scenario returns line frames delay carries
+        ≡ given scenario returns line scenario.ticks delay carries }
     ensures first { (scenario : Scenario) (returns : List (Option Told))
         (line frames delay carries popped : ℕ) → min carries scenario.ticks ≤ frames →
         ComesOf scenario returns line frames
@@ -152,8 +158,9 @@ pub fn loop_law()
         ≡ cells_before scenario k ++ told_in (back_of scenario cells k) ∷ [] }
 {}
 
-/// A worked session, computed: H4 octets, what the sink tells of the first cells, and a row that is dealt.
+/// A worked session that meets what is asked, computed: H4 octets, what the sink tells of the first cells, and a row that is dealt.
 pub fn worked_law()
+    ensures met { HasLines two_lines }
     ensures zeros { h4_from 0 0 8 ≡ no_packet }
     ensures add { h4_from 0 8 16 ≡ first_added }
     ensures eos { h4_from 0 40 16 ≡ first_in_use }

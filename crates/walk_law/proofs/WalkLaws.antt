@@ -37,7 +37,7 @@ use Rattle.terminal_law.proofs.ListLaws.{range-at}
 use Rattle.terminal_law.proofs.CellLaws.{given-whole}
 use Rattle.terminal_law.proofs.RowLaws.{row-told}
 use Rattle.terminal_law.proofs.LoopLaws.{frame-same, source-same, stream-same, next-cell}
-use Rattle.walk_law.specs.Walk.{sent_on, walk_plan, IsWalked, counts_at, popped_on, popped_cells, path_on}
+use Rattle.walk_law.specs.Walk.{sent_on, walk_plan, IsWalked, counts_at, cells_on, popped_on, popped_cells, path_on}
 use Rattle.walk_law.proofs.PlanLaws.{has-lines, has-plan, line-path}
 
 each-there : (P : LinePath → LineCounts → Type 0) (paths : List LinePath) (lines : List LineCounts) (m : ℕ) (path : LinePath) (d : LineCounts) → Each P paths lines →
@@ -74,6 +74,19 @@ line-open script lines line t low =
     let size : length (sent_on scenario line) ≡ script.config.ticks = containers-size scenario (session_cells scenario) line scenario.ticks in
     open-or (verdict (popped_on script lines line) t) ((path_on script line).decided y) t
     (is_decided (carried_by scenario line) (sent_on scenario line) delay y t (omega arith))
+
+-- the first cells of a line are those that its carries give
+pub line-first : (script : Script) (line carries popped : ℕ) → carries ≤ script.config.ticks + (path_on script line).delay + 1 →
+    popped ≤ (path_on script line).given carries →
+    take popped (cells_on (scenario_of script) (path_on script line).delay line)
+    ≡ take popped (given (scenario_of script) (session_cells (scenario_of script)) line script.config.ticks (path_on script line).delay carries)
+line-first script line carries popped low fits =
+    let scenario : Scenario = scenario_of script in
+    let containers : List Container = sent_on scenario line in
+    let delay : ℕ = slice_index_or script.config.delays line 0 in
+    let size : length containers ≡ script.config.ticks = containers-size scenario (session_cells scenario) line scenario.ticks in
+    first-given (carried_by scenario line) delay containers carries popped (omega arith) fits
+    ∙ ap (λ n. take popped (cells (carried_by scenario line) delay n containers carries)) size
 
 module _ (script : Script) (s : Counts) (valid : IsValid script) (walked : IsWalked script s) where
   abbrev scenario : Scenario

@@ -3,7 +3,7 @@
 //! source are the session's. There is no code here. Begin at `walk_law`.
 #![tactic(auto)]
 
-ghost use Rattle.std.specs.Prelude.{◌≡◌, ℕ, ◌<◌, ◌≤◌, if◌then◌else◌, nat_le, List, length, slice_get, is_none, Option, Some, None};
+ghost use Rattle.std.specs.Prelude.{◌≡◌, ℕ, ◌+◌, ◌<◌, ◌≤◌, take, if◌then◌else◌, nat_le, List, length, slice_get, is_none, Option, Some, None};
 ghost use Rattle.session_model.specs.declared.script.Script.{Script};
 ghost use Rattle.session_model.specs.Valid.{IsValid};
 ghost use Rattle.session_model.specs.Scenario.{scenario_of, steps_in};
@@ -17,9 +17,9 @@ ghost use Rattle.session_model.specs.Sent.{frame_of};
 ghost use Rattle.session_model.specs.Counts.{LineCounts, Counts};
 ghost use Rattle.line_law.specs.StableRows.{AreDecidedAt};
 ghost use Rattle.progress_law.specs.Progress.{IsPlan};
-ghost use Rattle.terminal_law.specs.Lines.{HasLines, ComeOf};
+ghost use Rattle.terminal_law.specs.Lines.{HasLines, given, ComeOf};
 ghost use Rattle.terminal_law.specs.Course.{told_of};
-ghost use Rattle.walk_law.specs.Walk.{session_of, told_first, walk_plan, IsWalked, counts_at, popped_on, popped_cells, path_on};
+ghost use Rattle.walk_law.specs.Walk.{session_of, told_first, walk_plan, IsWalked, counts_at, cells_on, popped_on, popped_cells, path_on};
 
 /// A script that can be walked has a plan of its walk, whose lines are what the session sends on them.
 pub fn plan_law()
@@ -27,12 +27,18 @@ pub fn plan_law()
     ensures plan { (script : Script) → IsValid script → IsPlan (walk_plan script) }
 {}
 
-/// A line of a script's walk in numbers, beside its cells: where the sink has popped some of them, a row is open exactly where the
-/// numbers that these cells decide don't reach it.
+/// A line of a script's walk in numbers, beside its cells: the first cells of all that it gives are those that some carries give, where
+/// these give as many; and where the sink has popped some, a row is open exactly where the numbers that these cells decide don't reach it.
 pub fn line_law()
     ensures path { (script : Script) (line : ℕ) → IsValid script →
         line < length script.config.windows →
         slice_get (walk_plan script).paths line ≡ Some (path_on script line) }
+    ensures first { (script : Script) (line carries popped : ℕ) →
+        carries ≤ script.config.ticks + (path_on script line).delay + 1 →
+        popped ≤ (path_on script line).given carries →
+        take popped (cells_on (scenario_of script) (path_on script line).delay line)
+        ≡ take popped (given (scenario_of script) (session_of script) line script.config.ticks
+        (path_on script line).delay carries) }
     ensures open { (script : Script) (lines : List LineCounts) (line t : ℕ) →
         t < script.config.ticks → is_none (verdict (popped_on script lines line) t)
         ≡ nat_le ((path_on script line).decided (counts_at lines line).popped) t }
