@@ -1,5 +1,5 @@
 -- Frame by frame, up to the end of the text or the first line that is none.
-use Rattle.std.proofs.Common.{rules, arith, ◌≡◌, ◌<◌, sym, ◌∙◌, length, ap, List, ℕ, ◌++◌, ◌∷◌, [], refl, take, length-append}
+use Rattle.std.proofs.Common.{rules, arith, ◌≡◌, ◌<◌, sym, ◌∙◌, length, ap, List, ℕ, ◌++◌, ◌∷◌, [], refl, length-append}
 use Rattle.std.proofs.lemmas.Bool.{false≢true}
 use Rattle.std.proofs.lemmas.List.Elements.{All-push, All-same}
 use Rattle.vcat_walk.specs.Form.{IsFrame, frame_lines}

@@ -1,6 +1,6 @@
 -- A text with no LF has no line.
-use Rattle.std.proofs.Common.{◌≡◌, ℕ, Bool, ◌∙◌, ap, arith}
-use Rattle.std.specs.Prelude.{◌==◌, slice_index}
+use Rattle.std.proofs.Common.{ℕ, ◌∙◌, ap, arith}
+use Rattle.std.specs.Prelude.{◌==◌}
 use Rattle.std.proofs.lemmas.List.{get_or_default}
 use Rattle.vcat_walk.specs.Form.{IsLine}
 use Rattle.vcat_walk.proofs.LineLaws.{not_line}

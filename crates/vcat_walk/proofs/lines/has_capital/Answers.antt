@@ -1,5 +1,5 @@
 -- One more character.
-use Rattle.std.proofs.Common.{◌≡◌, ℕ, ◌+◌, Bool, true, false, List, take, get_or, arith, refl, sym}
+use Rattle.std.proofs.Common.{◌≡◌, false, take, sym}
 use Rattle.std.proofs.lemmas.Bool.{OnFalse_from}
 use Rattle.std.proofs.lemmas.List.{take_all}
 use Rattle.std.proofs.lemmas.List.Elements.{All-same}

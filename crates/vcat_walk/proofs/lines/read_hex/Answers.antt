@@ -1,5 +1,5 @@
 -- What is decoded is a frame whose digits are these; other digits are those of no frame.
-use Rattle.std.proofs.Common.{rules, arith, sym, ap, ◌∙◌, ◌≡◌, ℕ, ◌<◌, ◌++◌, All, subst, List}
+use Rattle.std.proofs.Common.{arith, sym, ap, ◌∙◌, ◌≡◌, ℕ, ◌<◌, ◌++◌, All, subst, List}
 use Rattle.std.proofs.lemmas.List.{get_or_default}
 use Rattle.hex.specs.Hex.{encode_lower}
 use Rattle.vcat_walk.specs.Form.{IsFrame, HasNoCapital}
