@@ -71,7 +71,7 @@ fn long_texts(rt: HostRuntime) -> Result<(), Fail> {
     for at in [0, 1, 30, 31, 32, 63, 64, 69] {
         let mut wrong = *THIRTY_FIVE;
         wrong[at] = b'g';
-        found.clear();
+        let mut found = Vec::with_capacity(rt.alloc(), 35)?;
         assert_eq!(rt; decode_into(&wrong, &mut found), Err(NotHex), "{at}");
         assert_eq!(rt; found.len(), 0);
     }

@@ -1,8 +1,8 @@
 -- One pair more is read, from the columns or from the text.
-use Rattle.std.proofs.Common.{◌≡◌, ℕ, ◌+◌, ◌*◌, ◌%◌, length, slice_index, sym, ap, ◌∙◌, refl, arith, subst}
+use Rattle.std.proofs.Common.{◌≡◌, ℕ, ◌+◌, ◌*◌, ◌%◌, length, slice_index, ap, ◌∙◌, refl, arith}
 use Rattle.hex.proofs.HexLemmas.{decode_of-even}
 use Rattle.hex.proofs.Pairs.{decode_done}
-use Rattle.hex_text.proofs.TextSteps.{IsDecoded, pair_decoded, other_refused}
+use Rattle.hex_text.proofs.TextSteps.{pair_decoded, other_refused}
 use Rattle.hex_text.proofs.decoding.decode.Goals as goal
 
 pub loop-j-preserved : goal.loop-j-preserved
