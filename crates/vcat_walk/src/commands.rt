@@ -93,7 +93,7 @@ pub fn walk<S: ByteSource, K: ByteSink>(
     let Some(ticks) = read_form(text.as_slice(), &mut octets, &mut queue) else {
         return Err(Stop::OtherForm);
     };
-    match run(ticks, &mut queue, &mut delineator, out) {
+    match run(ticks, queue, &mut delineator, out) {
         Ok(()) => Ok(()),
         Err(Failed) => Err(Stop::Write),
     }

@@ -118,26 +118,26 @@ fn carry<K: ByteSink>(
     Ok(got)
 }
 
-/// Runs a script of one line to its end and writes its report.
+/// Runs a script of one line to its end and writes its report. The frames are those that wait.
 pub fn run<K: ByteSink>(
     ticks: u32,
-    queue: &mut FrameQueue,
+    mut queue: FrameQueue,
     delineator: &mut Delineator,
     out: &mut K,
 ) -> Result<(), Failed>
     requires ticks { IsTicks ticks }
-    requires frames { All IsFrame queue.old.waiting }
-    requires unsent { queue.old.begun ≡ [] }
+    requires frames { All IsFrame queue.waiting }
+    requires unsent { queue.begun ≡ [] }
     requires fresh { Stands delineator.old 9600 [] }
-    ensures ok { let text = report ticks queue.old.waiting in
+    ensures ok { let text = report ticks queue.waiting in
         OnOk result (Appends K.written K.faults out.old out.new text) }
-    ensures err { let text = report ticks queue.old.waiting in
+    ensures err { let text = report ticks queue.waiting in
         OnErr result (AppendsPart K.written K.faults out.old out.new text) }
 {
     let frames = queue.waiting();
     let mut block = LineBlock::new();
     let rows = ticks.saturating_sub(EMPTY_ROWS);
-    let got = match carry(rows, queue, delineator, &mut block, out) {
+    let got = match carry(rows, &mut queue, delineator, &mut block, out) {
         Ok(got) => got,
         Err(Failed) => return Err(Failed),
     };
