@@ -23,6 +23,7 @@ pub fn decode_into(text: &[u8], octets: &mut Vec<u8>) -> Result<(), NotHex>
     ensures refused { OnErr result ((bytes : List ℕ) → decode_of text.now ≢ Ok bytes) }
     ensures unchanged { OnErr result (octets.new.items ≡ octets.old.items) }
     ensures capacity { vec_capacity octets.old ≤ vec_capacity octets.new }
+    ensures len { OnOk result (vec_len octets.new ≡ vec_len octets.old + length text.now / 2) }
 {
     if text.len() % 2 == 1 {
         return Err(NotHex);
