@@ -1,5 +1,5 @@
 -- Lines of hexadecimal digits: how a text is cut, trimmed and read line by line.
-use Rattle.std.proofs.Common.{◌≡◌, ℕ, zero, suc, ◌+◌, ◌-◌, ◌<◌, ◌≤◌, ◌==◌, List, [], ◌∷◌, ◌++◌, length, map, reverse, arith, refl, ap, sym, ◌∙◌, ap₂, subst, get_or, take, drop, All, Bool, true, false, inl, inr}
+use Rattle.std.proofs.Common.{◌≡◌, ℕ, zero, suc, ◌+◌, ◌-◌, ◌<◌, ◌≤◌, ◌==◌, List, [], ◌∷◌, ◌++◌, length, map, reverse, arith, refl, ap, sym, ◌∙◌, ap₂, subst, get_or, take, drop, All, false, inl, inr}
 use Rattle.std.specs.Prelude.{Option, Some}
 use Rattle.std.specs.List.{slice_split, flat_map}
 use Rattle.std.specs.Str.Lines.{lines, lines_of_parts, strip_carriage_return}

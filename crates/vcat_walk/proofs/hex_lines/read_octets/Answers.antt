@@ -1,5 +1,5 @@
 -- Line by line.
-use Rattle.std.proofs.Common.{rules, arith}
+use Rattle.std.proofs.Common.{arith}
 use Rattle.vcat_walk.proofs.HexLineLaws.{IsRead-next}
 use Rattle.vcat_walk.proofs.hex_lines.read_octets.Goals as goal
 

@@ -1,5 +1,5 @@
 -- There are half as many octets as digits.
-use Rattle.std.proofs.Common.{arith, ◌≡◌, ◌≤◌, ◌+◌, ◌*◌, ◌/◌, length, vec_len}
+use Rattle.std.proofs.Common.{arith}
 use Rattle.std.proofs.lemmas.Result.{on_ok_weaker}
 use Rattle.vcat_walk.proofs.hex_lines.take_line.Goals as goal
 
