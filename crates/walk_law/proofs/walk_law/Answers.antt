@@ -1,0 +1,18 @@
+-- A walk is a course of the session.
+use Rattle.walk_law.proofs.WalkLaws.{frames-are, cells-come, cells-decide, rows-are, backs-are}
+use Rattle.walk_law.proofs.walk_law.Goals as goal
+
+pub returns-clause-frames : goal.returns-clause-frames
+returns-clause-frames c script s t can walked = frames-are script s can walked t
+
+pub returns-clause-come : goal.returns-clause-come
+returns-clause-come c = cells-come
+
+pub returns-clause-decided : goal.returns-clause-decided
+returns-clause-decided c script s t can walked = cells-decide script s can walked t
+
+pub returns-clause-rows : goal.returns-clause-rows
+returns-clause-rows c script s t can walked = rows-are script s can walked t
+
+pub returns-clause-backs : goal.returns-clause-backs
+returns-clause-backs c = backs-are
