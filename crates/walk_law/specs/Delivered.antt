@@ -1,0 +1,15 @@
+-- The frames that the rows of a script's session give.
+use Rattle.std.specs.Prelude.{ℕ, List}
+use Rattle.session_model.specs.declared.script.Script.{Script}
+use Rattle.session_model.specs.Scenario.{scenario_of}
+use Rattle.session_model.specs.Back.{session_cells}
+use Rattle.session_model.specs.Segment.{StreamRow, deliver}
+use Rattle.session_model.specs.SessionStream.{rows_of}
+
+-- the first rows
+abbrev pub session_rows : Script → ℕ → List StreamRow
+session_rows script rows = rows_of (scenario_of script) (session_cells (scenario_of script)) rows
+
+-- the frames that are delivered of them
+abbrev pub delivered_of : Script → ℕ → List (List ℕ)
+delivered_of script rows = deliver 9600 (session_rows script rows)
