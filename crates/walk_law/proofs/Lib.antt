@@ -1,2 +1,4 @@
 pub mod PlanLaws
 pub mod WalkLaws
+pub mod RingLaws
+pub mod WaitLaws

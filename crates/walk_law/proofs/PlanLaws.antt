@@ -1,9 +1,10 @@
 -- The plan of a script's walk, and its lines.
-use Rattle.std.proofs.Common.{◌≡◌, ℕ, zero, suc, ◌+◌, ◌<◌, ◌≤◌, List, [], ◌∷◌, map, length, slice_get, slice_index_or, Some, refl, ◌∙◌, ap, subst, arith}
+use Rattle.std.proofs.Common.{◌≡◌, ℕ, zero, suc, ◌+◌, ◌<◌, ◌≤◌, List, [], ◌∷◌, map, length, slice_get, slice_index_or, Some, refl, sym, ◌∙◌, ap, subst, arith}
 use Rattle.std.specs.List.{range_with_len}
 use Rattle.vc_cell.specs.declared.Container.{Container}
 use Rattle.session_model.specs.declared.window.Window.{Window}
 use Rattle.session_model.specs.declared.script.Script.{Script}
+use Rattle.session_model.specs.Valid.{IsValid}
 use Rattle.session_model.specs.Damage.{carried, slip_of}
 use Rattle.session_model.specs.Line.{IsLine}
 use Rattle.session_model.specs.Scenario.{Scenario, scenario_of}
@@ -93,3 +94,33 @@ line-path script can line inside =
     path-at (sent_on (scenario_of script)) script.config.windows script.config.delays 0 line can.delays inside
     ∙ (let e : 0 + line ≡ line = omega arith in
     ap (λ k. Some (path_of (carried (slice_index_or script.config.windows line [])) (slice_index_or script.config.delays line 0) (sent_on (scenario_of script) k))) e)
+
+paths-size : (sent : ℕ → List Container) (lists : List (List Window)) (delays : List ℕ) (from : ℕ) → length delays ≡ length lists →
+    length (paths_of lists delays (map sent (range_with_len from (length lists)))) ≡ length lists
+paths-size sent [] delays from size = refl
+paths-size sent (windows ∷ lists) [] from size = absurd (omega arith)
+paths-size sent (windows ∷ lists) (delay ∷ delays) from size = ap suc (paths-size sent lists delays (from + 1) (omega arith))
+
+pub has-paths : (script : Script) → CanWalk script → length (walk_plan script).paths ≡ length script.config.windows
+has-paths script can = paths-size (sent_on (scenario_of script)) script.config.windows script.config.delays 0 can.delays
+
+-- ---- a script that was read
+pub valid-walks : (script : Script) → IsValid script → CanWalk script
+valid-walks script valid =
+    let network = valid.network in
+    let lines = network.lines in
+    let windows = network.windows_each in
+    let delays = network.delay_each in
+    let ring = network.ring in
+    record {
+      some = omega arith;
+      few = omega arith;
+      delays = delays ∙ sym windows;
+      apart = λ line d inside. (network.windows line d inside).apart;
+      frames = valid.items.frames;
+      commands = valid.items.commands;
+      some_room = ring.0;
+      room = ring.1;
+      ring = network.fits_ring;
+      lag = network.fits_lag;
+    }

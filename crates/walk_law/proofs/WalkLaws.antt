@@ -59,13 +59,13 @@ module _ (script : Script) (s : Counts) (can : CanWalk script) (walked : IsWalke
   abbrev session : List (Option Told)
   session = session_cells (scenario_of script)
 
-  fits : Fits (walk_plan script) s
+  pub fits : Fits (walk_plan script) s
   fits = reached-fits (walk_plan script) s (has-plan script can) walked
 
   abbrev delay_of : ℕ → ℕ
   delay_of line = slice_index_or script.config.delays line 0
 
-  line-fits : (line : ℕ) → line < length script.config.windows →
+  pub line-fits : (line : ℕ) → line < length script.config.windows →
       LineFits script.config.ticks script.config.ring s.ticks s.rows (path_of (carried_by scenario line) (delay_of line) (sent_on scenario line)) (counts_at s.lines line)
   line-fits line inside =
       each-there (LineFits script.config.ticks script.config.ring s.ticks s.rows) (walk_plan script).paths s.lines line
