@@ -1,18 +1,18 @@
 -- The items of a script that have landed: which they are, why those are refused that are, and what a walk counts of all that.
-use Rattle.std.specs.Prelude.{ℕ, suc, ◌-◌, ◌&&◌, nat_lt, Bool, true, false, if◌then◌else◌, List, [], ◌∷◌, map, filter, fold, length, take, Option, Some, None, option_map, is_none}
+use Rattle.std.specs.Prelude.{◌≡◌, ℕ, suc, ◌+◌, ◌-◌, ◌<◌, ◌&&◌, not, nat_lt, Bool, true, false, if◌then◌else◌, List, [], ◌∷◌, ◌++◌, map, filter, fold, length, take, slice_get, All, Option, Some, None, option_map, is_none}
 use Rattle.std.specs.List.{flat_map}
 use Rattle.session_model.specs.declared.script.Item.{Item}
 use Rattle.session_model.specs.declared.script.ItemKind.{ItemKind}
 use Rattle.session_model.specs.declared.script.ItemKind.TheVariants.{Frame, Add, Remove}
 use Rattle.session_model.specs.declared.script.Script.{Script}
 use Rattle.session_model.specs.declared.table.Command.TheVariants.{Add as add, Remove as remove}
-use Rattle.session_model.specs.Scenario.{Order, Offer, Scenario, orders_of, offers_of, scenario_of, steps_in, lands_at, comes_at}
+use Rattle.session_model.specs.Scenario.{Order, Offer, Scenario, order_of, offer_of, orders_of, offers_of, scenario_of, steps_in, lands_at, comes_at}
 use Rattle.session_model.specs.Journal.{with_items}
 use Rattle.session_model.specs.Table.{Told}
 use Rattle.session_model.specs.Source.{Source, after, asked_all, refusal}
 use Rattle.session_model.specs.Client.{Stream, frame_refusal, offered, stream_before}
-use Rattle.session_model.specs.Back.{session_cells}
-use Rattle.session_model.specs.Counts.{Counts}
+use Rattle.session_model.specs.Back.{cells_before, session_cells}
+use Rattle.session_model.specs.Counts.{Counts, used_in}
 use Rattle.report_text.specs.declared.report.Refusal.{Refusal}
 use Rattle.report_text.specs.declared.report.Refusal.TheVariants.{Frame as frame_fault, Command as command_fault}
 use Rattle.report_text.specs.declared.report.Totals.{Totals}
@@ -50,6 +50,21 @@ abbrev pub landed_scenario : Script → Counts → Scenario
 landed_scenario script s =
     with_items (scenario_of script) (take s.commands (orders_of script.items)) (take s.frames (offers_of script.items))
 
+-- the return cells that the decision steps of some ticks have taken
+abbrev pub told_before : Script → ℕ → List (Option Told)
+told_before script ticks = cells_before (scenario_of script) (used_in script.config.lag ticks)
+
+-- an item of a list is this offer, and so many offers are before it; or this order, and so many orders
+pub record IsOfferAt (items : List Item) (count : ℕ) (item : Numbered) (offer : Offer) : Type 0 where
+  pub there : slice_get items item.number ≡ Some item.item
+  pub is : offer_of item.item.due item.item.kind ≡ offer ∷ []
+  pub before : length (offers_of (take item.number items)) ≡ count
+
+pub record IsOrderAt (items : List Item) (count : ℕ) (item : Numbered) (order : Order) : Type 0 where
+  pub there : slice_get items item.number ≡ Some item.item
+  pub is : order_of item.item.due item.item.kind ≡ order ∷ []
+  pub before : length (orders_of (take item.number items)) ≡ count
+
 -- ---- why an item is refused
 -- the stream as a frame finds it that lands in a number of ticks, after these offers
 abbrev pub stream_met : Scenario → List (Option Told) → ℕ → List Offer → Stream
@@ -84,12 +99,21 @@ refused_by number (Some why) = (number, why) ∷ []
 abbrev pub refusals_of : Script → Counts → List (ℕ × Refusal)
 refusals_of script s = flat_map (λ item. refused_by item.number (refusal_at script item)) (landed_items script s)
 
+-- refusals of an item of some number are put in their place among those of other items
+pub record IsPlaced (number : ℕ) (put was now : List (ℕ × Refusal)) : Type 0 where
+  pub front : List (ℕ × Refusal)
+  pub back : List (ℕ × Refusal)
+  pub was_so : was ≡ front ++ back
+  pub is_so : now ≡ front ++ put ++ back
+  pub before : All (λ (refused : ℕ × Refusal). refused.0 < number) front
+  pub after : All (λ (refused : ℕ × Refusal). number < refused.0) back
+
 -- ---- totals
 abbrev pub is_accepted_frame : Script → Numbered → Bool
 is_accepted_frame script item = is_client item.item.kind && is_none (refusal_at script item)
 
 abbrev pub is_accepted_command : Script → Numbered → Bool
-is_accepted_command script item = (if is_client item.item.kind then false else true) && is_none (refusal_at script item)
+is_accepted_command script item = not (is_client item.item.kind) && is_none (refusal_at script item)
 
 -- how many ticks were made and rows taken; how many frames and commands were accepted, and how many items were refused; how many
 -- frames were delivered
@@ -102,3 +126,12 @@ totals_of script s = record {
   refused = length (refusals_of script s);
   got = length (delivered_of script s.rows);
 }
+
+-- the totals after one more frame, or one more command, is accepted or refused
+abbrev pub with_frame_told : Option Refusal → Totals → Totals
+with_frame_told None totals = record totals { frames = totals.frames + 1 }
+with_frame_told (Some why) totals = record totals { refused = totals.refused + 1 }
+
+abbrev pub with_command_told : Option Refusal → Totals → Totals
+with_command_told None totals = record totals { commands = totals.commands + 1 }
+with_command_told (Some why) totals = record totals { refused = totals.refused + 1 }

@@ -4,25 +4,30 @@
 //! counts.
 #![tactic(auto)]
 
-ghost use Rattle.std.specs.Prelude.{◌≡◌, ◌↔◌, ℕ, ◌+◌, ◌-◌, ◌<◌, ◌≤◌, min, if◌then◌else◌, List, [], ◌∷◌, ◌++◌, length, take, slice_get, Option, Some, None, IsSome};
+ghost use Rattle.std.specs.Prelude.{◌≡◌, ◌↔◌, ℕ, ◌+◌, ◌-◌, ◌*◌, ◌<◌, ◌≤◌, min, if◌then◌else◌, List, [], ◌∷◌, ◌++◌, map, fold, length, take, slice_get, Option, Some, None, IsSome, option_map};
 ghost use Rattle.vc_cell.specs.declared.Cell.{Cell};
+ghost use Rattle.session_model.specs.declared.script.Item.{Item};
 ghost use Rattle.session_model.specs.declared.script.Script.{Script};
+ghost use Rattle.report_text.specs.declared.report.Refusal.TheVariants.{Frame as frame_fault, Command as command_fault};
 ghost use Rattle.session_model.specs.Path.{cells};
 ghost use Rattle.session_model.specs.Number.{verdict};
 ghost use Rattle.session_model.specs.Valid.{IsValid};
-ghost use Rattle.session_model.specs.Scenario.{scenario_of, carried_by};
+ghost use Rattle.session_model.specs.Scenario.{Order, Offer, orders_of, offers_of, scenario_of, carried_by, steps_in, orders_at, frames_at};
+ghost use Rattle.session_model.specs.Source.{refusal, after, source_at};
+ghost use Rattle.session_model.specs.Client.{frame_refusal, offered, stream_before};
 ghost use Rattle.session_model.specs.Back.{cells_before, session_cells};
 ghost use Rattle.session_model.specs.Payload.{payload_of};
 ghost use Rattle.session_model.specs.Rows.{row_at, first_open};
 ghost use Rattle.session_model.specs.SessionRows.{is_whole_row};
 ghost use Rattle.session_model.specs.Sent.{frame_of};
-ghost use Rattle.session_model.specs.Counts.{LineCounts, Counts, pop_lines};
+ghost use Rattle.session_model.specs.Counts.{dues_of, frame_dues, command_dues, LineCounts, Counts, pop_lines};
 ghost use Rattle.line_law.specs.StableRows.{AreDecidedAt};
 ghost use Rattle.progress_law.specs.Progress.{IsPlan, LineFits};
 ghost use Rattle.terminal_law.specs.Lines.{HasLines, ComeOf};
 ghost use Rattle.terminal_law.specs.Course.{told_of};
 ghost use Rattle.walk_law.specs.Walk.{walk_plan, CanWalk, IsWalked, counts_at, popped_cells};
 ghost use Rattle.walk_law.specs.Rings.{delay_on, path_on, line_cells, sent_at, taken_by, cells_by, send_by, receive_by};
+ghost use Rattle.walk_law.specs.Landed.{Numbered, landed_scenario, told_before, IsOfferAt, IsOrderAt, refusal_at, refused_by, refusals_of, IsPlaced, totals_of, with_frame_told, with_command_told};
 
 /// A script whose rings fit has a plan of its walk, whose lines are what the session sends on them.
 pub fn plan_law()
@@ -104,4 +109,72 @@ pub fn walk_law()
     ensures backs { (script : Script) (s : Counts) → CanWalk script → IsWalked script s →
         told_of (scenario_of script) (popped_cells script s.lines) s.backs
         ≡ cells_before (scenario_of script) s.backs }
+{}
+
+/// What has landed. No item waits whose due tick is past, since a tick is held by one; so up to the ticks made the session of the items
+/// that have landed is the script's own. An item that lands is put in its place among those that have, and so is its refusal.
+pub fn landing_law()
+    ensures frame_dues { (items : List Item) →
+        frame_dues (dues_of items) ≡ map (λ (offer : Offer). offer.due) (offers_of items) }
+    ensures command_dues { (items : List Item) →
+        command_dues (dues_of items) ≡ map (λ (order : Order). order.due) (orders_of items) }
+    ensures frame_waits { (script : Script) (s : Counts) (offer : Offer) → IsWalked script s →
+        slice_get (offers_of script.items) s.frames ≡ Some offer → s.ticks ≤ offer.due }
+    ensures command_waits { (script : Script) (s : Counts) (order : Order) → IsWalked script s →
+        slice_get (orders_of script.items) s.commands ≡ Some order → s.ticks ≤ order.due }
+    ensures frames { (script : Script) (s : Counts) (t : ℕ) → IsWalked script s → t < s.ticks →
+        frames_at (landed_scenario script s) t ≡ frames_at (scenario_of script) t }
+    ensures orders { (script : Script) (s : Counts) (j : ℕ) → IsWalked script s →
+        16 * j + 8 < s.ticks →
+        orders_at (landed_scenario script s) j ≡ orders_at (scenario_of script) j }
+    ensures offer { (items : List Item) (a : ℕ) (item : Numbered) (offer : Offer) →
+        IsOfferAt items a item offer → (slice_get (offers_of items) a ≡ Some offer)
+        × (offers_of (take item.number items) ≡ take a (offers_of items)) }
+    ensures order { (items : List Item) (b : ℕ) (item : Numbered) (order : Order) →
+        IsOrderAt items b item order → (slice_get (orders_of items) b ≡ Some order)
+        × (orders_of (take item.number items) ≡ take b (orders_of items)) }
+{}
+
+/// What the source was told. After any list of events, the items that have landed and the return cells that were taken lead to the
+/// tables, the stream and the containers of the session; and an item that lands meets what it meets in the session.
+pub fn source_law()
+    ensures tables { (script : Script) (s : Counts) (j : ℕ) → CanWalk script → IsWalked script s →
+        j ≤ steps_in s.ticks → after (landed_scenario script s) (told_before script s.ticks) j
+        ≡ after (scenario_of script) (session_cells (scenario_of script)) j }
+    ensures streams { (script : Script) (s : Counts) (t : ℕ) → CanWalk script → IsWalked script s →
+        t ≤ s.ticks → stream_before (landed_scenario script s) (told_before script s.ticks) t
+        ≡ stream_before (scenario_of script) (session_cells (scenario_of script)) t }
+    ensures frames { (script : Script) (s : Counts) (t : ℕ) → CanWalk script → IsWalked script s →
+        t < s.ticks → frame_of (landed_scenario script s) (told_before script s.ticks) t
+        ≡ frame_of (scenario_of script) (session_cells (scenario_of script)) t }
+    ensures frame { (script : Script) (s : Counts) (item : Numbered) (offer : Offer) →
+        CanWalk script → IsWalked script s → IsOfferAt script.items s.frames item offer →
+        offer.due ≤ s.ticks → refusal_at script item ≡ option_map frame_fault (frame_refusal offer.frame
+        (fold offered (stream_before (landed_scenario script s) (told_before script s.ticks) s.ticks)
+        (frames_at (landed_scenario script s) s.ticks))) }
+    ensures command { (script : Script) (s : Counts) (item : Numbered) (order : Order) →
+        CanWalk script → IsWalked script s → IsOrderAt script.items s.commands item order →
+        order.due ≤ s.ticks → refusal_at script item ≡ option_map command_fault
+        (refusal (length script.config.windows) order.command
+        (source_at (landed_scenario script s) (told_before script s.ticks) (steps_in s.ticks))) }
+{}
+
+/// What an item that lands adds to the refusals and the totals.
+pub fn report_law()
+    ensures frame { (script : Script) (s : Counts) (item : Numbered) (offer : Offer) →
+        IsOfferAt script.items s.frames item offer →
+        IsPlaced item.number (refused_by item.number (refusal_at script item)) (refusals_of script s)
+        (refusals_of script (record s { frames = s.frames + 1 })) }
+    ensures command { (script : Script) (s : Counts) (item : Numbered) (order : Order) →
+        IsOrderAt script.items s.commands item order →
+        IsPlaced item.number (refused_by item.number (refusal_at script item)) (refusals_of script s)
+        (refusals_of script (record s { commands = s.commands + 1 })) }
+    ensures frame_totals { (script : Script) (s : Counts) (item : Numbered) (offer : Offer) →
+        IsOfferAt script.items s.frames item offer →
+        totals_of script (record s { frames = s.frames + 1 })
+        ≡ with_frame_told (refusal_at script item) (totals_of script s) }
+    ensures command_totals { (script : Script) (s : Counts) (item : Numbered) (order : Order) →
+        IsOrderAt script.items s.commands item order →
+        totals_of script (record s { commands = s.commands + 1 })
+        ≡ with_command_told (refusal_at script item) (totals_of script s) }
 {}
