@@ -28,16 +28,16 @@ IsAhead plan s = Ahead plan.items s.ticks s.frames s.commands
 held-frames : (ticks a b i : ℕ) (items : List Due) → held ticks a b i items ≡ None → (k due : ℕ) → a ≤ k → slice_get (frame_dues items) k ≡ Some due → ticks < due
 unfolding held frame_dues
 held-frames ticks a b i [] none k due low here = absurd cc
-held-frames ticks zero b i (frame_due first ∷ items) none k due low here =
+held-frames ticks zero b i (frame_due first ∷ items) none zero due low here =
     elim (cases_Bool (nat_le first ticks)) [
       | inl e ↦ absurd (let f : Some i ≡ None = rw e at none in cc)
-      | inr e ↦ held-frames-on ticks b i first items (leb-false first ticks e) (rw e at none) k due here
+      | inr e ↦ let late = leb-false first ticks e in let same : first ≡ due = cc in omega arith
     ]
-  where
-    held-frames-on : (ticks b i first : ℕ) (items : List Due) → ticks < first → held ticks zero b (suc i) items ≡ None → (k due : ℕ) →
-        slice_get (first ∷ frame_dues items) k ≡ Some due → ticks < due
-    held-frames-on ticks b i first items late none zero due here = let e : first ≡ due = cc in omega arith
-    held-frames-on ticks b i first items late none (suc k) due here = held-frames ticks zero b (suc i) items none k due (omega arith) here
+held-frames ticks zero b i (frame_due first ∷ items) none (suc k) due low here =
+    elim (cases_Bool (nat_le first ticks)) [
+      | inl e ↦ absurd (let f : Some i ≡ None = rw e at none in cc)
+      | inr e ↦ held-frames ticks zero b (suc i) items (rw e at none) k due (omega arith) here
+    ]
 held-frames ticks (suc a) b i (frame_due first ∷ items) none zero due low here = absurd (omega arith)
 held-frames ticks (suc a) b i (frame_due first ∷ items) none (suc k) due low here = held-frames ticks a b (suc i) items none k due (omega arith) here
 held-frames ticks a zero i (command_due first ∷ items) none k due low here =
@@ -56,16 +56,16 @@ held-commands ticks zero b i (frame_due first ∷ items) none k due low here =
       | inr e ↦ held-commands ticks zero b (suc i) items (rw e at none) k due low here
     ]
 held-commands ticks (suc a) b i (frame_due first ∷ items) none k due low here = held-commands ticks a b (suc i) items none k due low here
-held-commands ticks a zero i (command_due first ∷ items) none k due low here =
+held-commands ticks a zero i (command_due first ∷ items) none zero due low here =
     elim (cases_Bool (nat_le first ticks)) [
       | inl e ↦ absurd (let f : Some i ≡ None = rw e at none in cc)
-      | inr e ↦ held-commands-on ticks a i first items (leb-false first ticks e) (rw e at none) k due here
+      | inr e ↦ let late = leb-false first ticks e in let same : first ≡ due = cc in omega arith
     ]
-  where
-    held-commands-on : (ticks a i first : ℕ) (items : List Due) → ticks < first → held ticks a zero (suc i) items ≡ None → (k due : ℕ) →
-        slice_get (first ∷ command_dues items) k ≡ Some due → ticks < due
-    held-commands-on ticks a i first items late none zero due here = let e : first ≡ due = cc in omega arith
-    held-commands-on ticks a i first items late none (suc k) due here = held-commands ticks a zero (suc i) items none k due (omega arith) here
+held-commands ticks a zero i (command_due first ∷ items) none (suc k) due low here =
+    elim (cases_Bool (nat_le first ticks)) [
+      | inl e ↦ absurd (let f : Some i ≡ None = rw e at none in cc)
+      | inr e ↦ held-commands ticks a zero (suc i) items (rw e at none) k due (omega arith) here
+    ]
 held-commands ticks a (suc b) i (command_due first ∷ items) none zero due low here = absurd (omega arith)
 held-commands ticks a (suc b) i (command_due first ∷ items) none (suc k) due low here = held-commands ticks a b (suc i) items none k due (omega arith) here
 
