@@ -6,3 +6,5 @@ pub mod LandLaws
 pub mod AlikeLaws
 pub mod SourceLaws
 pub mod ReportLaws
+pub mod ReturnLaws
+pub mod FrameLaws

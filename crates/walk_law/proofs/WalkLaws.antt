@@ -9,6 +9,7 @@ use Rattle.vc_cell.specs.declared.Container.{Container}
 use Rattle.vc_cell.specs.declared.Cell.{Cell}
 use Rattle.session_model.specs.declared.window.Carried.{Carried}
 use Rattle.session_model.specs.declared.script.Script.{Script}
+use Rattle.session_model.specs.declared.walk.Event.{Event}
 use Rattle.session_model.specs.Path.{cells}
 use Rattle.session_model.specs.Number.{verdict}
 use Rattle.session_model.specs.Scenario.{Scenario, scenario_of, carried_by, packets_in}
@@ -19,18 +20,20 @@ use Rattle.session_model.specs.Payload.{payload_of}
 use Rattle.session_model.specs.Rows.{row_at}
 use Rattle.session_model.specs.SessionRows.{is_whole_row}
 use Rattle.session_model.specs.Sent.{frame_of}
-use Rattle.session_model.specs.Counts.{LinePath, LineCounts, Counts}
+use Rattle.session_model.specs.Counts.{LinePath, LineCounts, Counts, step, run, begin, drain}
 use Rattle.session_model.specs.Plan.{all_cells, path_of}
 use Rattle.line_law.specs.StableRows.{AreDecidedAt}
 use Rattle.line_law.proofs.StableLaws.{cells-part}
 use Rattle.progress_law.specs.Progress.{Each, LineFits, Fits}
 use Rattle.progress_law.proofs.LineLaws.{is_decided}
 use Rattle.progress_law.proofs.MoveLaws.{reached-fits}
+use Rattle.progress_law.proofs.ReachLaws.{run-none, Leads-then, Leads-drain}
 use Rattle.terminal_law.specs.Lines.{given, ComesOf, ComeOf}
-use Rattle.terminal_law.specs.Course.{back_of, told_of}
+use Rattle.terminal_law.specs.Course.{back_of, told_of, IsCourse}
 use Rattle.terminal_law.proofs.SentLaws.{range-at, containers-size}
 use Rattle.terminal_law.proofs.CellLaws.{given-whole}
 use Rattle.terminal_law.proofs.RowLaws.{row-told}
+use Rattle.terminal_law.proofs.CourseLaws.{session-agree, come-same}
 use Rattle.terminal_law.proofs.LoopLaws.{frame-same, next-cell}
 use Rattle.walk_law.specs.Walk.{sent_on, walk_plan, CanWalk, IsWalked, counts_at, popped_on, popped_cells}
 use Rattle.walk_law.proofs.PlanLaws.{has-lines, has-plan, line-path}
@@ -134,7 +137,7 @@ module _ (script : Script) (s : Counts) (can : CanWalk script) (walked : IsWalke
       row-told scenario session s.ticks (popped_cells script s.lines) t (has-lines script can) cells-come (omega arith) (cells-decide t low)
 
   -- ---- the return path
-  lag : 0 < scenario.lag
+  pub lag : 0 < scenario.lag
   lag = let fits_lag = can.lag in omega arith
 
   few-packets : (rows ticks n : ℕ) → rows ≤ ticks → n ≤ (rows - 8) / 16 → n ≤ (ticks - 8) / 16
@@ -165,3 +168,31 @@ module _ (script : Script) (s : Counts) (can : CanWalk script) (walked : IsWalke
 
   pub backs-are : told_of scenario (popped_cells script s.lines) s.backs ≡ cells_before scenario s.backs
   backs-are = told-first s.backs (omega arith)
+
+  pub is-course : IsCourse scenario s.ticks s.backs (popped_cells script s.lines)
+  is-course =
+      let used = fits.used in
+      let most = few-packets s.rows script.config.ticks s.backs fits.rows fits.backs in
+      let agree = session-agree scenario s.backs s.backs most (omega arith) in
+      record {
+        most = most;
+        used = omega arith;
+        come = subst (λ returns. ComeOf scenario returns s.ticks (popped_cells script s.lines)) (sym backs-are)
+            (come-same scenario session (cells_before scenario s.backs) s.ticks s.backs (popped_cells script s.lines) (omega arith) (sym agree) cells-come);
+        decided = λ k low.
+            let backs = fits.backs in
+            cells-decide (16 * k + 23) (ends s.rows k (omega arith));
+      }
+
+-- ---- what is walked
+pub begins-walked : (script : Script) → IsWalked script (begin (walk_plan script))
+begins-walked script = ([], sym (run-none (walk_plan script) (begin (walk_plan script))))
+
+pub steps-walked : (script : Script) (s : Counts) (event : Event) → IsWalked script s → IsWalked script (step (walk_plan script) s event).counts
+unfolding run
+steps-walked script s event walked =
+    Leads-then (walk_plan script) (begin (walk_plan script)) s (step (walk_plan script) s event).counts walked (event ∷ [], refl)
+
+pub drains-walked : (script : Script) (s : Counts) (k : ℕ) → IsWalked script s → IsWalked script (drain k (walk_plan script) s)
+drains-walked script s k walked =
+    Leads-then (walk_plan script) (begin (walk_plan script)) s (drain k (walk_plan script) s) walked (Leads-drain k (walk_plan script) s)

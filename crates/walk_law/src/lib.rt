@@ -4,7 +4,8 @@
 //! counts.
 #![tactic(auto)]
 
-ghost use Rattle.std.specs.Prelude.{◌≡◌, ◌↔◌, ℕ, ◌+◌, ◌-◌, ◌*◌, ◌<◌, ◌≤◌, min, if◌then◌else◌, List, [], ◌∷◌, ◌++◌, map, fold, length, take, slice_get, Option, Some, None, IsSome, option_map};
+ghost use Rattle.std.specs.Prelude.{◌≡◌, ◌↔◌, ℕ, ◌+◌, ◌-◌, ◌*◌, ◌/◌, ◌%◌, ◌<◌, ◌≤◌, ◌==◌, ◌&&◌, nat_le, nat_lt, min, if◌then◌else◌, List, [], ◌∷◌, ◌++◌, map, fold, length, take, drop, slice_get, Option, Some, None, IsSome, option_map};
+ghost use Rattle.std.specs.List.{range_with_len};
 ghost use Rattle.vc_cell.specs.declared.Cell.{Cell};
 ghost use Rattle.session_model.specs.declared.script.Item.{Item};
 ghost use Rattle.session_model.specs.declared.script.Script.{Script};
@@ -12,21 +13,25 @@ ghost use Rattle.report_text.specs.declared.report.Refusal.TheVariants.{Frame as
 ghost use Rattle.session_model.specs.Path.{cells};
 ghost use Rattle.session_model.specs.Number.{verdict};
 ghost use Rattle.session_model.specs.Valid.{IsValid};
-ghost use Rattle.session_model.specs.Scenario.{Order, Offer, orders_of, offers_of, scenario_of, carried_by, steps_in, orders_at, frames_at};
+ghost use Rattle.session_model.specs.Scenario.{Order, Offer, orders_of, offers_of, scenario_of, carried_by, steps_in, orders_at, frames_at, packets_in};
 ghost use Rattle.session_model.specs.Source.{refusal, after, source_at};
 ghost use Rattle.session_model.specs.Client.{frame_refusal, offered, stream_before};
-ghost use Rattle.session_model.specs.Back.{cells_before, session_cells};
+ghost use Rattle.session_model.specs.Back.{return_cell, cells_before, session_cells};
+ghost use Rattle.session_model.specs.Told.{told_in};
+ghost use Rattle.session_model.specs.Segment.{StreamRow, deliver};
+ghost use Rattle.session_model.specs.declared.walk.Event.{Event};
 ghost use Rattle.session_model.specs.Payload.{payload_of};
-ghost use Rattle.session_model.specs.Rows.{row_at, first_open};
+ghost use Rattle.session_model.specs.Rows.{row_at, first_open, return_at};
 ghost use Rattle.session_model.specs.SessionRows.{is_whole_row};
 ghost use Rattle.session_model.specs.Sent.{frame_of};
-ghost use Rattle.session_model.specs.Counts.{dues_of, frame_dues, command_dues, LineCounts, Counts, pop_lines};
-ghost use Rattle.line_law.specs.StableRows.{AreDecidedAt};
+ghost use Rattle.session_model.specs.Counts.{dues_of, frame_dues, command_dues, LineCounts, Counts, used_in, pop_lines, step, begin, drain, walked};
+ghost use Rattle.line_law.specs.StableRows.{IsLonger, AreDecidedAt};
 ghost use Rattle.progress_law.specs.Progress.{IsPlan, LineFits};
 ghost use Rattle.terminal_law.specs.Lines.{HasLines, ComeOf};
-ghost use Rattle.terminal_law.specs.Course.{told_of};
+ghost use Rattle.terminal_law.specs.Course.{told_of, IsCourse};
 ghost use Rattle.walk_law.specs.Walk.{walk_plan, CanWalk, IsWalked, counts_at, popped_cells};
-ghost use Rattle.walk_law.specs.Rings.{delay_on, path_on, line_cells, sent_at, taken_by, cells_by, send_by, receive_by};
+ghost use Rattle.walk_law.specs.Rings.{delay_on, path_on, line_cells, sent_at, taken_by, cells_by, send_by, receive_by, all_lines, said_packet, back_cell, return_ring, inbox};
+ghost use Rattle.walk_law.specs.Delivered.{delivered_of, IsReceived};
 ghost use Rattle.walk_law.specs.Landed.{Numbered, landed_scenario, told_before, IsOfferAt, IsOrderAt, refusal_at, refused_by, refusals_of, IsPlaced, totals_of, with_frame_told, with_command_told};
 
 /// A script whose rings fit has a plan of its walk, whose lines are what the session sends on them.
@@ -89,10 +94,19 @@ pub fn take_law()
         ≡ (pop_lines t 0 (walk_plan script).paths lines).waiting }
 {}
 
-/// After any list of events: the frames made by the return cells that have come are the session's; the cells that were popped come of
+/// Each event leads from a walk to a walk, and so do a drain and the event lines of a script. After any list of events: the frames made by the return cells that have come are the session's; the cells that were popped come of
 /// them, and decide all rows that were taken; each of these rows is whole exactly where the session's is, with its octets; and the
 /// return cells that have come are the session's first.
 pub fn walk_law()
+    ensures begins { (script : Script) → IsWalked script (begin (walk_plan script)) }
+    ensures steps { (script : Script) (s : Counts) (event : Event) → IsWalked script s →
+        IsWalked script (step (walk_plan script) s event).counts }
+    ensures drains { (script : Script) (s : Counts) (k : ℕ) → IsWalked script s →
+        IsWalked script (drain k (walk_plan script) s) }
+    ensures event_lines { (script : Script) →
+        IsWalked script (walked (walk_plan script) script.events) }
+    ensures course { (script : Script) (s : Counts) → CanWalk script → IsWalked script s →
+        IsCourse (scenario_of script) s.ticks s.backs (popped_cells script s.lines) }
     ensures frames { (script : Script) (s : Counts) (t : ℕ) → CanWalk script → IsWalked script s →
         t < s.ticks → frame_of (scenario_of script) (cells_before (scenario_of script) s.backs) t
         ≡ frame_of (scenario_of script) (session_cells (scenario_of script)) t }
@@ -177,4 +191,51 @@ pub fn report_law()
         IsOrderAt script.items s.commands item order →
         totals_of script (record s { commands = s.commands + 1 })
         ≡ with_command_told (refusal_at script item) (totals_of script s) }
+{}
+
+/// The return path. What the sink says by the cells that were popped is what it says by all cells, and tells the source the return
+/// cells of the session; and one row, one return packet or one decision step changes the rings by just that.
+pub fn return_law()
+    ensures longer { (script : Script) (lines : List LineCounts) →
+        IsLonger (popped_cells script lines) (all_lines script) }
+    ensures decided { (script : Script) (t : ℕ) → CanWalk script → t < script.config.ticks →
+        AreDecidedAt (all_lines script) t }
+    ensures said { (script : Script) (s : Counts) (k : ℕ) → CanWalk script → IsWalked script s →
+        16 * k + 23 < s.rows →
+        return_at (popped_cells script s.lines) k ≡ said_packet script k }
+    ensures told { (script : Script) (k : ℕ) → CanWalk script → 16 * k + 23 < script.config.ticks →
+        told_in (back_cell script k)
+        ≡ return_cell (scenario_of script) (session_cells (scenario_of script)) k }
+    ensures next { (script : Script) (k : ℕ) → CanWalk script → 16 * k + 23 < script.config.ticks →
+        cells_before (scenario_of script) (k + 1)
+        ≡ cells_before (scenario_of script) k ++ told_in (back_cell script k) ∷ [] }
+    ensures ends { (t : ℕ) → packets_in (t + 1)
+        ≡ packets_in t + (if nat_lt 22 t && t % 16 == 7 then 1 else 0) }
+    ensures steps { (lag t : ℕ) → used_in lag (t + 1)
+        ≡ used_in lag t + (if t % 16 == 8 && nat_le lag (t / 16) then 1 else 0) }
+    ensures says { (script : Script) (s : Counts) (rows : ℕ) → s.backs ≤ packets_in s.rows →
+        packets_in rows ≡ packets_in s.rows + 1 → return_ring script (record s { rows = rows })
+        ≡ return_ring script s ++ said_packet script (packets_in s.rows) ∷ [] }
+    ensures goes { (script : Script) (s : Counts) → s.backs < packets_in s.rows →
+        return_ring script s
+        ≡ said_packet script s.backs ∷ return_ring script (record s { backs = s.backs + 1 }) }
+    ensures comes { (script : Script) (s : Counts) → used_in script.config.lag s.ticks ≤ s.backs →
+        inbox script (record s { backs = s.backs + 1 })
+        ≡ inbox script s ++ back_cell script s.backs ∷ [] }
+    ensures taken { (script : Script) (s : Counts) (ticks : ℕ) →
+        used_in script.config.lag s.ticks < s.backs →
+        used_in script.config.lag ticks ≡ used_in script.config.lag s.ticks + 1 → inbox script s
+        ≡ back_cell script (used_in script.config.lag s.ticks) ∷ inbox script (record s { ticks = ticks }) }
+{}
+
+/// The frames of the rows that were taken: what a sink makes of them by the cells that were popped is what the rows of the session
+/// give, and more rows add frames and change none of those before.
+pub fn frames_law()
+    ensures received { (script : Script) (s : Counts) (receive : Option (List ℕ) → StreamRow) (n : ℕ) →
+        CanWalk script → IsWalked script s → IsReceived receive → n ≤ s.rows →
+        deliver 9600 (map (λ t. receive (row_at script.config.size (popped_cells script s.lines) t))
+        (range_with_len 0 n)) ≡ delivered_of script n }
+    ensures grows { (script : Script) (n more : ℕ) → delivered_of script (n + more)
+        ≡ delivered_of script n
+        ++ drop (length (delivered_of script n)) (delivered_of script (n + more)) }
 {}

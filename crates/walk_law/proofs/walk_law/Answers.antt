@@ -1,5 +1,7 @@
 -- A walk is a course of the session.
-use Rattle.walk_law.proofs.WalkLaws.{frames-are, cells-come, cells-decide, rows-are, backs-are}
+use Rattle.progress_law.proofs.ReachLaws.{walked-reached}
+use Rattle.walk_law.specs.Walk.{walk_plan}
+use Rattle.walk_law.proofs.WalkLaws.{begins-walked, steps-walked, drains-walked, is-course, frames-are, cells-come, cells-decide, rows-are, backs-are}
 use Rattle.walk_law.proofs.walk_law.Goals as goal
 
 pub returns-clause-frames : goal.returns-clause-frames
@@ -16,3 +18,18 @@ returns-clause-rows c script s t can walked = rows-are script s can walked t
 
 pub returns-clause-backs : goal.returns-clause-backs
 returns-clause-backs c = backs-are
+
+pub returns-clause-begins : goal.returns-clause-begins
+returns-clause-begins c = begins-walked
+
+pub returns-clause-steps : goal.returns-clause-steps
+returns-clause-steps c = steps-walked
+
+pub returns-clause-drains : goal.returns-clause-drains
+returns-clause-drains c = drains-walked
+
+pub returns-clause-event_lines : goal.returns-clause-event_lines
+returns-clause-event_lines c script = walked-reached (walk_plan script) script.events
+
+pub returns-clause-course : goal.returns-clause-course
+returns-clause-course c = is-course
