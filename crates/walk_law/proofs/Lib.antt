@@ -8,3 +8,5 @@ pub mod SourceLaws
 pub mod ReportLaws
 pub mod ReturnLaws
 pub mod FrameLaws
+pub mod AcceptedLaws
+pub mod PromiseLaws
