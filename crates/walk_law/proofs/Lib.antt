@@ -10,3 +10,4 @@ pub mod ReturnLaws
 pub mod FrameLaws
 pub mod AcceptedLaws
 pub mod PromiseLaws
+pub mod StepLaws

@@ -35,8 +35,9 @@ ghost use Rattle.session_law.specs.Use.{AddsUndamaged, AddsAmongSilent};
 ghost use Rattle.terminal_law.specs.Lines.{HasLines, ComeOf};
 ghost use Rattle.terminal_law.specs.Course.{told_of, IsCourse};
 ghost use Rattle.walk_law.specs.Walk.{walk_plan, CanWalk, IsWalked, counts_at, popped_cells};
-ghost use Rattle.walk_law.specs.Rings.{delay_on, path_on, line_cells, sent_at, taken_by, cells_by, send_by, receive_by, all_lines, said_packet, back_cell, return_ring, inbox};
+ghost use Rattle.walk_law.specs.Rings.{delay_on, path_on, line_cells, AreDecidedBefore, sent_at, taken_by, cells_by, send_by, receive_by, all_lines, said_packet, back_cell, return_ring, inbox};
 ghost use Rattle.walk_law.specs.Delivered.{session_rows, delivered_of, IsReceived};
+ghost use Rattle.walk_law.specs.Step.{last_packet, table_in};
 ghost use Rattle.walk_law.specs.Promise.{accepted_frames, session_pieces, session_extents, session_waiting, place_after, HasOctets, HasNoFailure, ConfirmsTrue, drained, InUseBy};
 ghost use Rattle.walk_law.specs.Landed.{Numbered, landed_scenario, told_before, IsOfferAt, IsOrderAt, refusal_at, refused_by, refusals_of, IsPlaced, totals_of, with_frame_told, with_command_told};
 
@@ -94,6 +95,14 @@ pub fn ring_law()
 pub fn take_law()
     ensures decided { (script : Script) (line y t : ℕ) → t < script.config.ticks →
         IsSome (verdict (take y (line_cells script line)) t) ↔ (t < (path_on script line).decided y) }
+    ensures open { (script : Script) (lines : List LineCounts) (m t : ℕ) → CanWalk script →
+        length lines ≡ length script.config.windows → m < length lines → t < script.config.ticks →
+        AreDecidedBefore script lines m t → (first_open (popped_cells script lines) t ≡ Some m)
+        ↔ ((path_on script m).decided (counts_at lines m).popped ≤ t) }
+    ensures all { (script : Script) (lines : List LineCounts) (t : ℕ) → CanWalk script →
+        length lines ≡ length script.config.windows → t < script.config.ticks →
+        AreDecidedBefore script lines (length lines) t →
+        first_open (popped_cells script lines) t ≡ None }
     ensures waiting { (script : Script) (lines : List LineCounts) (t : ℕ) → CanWalk script →
         length lines ≡ length script.config.windows → t < script.config.ticks →
         first_open (popped_cells script (pop_lines t 0 (walk_plan script).paths lines).lines) t
@@ -177,6 +186,19 @@ pub fn source_law()
         order.due ≤ s.ticks → refusal_at script item ≡ option_map command_fault
         (refusal (length script.config.windows) order.command
         (source_at (landed_scenario script s) (told_before script s.ticks) (steps_in s.ticks))) }
+{}
+
+/// The last decision step: which it is, which return cell it took, and the table after it.
+pub fn step_law()
+    ensures last { (t : ℕ) →
+        last_packet (t + 1) ≡ (if t % 16 == 8 then Some (t / 16) else last_packet t) }
+    ensures needs { (lag t : ℕ) → t % 16 ≡ 8 → lag ≤ t / 16 → used_in lag t ≡ t / 16 - lag }
+    ensures number { (t : ℕ) → 22 < t → t % 16 ≡ 7 → (t - 23) / 16 ≡ packets_in t }
+    ensures told { (script : Script) (s : Counts) (k : ℕ) → CanWalk script → IsWalked script s →
+        k < s.backs → 16 * k + 23 < s.rows }
+    ensures table { (script : Script) (s : Counts) → CanWalk script → IsWalked script s →
+        (source_at (landed_scenario script s) (told_before script s.ticks) (steps_in s.ticks)).table
+        ≡ table_in script s.ticks }
 {}
 
 /// What an item that lands adds to the refusals and the totals.
