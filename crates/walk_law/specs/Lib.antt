@@ -4,3 +4,4 @@ pub mod Landed
 pub mod Delivered
 pub mod Step
 pub mod Promise
+pub mod Worked

@@ -38,6 +38,7 @@ ghost use Rattle.walk_law.specs.Walk.{walk_plan, CanWalk, IsWalked, counts_at, p
 ghost use Rattle.walk_law.specs.Rings.{delay_on, path_on, line_cells, AreDecidedBefore, sent_at, taken_by, cells_by, send_by, receive_by, all_lines, said_packet, back_cell, return_ring, inbox};
 ghost use Rattle.walk_law.specs.Delivered.{session_rows, delivered_of, IsReceived};
 ghost use Rattle.walk_law.specs.Step.{last_packet, table_in};
+ghost use Rattle.walk_law.specs.Worked.{worked_script, three_landed, at_the_end, first_refusals, all_refusals, first_totals, all_totals, two_frames};
 ghost use Rattle.walk_law.specs.Promise.{accepted_frames, session_pieces, session_extents, session_waiting, place_after, HasOctets, HasNoFailure, ConfirmsTrue, drained, InUseBy};
 ghost use Rattle.walk_law.specs.Landed.{Numbered, landed_scenario, told_before, IsOfferAt, IsOrderAt, refusal_at, refused_by, refusals_of, IsPlaced, totals_of, with_frame_told, with_command_told};
 
@@ -334,4 +335,13 @@ pub fn answer_law()
     ensures statuses { (script : Script) (j sq : ℕ) (ok : Bool) → CanWalk script →
         kept_of (told_at (scenario_of script) (session_cells (scenario_of script)) j) sq ≡ Some ok →
         WasSaid (scenario_of script) (session_cells (scenario_of script)) j sq ok }
+{}
+
+/// A worked script, computed: what is refused and counted before the first tick and at the end, and what is accepted.
+pub fn worked_law()
+    ensures first_refusals { refusals_of worked_script three_landed ≡ first_refusals }
+    ensures first_totals { totals_of worked_script three_landed ≡ first_totals }
+    ensures refusals { refusals_of worked_script at_the_end ≡ all_refusals }
+    ensures totals { totals_of worked_script at_the_end ≡ all_totals }
+    ensures accepted { accepted_frames worked_script ≡ two_frames }
 {}

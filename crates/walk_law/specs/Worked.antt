@@ -1,0 +1,74 @@
+-- A worked script: what is refused, what is accepted, and what is counted.
+use Rattle.std.specs.Prelude.{ℕ, List, [], ◌∷◌, replicate}
+use Rattle.session_model.specs.declared.refusal.AcceptFault.TheVariants.{Length}
+use Rattle.session_model.specs.declared.refusal.CommandFault.TheVariants.{UnknownLine, AlreadyIn, NotIn}
+use Rattle.session_model.specs.declared.script.Config.{Config}
+use Rattle.session_model.specs.declared.script.Item.{Item}
+use Rattle.session_model.specs.declared.script.ItemKind.{ItemKind}
+use Rattle.session_model.specs.declared.script.ItemKind.TheVariants.{Frame, Add, Remove}
+use Rattle.session_model.specs.declared.script.Script.{Script}
+use Rattle.session_model.specs.Counts.{Counts}
+use Rattle.report_text.specs.declared.report.Refusal.{Refusal}
+use Rattle.report_text.specs.declared.report.Refusal.TheVariants.{Frame as frame_fault, Command as command_fault}
+use Rattle.report_text.specs.declared.report.Totals.{Totals}
+
+abbrev pub item : ℕ → ItemKind → Item
+item due kind = record { due = due; kind = kind }
+
+-- one line without delay; 41 ticks; a frame that is too short, a line that there isn't, and a line that is added twice and removed twice
+abbrev pub one_line : Config
+one_line = record {
+  lines = 1;
+  delays = 0 ∷ [];
+  windows = [] ∷ [];
+  lost = [];
+  ring = 1;
+  lag = 2;
+  ticks = 41;
+  size = 756;
+}
+
+abbrev pub eight_items : List Item
+eight_items =
+    item 0 (Frame (replicate 63 0)) ∷ item 0 (Add 1) ∷ item 0 (Frame (replicate 64 1)) ∷ item 0 (Add 0) ∷ item 5 (Add 0)
+    ∷ item 20 (Remove 0) ∷ item 20 (Remove 0) ∷ item 40 (Frame (replicate 64 2)) ∷ []
+
+abbrev pub worked_script : Script
+worked_script = record { config = one_line; items = eight_items; events = [] }
+
+-- all have landed and all rows are taken; and one frame and two commands have landed before the first tick
+abbrev pub at_the_end : Counts
+at_the_end = record {
+  ticks = 41;
+  frames = 3;
+  commands = 5;
+  lines = record { carried = 42; popped = 41 } ∷ [];
+  rows = 41;
+  backs = 2;
+}
+
+abbrev pub three_landed : Counts
+three_landed = record {
+  ticks = 0;
+  frames = 1;
+  commands = 2;
+  lines = record { carried = 0; popped = 0 } ∷ [];
+  rows = 0;
+  backs = 0;
+}
+
+abbrev pub first_refusals : List (ℕ × Refusal)
+first_refusals = (0, frame_fault (Length 63)) ∷ (1, command_fault (UnknownLine 1)) ∷ []
+
+abbrev pub all_refusals : List (ℕ × Refusal)
+all_refusals =
+    (0, frame_fault (Length 63)) ∷ (1, command_fault (UnknownLine 1)) ∷ (4, command_fault AlreadyIn) ∷ (6, command_fault NotIn) ∷ []
+
+abbrev pub first_totals : Totals
+first_totals = record { ticks = 0; taken = 0; frames = 0; commands = 1; refused = 2; got = 0 }
+
+abbrev pub all_totals : Totals
+all_totals = record { ticks = 41; taken = 41; frames = 2; commands = 2; refused = 4; got = 0 }
+
+abbrev pub two_frames : List (List ℕ)
+two_frames = replicate 64 1 ∷ replicate 64 2 ∷ []
