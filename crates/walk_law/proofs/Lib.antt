@@ -11,3 +11,4 @@ pub mod FrameLaws
 pub mod AcceptedLaws
 pub mod PromiseLaws
 pub mod StepLaws
+pub mod EndLaws

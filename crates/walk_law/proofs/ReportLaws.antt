@@ -35,12 +35,12 @@ operator-order due (Add line) order is = refl
 operator-order due (Remove line) order is = refl
 
 -- how many offers and orders an item is
-offers-size : (due : ℕ) (kind : ItemKind) → length (offer_of due kind) ≡ (if is_client kind then 1 else 0)
+pub offers-size : (due : ℕ) (kind : ItemKind) → length (offer_of due kind) ≡ (if is_client kind then 1 else 0)
 offers-size due (Frame octets) = refl
 offers-size due (Add line) = refl
 offers-size due (Remove line) = refl
 
-orders-size : (due : ℕ) (kind : ItemKind) → length (order_of due kind) ≡ (if is_client kind then 0 else 1)
+pub orders-size : (due : ℕ) (kind : ItemKind) → length (order_of due kind) ≡ (if is_client kind then 0 else 1)
 orders-size due (Frame octets) = refl
 orders-size due (Add line) = refl
 orders-size due (Remove line) = refl

@@ -39,8 +39,8 @@ ghost use Rattle.walk_law.specs.Rings.{delay_on, path_on, line_cells, AreDecided
 ghost use Rattle.walk_law.specs.Delivered.{session_rows, delivered_of, IsReceived};
 ghost use Rattle.walk_law.specs.Step.{last_packet, table_in};
 ghost use Rattle.walk_law.specs.Worked.{worked_script, three_landed, at_the_end, first_refusals, all_refusals, first_totals, all_totals, two_frames};
-ghost use Rattle.walk_law.specs.Promise.{accepted_frames, session_pieces, session_extents, session_waiting, place_after, HasOctets, HasNoFailure, ConfirmsTrue, drained, InUseBy};
-ghost use Rattle.walk_law.specs.Landed.{Numbered, landed_scenario, told_before, IsOfferAt, IsOrderAt, refusal_at, refused_by, refusals_of, IsPlaced, totals_of, with_frame_told, with_command_told};
+ghost use Rattle.walk_law.specs.Promise.{numbered, accepted_frames, session_pieces, session_extents, session_waiting, place_after, HasOctets, HasNoFailure, ConfirmsTrue, drained, InUseBy};
+ghost use Rattle.walk_law.specs.Landed.{Numbered, landed_items, landed_scenario, told_before, IsOfferAt, IsOrderAt, refusal_at, refused_by, refusals_of, IsPlaced, totals_of, with_frame_told, with_command_told};
 
 /// A script whose rings fit has a plan of its walk, whose lines are what the session sends on them.
 pub fn plan_law()
@@ -300,7 +300,7 @@ pub fn failure_law()
 {}
 
 /// A walk is never stuck: where rows are left, some event moves or a Take pops a cell; the inbox never holds more return cells than the
-/// lag; and rounds end with all rows taken, within a bound.
+/// lag; and rounds end with all rows taken, within a bound. Then all ticks are made and all items have landed.
 pub fn drain_law()
     ensures moves { (script : Script) (s : Counts) → CanWalk script → IsWalked script s →
         s.rows < script.config.ticks → SomeProgress (walk_plan script) s }
@@ -308,6 +308,12 @@ pub fn drain_law()
         in_inbox (walk_plan script) s ≤ script.config.lag }
     ensures drained { (script : Script) (s : Counts) → CanWalk script → IsWalked script s →
         (drained script s).rows ≡ script.config.ticks }
+    ensures ticks { (script : Script) (s : Counts) → IsValid script → IsWalked script s →
+        (drained script s).ticks ≡ script.config.ticks }
+    ensures landed { (script : Script) (s : Counts) → IsValid script → IsWalked script s →
+        landed_items script (drained script s) ≡ numbered 0 script.items }
+    ensures accepted { (script : Script) (s : Counts) → IsValid script → IsWalked script s →
+        (totals_of script (drained script s)).frames ≡ length (accepted_frames script) }
 {}
 
 /// How soon a line that is added carries payload: fifteen packets and the lag later, where each line in ADD can be read meanwhile; and

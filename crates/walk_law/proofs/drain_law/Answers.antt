@@ -4,6 +4,7 @@ use Rattle.progress_law.proofs.ReachLaws.{reached-progress}
 use Rattle.walk_law.specs.Walk.{walk_plan}
 use Rattle.walk_law.proofs.PlanLaws.{has-plan}
 use Rattle.walk_law.proofs.PromiseLaws.{drain-ends}
+use Rattle.walk_law.proofs.EndLaws.{drained-ticks, drained-landed, drained-accepted}
 use Rattle.walk_law.proofs.drain_law.Goals as goal
 
 pub returns-clause-moves : goal.returns-clause-moves
@@ -14,3 +15,12 @@ returns-clause-inbox c script s can walked = inbox-fits (walk_plan script) s (ha
 
 pub returns-clause-drained : goal.returns-clause-drained
 returns-clause-drained c = drain-ends
+
+pub returns-clause-ticks : goal.returns-clause-ticks
+returns-clause-ticks c = drained-ticks
+
+pub returns-clause-landed : goal.returns-clause-landed
+returns-clause-landed c = drained-landed
+
+pub returns-clause-accepted : goal.returns-clause-accepted
+returns-clause-accepted c = drained-accepted
