@@ -12,3 +12,4 @@ pub mod AcceptedLaws
 pub mod PromiseLaws
 pub mod StepLaws
 pub mod EndLaws
+pub mod WholeLaws

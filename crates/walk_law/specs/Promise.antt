@@ -1,6 +1,7 @@
 -- What is promised of a script, in the words of whoever wrote it.
-use Rattle.std.specs.Prelude.{◌≡◌, ℕ, suc, ◌+◌, ◌*◌, ◌≤◌, List, [], ◌∷◌, All, Option, Some, None}
+use Rattle.std.specs.Prelude.{◌≡◌, ◌⊎◌, ℕ, suc, ◌+◌, ◌-◌, ◌*◌, ◌/◌, ◌<◌, ◌≤◌, true, List, [], ◌∷◌, All, Option, Some, None}
 use Rattle.std.specs.List.{flat_map}
+use Rattle.session_model.specs.declared.window.Window.{Window}
 use Rattle.session_model.specs.declared.script.Item.{Item}
 use Rattle.session_model.specs.declared.script.ItemKind.{ItemKind}
 use Rattle.session_model.specs.declared.script.ItemKind.TheVariants.{Frame, Add, Remove}
@@ -10,6 +11,7 @@ use Rattle.session_model.specs.Scenario.{scenario_of}
 use Rattle.session_model.specs.Table.{Told}
 use Rattle.session_model.specs.Back.{session_cells}
 use Rattle.session_model.specs.Client.{place_of, stream_before}
+use Rattle.session_model.specs.SessionRows.{is_whole_row}
 use Rattle.session_model.specs.Counts.{Counts, bound, drain}
 use Rattle.session_model.specs.Loss.{Extent, extents, TrueStarts}
 use Rattle.session_law.specs.Use.{IsInUse}
@@ -64,6 +66,18 @@ HasOctets script = AreOctets (scenario_of script)
 -- no line has a window of failure
 abbrev pub HasNoFailure : Script → Type 0
 HasNoFailure script = All (λ windows. windows ≡ []) script.config.windows
+
+-- no window of a line touches the containers from a number on and before another
+abbrev pub IsClear : List Window → ℕ → ℕ → Type 0
+IsClear windows from end = All (λ (window : Window). (end ≤ window.first) ⊎ (window.end ≤ from)) windows
+
+-- the first container on which row t depends: that of the multiframe in which the packet begins that governs the row
+abbrev pub row_from : ℕ → ℕ
+row_from t = 16 * ((t - 24) / 16)
+
+-- the first rows are whole
+abbrev pub AreWholeBefore : Script → ℕ → Type 0
+AreWholeBefore script rows = (t : ℕ) → t < rows → is_whole_row (scenario_of script) (session_cells (scenario_of script)) t ≡ true
 
 -- what is confirmed first after each break in some rows is the place of a piece
 abbrev pub ConfirmsTrue : Script → ℕ → Type 0

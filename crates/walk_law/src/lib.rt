@@ -4,9 +4,12 @@
 //! counts.
 #![tactic(auto)]
 
-ghost use Rattle.std.specs.Prelude.{◌≡◌, ◌↔◌, ℕ, Bool, true, ◌+◌, ◌-◌, ◌*◌, ◌/◌, ◌%◌, ◌<◌, ◌≤◌, ◌==◌, ◌&&◌, nat_le, nat_lt, min, if◌then◌else◌, List, [], ◌∷◌, ◌++◌, map, fold, length, take, drop, slice_get, Option, Some, None, IsSome, option_map};
+ghost use Rattle.std.specs.Prelude.{◌≡◌, ◌↔◌, ℕ, Bool, true, ◌+◌, ◌-◌, ◌*◌, ◌/◌, ◌%◌, ◌<◌, ◌≤◌, ◌==◌, ◌&&◌, nat_le, nat_lt, min, if◌then◌else◌, List, [], ◌∷◌, ◌++◌, map, fold, length, take, drop, slice_get, slice_index_or, Option, Some, None, IsSome, option_map};
 ghost use Rattle.std.specs.List.{range_with_len};
 ghost use Rattle.vc_cell.specs.declared.Cell.{Cell};
+ghost use Rattle.session_model.specs.declared.window.Window.{Window};
+ghost use Rattle.session_model.specs.Damage.{carried};
+ghost use Rattle.session_law.specs.Session.{AreWhole};
 ghost use Rattle.session_model.specs.declared.script.Item.{Item};
 ghost use Rattle.session_model.specs.declared.script.Script.{Script};
 ghost use Rattle.report_text.specs.declared.report.Refusal.TheVariants.{Frame as frame_fault, Command as command_fault};
@@ -39,7 +42,7 @@ ghost use Rattle.walk_law.specs.Rings.{delay_on, path_on, line_cells, AreDecided
 ghost use Rattle.walk_law.specs.Delivered.{session_rows, delivered_of, IsReceived};
 ghost use Rattle.walk_law.specs.Step.{last_packet, table_in};
 ghost use Rattle.walk_law.specs.Worked.{worked_script, three_landed, at_the_end, first_refusals, all_refusals, first_totals, all_totals, two_frames};
-ghost use Rattle.walk_law.specs.Promise.{numbered, accepted_frames, session_pieces, session_extents, session_waiting, place_after, HasOctets, HasNoFailure, ConfirmsTrue, drained, InUseBy};
+ghost use Rattle.walk_law.specs.Promise.{numbered, accepted_frames, session_pieces, session_extents, session_waiting, place_after, HasOctets, HasNoFailure, IsClear, row_from, AreWholeBefore, ConfirmsTrue, drained, InUseBy};
 ghost use Rattle.walk_law.specs.Landed.{Numbered, landed_items, landed_scenario, told_before, IsOfferAt, IsOrderAt, refusal_at, refused_by, refusals_of, IsPlaced, totals_of, with_frame_told, with_command_told};
 
 /// A script whose rings fit has a plan of its walk, whose lines are what the session sends on them.
@@ -282,6 +285,19 @@ pub fn delivery_law()
     ensures drained { (script : Script) (s : Counts) → CanWalk script → HasOctets script →
         HasNoFailure script → IsWalked script s → delivered_of script (drained script s).rows
         ≡ frames_by (place_after script script.config.ticks) (session_pieces script) }
+{}
+
+/// Which rows a failure leaves whole, and what is delivered before the first that it spoils: just what would be without it.
+pub fn clear_law()
+    ensures clear { (windows : List Window) (from end : ℕ) → IsClear windows from end →
+        AreWhole (carried windows) from end }
+    ensures whole { (script : Script) (t : ℕ) → 0 < length script.config.windows →
+        ((line : ℕ) → line < length script.config.windows →
+        IsClear (slice_index_or script.config.windows line []) (row_from t) (t + 1)) →
+        is_whole_row (scenario_of script) (session_cells (scenario_of script)) t ≡ true }
+    ensures before { (script : Script) (rows : ℕ) → HasOctets script → rows ≤ script.config.ticks →
+        AreWholeBefore script rows →
+        delivered_of script rows ≡ frames_by (place_after script rows) (session_pieces script) }
 {}
 
 /// With failures: where each place that is confirmed first after a break is that of a piece, the frames delivered are those of the
