@@ -1,5 +1,5 @@
 -- The frames that a session accepts are those of the items that aren't refused.
-use Rattle.std.proofs.Common.{◌≡◌, ℕ, zero, suc, ◌+◌, ◌<◌, ◌≤◌, nat_lt, Bool, true, false, inl, inr, List, [], ◌∷◌, ◌++◌, map, filter, fold, take, length, slice_index_or, All, Option, Some, None, option_map, refl, sym, ◌∙◌, ap, ap₂, subst, arith, append_assoc, length-append}
+use Rattle.std.proofs.Common.{◌≡◌, ℕ, zero, suc, ◌<◌, ◌≤◌, true, false, inl, inr, List, [], ◌∷◌, ◌++◌, map, filter, fold, take, length, slice_index_or, All, Option, Some, None, option_map, refl, sym, ◌∙◌, ap, ap₂, subst, arith, append_assoc, length-append}
 use Rattle.std.specs.List.{flat_map}
 use Rattle.std.specs.List.Sorted.{IsNonDecreasing}
 use Rattle.std.proofs.lemmas.Bool.{cases_Bool}
@@ -13,13 +13,12 @@ use Rattle.session_model.specs.declared.script.Item.{Item}
 use Rattle.session_model.specs.declared.script.ItemKind.{ItemKind}
 use Rattle.session_model.specs.declared.script.ItemKind.TheVariants.{Frame, Add, Remove}
 use Rattle.session_model.specs.declared.script.Script.{Script}
-use Rattle.session_model.specs.Accepted.{kept_by, accepted_of}
+use Rattle.session_model.specs.Accepted.{kept_by}
 use Rattle.session_model.specs.Scenario.{Scenario, Offer, offer_of, offers_of, scenario_of, comes_at}
 use Rattle.session_model.specs.Table.{Told}
 use Rattle.session_model.specs.Back.{session_cells}
 use Rattle.session_model.specs.Client.{Stream, frame_refusal, offered, stream_before}
 use Rattle.session_model.specs.Journal.{accepted_offers, offers_before, frames_before}
-use Rattle.session_model.specs.Counts.{frame_dues, dues_of}
 use Rattle.session_model.specs.Valid.{IsItem, IsValid}
 use Rattle.session_law.specs.Landing.{AreOffersInOrder, landed, is_come}
 use Rattle.session_law.proofs.LandingLaws.{comes_apart, offers_land}
@@ -112,7 +111,7 @@ module _ (scenario : Scenario) (cells : List (Option Told)) where
       judged-append [] before now
       ∙ ap₂ ◌++◌ (landed-judged n)
       (ap (λ l. judged l now) (sym (append-nil before))
-          ∙ accepted-on n before [] now (none-yet scenario.offers n n (omega arith)) refl (filter_passes (comes_at n) scenario.offers))
+      ∙ accepted-on n before [] now (none-yet scenario.offers n n (omega arith)) refl (filter_passes (comes_at n) scenario.offers))
       ∙ sym (map-append frame_of (offers_before scenario cells n) (accepted_offers (stream_before scenario cells n) now))
 
 -- ---- the items of a script
@@ -157,7 +156,7 @@ items-judged script (item ∷ rest) front parts =
     let offers : offers_of (front ++ item ∷ []) ≡ offers_of front ++ offers_by item = flat_map-append offers_by front (item ∷ []) ∙ ap (λ l. offers_of front ++ l) (append-nil (offers_by item)) in
     ap₂ ◌++◌ (ap (λ earlier. frame_by (kind_refusal scenario cells item.due earlier item.kind) item.kind) first)
     (ap (λ n. flat_map (λ (item : Numbered). frame_by (refusal_at script item) item.item.kind) (numbered n rest)) size ∙ next
-        ∙ ap (λ before. judged scenario cells before (offers_of rest)) offers)
+    ∙ ap (λ before. judged scenario cells before (offers_of rest)) offers)
     ∙ kind-judged scenario cells item.due front item.kind (offers_of rest)
 
 -- ---- all of them land

@@ -1,8 +1,8 @@
 -- A walk whose rows are all taken has made all ticks, and all items have landed.
-use Rattle.std.proofs.Common.{◌≡◌, ℕ, zero, suc, ◌+◌, ◌-◌, ◌<◌, ◌≤◌, nat_lt, ◌&&◌, true, false, inl, inr, if◌then◌else◌, List, [], ◌∷◌, ◌++◌, filter, length, slice_get, slice_index_or, All, Option, Some, None, is_none, refl, sym, ◌∙◌, ap, ap₂, subst, arith, length-append}
+use Rattle.std.proofs.Common.{◌≡◌, ℕ, suc, ◌-◌, ◌<◌, ◌≤◌, nat_lt, ◌&&◌, true, inl, inr, if◌then◌else◌, List, [], ◌∷◌, filter, length, slice_get, All, Option, Some, None, is_none, refl, ◌∙◌, ap, subst, arith, length-append}
 use Rattle.std.specs.List.{flat_map}
 use Rattle.std.proofs.lemmas.Bool.{lt-ltb, cases_Bool, cases_lt}
-use Rattle.std.proofs.lemmas.Option.{get_or_from_slice_get, slice_get_within}
+use Rattle.std.proofs.lemmas.Option.{get_or_from_slice_get}
 use Rattle.std.proofs.lemmas.List.Elements.{All-cons}
 use Rattle.std.proofs.lemmas.List.{length-map}
 use Rattle.session_model.specs.declared.script.Item.{Item}

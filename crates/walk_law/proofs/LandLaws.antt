@@ -1,6 +1,6 @@
 -- Which items have landed after any list of events.
-use Rattle.std.proofs.Common.{◌≡◌, ℕ, zero, suc, ◌+◌, ◌-◌, ◌*◌, ◌<◌, ◌≤◌, ◌&&◌, ◌==◌, nat_le, nat_lt, Bool, true, false, inl, inr, List, [], ◌∷◌, ◌++◌, map, filter, take, length, slice_get, Option, Some, None, option_map, refl, sym, ◌∙◌, ap, subst, arith, append_assoc}
-use Rattle.std.proofs.lemmas.Bool.{leb-true, leb-false, lt-leb, cases_Bool}
+use Rattle.std.proofs.Common.{◌≡◌, ℕ, zero, suc, ◌+◌, ◌*◌, ◌<◌, ◌≤◌, ◌&&◌, nat_le, nat_lt, Bool, false, inl, inr, List, [], ◌∷◌, ◌++◌, map, filter, take, length, slice_get, Option, Some, None, option_map, refl, sym, ◌∙◌, ap, subst, arith, append_assoc}
+use Rattle.std.proofs.lemmas.Bool.{leb-false, lt-leb, cases_Bool}
 use Rattle.std.proofs.lemmas.Option.{slice_get-map}
 use Rattle.std.proofs.lemmas.List.{take_at}
 use Rattle.std.specs.List.{flat_map}
@@ -182,13 +182,13 @@ pub frame-waits : (script : Script) (s : Counts) (k : ℕ) (offer : Offer) → I
 frame-waits script s k offer walked low there =
     (walked-ahead script s walked).of_frames k offer.due low
     (ap (λ l. slice_get l k) (frame-dues script.items) ∙ slice_get-map (λ (offer : Offer). offer.due) (offers_of script.items) k
-        ∙ ap (option_map (λ (offer : Offer). offer.due)) there)
+    ∙ ap (option_map (λ (offer : Offer). offer.due)) there)
 
 pub command-waits : (script : Script) (s : Counts) (k : ℕ) (order : Order) → IsWalked script s → s.commands ≤ k → slice_get (orders_of script.items) k ≡ Some order → s.ticks ≤ order.due
 command-waits script s k order walked low there =
     (walked-ahead script s walked).of_commands k order.due low
     (ap (λ l. slice_get l k) (command-dues script.items) ∙ slice_get-map (λ (order : Order). order.due) (orders_of script.items) k
-        ∙ ap (option_map (λ (order : Order). order.due)) there)
+    ∙ ap (option_map (λ (order : Order). order.due)) there)
 
 -- ---- the session of what has landed
 filter-first : {X : Type 0} (p : X → Bool) (a : ℕ) (xs : List X) → ((k : ℕ) (x : X) → a ≤ k → slice_get xs k ≡ Some x → p x ≡ false) →
@@ -204,14 +204,14 @@ filter-first p (suc a) (x ∷ xs) none =
 pub frames-landed : (script : Script) (s : Counts) (t : ℕ) → IsWalked script s → t < s.ticks → frames_at (landed_scenario script s) t ≡ frames_at (scenario_of script) t
 frames-landed script s t walked low =
     ap (map (λ (offer : Offer). offer.frame)) (filter-first (comes_at t) s.frames (offers_of script.items) (λ k offer waits there.
-        let late = frame-waits script s k offer walked waits there in
-        ap (λ b. b && nat_le t offer.due) (lt-leb offer.due t (omega arith))))
+    let late = frame-waits script s k offer walked waits there in
+    ap (λ b. b && nat_le t offer.due) (lt-leb offer.due t (omega arith))))
 
 pub orders-landed : (script : Script) (s : Counts) (j : ℕ) → IsWalked script s → 16 * j + 8 < s.ticks → orders_at (landed_scenario script s) j ≡ orders_at (scenario_of script) j
 orders-landed script s j walked low =
     ap (map (λ (order : Order). order.command)) (filter-first (lands_at j) s.commands (orders_of script.items) (λ k order waits there.
-        let late = command-waits script s k order walked waits there in
-        ap (λ b. nat_lt (16 * j) (order.due + 8) && b) (lt-leb order.due (16 * j + 8) (omega arith)) ∙ and_false (nat_lt (16 * j) (order.due + 8))))
+    let late = command-waits script s k order walked waits there in
+    ap (λ b. nat_lt (16 * j) (order.due + 8) && b) (lt-leb order.due (16 * j + 8) (omega arith)) ∙ and_false (nat_lt (16 * j) (order.due + 8))))
 
 -- ---- the next offer, and the next order
 flat-at : {X Y : Type 0} (f : X → List Y) (xs : List X) (i : ℕ) (x : X) (y : Y) → slice_get xs i ≡ Some x → f x ≡ y ∷ [] →

@@ -1,9 +1,8 @@
 -- What is promised of a script.
-use Rattle.std.proofs.Common.{◌≡◌, ℕ, suc, ◌+◌, ◌-◌, ◌*◌, ◌/◌, ◌<◌, ◌≤◌, true, List, [], ◌++◌, map, take, length, Option, refl, sym, ◌∙◌, ap, subst, arith}
+use Rattle.std.proofs.Common.{◌≡◌, ℕ, suc, ◌+◌, ◌*◌, ◌≤◌, ◌++◌, map, take, length, ◌∙◌, ap, subst, arith}
 use Rattle.session_model.specs.declared.script.Script.{Script}
 use Rattle.session_model.specs.Piece.{frames_by}
-use Rattle.session_model.specs.Scenario.{Scenario, scenario_of, steps_in}
-use Rattle.session_model.specs.Table.{Told}
+use Rattle.session_model.specs.Scenario.{scenario_of, steps_in}
 use Rattle.session_model.specs.Source.{after}
 use Rattle.session_model.specs.Back.{session_cells}
 use Rattle.session_model.specs.Journal.{frames_before}
@@ -15,11 +14,9 @@ use Rattle.progress_law.proofs.MoveLaws.{reached-ends}
 use Rattle.loss_law.specs.Carried.{IsUndamaged}
 use Rattle.loss_law.proofs.SessionLossLaws.{session-kept, session-hitless, session-prefix, frames-extents}
 use Rattle.session_law.proofs.ClientLaws.{stream_before-frames}
-use Rattle.session_model.specs.Client.{Stream, stream_before}
 use Rattle.session_model.specs.Valid.{IsValid}
 use Rattle.walk_law.specs.Walk.{walk_plan, CanWalk, IsWalked}
 use Rattle.walk_law.specs.Delivered.{session_rows, delivered_of}
-use Rattle.walk_law.specs.Step.{table_in}
 use Rattle.walk_law.specs.Promise.{accepted_frames, session_pieces, session_extents, session_waiting, place_after, HasOctets, HasNoFailure, ConfirmsTrue, drained, InUseBy}
 use Rattle.walk_law.proofs.PlanLaws.{has-plan, valid-walks}
 use Rattle.walk_law.proofs.AcceptedLaws.{frames-accepted}

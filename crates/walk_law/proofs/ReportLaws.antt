@@ -1,5 +1,5 @@
 -- What an item that lands adds to the refusals and the totals.
-use Rattle.std.proofs.Common.{◌≡◌, ℕ, zero, suc, ◌+◌, ◌-◌, ◌<◌, ◌≤◌, nat_lt, ◌&&◌, not, Bool, true, false, if◌then◌else◌, inl, inr, List, [], ◌∷◌, ◌++◌, map, filter, take, length, slice_get, slice_index_or, All, Option, Some, None, is_none, refl, sym, ◌∙◌, ap, ap₂, subst, arith, append_assoc, length-append}
+use Rattle.std.proofs.Common.{◌≡◌, ℕ, zero, suc, ◌+◌, ◌-◌, ◌<◌, ◌≤◌, nat_lt, ◌&&◌, not, Bool, true, false, if◌then◌else◌, inl, inr, List, [], ◌∷◌, ◌++◌, filter, take, length, slice_get, All, Option, Some, None, is_none, refl, sym, ◌∙◌, ap, subst, arith, append_assoc, length-append}
 use Rattle.std.specs.List.{flat_map}
 use Rattle.std.proofs.lemmas.Bool.{cases_Bool}
 use Rattle.std.proofs.lemmas.List.Concat.{flat_map-append}
@@ -106,13 +106,13 @@ offer-put (first ∷ items) a b i (suc k) item offer there is before =
           let full : nat_lt 0 (suc a) ≡ true = grind (arith, (let h : 0 < suc a = omega arith in h)) in
           let less_one : suc a - 1 ≡ a = omega arith in
           rw (e, some, next, full, less_one) (put-if true (record { number = i; item = first }) (record { number = suc i + k; item = item }) (landed_from (a - 1) b (suc i) items) (landed_from a b (suc i) items) (omega arith)
-              (subst (λ n. IsInserted (record { number = suc i + k; item = item }) (landed_from (a - 1) b (suc i) items) (landed_from n b (suc i) items)) back
-                  (offer-put items (a - 1) b (suc i) k item offer there is less)))
+          (subst (λ n. IsInserted (record { number = suc i + k; item = item }) (landed_from (a - 1) b (suc i) items) (landed_from n b (suc i) items)) back
+          (offer-put items (a - 1) b (suc i) k item offer there is less)))
       | inr e ↦
           let size : length (offer_of first.due first.kind) ≡ 0 = one ∙ ap (λ c. if c then 1 else 0) e in
           let less : length (offers_of (take k items)) ≡ a = omega arith in
           rw (e, next) (put-if (nat_lt 0 b) (record { number = i; item = first }) (record { number = suc i + k; item = item }) (landed_from a (b - 1) (suc i) items) (landed_from (suc a) (b - 1) (suc i) items) (omega arith)
-              (offer-put items a (b - 1) (suc i) k item offer there is less))
+          (offer-put items a (b - 1) (suc i) k item offer there is less))
     ]
 
 order-put : (items : List Item) (a b i k : ℕ) (item : Item) (order : Order) → slice_get items k ≡ Some item → order_of item.due item.kind ≡ order ∷ [] →
@@ -138,13 +138,13 @@ order-put (first ∷ items) a b i (suc k) item order there is before =
           let full : nat_lt 0 (suc b) ≡ true = grind (arith, (let h : 0 < suc b = omega arith in h)) in
           let less_one : suc b - 1 ≡ b = omega arith in
           rw (e, some, next, full, less_one) (put-if true (record { number = i; item = first }) (record { number = suc i + k; item = item }) (landed_from a (b - 1) (suc i) items) (landed_from a b (suc i) items) (omega arith)
-              (subst (λ n. IsInserted (record { number = suc i + k; item = item }) (landed_from a (b - 1) (suc i) items) (landed_from a n (suc i) items)) back
-                  (order-put items a (b - 1) (suc i) k item order there is less)))
+          (subst (λ n. IsInserted (record { number = suc i + k; item = item }) (landed_from a (b - 1) (suc i) items) (landed_from a n (suc i) items)) back
+          (order-put items a (b - 1) (suc i) k item order there is less)))
       | inl e ↦
           let size : length (order_of first.due first.kind) ≡ 0 = one ∙ ap (λ c. if c then 0 else 1) e in
           let less : length (orders_of (take k items)) ≡ b = omega arith in
           rw (e, next) (put-if (nat_lt 0 a) (record { number = i; item = first }) (record { number = suc i + k; item = item }) (landed_from (a - 1) b (suc i) items) (landed_from (a - 1) (suc b) (suc i) items) (omega arith)
-              (order-put items (a - 1) b (suc i) k item order there is less))
+          (order-put items (a - 1) b (suc i) k item order there is less))
     ]
 
 landed-frame : (script : Script) (s : Counts) (item : Numbered) (offer : Offer) → IsOfferAt script.items s.frames item offer →

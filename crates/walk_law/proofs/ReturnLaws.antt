@@ -1,22 +1,20 @@
 -- The return path of a walk.
 use Rattle.std.specs.Prelude.{IsSome}
-use Rattle.std.proofs.Common.{◌≡◌, ℕ, zero, suc, ◌+◌, ◌-◌, ◌*◌, ◌/◌, ◌%◌, ◌==◌, ◌<◌, ◌≤◌, ◌&&◌, nat_le, nat_lt, if◌then◌else◌, Bool, true, false, inl, inr, List, [], ◌∷◌, ◌++◌, map, take, drop, length, slice_get, slice_index_or, Option, Some, None, option_map, refl, sym, ◌∙◌, ap, subst, arith}
+use Rattle.std.proofs.Common.{◌≡◌, ℕ, suc, ◌+◌, ◌-◌, ◌*◌, ◌/◌, ◌%◌, ◌==◌, ◌<◌, ◌≤◌, ◌&&◌, nat_le, nat_lt, if◌then◌else◌, false, inl, inr, List, [], ◌∷◌, ◌++◌, map, drop, length, slice_get, slice_index_or, Some, option_map, refl, sym, ◌∙◌, ap, subst, arith}
 use Rattle.std.specs.List.{range_with_len}
 use Rattle.std.proofs.lemmas.Bool.{leb-true, leb-false, ltb-true, ltb-false, eqb-true, cases_Bool, cases_lt}
 use Rattle.std.proofs.lemmas.List.{append-nil, take-append-drop, take_all}
 use Rattle.std.proofs.lemmas.List.FromFn.{length-map-range_with_len, map-range_with_len_more}
 use Rattle.std.proofs.lemmas.Option.{slice_get-map, slice_get_within}
 use Rattle.vc_cell.specs.declared.Cell.{Cell}
-use Rattle.session_model.specs.declared.packet.Packet.{Packet}
 use Rattle.session_model.specs.declared.script.Script.{Script}
 use Rattle.session_model.specs.Path.{cells}
 use Rattle.session_model.specs.Number.{verdict}
 use Rattle.session_model.specs.Scenario.{scenario_of, carried_by, packets_in}
-use Rattle.session_model.specs.Table.{Told}
 use Rattle.session_model.specs.Told.{told_in}
 use Rattle.session_model.specs.Back.{return_cell, cells_before, session_cells}
 use Rattle.session_model.specs.Rows.{return_at}
-use Rattle.session_model.specs.Counts.{LineCounts, Counts, in_return, used_in, in_inbox}
+use Rattle.session_model.specs.Counts.{LineCounts, Counts, used_in}
 use Rattle.line_law.specs.StableRows.{IsLonger, AreDecidedAt}
 use Rattle.line_law.proofs.RowLaws.{returns_stay}
 use Rattle.progress_law.proofs.LineLaws.{is_path}
@@ -25,7 +23,7 @@ use Rattle.terminal_law.proofs.SentLaws.{range-at, containers-size}
 use Rattle.terminal_law.proofs.RowLaws.{back-told}
 use Rattle.terminal_law.proofs.CellLaws.{is-line}
 use Rattle.terminal_law.proofs.LoopLaws.{next-cell}
-use Rattle.walk_law.specs.Walk.{sent_on, walk_plan, CanWalk, IsWalked, counts_at, popped_on, popped_cells}
+use Rattle.walk_law.specs.Walk.{sent_on, CanWalk, IsWalked, counts_at, popped_on, popped_cells}
 use Rattle.walk_law.specs.Rings.{delay_on, path_on, line_cells, all_lines, said_packet, back_cell, return_ring, inbox}
 use Rattle.walk_law.proofs.PlanLaws.{has-lines}
 use Rattle.walk_law.proofs.WalkLaws.{cells-decide}

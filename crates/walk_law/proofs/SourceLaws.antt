@@ -1,18 +1,17 @@
 -- What the source of a walk was told is the session's.
-use Rattle.std.proofs.Common.{◌≡◌, ℕ, suc, ◌+◌, ◌-◌, ◌*◌, ◌/◌, ◌<◌, ◌≤◌, List, [], ◌∷◌, map, filter, fold, take, length, Option, Some, None, option_map, refl, sym, ◌∙◌, ap, subst, arith}
+use Rattle.std.proofs.Common.{◌≡◌, ℕ, suc, ◌-◌, ◌/◌, ◌<◌, ◌≤◌, List, [], ◌∷◌, fold, take, length, Option, option_map, refl, sym, ◌∙◌, ap, arith}
 use Rattle.session_model.specs.declared.script.Item.{Item}
 use Rattle.session_model.specs.declared.script.ItemKind.{ItemKind}
 use Rattle.session_model.specs.declared.script.ItemKind.TheVariants.{Frame, Add, Remove}
 use Rattle.session_model.specs.declared.script.Script.{Script}
 use Rattle.session_model.specs.declared.table.Command.TheVariants.{Add as add, Remove as remove}
-use Rattle.session_model.specs.Scenario.{Scenario, Order, Offer, order_of, offer_of, orders_of, offers_of, scenario_of, steps_in, packets, lands_at, comes_at, orders_at, frames_at}
+use Rattle.session_model.specs.Scenario.{Scenario, Order, Offer, order_of, offer_of, orders_of, offers_of, scenario_of, steps_in, packets, orders_at, frames_at}
 use Rattle.session_model.specs.Table.{Told}
 use Rattle.session_model.specs.Source.{Source, asked_all, refusal, after, source_at}
 use Rattle.session_model.specs.Client.{Stream, frame_refusal, offered, stream_before}
 use Rattle.session_model.specs.Back.{session_cells}
 use Rattle.session_model.specs.Sent.{frame_of}
 use Rattle.session_model.specs.Counts.{Counts, used_in}
-use Rattle.report_text.specs.declared.report.Refusal.{Refusal}
 use Rattle.report_text.specs.declared.report.Refusal.TheVariants.{Frame as frame_fault, Command as command_fault}
 use Rattle.session_law.proofs.SessionLaws.{Agree-first}
 use Rattle.terminal_law.proofs.CourseLaws.{session-agree}

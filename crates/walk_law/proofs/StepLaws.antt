@@ -1,8 +1,8 @@
 -- The last decision step of a walk.
-use Rattle.std.proofs.Common.{◌≡◌, ℕ, suc, ◌+◌, ◌-◌, ◌*◌, ◌/◌, ◌%◌, ◌==◌, ◌<◌, ◌≤◌, nat_lt, if◌then◌else◌, true, false, inl, inr, Option, Some, None, refl, sym, ◌∙◌, ap, arith}
+use Rattle.std.proofs.Common.{◌≡◌, ℕ, suc, ◌+◌, ◌-◌, ◌*◌, ◌/◌, ◌%◌, ◌==◌, ◌<◌, ◌≤◌, nat_lt, if◌then◌else◌, true, inl, inr, Some, refl, ◌∙◌, ap, arith}
 use Rattle.std.proofs.lemmas.Bool.{eqb-true, lt-ltb, cases_Bool, cases_lt}
 use Rattle.session_model.specs.declared.script.Script.{Script}
-use Rattle.session_model.specs.Scenario.{scenario_of, steps_in, packets_in, orders_at}
+use Rattle.session_model.specs.Scenario.{steps_in, packets_in, orders_at}
 use Rattle.session_model.specs.Source.{Source, after, source_at}
 use Rattle.session_model.specs.Counts.{Counts, used_in}
 use Rattle.session_law.proofs.FeedbackLaws.{asked_all-table}

@@ -1,19 +1,17 @@
 -- For which line a Take waits.
-use Rattle.std.specs.Prelude.{IsSome, ◌↔◌, cond}
+use Rattle.std.specs.Prelude.{IsSome, ◌↔◌}
 use Rattle.std.proofs.Common.{◌≡◌, ℕ, zero, suc, ◌+◌, ◌<◌, ◌≤◌, nat_le, Bool, true, false, inl, inr, List, [], ◌∷◌, map, take, length, slice_get, slice_index_or, Option, Some, None, is_none, refl, sym, ◌∙◌, ap, ap₂, subst, arith}
 use Rattle.std.specs.List.{range_with_len, position_from}
 use Rattle.std.proofs.lemmas.Bool.{leb-true, leb-false, cases_Bool, cases_lt}
 use Rattle.std.proofs.lemmas.Option.{slice_get_within}
 use Rattle.vc_cell.specs.declared.Container.{Container}
 use Rattle.vc_cell.specs.declared.Cell.{Cell}
-use Rattle.session_model.specs.declared.window.Window.{Window}
 use Rattle.session_model.specs.declared.script.Script.{Script}
 use Rattle.session_model.specs.Number.{verdict}
 use Rattle.session_model.specs.Scenario.{scenario_of, carried_by}
 use Rattle.session_model.specs.Back.{session_cells}
 use Rattle.session_model.specs.Rows.{first_open}
 use Rattle.session_model.specs.Counts.{LinePath, LineCounts, popped_line, pop_lines}
-use Rattle.session_model.specs.Plan.{paths_of}
 use Rattle.progress_law.proofs.LineLaws.{is_decided}
 use Rattle.terminal_law.proofs.SentLaws.{containers-size}
 use Rattle.walk_law.specs.Walk.{sent_on, walk_plan, CanWalk, counts_at, popped_on, popped_cells}
@@ -44,8 +42,8 @@ map-from f all from (line ∷ lines) same =
     let next : from + 1 ≡ suc from = omega arith in
     ap₂ (λ own rest. own ∷ rest) (subst (λ m. f m ≡ take line.popped (all m)) here (same 0 (omega arith)))
     (ap (λ m. map f (range_with_len m (length lines))) next
-        ∙ map-from f all (suc from) lines
-        (λ k low. subst (λ m. f m ≡ take (slice_index_or lines k no_counts).popped (all m)) (let e : from + suc k ≡ suc from + k = omega arith in e) (same (suc k) (omega arith))))
+    ∙ map-from f all (suc from) lines
+    (λ k low. subst (λ m. f m ≡ take (slice_index_or lines k no_counts).popped (all m)) (let e : from + suc k ≡ suc from + k = omega arith in e) (same (suc k) (omega arith))))
 
 popped-list : (script : Script) (lines : List LineCounts) → length lines ≡ length script.config.windows →
     popped_cells script lines ≡ cells_from (line_cells script) 0 lines
@@ -90,7 +88,7 @@ first-waits t all m (path ∷ paths) (line ∷ lines) size decide =
           let told : is_none (verdict (take (popped_line path t line).popped (all m)) t) ≡ false =
           is-told (verdict (take y (all m)) t) ((decide.0 y).1 past) in
           rw (e, told) (ap (λ k. position_from (is_open t) k (cells_from all (suc m) (pop_lines t (suc m) paths lines).lines)) next
-              ∙ first-waits t all (suc m) paths lines (omega arith) decide.1)
+          ∙ first-waits t all (suc m) paths lines (omega arith) decide.1)
     ]
 
 decide-from : (t : ℕ) (all : ℕ → List Cell) (m : ℕ) (paths : List LinePath) →
@@ -127,11 +125,11 @@ take-waits script lines t can size low =
     ap (λ cells. first_open cells t) (popped-list script after (pop-size t 0 paths lines (size ∙ sym count) ∙ size))
     ∙ first-waits t (line_cells script) 0 paths lines (size ∙ sym count)
     (decide-from t (line_cells script) 0 paths (λ k path there y.
-        let inside = slice_get_within paths k path there in
-        let same : path_on script k ≡ path = some-same (path_on script k) path (sym (line-path script can k (omega arith)) ∙ there) in
-        let e : 0 + k ≡ k = omega arith in
-        subst (λ i. IsSome (verdict (take y (line_cells script i)) t) ↔ (t < path.decided y)) (sym e)
-        (subst (λ p. IsSome (verdict (take y (line_cells script k)) t) ↔ (t < p.decided y)) same (popped-decides script k y t low))))
+    let inside = slice_get_within paths k path there in
+    let same : path_on script k ≡ path = some-same (path_on script k) path (sym (line-path script can k (omega arith)) ∙ there) in
+    let e : 0 + k ≡ k = omega arith in
+    subst (λ i. IsSome (verdict (take y (line_cells script i)) t) ↔ (t < path.decided y)) (sym e)
+    (subst (λ p. IsSome (verdict (take y (line_cells script k)) t) ↔ (t < p.decided y)) same (popped-decides script k y t low))))
 
 -- ---- the first line whose cells don't decide a row, where those before it do
 told-line : (script : Script) (lines : List LineCounts) (i t : ℕ) → t < script.config.ticks → t < (path_on script i).decided (counts_at lines i).popped →
@@ -147,9 +145,9 @@ position-at test f from (suc n) (suc m) inside before here =
     let e : from + 0 ≡ from = omega arith in
     let first : test (f from) ≡ false = subst (λ i. test (f i) ≡ false) e (before 0 (omega arith)) in
     rw first (position-at test f (from + 1) n m (omega arith)
-        (λ i low. subst (λ k. test (f k) ≡ false) (let g : from + suc i ≡ from + 1 + i = omega arith in g) (before (suc i) (omega arith)))
-        (subst (λ k. test (f k) ≡ true) (let g : from + suc m ≡ from + 1 + m = omega arith in g) here)
-        ∙ ap Some (let g : from + 1 + m ≡ from + suc m = omega arith in g))
+    (λ i low. subst (λ k. test (f k) ≡ false) (let g : from + suc i ≡ from + 1 + i = omega arith in g) (before (suc i) (omega arith)))
+    (subst (λ k. test (f k) ≡ true) (let g : from + suc m ≡ from + 1 + m = omega arith in g) here)
+    ∙ ap Some (let g : from + 1 + m ≡ from + suc m = omega arith in g))
 
 position-none : (test : List Cell → Bool) (f : ℕ → List Cell) (from n : ℕ) → ((i : ℕ) → i < n → test (f (from + i)) ≡ false) →
     position_from test from (map f (range_with_len from n)) ≡ None
@@ -158,7 +156,7 @@ position-none test f from (suc n) before =
     let e : from + 0 ≡ from = omega arith in
     let first : test (f from) ≡ false = subst (λ i. test (f i) ≡ false) e (before 0 (omega arith)) in
     rw first (position-none test f (from + 1) n
-        (λ i low. subst (λ k. test (f k) ≡ false) (let g : from + suc i ≡ from + 1 + i = omega arith in g) (before (suc i) (omega arith))))
+    (λ i low. subst (λ k. test (f k) ≡ false) (let g : from + suc i ≡ from + 1 + i = omega arith in g) (before (suc i) (omega arith))))
 
 position-least : (test : List Cell → Bool) (f : ℕ → List Cell) (from n k : ℕ) → position_from test from (map f (range_with_len from n)) ≡ Some k → from ≤ k
 position-least test f from zero k is = absurd cc
@@ -181,7 +179,7 @@ position-past test f from (suc n) (suc m) k inside before is =
     let e : from + 0 ≡ from = omega arith in
     let first : test (f from) ≡ false = subst (λ i. test (f i) ≡ false) e (before 0 (omega arith)) in
     let rest = position-past test f (from + 1) n m k (omega arith)
-        (λ i low. subst (λ k. test (f k) ≡ false) (let g : from + suc i ≡ from + 1 + i = omega arith in g) (before (suc i) (omega arith))) (rw first at is) in
+    (λ i low. subst (λ k. test (f k) ≡ false) (let g : from + suc i ≡ from + 1 + i = omega arith in g) (before (suc i) (omega arith))) (rw first at is) in
     omega arith
 
 pub first-open : (script : Script) (lines : List LineCounts) (m t : ℕ) → length lines ≡ length script.config.windows → m < length lines → t < script.config.ticks →
@@ -203,7 +201,7 @@ first-open script lines m t size inside low before =
       λ late. position-at (is_open t) (popped_on script lines) 0 n m (omega arith)
           (λ i under. subst (λ k. is_open t (popped_on script lines k) ≡ false) (let g : i ≡ 0 + i = omega arith in g) (told i under))
           (subst (λ k. is_open t (popped_on script lines k) ≡ true) (let g : m ≡ 0 + m = omega arith in g)
-              (is-open (verdict (popped_on script lines m) t) (λ some. let past = (popped-decides script m y t low).0 some in omega arith)))
+          (is-open (verdict (popped_on script lines m) t) (λ some. let past = (popped-decides script m y t low).0 some in omega arith)))
           ∙ ap Some (let g : 0 + m ≡ m = omega arith in g),
     )
 

@@ -8,7 +8,6 @@ use Rattle.session_model.specs.declared.script.ItemKind.TheVariants.{Frame, Add,
 use Rattle.session_model.specs.declared.script.Script.{Script}
 use Rattle.session_model.specs.Piece.{Piece}
 use Rattle.session_model.specs.Scenario.{scenario_of}
-use Rattle.session_model.specs.Table.{Told}
 use Rattle.session_model.specs.Back.{session_cells}
 use Rattle.session_model.specs.Client.{place_of, stream_before}
 use Rattle.session_model.specs.SessionRows.{is_whole_row}

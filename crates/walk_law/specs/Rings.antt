@@ -1,5 +1,5 @@
 -- What the rings of a walk hold, by its counts.
-use Rattle.std.specs.Prelude.{ℕ, min, ◌-◌, ◌<◌, List, map, take, drop, length, slice_index_or}
+use Rattle.std.specs.Prelude.{ℕ, min, ◌<◌, List, map, take, drop, length, slice_index_or}
 use Rattle.std.specs.List.{range_with_len}
 use Rattle.vc_cell.specs.declared.Container.{Container}
 use Rattle.vc_cell.specs.declared.Cell.{Cell}

@@ -1,7 +1,6 @@
 -- What a return packet answers.
-use Rattle.std.proofs.Common.{ℕ, ◌<◌, List, Option, arith}
+use Rattle.std.proofs.Common.{◌<◌, arith}
 use Rattle.session_model.specs.Scenario.{Scenario, scenario_of, packets}
-use Rattle.session_model.specs.Table.{Told}
 use Rattle.session_model.specs.Back.{session_cells}
 use Rattle.session_law.proofs.SessionLaws.{session-law}
 use Rattle.session_law.proofs.FeedbackLaws.{feedback, same_lines}
