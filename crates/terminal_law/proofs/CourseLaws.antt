@@ -1,7 +1,7 @@
 -- Return cells that the sink made of what came, told to the source which made what came, are those of the session.
-use Rattle.std.proofs.Common.{◌≡◌, ℕ, zero, suc, ◌+◌, ◌-◌, ◌*◌, ◌/◌, ◌<◌, ◌≤◌, List, [], ◌∷◌, ◌++◌, map, take, length, slice_get, Option, Some, option_map, refl, sym, ◌∙◌, ap, arith}
+use Rattle.std.proofs.Common.{◌≡◌, ℕ, zero, suc, ◌+◌, ◌-◌, ◌*◌, ◌/◌, ◌<◌, ◌≤◌, List, [], ◌∷◌, ◌++◌, take, length, slice_get, Option, Some, option_map, refl, sym, ◌∙◌, ap, arith}
 use Rattle.std.specs.List.{range_with_len}
-use Rattle.std.proofs.lemmas.List.FromFn.{length-map-range_with_len, get_or-map-range_with_len, fill_by_all}
+use Rattle.std.proofs.lemmas.List.FromFn.{length-map-range_with_len}
 use Rattle.std.proofs.lemmas.List.{take_all, take-take}
 use Rattle.std.proofs.lemmas.Option.{slice_get-map}
 use Rattle.vc_cell.specs.declared.Cell.{Cell}
@@ -16,15 +16,9 @@ use Rattle.session_law.specs.Session.{AgreeBefore}
 use Rattle.session_law.proofs.SessionLaws.{return_cell-agree, Agree-take, cells_before-prefix}
 use Rattle.terminal_law.specs.Lines.{HasLines, ComesOf, ComeOf}
 use Rattle.terminal_law.specs.Course.{back_of, told_of, IsCourse}
-use Rattle.terminal_law.proofs.SentLaws.{range-at}
+use Rattle.terminal_law.proofs.ListLaws.{range-at, same-range}
 use Rattle.terminal_law.proofs.DealtLaws.{container-same}
 use Rattle.terminal_law.proofs.RowLaws.{back-told}
-
--- ---- lists
-pub same-range : {X : Type 0} (f g : ℕ → X) (n : ℕ) → ((k : ℕ) → k < n → f k ≡ g k) → map f (range_with_len 0 n) ≡ map g (range_with_len 0 n)
-same-range f g n same =
-    fill_by_all g (map f (range_with_len 0 n)) n (f 0) (length-map-range_with_len f 0 n)
-    (λ k low. get_or-map-range_with_len f 0 n k k (f 0) low (omega arith) ∙ same k low)
 
 -- lists of which the first cells are the same agree on fewer of them
 pub agree-sooner : (m n : ℕ) (a b : List (Option Told)) → m ≤ n → AgreeBefore n a b → AgreeBefore m a b

@@ -1,5 +1,5 @@
 -- The containers that the source makes: their H4 octets say their numbers and its packets.
-use Rattle.std.proofs.Common.{◌≡◌, ℕ, zero, suc, ◌+◌, ◌-◌, ◌*◌, ◌/◌, ◌%◌, ◌<◌, ◌≤◌, ◌==◌, nat_lt, true, false, if◌then◌else◌, inl, inr, List, [], ◌∷◌, map, filter, take, drop, length, slice_get, slice_index, Option, Some, option_map, refl, sym, ◌∙◌, ap, subst, arith, lit<}
+use Rattle.std.proofs.Common.{◌≡◌, ℕ, suc, ◌+◌, ◌-◌, ◌*◌, ◌/◌, ◌%◌, ◌<◌, ◌≤◌, ◌==◌, nat_lt, true, false, if◌then◌else◌, inl, inr, List, [], ◌∷◌, map, filter, take, drop, length, slice_get, slice_index, Option, Some, option_map, refl, sym, ◌∙◌, ap, subst, arith, lit<}
 use Rattle.std.specs.List.{range_with_len, list_any}
 use Rattle.std.proofs.lemmas.Bool.{cases_Bool, ltb-true, ltb-false}
 use Rattle.std.proofs.lemmas.List.{length-map, drop-map}
@@ -16,6 +16,7 @@ use Rattle.session_model.specs.Forward.{ctrl_by, place_in, forward_packet}
 use Rattle.session_model.specs.Line.{HasPlace, AreSent, sent_nibbles}
 use Rattle.session_model.specs.Sent.{nibble_in, nibble_at, container_of, containers_of}
 use Rattle.session_law.proofs.PlanLaws.{order-length}
+use Rattle.terminal_law.proofs.ListLaws.{range-at, drop-range, map-part}
 
 -- ---- a packet that goes forward is one of octets
 place-sq : (order : List Member) (sq line : ℕ) → sq + length order ≤ 256 → (place_in order sq line).sq < 256
@@ -102,11 +103,6 @@ module _ (scenario : Scenario) (returns : List (Option Told)) (limit : length sc
       }
 
 -- ---- the list of them
-pub range-at : (a n k : ℕ) → k < n → slice_get (range_with_len a n) k ≡ Some (a + k)
-range-at a zero k low = absurd (omega arith)
-range-at a (suc n) zero low = ap Some (let e : a ≡ a + 0 = omega arith in e)
-range-at a (suc n) (suc k) low = range-at (a + 1) n k (omega arith) ∙ ap Some (let e : a + 1 + k ≡ a + suc k = omega arith in e)
-
 pub container-at : (scenario : Scenario) (returns : List (Option Told)) (line frames t : ℕ) → t < frames →
     slice_get (containers_of scenario returns line frames) t ≡ Some (container_of scenario returns line t)
 container-at scenario returns line frames t low =
@@ -126,14 +122,6 @@ are-sent scenario returns line frames limit n container here =
     subst (λ (c : Container). HasPlace n c.h4) same (place-of scenario returns limit line n)
 
 -- ---- the nibbles of a packet
-drop-range : (a m n : ℕ) → drop m (range_with_len a n) ≡ range_with_len (a + m) (n - m)
-drop-range a zero n = (let e : a ≡ a + 0 = omega arith in ap (λ b. range_with_len b n) e) ∙ (let e : n ≡ n - 0 = omega arith in ap (range_with_len (a + 0)) e)
-drop-range a (suc m) zero = let e : 0 ≡ 0 - suc m = omega arith in ap (range_with_len (a + suc m)) e
-drop-range a (suc m) (suc n) =
-    drop-range (a + 1) m n
-    ∙ (let e : a + 1 + m ≡ a + suc m = omega arith in ap (λ b. range_with_len b (n - m)) e)
-    ∙ (let e : n - m ≡ suc n - suc m = omega arith in ap (range_with_len (a + suc m)) e)
-
 -- a part of the containers
 containers-part : (scenario : Scenario) (returns : List (Option Told)) (line frames from count : ℕ) → from + count ≤ frames →
     take count (drop from (containers_of scenario returns line frames)) ≡ map (container_of scenario returns line) (range_with_len from count)
@@ -142,15 +130,6 @@ containers-part scenario returns line frames from count fits =
     let e : 0 + from ≡ from = omega arith in
     ap (take count) (drop-map f from (range_with_len 0 frames) ∙ ap (map f) (drop-range 0 from frames ∙ ap (λ b. range_with_len b (frames - from)) e))
     ∙ take-map-range_with_len f from (frames - from) count (omega arith)
-
-map-part : {X : Type 0} (f : ℕ → Container) (g : Container → X) (h : ℕ → X) (a b n : ℕ) → ((i : ℕ) → i < n → g (f (a + i)) ≡ h (b + i)) →
-    map g (map f (range_with_len a n)) ≡ map h (range_with_len b n)
-map-part f g h a b zero same = refl
-map-part f g h a b (suc n) same =
-    let here : g (f a) ≡ h b = (let e : a ≡ a + 0 = omega arith in ap (λ i. g (f i)) e) ∙ same 0 (omega arith) ∙ (let e : b + 0 ≡ b = omega arith in ap h e) in
-    ap (λ x. x ∷ map g (map f (range_with_len (a + 1) n))) here
-    ∙ ap (λ l. h b ∷ l) (map-part f g h (a + 1) (b + 1) n (λ i low.
-    (let e : a + 1 + i ≡ a + suc i = omega arith in ap (λ i. g (f i)) e) ∙ same (suc i) (omega arith) ∙ (let e : b + suc i ≡ b + 1 + i = omega arith in ap h e)))
 
 pub packet-nibbles : (scenario : Scenario) (returns : List (Option Told)) (line frames k : ℕ) → length scenario.windows ≤ 128 → 16 * k + 23 < frames →
     sent_nibbles (containers_of scenario returns line frames) k ≡ packet_nibbles (forward_packet (table_of scenario returns k) line k)

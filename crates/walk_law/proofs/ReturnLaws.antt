@@ -19,12 +19,13 @@ use Rattle.line_law.specs.StableRows.{IsLonger, AreDecidedAt}
 use Rattle.line_law.proofs.RowLaws.{returns_stay}
 use Rattle.progress_law.proofs.LineLaws.{is_path}
 use Rattle.terminal_law.specs.Lines.{ComesOf, ComeOf}
-use Rattle.terminal_law.proofs.SentLaws.{range-at, containers-size}
+use Rattle.terminal_law.proofs.SentLaws.{containers-size}
+use Rattle.terminal_law.proofs.ListLaws.{range-at}
 use Rattle.terminal_law.proofs.RowLaws.{back-told}
 use Rattle.terminal_law.proofs.CellLaws.{is-line}
 use Rattle.terminal_law.proofs.LoopLaws.{next-cell}
-use Rattle.walk_law.specs.Walk.{sent_on, CanWalk, IsWalked, counts_at, popped_on, popped_cells}
-use Rattle.walk_law.specs.Rings.{delay_on, path_on, line_cells, all_lines, said_packet, back_cell, return_ring, inbox}
+use Rattle.walk_law.specs.Walk.{sent_on, CanWalk, IsWalked, counts_at, popped_on, popped_cells, path_on}
+use Rattle.walk_law.specs.Rings.{delay_on, line_cells, all_lines, said_packet, back_cell, return_ring, inbox}
 use Rattle.walk_law.proofs.PlanLaws.{has-lines}
 use Rattle.walk_law.proofs.WalkLaws.{cells-decide}
 use Rattle.walk_law.proofs.WaitLaws.{popped-decides}

@@ -17,8 +17,8 @@ use Rattle.line_law.proofs.StableLaws.{cells-part}
 use Rattle.progress_law.specs.Progress.{Each}
 use Rattle.terminal_law.proofs.SentLaws.{container-at, containers-size}
 use Rattle.terminal_law.proofs.CellLaws.{given-whole}
-use Rattle.walk_law.specs.Walk.{sent_on, walk_plan, CanWalk, IsWalked}
-use Rattle.walk_law.specs.Rings.{delay_on, path_on, line_cells, sent_at, taken_by, cells_by, send_by, receive_by}
+use Rattle.walk_law.specs.Walk.{sent_on, walk_plan, CanWalk, IsWalked, path_on}
+use Rattle.walk_law.specs.Rings.{delay_on, line_cells, sent_at, taken_by, cells_by, send_by, receive_by}
 use Rattle.walk_law.proofs.PlanLaws.{has-paths}
 use Rattle.walk_law.proofs.WalkLaws.{fits}
 
@@ -127,13 +127,6 @@ module _ (script : Script) (line : ℕ) where
       let all = size in
       let (more, e) = cells-part (carried_by (scenario_of script) line) (delay_on script line) (sent_on (scenario_of script) line) x (length (sent_on (scenario_of script) line) + delay_on script line + 1) (omega arith) in
       (more, e ∙ ap (λ n. cells (carried_by (scenario_of script) line) (delay_on script line) n (sent_on (scenario_of script) line) x ++ more) all)
-
-  pub first-cells : (x y : ℕ) → x ≤ script.config.ticks + delay_on script line + 1 → y ≤ (path_on script line).given x →
-      take y (line_cells script line) ≡ take y (cells_by script line x)
-  first-cells x y low inside =
-      let (more, e) = all-cells x low in
-      let long = given-cells x in
-      ap (take y) e ∙ take-append-le y (cells_by script line x) more (subst (λ n. y ≤ n) (sym long) inside)
 
   pub popped-next : (x y : ℕ) (cell : Cell) (rest : List Cell) → x ≤ script.config.ticks + delay_on script line + 1 → receive_by script line x y ≡ cell ∷ rest →
       take (y + 1) (line_cells script line) ≡ take y (line_cells script line) ++ cell ∷ []

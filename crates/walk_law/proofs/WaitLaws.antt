@@ -14,8 +14,8 @@ use Rattle.session_model.specs.Rows.{first_open}
 use Rattle.session_model.specs.Counts.{LinePath, LineCounts, popped_line, pop_lines}
 use Rattle.progress_law.proofs.LineLaws.{is_decided}
 use Rattle.terminal_law.proofs.SentLaws.{containers-size}
-use Rattle.walk_law.specs.Walk.{sent_on, walk_plan, CanWalk, counts_at, popped_on, popped_cells}
-use Rattle.walk_law.specs.Rings.{delay_on, path_on, line_cells, AreDecidedBefore}
+use Rattle.walk_law.specs.Walk.{sent_on, walk_plan, CanWalk, counts_at, popped_on, popped_cells, path_on}
+use Rattle.walk_law.specs.Rings.{delay_on, line_cells, AreDecidedBefore}
 use Rattle.walk_law.proofs.PlanLaws.{has-paths, line-path}
 
 pub popped-decides : (script : Script) (line y t : ℕ) → t < script.config.ticks →

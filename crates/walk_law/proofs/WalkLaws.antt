@@ -1,6 +1,7 @@
 -- What the counts of a walk say of the cells that were popped.
-use Rattle.std.specs.Prelude.{IsSome}
-use Rattle.std.proofs.Common.{◌≡◌, ℕ, zero, suc, ◌+◌, ◌-◌, ◌*◌, ◌/◌, ◌<◌, ◌≤◌, if◌then◌else◌, List, [], ◌∷◌, ◌++◌, map, take, drop, length, slice_get, slice_index_or, Option, Some, None, option_map, refl, sym, ◌∙◌, ap, subst, arith}
+use Rattle.std.specs.Prelude.{IsSome, ◌↔◌, nat_le, is_none, false, true}
+use Rattle.std.proofs.lemmas.Bool.{cases_lt, le-leb, lt-leb}
+use Rattle.std.proofs.Common.{inl, inr, ◌≡◌, ℕ, zero, suc, ◌+◌, ◌-◌, ◌*◌, ◌/◌, ◌<◌, ◌≤◌, if◌then◌else◌, List, [], ◌∷◌, ◌++◌, map, take, drop, length, slice_get, slice_index_or, Option, Some, None, option_map, refl, sym, ◌∙◌, ap, subst, arith}
 use Rattle.std.specs.List.{range_with_len}
 use Rattle.std.proofs.lemmas.List.{take-append-drop, take-append-le}
 use Rattle.std.proofs.lemmas.List.FromFn.{length-map-range_with_len, map-range_with_len_more}
@@ -12,9 +13,11 @@ use Rattle.session_model.specs.declared.script.Script.{Script}
 use Rattle.session_model.specs.declared.walk.Event.{Event}
 use Rattle.session_model.specs.Path.{cells}
 use Rattle.session_model.specs.Number.{verdict}
-use Rattle.session_model.specs.Scenario.{Scenario, scenario_of, carried_by, packets_in}
+use Rattle.session_model.specs.Scenario.{Scenario, scenario_of, carried_by, packets_in, packets, steps_in}
 use Rattle.session_model.specs.Table.{Told}
 use Rattle.session_model.specs.Told.{told_in}
+use Rattle.session_model.specs.Source.{after}
+use Rattle.session_model.specs.Client.{stream_before}
 use Rattle.session_model.specs.Back.{cells_before, session_cells}
 use Rattle.session_model.specs.Payload.{payload_of}
 use Rattle.session_model.specs.Rows.{row_at}
@@ -30,12 +33,13 @@ use Rattle.progress_law.proofs.MoveLaws.{reached-fits}
 use Rattle.progress_law.proofs.ReachLaws.{run-none, Leads-then, Leads-drain}
 use Rattle.terminal_law.specs.Lines.{given, ComesOf, ComeOf}
 use Rattle.terminal_law.specs.Course.{back_of, told_of, IsCourse}
-use Rattle.terminal_law.proofs.SentLaws.{range-at, containers-size}
+use Rattle.terminal_law.proofs.SentLaws.{containers-size}
+use Rattle.terminal_law.proofs.ListLaws.{range-at}
 use Rattle.terminal_law.proofs.CellLaws.{given-whole}
 use Rattle.terminal_law.proofs.RowLaws.{row-told}
 use Rattle.terminal_law.proofs.CourseLaws.{session-agree, come-same}
-use Rattle.terminal_law.proofs.LoopLaws.{frame-same, next-cell}
-use Rattle.walk_law.specs.Walk.{sent_on, walk_plan, CanWalk, IsWalked, counts_at, popped_on, popped_cells}
+use Rattle.terminal_law.proofs.LoopLaws.{frame-same, source-same, stream-same, next-cell}
+use Rattle.walk_law.specs.Walk.{sent_on, walk_plan, CanWalk, IsWalked, counts_at, cells_on, popped_on, popped_cells, path_on}
 use Rattle.walk_law.proofs.PlanLaws.{has-lines, has-plan, line-path}
 
 each-there : (P : LinePath → LineCounts → Type 0) (paths : List LinePath) (lines : List LineCounts) (m : ℕ) (path : LinePath) (d : LineCounts) → Each P paths lines →
@@ -54,6 +58,37 @@ first-given : (carries : ℕ → Carried) (delay : ℕ) (containers : List Conta
 first-given carries delay containers x y low fits =
     let (more, e) = cells-part carries delay containers x (length containers + delay + 1) low in
     ap (take y) e ∙ take-append-le y (cells carries delay (length containers) containers x) more fits
+
+-- ---- a line that doesn't decide a row
+open-or : (v : Option (Option Container)) (d t : ℕ) → (IsSome v ↔ (t < d)) → is_none v ≡ nat_le d t
+open-or None d t same = elim (cases_lt t d) [
+  | inl low ↦ absurd (let e : false ≡ true = same.1 low in cc)
+  | inr high ↦ sym (le-leb d t high)
+]
+open-or (Some told) d t same = let low = same.0 refl in sym (lt-leb d t low)
+
+pub line-open : (script : Script) (lines : List LineCounts) (line t : ℕ) → t < script.config.ticks →
+    is_none (verdict (popped_on script lines line) t) ≡ nat_le ((path_on script line).decided (counts_at lines line).popped) t
+line-open script lines line t low =
+    let scenario : Scenario = scenario_of script in
+    let delay : ℕ = slice_index_or script.config.delays line 0 in
+    let y : ℕ = (counts_at lines line).popped in
+    let size : length (sent_on scenario line) ≡ script.config.ticks = containers-size scenario (session_cells scenario) line scenario.ticks in
+    open-or (verdict (popped_on script lines line) t) ((path_on script line).decided y) t
+    (is_decided (carried_by scenario line) (sent_on scenario line) delay y t (omega arith))
+
+-- the first cells of a line are those that its carries give
+pub line-first : (script : Script) (line carries popped : ℕ) → carries ≤ script.config.ticks + (path_on script line).delay + 1 →
+    popped ≤ (path_on script line).given carries →
+    take popped (cells_on (scenario_of script) (path_on script line).delay line)
+    ≡ take popped (given (scenario_of script) (session_cells (scenario_of script)) line script.config.ticks (path_on script line).delay carries)
+line-first script line carries popped low fits =
+    let scenario : Scenario = scenario_of script in
+    let containers : List Container = sent_on scenario line in
+    let delay : ℕ = slice_index_or script.config.delays line 0 in
+    let size : length containers ≡ script.config.ticks = containers-size scenario (session_cells scenario) line scenario.ticks in
+    first-given (carried_by scenario line) delay containers carries popped (omega arith) fits
+    ∙ ap (λ n. take popped (cells (carried_by scenario line) delay n containers carries)) size
 
 module _ (script : Script) (s : Counts) (can : CanWalk script) (walked : IsWalked script s) where
   abbrev scenario : Scenario
@@ -150,6 +185,15 @@ module _ (script : Script) (s : Counts) (can : CanWalk script) (walked : IsWalke
   frames-are t low =
       let used = fits.used in
       frame-same scenario s.backs s.ticks t (few-packets s.rows script.config.ticks s.backs fits.rows fits.backs) (omega arith) low
+
+  few : s.backs ≤ packets scenario
+  few = few-packets s.rows script.config.ticks s.backs fits.rows fits.backs
+
+  pub sources-are : (j : ℕ) → j ≤ steps_in s.ticks → after scenario (cells_before scenario s.backs) j ≡ after scenario session j
+  sources-are j low = let used = fits.used in source-same scenario s.backs s.ticks j few (omega arith) low
+
+  pub streams-are : (t : ℕ) → t ≤ s.ticks → stream_before scenario (cells_before scenario s.backs) t ≡ stream_before scenario session t
+  streams-are t low = let used = fits.used in stream-same scenario s.backs s.ticks t few (omega arith) low
 
   told-first : (n : ℕ) → n ≤ s.backs → told_of scenario (popped_cells script s.lines) n ≡ cells_before scenario n
   unfolding cells_before

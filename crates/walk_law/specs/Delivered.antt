@@ -2,14 +2,14 @@
 use Rattle.std.specs.Prelude.{◌≡◌, ℕ, false, List, Option, Some, None}
 use Rattle.session_model.specs.declared.script.Script.{Script}
 use Rattle.session_model.specs.Scenario.{scenario_of}
-use Rattle.session_model.specs.Back.{session_cells}
 use Rattle.session_model.specs.Segment.{StreamRow, deliver}
 use Rattle.session_model.specs.SessionStream.{rows_of}
 use Rattle.loss_law.specs.Added.{whole_row}
+use Rattle.walk_law.specs.Walk.{session_of}
 
 -- the first rows
 abbrev pub session_rows : Script → ℕ → List StreamRow
-session_rows script rows = rows_of (scenario_of script) (session_cells (scenario_of script)) rows
+session_rows script rows = rows_of (scenario_of script) (session_of script) rows
 
 -- the frames that are delivered of them
 abbrev pub delivered_of : Script → ℕ → List (List ℕ)

@@ -11,11 +11,11 @@ use Rattle.session_model.specs.Journal.{with_items}
 use Rattle.session_model.specs.Table.{Told}
 use Rattle.session_model.specs.Source.{Source, after, asked_all, refusal}
 use Rattle.session_model.specs.Client.{Stream, frame_refusal, offered, stream_before}
-use Rattle.session_model.specs.Back.{cells_before, session_cells}
 use Rattle.session_model.specs.Counts.{Counts, used_in}
 use Rattle.report_text.specs.declared.report.Refusal.{Refusal}
 use Rattle.report_text.specs.declared.report.Refusal.TheVariants.{Frame as frame_fault, Command as command_fault}
 use Rattle.report_text.specs.declared.report.Totals.{Totals}
+use Rattle.walk_law.specs.Walk.{session_of, told_first}
 use Rattle.walk_law.specs.Delivered.{delivered_of}
 
 -- ---- the items that have landed
@@ -52,7 +52,7 @@ landed_scenario script s =
 
 -- the return cells that the decision steps of some ticks have taken
 abbrev pub told_before : Script → ℕ → List (Option Told)
-told_before script ticks = cells_before (scenario_of script) (used_in script.config.lag ticks)
+told_before script ticks = told_first script (used_in script.config.lag ticks)
 
 -- an item of a list is this offer, and so many offers are before it; or this order, and so many orders
 pub record IsOfferAt (items : List Item) (count : ℕ) (item : Numbered) (offer : Offer) : Type 0 where
@@ -89,7 +89,7 @@ kind_refusal scenario cells due earlier (Remove line) =
 -- why an item of a script is
 abbrev pub refusal_at : Script → Numbered → Option Refusal
 refusal_at script item =
-    kind_refusal (scenario_of script) (session_cells (scenario_of script)) item.item.due (take item.number script.items) item.item.kind
+    kind_refusal (scenario_of script) (session_of script) item.item.due (take item.number script.items) item.item.kind
 
 abbrev pub refused_by : ℕ → Option Refusal → List (ℕ × Refusal)
 refused_by number None = []

@@ -8,7 +8,6 @@ use Rattle.session_model.specs.declared.script.ItemKind.TheVariants.{Frame, Add,
 use Rattle.session_model.specs.declared.script.Script.{Script}
 use Rattle.session_model.specs.Piece.{Piece}
 use Rattle.session_model.specs.Scenario.{scenario_of}
-use Rattle.session_model.specs.Back.{session_cells}
 use Rattle.session_model.specs.Client.{place_of, stream_before}
 use Rattle.session_model.specs.SessionRows.{is_whole_row}
 use Rattle.session_model.specs.Counts.{Counts, bound, drain}
@@ -16,7 +15,7 @@ use Rattle.session_model.specs.Loss.{Extent, extents, TrueStarts}
 use Rattle.session_law.specs.Use.{IsInUse}
 use Rattle.loss_law.specs.Carried.{AreOctets}
 use Rattle.report_text.specs.declared.report.Refusal.{Refusal}
-use Rattle.walk_law.specs.Walk.{walk_plan}
+use Rattle.walk_law.specs.Walk.{session_of, walk_plan}
 use Rattle.walk_law.specs.Delivered.{session_rows}
 use Rattle.walk_law.specs.Landed.{Numbered, refusal_at}
 use Rattle.walk_law.specs.Step.{table_in}
@@ -42,7 +41,7 @@ accepted_frames script = flat_map (λ item. frame_by (refusal_at script item) it
 -- the stream of the session in pieces
 abbrev pub session_pieces : Script → List Piece
 session_pieces script =
-    (stream_before (scenario_of script) (session_cells (scenario_of script)) script.config.ticks).pieces
+    (stream_before (scenario_of script) (session_of script) script.config.ticks).pieces
 
 -- its client frames, with the places at which their pieces begin and end
 abbrev pub session_extents : Script → List Extent
@@ -51,11 +50,11 @@ session_extents script = extents 0 (session_pieces script)
 -- the frames that still wait when all ticks are made
 abbrev pub session_waiting : Script → List (List ℕ)
 session_waiting script =
-    (stream_before (scenario_of script) (session_cells (scenario_of script)) script.config.ticks).waiting
+    (stream_before (scenario_of script) (session_of script) script.config.ticks).waiting
 
 -- the place of the stream at which some rows end
 abbrev pub place_after : Script → ℕ → ℕ
-place_after script rows = place_of (scenario_of script) (session_cells (scenario_of script)) rows
+place_after script rows = place_of (scenario_of script) (session_of script) rows
 
 -- ---- premises
 -- frames are octets
@@ -76,7 +75,7 @@ row_from t = 16 * ((t - 24) / 16)
 
 -- the first rows are whole
 abbrev pub AreWholeBefore : Script → ℕ → Type 0
-AreWholeBefore script rows = (t : ℕ) → t < rows → is_whole_row (scenario_of script) (session_cells (scenario_of script)) t ≡ true
+AreWholeBefore script rows = (t : ℕ) → t < rows → is_whole_row (scenario_of script) (session_of script) t ≡ true
 
 -- what is confirmed first after each break in some rows is the place of a piece
 abbrev pub ConfirmsTrue : Script → ℕ → Type 0

@@ -8,21 +8,16 @@ use Rattle.session_model.specs.declared.packet.Packet.{Packet}
 use Rattle.session_model.specs.declared.script.Script.{Script}
 use Rattle.session_model.specs.Path.{cells}
 use Rattle.session_model.specs.Scenario.{scenario_of, carried_by}
-use Rattle.session_model.specs.Back.{session_cells}
 use Rattle.session_model.specs.Sent.{container_of}
 use Rattle.session_model.specs.Rows.{return_at}
-use Rattle.session_model.specs.Counts.{LinePath, LineCounts, Counts, in_return, used_in, in_inbox}
-use Rattle.session_model.specs.Plan.{path_of}
+use Rattle.session_model.specs.Counts.{LineCounts, Counts, in_return, used_in, in_inbox}
 use Rattle.terminal_law.specs.Course.{back_of}
-use Rattle.walk_law.specs.Walk.{sent_on, walk_plan, counts_at, cells_on}
+use Rattle.walk_law.specs.Walk.{session_of, sent_on, walk_plan, counts_at, cells_on, path_on}
 
 -- ---- a line, by its numbers
--- its delay, its path in numbers, and all its cells
+-- its delay, and all its cells
 abbrev pub delay_on : Script → ℕ → ℕ
 delay_on script line = slice_index_or script.config.delays line 0
-
-abbrev pub path_on : Script → ℕ → LinePath
-path_on script line = path_of (carried_by (scenario_of script) line) (delay_on script line) (sent_on (scenario_of script) line)
 
 abbrev pub line_cells : Script → ℕ → List Cell
 line_cells script line = cells_on (scenario_of script) (delay_on script line) line
@@ -33,7 +28,7 @@ AreDecidedBefore script lines m t = (i : ℕ) → i < m → t < (path_on script 
 
 -- the container that it is sent in frame t
 abbrev pub sent_at : Script → ℕ → ℕ → Container
-sent_at script line t = container_of (scenario_of script) (session_cells (scenario_of script)) line t
+sent_at script line t = container_of (scenario_of script) (session_of script) line t
 
 -- the containers that its first carries take
 abbrev pub taken_by : Script → ℕ → ℕ → List Container

@@ -5,7 +5,7 @@ use Rattle.session_model.specs.declared.script.Script.{Script}
 use Rattle.session_model.specs.Scenario.{scenario_of, steps_in}
 use Rattle.session_model.specs.Table.{Table}
 use Rattle.session_model.specs.Source.{after}
-use Rattle.session_model.specs.Back.{session_cells}
+use Rattle.walk_law.specs.Walk.{session_of}
 use Rattle.walk_law.specs.Rings.{back_cell}
 
 -- the number of the last decision step of some ticks, where one was made: that of the packet which it began
@@ -18,4 +18,4 @@ cell_taken script j = if nat_le script.config.lag j then Some (back_cell script 
 
 -- the source's table after the decision steps of some ticks
 abbrev pub table_in : Script → ℕ → Table
-table_in script ticks = (after (scenario_of script) (session_cells (scenario_of script)) (steps_in ticks)).table
+table_in script ticks = (after (scenario_of script) (session_of script) (steps_in ticks)).table

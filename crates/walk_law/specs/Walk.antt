@@ -1,5 +1,5 @@
 -- A walk of a script: its counts, and the cells that they speak of.
-use Rattle.std.specs.Prelude.{◌≡◌, ℕ, ◌<◌, ◌≤◌, List, map, take, length, slice_index_or, All}
+use Rattle.std.specs.Prelude.{◌≡◌, ℕ, ◌<◌, ◌≤◌, List, map, take, length, slice_index_or, All, Option}
 use Rattle.std.specs.List.{range_with_len}
 use Rattle.std.specs.List.Sorted.{IsNonDecreasing}
 use Rattle.vc_cell.specs.declared.Container.{Container}
@@ -7,11 +7,20 @@ use Rattle.vc_cell.specs.declared.Cell.{Cell}
 use Rattle.session_model.specs.declared.script.Script.{Script}
 use Rattle.session_model.specs.Damage.{AreWindows}
 use Rattle.session_model.specs.Scenario.{Scenario, scenario_of, carried_by}
-use Rattle.session_model.specs.Back.{session_cells}
+use Rattle.session_model.specs.Table.{Told}
+use Rattle.session_model.specs.Back.{cells_before, session_cells}
 use Rattle.session_model.specs.Sent.{containers_of}
-use Rattle.session_model.specs.Counts.{Plan, LineCounts, Counts, frame_dues, command_dues, dues_of}
-use Rattle.session_model.specs.Plan.{all_cells, plan_of, FitsRing, FitsLag}
+use Rattle.session_model.specs.Counts.{LinePath, Plan, LineCounts, Counts, frame_dues, command_dues, dues_of}
+use Rattle.session_model.specs.Plan.{all_cells, path_of, plan_of, FitsRing, FitsLag}
 use Rattle.progress_law.specs.Progress.{IsReached}
+
+-- ---- the session of a script
+-- its return cells, and the first of them
+abbrev pub session_of : Script → List (Option Told)
+session_of script = session_cells (scenario_of script)
+
+abbrev pub told_first : Script → ℕ → List (Option Told)
+told_first script n = cells_before (scenario_of script) n
 
 -- ---- the walk in numbers
 -- the containers of a line of a session
@@ -27,7 +36,7 @@ abbrev pub walk_plan : Script → Plan
 walk_plan script = plan_of script.config script.items (sent_of (scenario_of script))
 
 -- ---- what is asked of a script: one line at least and at most 128, each with a delay, and with windows in order and apart; due ticks
--- that never fall; and rings that fit
+-- that never fall; and rings that fit. A valid script has all that
 pub record CanWalk (script : Script) : Type 0 where
   pub some : 0 < length script.config.windows
   pub few : length script.config.windows ≤ 128
@@ -60,3 +69,8 @@ popped_on script lines line =
 -- and of each line
 abbrev pub popped_cells : Script → List LineCounts → List (List Cell)
 popped_cells script lines = map (popped_on script lines) (range_with_len 0 (length script.config.windows))
+
+-- ---- a line in numbers: how many cells its carries give, and how many numbers its first cells decide
+abbrev pub path_on : Script → ℕ → LinePath
+path_on script line =
+    path_of (carried_by (scenario_of script) line) (slice_index_or script.config.delays line 0) (sent_on (scenario_of script) line)

@@ -4,7 +4,7 @@
 //! counts.
 #![tactic(auto)]
 
-ghost use Rattle.std.specs.Prelude.{◌≡◌, ◌↔◌, ℕ, Bool, true, ◌+◌, ◌-◌, ◌*◌, ◌/◌, ◌%◌, ◌<◌, ◌≤◌, ◌==◌, ◌&&◌, nat_le, nat_lt, min, if◌then◌else◌, List, [], ◌∷◌, ◌++◌, map, fold, length, take, drop, slice_get, slice_index_or, Option, Some, None, IsSome, option_map};
+ghost use Rattle.std.specs.Prelude.{◌≡◌, ◌↔◌, ℕ, Bool, true, ◌+◌, ◌-◌, ◌*◌, ◌/◌, ◌%◌, ◌<◌, ◌≤◌, ◌==◌, ◌&&◌, nat_le, nat_lt, min, if◌then◌else◌, List, [], ◌∷◌, ◌++◌, map, fold, length, take, drop, slice_get, slice_index_or, Option, Some, None, is_none, IsSome, option_map};
 ghost use Rattle.std.specs.List.{range_with_len};
 ghost use Rattle.vc_cell.specs.declared.Cell.{Cell};
 ghost use Rattle.session_model.specs.declared.window.Window.{Window};
@@ -19,7 +19,7 @@ ghost use Rattle.session_model.specs.Valid.{IsValid};
 ghost use Rattle.session_model.specs.Scenario.{Order, Offer, orders_of, offers_of, scenario_of, carried_by, steps_in, orders_at, frames_at, packets_in};
 ghost use Rattle.session_model.specs.Source.{refusal, after, source_at, told_at};
 ghost use Rattle.session_model.specs.Client.{frame_refusal, offered, stream_before};
-ghost use Rattle.session_model.specs.Back.{return_cell, cells_before, session_cells};
+ghost use Rattle.session_model.specs.Back.{return_cell};
 ghost use Rattle.session_model.specs.Told.{told_in};
 ghost use Rattle.session_model.specs.Piece.{frames_by};
 ghost use Rattle.session_model.specs.Segment.{StreamRow, segments, deliver};
@@ -37,8 +37,8 @@ ghost use Rattle.session_law.specs.Feedback.{Takes, Acknowledges, TellsOf, SameL
 ghost use Rattle.session_law.specs.Use.{AddsUndamaged, AddsAmongSilent};
 ghost use Rattle.terminal_law.specs.Lines.{HasLines, ComeOf};
 ghost use Rattle.terminal_law.specs.Course.{told_of, IsCourse};
-ghost use Rattle.walk_law.specs.Walk.{walk_plan, CanWalk, IsWalked, counts_at, popped_cells};
-ghost use Rattle.walk_law.specs.Rings.{delay_on, path_on, line_cells, AreDecidedBefore, sent_at, taken_by, cells_by, send_by, receive_by, all_lines, said_packet, back_cell, return_ring, inbox};
+ghost use Rattle.walk_law.specs.Walk.{session_of, told_first, walk_plan, CanWalk, IsWalked, counts_at, popped_on, popped_cells, path_on};
+ghost use Rattle.walk_law.specs.Rings.{delay_on, line_cells, AreDecidedBefore, sent_at, taken_by, cells_by, send_by, receive_by, all_lines, said_packet, back_cell, return_ring, inbox};
 ghost use Rattle.walk_law.specs.Delivered.{session_rows, delivered_of, IsReceived};
 ghost use Rattle.walk_law.specs.Step.{last_packet, table_in};
 ghost use Rattle.walk_law.specs.Worked.{worked_script, three_landed, at_the_end, first_refusals, all_refusals, first_totals, all_totals, two_frames};
@@ -52,9 +52,21 @@ pub fn plan_law()
     ensures valid { (script : Script) → IsValid script → CanWalk script }
     ensures paths { (script : Script) → CanWalk script →
         length (walk_plan script).paths ≡ length script.config.windows }
+{}
+
+/// A line of a script's walk in numbers, beside its cells: the first cells of all that it gives are those that some carries give, where
+/// these give as many; and where the sink has popped some, a row is open exactly where the numbers that these cells decide don't reach it.
+pub fn line_law()
     ensures path { (script : Script) (line : ℕ) → CanWalk script →
         line < length script.config.windows →
         slice_get (walk_plan script).paths line ≡ Some (path_on script line) }
+    ensures first { (script : Script) (line carries popped : ℕ) →
+        carries ≤ script.config.ticks + (path_on script line).delay + 1 →
+        popped ≤ (path_on script line).given carries →
+        take popped (line_cells script line) ≡ take popped (cells_by script line carries) }
+    ensures open { (script : Script) (lines : List LineCounts) (line t : ℕ) →
+        t < script.config.ticks → is_none (verdict (popped_on script lines line) t)
+        ≡ nat_le ((path_on script line).decided (counts_at lines line).popped) t }
 {}
 
 /// The rings of a line by its numbers: after any list of events these are within their bounds; and one tick, one carry or one cell
@@ -89,9 +101,6 @@ pub fn ring_law()
         x ≤ script.config.ticks + delay_on script line + 1 →
         receive_by script line x y ≡ cell ∷ rest →
         take (y + 1) (line_cells script line) ≡ take y (line_cells script line) ++ cell ∷ [] }
-    ensures first { (script : Script) (line x y : ℕ) →
-        x ≤ script.config.ticks + delay_on script line + 1 → y ≤ (path_on script line).given x →
-        take y (line_cells script line) ≡ take y (cells_by script line x) }
 {}
 
 /// What the cells that were popped decide. The numbers by which the counts go are those that have a verdict, and a Take waits for the
@@ -113,7 +122,8 @@ pub fn take_law()
         ≡ (pop_lines t 0 (walk_plan script).paths lines).waiting }
 {}
 
-/// Each event leads from a walk to a walk, and so do a drain and the event lines of a script. After any list of events: the frames made by the return cells that have come are the session's; the cells that were popped come of
+/// Each event leads from a walk to a walk, and so do a drain and the event lines of a script. After any list of events: the frames made by the return cells that have come are the session's, and so are the source's table and
+/// the client's stream; the cells that were popped come of
 /// them, and decide all rows that were taken; each of these rows is whole exactly where the session's is, with its octets; and the
 /// return cells that have come are the session's first.
 pub fn walk_law()
@@ -127,21 +137,29 @@ pub fn walk_law()
     ensures course { (script : Script) (s : Counts) → CanWalk script → IsWalked script s →
         IsCourse (scenario_of script) s.ticks s.backs (popped_cells script s.lines) }
     ensures frames { (script : Script) (s : Counts) (t : ℕ) → CanWalk script → IsWalked script s →
-        t < s.ticks → frame_of (scenario_of script) (cells_before (scenario_of script) s.backs) t
-        ≡ frame_of (scenario_of script) (session_cells (scenario_of script)) t }
+        t < s.ticks → frame_of (scenario_of script) (told_first script s.backs) t
+        ≡ frame_of (scenario_of script) (session_of script) t }
+    ensures sources { (script : Script) (s : Counts) (j : ℕ) → CanWalk script →
+        IsWalked script s → j ≤ steps_in s.ticks →
+        after (scenario_of script) (told_first script s.backs) j
+        ≡ after (scenario_of script) (session_of script) j }
+    ensures streams { (script : Script) (s : Counts) (t : ℕ) → CanWalk script →
+        IsWalked script s → t ≤ s.ticks →
+        stream_before (scenario_of script) (told_first script s.backs) t
+        ≡ stream_before (scenario_of script) (session_of script) t }
     ensures come { (script : Script) (s : Counts) → CanWalk script → IsWalked script s →
-        ComeOf (scenario_of script) (session_cells (scenario_of script)) s.ticks
+        ComeOf (scenario_of script) (session_of script) s.ticks
         (popped_cells script s.lines) }
     ensures decided { (script : Script) (s : Counts) (t : ℕ) → CanWalk script →
         IsWalked script s → t < s.rows → AreDecidedAt (popped_cells script s.lines) t }
     ensures rows { (script : Script) (s : Counts) (t : ℕ) → CanWalk script → IsWalked script s →
         t < s.rows → row_at script.config.size (popped_cells script s.lines) t
-        ≡ (if is_whole_row (scenario_of script) (session_cells (scenario_of script)) t
-        then Some (payload_of (scenario_of script) (session_cells (scenario_of script)) t)
+        ≡ (if is_whole_row (scenario_of script) (session_of script) t
+        then Some (payload_of (scenario_of script) (session_of script) t)
         else None) }
     ensures backs { (script : Script) (s : Counts) → CanWalk script → IsWalked script s →
         told_of (scenario_of script) (popped_cells script s.lines) s.backs
-        ≡ cells_before (scenario_of script) s.backs }
+        ≡ told_first script s.backs }
 {}
 
 /// What has landed. No item waits whose due tick is past, since a tick is held by one; so up to the ticks made the session of the items
@@ -173,13 +191,13 @@ pub fn landing_law()
 pub fn source_law()
     ensures tables { (script : Script) (s : Counts) (j : ℕ) → CanWalk script → IsWalked script s →
         j ≤ steps_in s.ticks → after (landed_scenario script s) (told_before script s.ticks) j
-        ≡ after (scenario_of script) (session_cells (scenario_of script)) j }
+        ≡ after (scenario_of script) (session_of script) j }
     ensures streams { (script : Script) (s : Counts) (t : ℕ) → CanWalk script → IsWalked script s →
         t ≤ s.ticks → stream_before (landed_scenario script s) (told_before script s.ticks) t
-        ≡ stream_before (scenario_of script) (session_cells (scenario_of script)) t }
+        ≡ stream_before (scenario_of script) (session_of script) t }
     ensures frames { (script : Script) (s : Counts) (t : ℕ) → CanWalk script → IsWalked script s →
         t < s.ticks → frame_of (landed_scenario script s) (told_before script s.ticks) t
-        ≡ frame_of (scenario_of script) (session_cells (scenario_of script)) t }
+        ≡ frame_of (scenario_of script) (session_of script) t }
     ensures frame { (script : Script) (s : Counts) (item : Numbered) (offer : Offer) →
         CanWalk script → IsWalked script s → IsOfferAt script.items s.frames item offer →
         offer.due ≤ s.ticks → refusal_at script item ≡ option_map frame_fault (frame_refusal offer.frame
@@ -237,10 +255,10 @@ pub fn return_law()
         return_at (popped_cells script s.lines) k ≡ said_packet script k }
     ensures told { (script : Script) (k : ℕ) → CanWalk script → 16 * k + 23 < script.config.ticks →
         told_in (back_cell script k)
-        ≡ return_cell (scenario_of script) (session_cells (scenario_of script)) k }
+        ≡ return_cell (scenario_of script) (session_of script) k }
     ensures next { (script : Script) (k : ℕ) → CanWalk script → 16 * k + 23 < script.config.ticks →
-        cells_before (scenario_of script) (k + 1)
-        ≡ cells_before (scenario_of script) k ++ told_in (back_cell script k) ∷ [] }
+        told_first script (k + 1)
+        ≡ told_first script k ++ told_in (back_cell script k) ∷ [] }
     ensures ends { (t : ℕ) → packets_in (t + 1)
         ≡ packets_in t + (if nat_lt 22 t && t % 16 == 7 then 1 else 0) }
     ensures steps { (lag t : ℕ) → used_in lag (t + 1)
@@ -294,7 +312,7 @@ pub fn clear_law()
     ensures whole { (script : Script) (t : ℕ) → 0 < length script.config.windows →
         ((line : ℕ) → line < length script.config.windows →
         IsClear (slice_index_or script.config.windows line []) (row_from t) (t + 1)) →
-        is_whole_row (scenario_of script) (session_cells (scenario_of script)) t ≡ true }
+        is_whole_row (scenario_of script) (session_of script) t ≡ true }
     ensures before { (script : Script) (rows : ℕ) → HasOctets script → rows ≤ script.config.ticks →
         AreWholeBefore script rows →
         delivered_of script rows ≡ frames_by (place_after script rows) (session_pieces script) }
@@ -347,16 +365,16 @@ pub fn member_law()
 /// changes; then each line still has the SQ that it had in the packet that was read; and each status acted on was said of that line.
 pub fn answer_law()
     ensures whole_count { (script : Script) (j k : ℕ) (told : Told) →
-        Takes (scenario_of script) (session_cells (scenario_of script)) j k told →
-        Acknowledges (scenario_of script) (session_cells (scenario_of script)) j told
-        ↔ TellsOf (scenario_of script) (session_cells (scenario_of script)) j k }
+        Takes (scenario_of script) (session_of script) j k told →
+        Acknowledges (scenario_of script) (session_of script) j told
+        ↔ TellsOf (scenario_of script) (session_of script) j k }
     ensures same_lines { (script : Script) (j k : ℕ) (told : Told) →
-        Takes (scenario_of script) (session_cells (scenario_of script)) j k told →
-        TellsOf (scenario_of script) (session_cells (scenario_of script)) j k →
-        SameLines (scenario_of script) (session_cells (scenario_of script)) j k }
+        Takes (scenario_of script) (session_of script) j k told →
+        TellsOf (scenario_of script) (session_of script) j k →
+        SameLines (scenario_of script) (session_of script) j k }
     ensures statuses { (script : Script) (j sq : ℕ) (ok : Bool) → CanWalk script →
-        kept_of (told_at (scenario_of script) (session_cells (scenario_of script)) j) sq ≡ Some ok →
-        WasSaid (scenario_of script) (session_cells (scenario_of script)) j sq ok }
+        kept_of (told_at (scenario_of script) (session_of script) j) sq ≡ Some ok →
+        WasSaid (scenario_of script) (session_of script) j sq ok }
 {}
 
 /// A worked script, computed: what is refused and counted before the first tick and at the end, and what is accepted.

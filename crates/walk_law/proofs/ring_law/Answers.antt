@@ -1,6 +1,6 @@
 -- The rings of a line.
 use Rattle.walk_law.proofs.WalkLaws.{line-fits}
-use Rattle.walk_law.proofs.RingLaws.{lines-size, taken-cells, send-size, send-made, send-next, taken-next, receive-size, receive-gives, receive-pops, first-cells, popped-next}
+use Rattle.walk_law.proofs.RingLaws.{lines-size, taken-cells, send-size, send-made, send-next, taken-next, receive-size, receive-gives, receive-pops, popped-next}
 use Rattle.walk_law.proofs.ring_law.Goals as goal
 
 pub returns-clause-lines : goal.returns-clause-lines
@@ -35,6 +35,3 @@ returns-clause-pops c = receive-pops
 
 pub returns-clause-popped : goal.returns-clause-popped
 returns-clause-popped c = popped-next
-
-pub returns-clause-first : goal.returns-clause-first
-returns-clause-first c = first-cells

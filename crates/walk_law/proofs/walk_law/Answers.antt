@@ -1,7 +1,7 @@
 -- A walk is a course of the session.
 use Rattle.progress_law.proofs.ReachLaws.{walked-reached}
 use Rattle.walk_law.specs.Walk.{walk_plan}
-use Rattle.walk_law.proofs.WalkLaws.{begins-walked, steps-walked, drains-walked, is-course, frames-are, cells-come, cells-decide, rows-are, backs-are}
+use Rattle.walk_law.proofs.WalkLaws.{begins-walked, steps-walked, drains-walked, is-course, sources-are, streams-are, frames-are, cells-come, cells-decide, rows-are, backs-are}
 use Rattle.walk_law.proofs.walk_law.Goals as goal
 
 pub returns-clause-frames : goal.returns-clause-frames
@@ -33,3 +33,9 @@ returns-clause-event_lines c script = walked-reached (walk_plan script) script.e
 
 pub returns-clause-course : goal.returns-clause-course
 returns-clause-course c = is-course
+
+pub returns-clause-sources : goal.returns-clause-sources
+returns-clause-sources c script s j can walked = sources-are script s can walked j
+
+pub returns-clause-streams : goal.returns-clause-streams
+returns-clause-streams c script s t can walked = streams-are script s can walked t
