@@ -19,9 +19,10 @@ use Rattle.line_law.specs.StableRows.{IsLonger, AreDecidedAt}
 use Rattle.line_law.proofs.RowLaws.{returns_stay}
 use Rattle.progress_law.proofs.LineLaws.{is_path}
 use Rattle.terminal_law.specs.Lines.{ComesOf, ComeOf}
+use Rattle.terminal_law.specs.Course.{packet_by}
 use Rattle.terminal_law.proofs.SentLaws.{containers-size}
 use Rattle.terminal_law.proofs.ListLaws.{range-at}
-use Rattle.terminal_law.proofs.RowLaws.{back-told}
+use Rattle.terminal_law.proofs.RowLaws.{back-told, packet-told}
 use Rattle.terminal_law.proofs.CellLaws.{is-line}
 use Rattle.terminal_law.proofs.LoopLaws.{next-cell}
 use Rattle.walk_law.specs.Walk.{sent_on, CanWalk, IsWalked, counts_at, popped_on, popped_cells, path_on}
@@ -101,6 +102,10 @@ module _ (script : Script) (can : CanWalk script) where
   pub cell-told : (k : ℕ) → 16 * k + 23 < script.config.ticks → told_in (back_cell script k) ≡ return_cell (scenario_of script) (session_cells (scenario_of script)) k
   cell-told k low =
       back-told (scenario_of script) (session_cells (scenario_of script)) script.config.ticks (all_lines script) k (has-lines script can) all-come low (all-decided (16 * k + 23) low)
+
+  pub packet-is : (k : ℕ) → 16 * k + 23 < script.config.ticks → said_packet script k ≡ packet_by (scenario_of script) (session_cells (scenario_of script)) k
+  packet-is k low =
+      packet-told (scenario_of script) (session_cells (scenario_of script)) script.config.ticks (all_lines script) k (has-lines script can) all-come low (all-decided (16 * k + 23) low)
 
   few-packets : (ticks k : ℕ) → 16 * k + 23 < ticks → k < (ticks - 8) / 16
   few-packets ticks k low = omega arith

@@ -1,5 +1,5 @@
 -- A worked script: what is refused, what is accepted, and what is counted.
-use Rattle.std.specs.Prelude.{ℕ, List, [], ◌∷◌, replicate}
+use Rattle.std.specs.Prelude.{ℕ, Bool, true, false, List, [], ◌∷◌, map, replicate}
 use Rattle.session_model.specs.declared.refusal.AcceptFault.TheVariants.{Length}
 use Rattle.session_model.specs.declared.refusal.CommandFault.TheVariants.{UnknownLine, AlreadyIn, NotIn}
 use Rattle.session_model.specs.declared.script.Config.{Config}
@@ -7,10 +7,13 @@ use Rattle.session_model.specs.declared.script.Item.{Item}
 use Rattle.session_model.specs.declared.script.ItemKind.{ItemKind}
 use Rattle.session_model.specs.declared.script.ItemKind.TheVariants.{Frame, Add, Remove}
 use Rattle.session_model.specs.declared.script.Script.{Script}
+use Rattle.session_model.specs.Scenario.{scenario_of}
+use Rattle.session_model.specs.SessionRows.{is_whole_row}
 use Rattle.session_model.specs.Counts.{Counts}
 use Rattle.report_text.specs.declared.report.Refusal.{Refusal}
 use Rattle.report_text.specs.declared.report.Refusal.TheVariants.{Frame as frame_fault, Command as command_fault}
 use Rattle.report_text.specs.declared.report.Totals.{Totals}
+use Rattle.walk_law.specs.Walk.{session_of}
 
 abbrev pub item : ℕ → ItemKind → Item
 item due kind = record { due = due; kind = kind }
@@ -72,3 +75,30 @@ all_totals = record { ticks = 41; taken = 41; frames = 2; commands = 2; refused 
 
 abbrev pub two_frames : List (List ℕ)
 two_frames = replicate 64 1 ∷ replicate 64 2 ∷ []
+
+-- ---- a failure
+-- one line, added at once, of which containers 1000 and 1001 fail and 1002 vanishes
+abbrev pub failing_config : Config
+failing_config = record {
+  lines = 1;
+  delays = 0 ∷ [];
+  windows = (record { first = 1000; «end» = 1003; slip = 1 } ∷ []) ∷ [];
+  lost = [];
+  ring = 4;
+  lag = 2;
+  ticks = 1100;
+  size = 756;
+}
+
+abbrev pub failing_script : Script
+failing_script = record { config = failing_config; items = item 0 (Add 0) ∷ []; events = [] }
+
+-- the rows at each end of the gaps
+abbrev pub seen_rows : List ℕ
+seen_rows = 999 ∷ 1000 ∷ 1009 ∷ 1010 ∷ 1015 ∷ 1016 ∷ 1031 ∷ 1032 ∷ []
+
+abbrev pub seen_whole : List Bool
+seen_whole = true ∷ false ∷ false ∷ true ∷ true ∷ false ∷ false ∷ true ∷ []
+
+abbrev pub whole_rows : Script → List ℕ → List Bool
+whole_rows script rows = map (λ t. is_whole_row (scenario_of script) (session_of script) t) rows

@@ -4,7 +4,7 @@
 //! counts.
 #![tactic(auto)]
 
-ghost use Rattle.std.specs.Prelude.{◌≡◌, ◌↔◌, ℕ, Bool, true, ◌+◌, ◌-◌, ◌*◌, ◌/◌, ◌%◌, ◌<◌, ◌≤◌, ◌==◌, ◌&&◌, nat_le, nat_lt, min, if◌then◌else◌, List, [], ◌∷◌, ◌++◌, map, fold, length, take, drop, slice_get, slice_index_or, Option, Some, None, is_none, IsSome, option_map};
+ghost use Rattle.std.specs.Prelude.{◌≡◌, ◌↔◌, ℕ, Bool, true, ◌+◌, ◌-◌, ◌*◌, ◌/◌, ◌%◌, ◌<◌, ◌≤◌, ◌==◌, ◌&&◌, nat_le, nat_lt, min, if◌then◌else◌, List, [], ◌∷◌, ◌++◌, map, fold, length, take, drop, slice_get, slice_index_or, Option, Some, None, is_none, option_map};
 ghost use Rattle.std.specs.List.{range_with_len};
 ghost use Rattle.vc_cell.specs.declared.Cell.{Cell};
 ghost use Rattle.session_model.specs.declared.window.Window.{Window};
@@ -36,12 +36,12 @@ ghost use Rattle.progress_law.specs.Progress.{IsPlan, LineFits, SomeProgress};
 ghost use Rattle.session_law.specs.Feedback.{Takes, Acknowledges, TellsOf, SameLines, WasSaid};
 ghost use Rattle.session_law.specs.Use.{AddsUndamaged, AddsAmongSilent};
 ghost use Rattle.terminal_law.specs.Lines.{HasLines, ComeOf};
-ghost use Rattle.terminal_law.specs.Course.{told_of, IsCourse};
+ghost use Rattle.terminal_law.specs.Course.{packet_by, told_of, IsCourse};
 ghost use Rattle.walk_law.specs.Walk.{session_of, told_first, walk_plan, CanWalk, IsWalked, counts_at, popped_on, popped_cells, path_on};
 ghost use Rattle.walk_law.specs.Rings.{delay_on, line_cells, AreDecidedBefore, sent_at, taken_by, cells_by, send_by, receive_by, all_lines, said_packet, back_cell, return_ring, inbox};
 ghost use Rattle.walk_law.specs.Delivered.{session_rows, delivered_of, IsReceived};
 ghost use Rattle.walk_law.specs.Step.{last_packet, table_in};
-ghost use Rattle.walk_law.specs.Worked.{worked_script, three_landed, at_the_end, first_refusals, all_refusals, first_totals, all_totals, two_frames};
+ghost use Rattle.walk_law.specs.Worked.{worked_script, three_landed, at_the_end, first_refusals, all_refusals, first_totals, all_totals, two_frames, failing_script, seen_rows, seen_whole, whole_rows};
 ghost use Rattle.walk_law.specs.Promise.{numbered, accepted_frames, session_pieces, session_extents, session_waiting, place_after, HasOctets, HasNoFailure, IsClear, row_from, AreWholeBefore, ConfirmsTrue, drained, InUseBy};
 ghost use Rattle.walk_law.specs.Landed.{Numbered, landed_items, landed_scenario, told_before, IsOfferAt, IsOrderAt, refusal_at, refused_by, refusals_of, IsPlaced, totals_of, with_frame_told, with_command_told};
 
@@ -93,7 +93,8 @@ pub fn ring_law()
     ensures takes { (script : Script) (line x : ℕ) → x < script.config.ticks →
         taken_by script line (x + 1) ≡ taken_by script line x ++ sent_at script line x ∷ [] }
     ensures gives { (script : Script) (line x y : ℕ) (out : List Cell) →
-        y ≤ (path_on script line).given x → cells_by script line (x + 1) ≡ cells_by script line x ++ out →
+        y ≤ (path_on script line).given x →
+        cells_by script line (x + 1) ≡ cells_by script line x ++ out →
         receive_by script line (x + 1) y ≡ receive_by script line x y ++ out }
     ensures pops { (script : Script) (line x y : ℕ) (cell : Cell) (rest : List Cell) →
         receive_by script line x y ≡ cell ∷ rest → receive_by script line x (y + 1) ≡ rest }
@@ -103,11 +104,8 @@ pub fn ring_law()
         take (y + 1) (line_cells script line) ≡ take y (line_cells script line) ++ cell ∷ [] }
 {}
 
-/// What the cells that were popped decide. The numbers by which the counts go are those that have a verdict, and a Take waits for the
-/// first line whose cells don't decide the row.
+/// For which line the next row waits: the first whose cells don't decide it; and a Take that pops cells line by line stops there.
 pub fn take_law()
-    ensures decided { (script : Script) (line y t : ℕ) → t < script.config.ticks →
-        IsSome (verdict (take y (line_cells script line)) t) ↔ (t < (path_on script line).decided y) }
     ensures open { (script : Script) (lines : List LineCounts) (m t : ℕ) → CanWalk script →
         length lines ≡ length script.config.windows → m < length lines → t < script.config.ticks →
         AreDecidedBefore script lines m t → (first_open (popped_cells script lines) t ≡ Some m)
@@ -200,8 +198,9 @@ pub fn source_law()
         ≡ frame_of (scenario_of script) (session_of script) t }
     ensures frame { (script : Script) (s : Counts) (item : Numbered) (offer : Offer) →
         CanWalk script → IsWalked script s → IsOfferAt script.items s.frames item offer →
-        offer.due ≤ s.ticks → refusal_at script item ≡ option_map frame_fault (frame_refusal offer.frame
-        (fold offered (stream_before (landed_scenario script s) (told_before script s.ticks) s.ticks)
+        offer.due ≤ s.ticks → refusal_at script item
+        ≡ option_map frame_fault (frame_refusal offer.frame (fold offered
+        (stream_before (landed_scenario script s) (told_before script s.ticks) s.ticks)
         (frames_at (landed_scenario script s) s.ticks))) }
     ensures command { (script : Script) (s : Counts) (item : Numbered) (order : Order) →
         CanWalk script → IsWalked script s → IsOrderAt script.items s.commands item order →
@@ -227,12 +226,12 @@ pub fn step_law()
 pub fn report_law()
     ensures frame { (script : Script) (s : Counts) (item : Numbered) (offer : Offer) →
         IsOfferAt script.items s.frames item offer →
-        IsPlaced item.number (refused_by item.number (refusal_at script item)) (refusals_of script s)
-        (refusals_of script (record s { frames = s.frames + 1 })) }
+        IsPlaced item.number (refused_by item.number (refusal_at script item))
+        (refusals_of script s) (refusals_of script (record s { frames = s.frames + 1 })) }
     ensures command { (script : Script) (s : Counts) (item : Numbered) (order : Order) →
         IsOrderAt script.items s.commands item order →
-        IsPlaced item.number (refused_by item.number (refusal_at script item)) (refusals_of script s)
-        (refusals_of script (record s { commands = s.commands + 1 })) }
+        IsPlaced item.number (refused_by item.number (refusal_at script item))
+        (refusals_of script s) (refusals_of script (record s { commands = s.commands + 1 })) }
     ensures frame_totals { (script : Script) (s : Counts) (item : Numbered) (offer : Offer) →
         IsOfferAt script.items s.frames item offer →
         totals_of script (record s { frames = s.frames + 1 })
@@ -253,6 +252,9 @@ pub fn return_law()
     ensures said { (script : Script) (s : Counts) (k : ℕ) → CanWalk script → IsWalked script s →
         16 * k + 23 < s.rows →
         return_at (popped_cells script s.lines) k ≡ said_packet script k }
+    ensures packet { (script : Script) (k : ℕ) → CanWalk script →
+        16 * k + 23 < script.config.ticks →
+        said_packet script k ≡ packet_by (scenario_of script) (session_of script) k }
     ensures told { (script : Script) (k : ℕ) → CanWalk script → 16 * k + 23 < script.config.ticks →
         told_in (back_cell script k)
         ≡ return_cell (scenario_of script) (session_of script) k }
@@ -275,14 +277,15 @@ pub fn return_law()
     ensures taken { (script : Script) (s : Counts) (ticks : ℕ) →
         used_in script.config.lag s.ticks < s.backs →
         used_in script.config.lag ticks ≡ used_in script.config.lag s.ticks + 1 → inbox script s
-        ≡ back_cell script (used_in script.config.lag s.ticks) ∷ inbox script (record s { ticks = ticks }) }
+        ≡ back_cell script (used_in script.config.lag s.ticks)
+        ∷ inbox script (record s { ticks = ticks }) }
 {}
 
 /// The frames of the rows that were taken: what a sink makes of them by the cells that were popped is what the rows of the session
 /// give, and more rows add frames and change none of those before.
 pub fn frames_law()
-    ensures received { (script : Script) (s : Counts) (receive : Option (List ℕ) → StreamRow) (n : ℕ) →
-        CanWalk script → IsWalked script s → IsReceived receive → n ≤ s.rows →
+    ensures received { (script : Script) (s : Counts) (n : ℕ)
+        (receive : Option (List ℕ) → StreamRow) → CanWalk script → IsWalked script s → IsReceived receive → n ≤ s.rows →
         deliver 9600 (map (λ t. receive (row_at script.config.size (popped_cells script s.lines) t))
         (range_with_len 0 n)) ≡ delivered_of script n }
     ensures grows { (script : Script) (n more : ℕ) → delivered_of script (n + more)
@@ -299,7 +302,8 @@ pub fn delivery_law()
         delivered_of script rows ≡ frames_by (place_after script rows) (session_pieces script) }
     ensures first { (script : Script) (rows : ℕ) → IsValid script → HasOctets script →
         HasNoFailure script → rows ≤ script.config.ticks →
-        delivered_of script rows ≡ take (length (delivered_of script rows)) (accepted_frames script) }
+        delivered_of script rows
+        ≡ take (length (delivered_of script rows)) (accepted_frames script) }
     ensures drained { (script : Script) (s : Counts) → CanWalk script → HasOctets script →
         HasNoFailure script → IsWalked script s → delivered_of script (drained script s).rows
         ≡ frames_by (place_after script script.config.ticks) (session_pieces script) }
@@ -377,11 +381,13 @@ pub fn answer_law()
         WasSaid (scenario_of script) (session_of script) j sq ok }
 {}
 
-/// A worked script, computed: what is refused and counted before the first tick and at the end, and what is accepted.
+/// Worked scripts, computed: what is refused and counted before the first tick and at the end, and what is accepted; and which rows a
+/// failure of three containers spoils.
 pub fn worked_law()
     ensures first_refusals { refusals_of worked_script three_landed ≡ first_refusals }
     ensures first_totals { totals_of worked_script three_landed ≡ first_totals }
     ensures refusals { refusals_of worked_script at_the_end ≡ all_refusals }
     ensures totals { totals_of worked_script at_the_end ≡ all_totals }
     ensures accepted { accepted_frames worked_script ≡ two_frames }
+    ensures spoiled { whole_rows failing_script seen_rows ≡ seen_whole }
 {}

@@ -1,5 +1,5 @@
 -- The return path.
-use Rattle.walk_law.proofs.ReturnLaws.{all-longer, all-decided, packet-said, cell-told, cells-next, packets-next, used-next, ring-says, ring-goes, inbox-comes, inbox-taken}
+use Rattle.walk_law.proofs.ReturnLaws.{all-longer, all-decided, packet-said, packet-is, cell-told, cells-next, packets-next, used-next, ring-says, ring-goes, inbox-comes, inbox-taken}
 use Rattle.walk_law.proofs.return_law.Goals as goal
 
 pub returns-clause-longer : goal.returns-clause-longer
@@ -34,3 +34,6 @@ returns-clause-comes c = inbox-comes
 
 pub returns-clause-taken : goal.returns-clause-taken
 returns-clause-taken c = inbox-taken
+
+pub returns-clause-packet : goal.returns-clause-packet
+returns-clause-packet c script k can low = packet-is script can k low

@@ -32,3 +32,7 @@ returns-clause-totals c = refl
 pub returns-clause-accepted : goal.returns-clause-accepted
 unfolding landed_from carried are_whole after keep none_kept cells_before said_before exchange take_out turned admit stream_before reaching place_of rows_of segments_on delineate_within hunt_within numbered
 returns-clause-accepted c = refl
+
+pub returns-clause-spoiled : goal.returns-clause-spoiled
+unfolding carried are_whole after keep none_kept cells_before said_before exchange take_out turned admit
+returns-clause-spoiled c = refl
