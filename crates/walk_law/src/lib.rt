@@ -389,5 +389,6 @@ pub fn worked_law()
     ensures refusals { refusals_of worked_script at_the_end ≡ all_refusals }
     ensures totals { totals_of worked_script at_the_end ≡ all_totals }
     ensures accepted { accepted_frames worked_script ≡ two_frames }
+    ensures valid { IsValid failing_script }
     ensures spoiled { whole_rows failing_script seen_rows ≡ seen_whole }
 {}
