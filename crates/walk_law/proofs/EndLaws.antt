@@ -24,6 +24,12 @@ use Rattle.walk_law.proofs.LandLaws.{frame-dues, command-dues, walked-ahead}
 use Rattle.walk_law.proofs.ReportLaws.{offers-size, orders-size}
 use Rattle.walk_law.proofs.PromiseLaws.{drain-ends}
 
+pub counts-within : (script : Script) (s : Counts) → CanWalk script → IsWalked script s → (s.rows ≤ s.ticks) × (s.ticks ≤ script.config.ticks)
+counts-within script s can walked =
+    let plan = has-plan script can in
+    let f = fits script s can walked in
+    (rows-ticks plan.slow plan.fast plan.slip (walk_plan script) plan.is s f, f.ticks)
+
 -- ---- due ticks
 frames-due : (ticks : ℕ) (items : List Item) → All (IsItem ticks) items → All (λ due. due < ticks) (frame_dues (dues_of items))
 unfolding frame_dues
@@ -96,10 +102,7 @@ module _ (script : Script) (s : Counts) (valid : IsValid script) (walked : IsWal
 
   pub ticks-made : s.rows ≡ script.config.ticks → s.ticks ≡ script.config.ticks
   ticks-made taken =
-      let plan = has-plan script can in
-      let f = fits script s can walked in
-      let low = f.ticks in
-      let high = rows-ticks plan.slow plan.fast plan.slip (walk_plan script) plan.is s f in
+      let (low, high) = counts-within script s can walked in
       omega arith
 
 -- ---- as many frames are accepted as the totals say

@@ -13,3 +13,4 @@ pub mod PromiseLaws
 pub mod StepLaws
 pub mod EndLaws
 pub mod WholeLaws
+pub mod CountLaws

@@ -282,12 +282,14 @@ pub fn return_law()
 {}
 
 /// The frames of the rows that were taken: what a sink makes of them by the cells that were popped is what the rows of the session
-/// give, and more rows add frames and change none of those before.
+/// give, more rows add frames and change none of those before, and no valid script gives more than its lines carry octets.
 pub fn frames_law()
     ensures received { (script : Script) (s : Counts) (n : ℕ)
         (receive : Option (List ℕ) → StreamRow) → CanWalk script → IsWalked script s → IsReceived receive → n ≤ s.rows →
         deliver 9600 (map (λ t. receive (row_at script.config.size (popped_cells script s.lines) t))
         (range_with_len 0 n)) ≡ delivered_of script n }
+    ensures few { (script : Script) (rows : ℕ) → IsValid script → rows ≤ script.config.ticks →
+        length (delivered_of script rows) ≤ 299520000000 }
     ensures grows { (script : Script) (n more : ℕ) → delivered_of script (n + more)
         ≡ delivered_of script n
         ++ drop (length (delivered_of script n)) (delivered_of script (n + more)) }
@@ -337,13 +339,15 @@ pub fn failure_law()
         ↔ Lost (segments (session_rows script rows)) (session_extents script) frame }
 {}
 
-/// A walk is never stuck: where rows are left, some event moves or a Take pops a cell; the inbox never holds more return cells than the
+/// A walk is never stuck, and takes no row before its tick: where rows are left, some event moves or a Take pops a cell; the inbox never holds more return cells than the
 /// lag; and rounds end with all rows taken, within a bound. Then all ticks are made and all items have landed.
 pub fn drain_law()
     ensures moves { (script : Script) (s : Counts) → CanWalk script → IsWalked script s →
         s.rows < script.config.ticks → SomeProgress (walk_plan script) s }
     ensures inbox { (script : Script) (s : Counts) → CanWalk script → IsWalked script s →
         in_inbox (walk_plan script) s ≤ script.config.lag }
+    ensures within { (script : Script) (s : Counts) → CanWalk script → IsWalked script s →
+        (s.rows ≤ s.ticks) × (s.ticks ≤ script.config.ticks) }
     ensures drained { (script : Script) (s : Counts) → CanWalk script → IsWalked script s →
         (drained script s).rows ≡ script.config.ticks }
     ensures ticks { (script : Script) (s : Counts) → IsValid script → IsWalked script s →

@@ -1,4 +1,5 @@
 -- The frames of the rows that were taken.
+use Rattle.walk_law.proofs.CountLaws.{delivered-few}
 use Rattle.walk_law.proofs.FrameLaws.{frames-received, frames-grow}
 use Rattle.walk_law.proofs.frames_law.Goals as goal
 
@@ -7,3 +8,6 @@ returns-clause-received c script s n receive can walked is low = frames-received
 
 pub returns-clause-grows : goal.returns-clause-grows
 returns-clause-grows c = frames-grow
+
+pub returns-clause-few : goal.returns-clause-few
+returns-clause-few c = delivered-few
