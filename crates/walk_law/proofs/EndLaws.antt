@@ -17,6 +17,7 @@ use Rattle.progress_law.proofs.MoveLaws.{rows-ticks}
 use Rattle.report_text.specs.declared.report.Refusal.{Refusal}
 use Rattle.walk_law.specs.Walk.{walk_plan, CanWalk, IsWalked}
 use Rattle.walk_law.specs.Landed.{Numbered, is_client, landed_from, landed_items, refusal_at, is_accepted_frame, totals_of}
+use Rattle.walk_law.specs.Report.{report_among, report_of, final_report}
 use Rattle.walk_law.specs.Promise.{numbered, frame_by, accepted_frames, drained}
 use Rattle.walk_law.proofs.PlanLaws.{has-plan, valid-walks}
 use Rattle.walk_law.proofs.WalkLaws.{fits, drains-walked}
@@ -142,3 +143,10 @@ module _ (script : Script) (s : Counts) (valid : IsValid script) (walked : IsWal
 
   pub drained-accepted : (totals_of script (drained script s)).frames ≡ length (accepted_frames script)
   drained-accepted = ap (λ items. length (filter (is_accepted_frame script) items)) drained-landed ∙ frames-counted script (numbered 0 script.items)
+
+  pub drained-report : report_of script (drained script s) ≡ final_report script
+  drained-report =
+      let rows : (drained script s).rows ≡ script.config.ticks = drain-ends script s (valid-walks script valid) walked in
+      ap (λ ticks. report_among script ticks (drained script s).rows (landed_items script (drained script s))) drained-ticks
+      ∙ ap (λ n. report_among script script.config.ticks n (landed_items script (drained script s))) rows
+      ∙ ap (report_among script script.config.ticks script.config.ticks) drained-landed

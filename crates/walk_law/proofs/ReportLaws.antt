@@ -13,7 +13,7 @@ use Rattle.session_model.specs.Counts.{Counts}
 use Rattle.report_text.specs.declared.report.Refusal.{Refusal}
 use Rattle.report_text.specs.declared.report.Totals.{Totals}
 use Rattle.walk_law.specs.Delivered.{delivered_of}
-use Rattle.walk_law.specs.Landed.{Numbered, is_client, with_if, landed_from, landed_items, IsOfferAt, IsOrderAt, refusal_at, refused_by, refusals_of, IsPlaced, is_accepted_frame, is_accepted_command, totals_of, with_frame_told, with_command_told}
+use Rattle.walk_law.specs.Landed.{Numbered, is_client, with_if, landed_from, landed_items, IsOfferAt, IsOrderAt, refusal_at, refused_by, refusals_among, refusals_of, IsPlaced, is_accepted_frame, is_accepted_command, totals_of, with_frame_told, with_command_told}
 
 -- ---- an item among those that have landed
 record IsInserted (item : Numbered) (was now : List Numbered) : Type 0 where
@@ -168,30 +168,27 @@ landed-command script s item order at =
     (order-put script.items s.frames s.commands 0 item.number item.item order at.there at.is at.before))
 
 -- ---- refusals
-abbrev refusal_list : Script → List Numbered → List (ℕ × Refusal)
-refusal_list script items = flat_map (λ item. refused_by item.number (refusal_at script item)) items
-
 refused-within : (P : ℕ → Type 0) (number : ℕ) (why : Option Refusal) → P number → All (λ (refused : ℕ × Refusal). P refused.0) (refused_by number why)
 refused-within P number None here = λ k d inside. absurd (omega arith)
 refused-within P number (Some why) here = All-cons (λ (refused : ℕ × Refusal). P refused.0) (number, why) [] here (λ k d inside. absurd (omega arith))
 
-list-within : (P : ℕ → Type 0) (script : Script) (items : List Numbered) → All (λ (other : Numbered). P other.number) items → All (λ (refused : ℕ × Refusal). P refused.0) (refusal_list script items)
+list-within : (P : ℕ → Type 0) (script : Script) (items : List Numbered) → All (λ (other : Numbered). P other.number) items → All (λ (refused : ℕ × Refusal). P refused.0) (refusals_among script items)
 list-within P script [] all = λ k d inside. absurd (omega arith)
 list-within P script (item ∷ items) all =
-    All-append (λ (refused : ℕ × Refusal). P refused.0) (refused_by item.number (refusal_at script item)) (refusal_list script items)
+    All-append (λ (refused : ℕ × Refusal). P refused.0) (refused_by item.number (refusal_at script item)) (refusals_among script items)
     (refused-within P item.number (refusal_at script item) (all 0 item (omega arith)))
     (list-within P script items (λ k d inside. all (suc k) d (omega arith)))
 
 placed : (script : Script) (item : Numbered) (was now : List Numbered) → IsInserted item was now →
-    IsPlaced item.number (refused_by item.number (refusal_at script item)) (refusal_list script was) (refusal_list script now)
+    IsPlaced item.number (refused_by item.number (refusal_at script item)) (refusals_among script was) (refusals_among script now)
 placed script item was now put =
     let f = λ (item : Numbered). refused_by item.number (refusal_at script item) in
     record {
-      front = refusal_list script put.front;
-      back = refusal_list script put.back;
-      was_so = ap (refusal_list script) put.was_so ∙ flat_map-append f put.front put.back;
-      is_so = ap (refusal_list script) put.is_so ∙ flat_map-append f put.front (item ∷ put.back)
-          ∙ sym (append_assoc (refusal_list script put.front) (refused_by item.number (refusal_at script item)) (refusal_list script put.back));
+      front = refusals_among script put.front;
+      back = refusals_among script put.back;
+      was_so = ap (refusals_among script) put.was_so ∙ flat_map-append f put.front put.back;
+      is_so = ap (refusals_among script) put.is_so ∙ flat_map-append f put.front (item ∷ put.back)
+          ∙ sym (append_assoc (refusals_among script put.front) (refused_by item.number (refusal_at script item)) (refusals_among script put.back));
       before = list-within (λ number. number < item.number) script put.front put.before;
       after = list-within (λ number. item.number < number) script put.back put.after;
     }
@@ -223,7 +220,7 @@ one-more p item was now put =
     one-here p item items = elim (cases_Bool (p item)) [ inl e ↦ rw e (omega arith) | inr e ↦ rw e (omega arith) ]
 
 more-refused : (script : Script) (item : Numbered) (was now : List Numbered) → IsInserted item was now →
-    length (refusal_list script now) ≡ length (refusal_list script was) + length (refused_by item.number (refusal_at script item))
+    length (refusals_among script now) ≡ length (refusals_among script was) + length (refused_by item.number (refusal_at script item))
 more-refused script item was now put =
     let place = placed script item was now put in
     let own : List (ℕ × Refusal) = refused_by item.number (refusal_at script item) in
@@ -269,11 +266,11 @@ frame-totals script s item offer at =
     let client = client-offer item.item.due item.item.kind offer at.is in
     counted script s (length (filter (is_accepted_frame script) now)) (length (filter (is_accepted_frame script) was) + (if is_none why then 1 else 0))
     (length (filter (is_accepted_command script) now)) (length (filter (is_accepted_command script) was) + 0)
-    (length (refusal_list script now)) (length (refusal_list script was) + length (refused_by item.number why))
+    (length (refusals_among script now)) (length (refusals_among script was) + length (refused_by item.number why))
     (one-more (is_accepted_frame script) item was now put ∙ ap (λ c. length (filter (is_accepted_frame script) was) + (if c && is_none why then 1 else 0)) client)
     (one-more (is_accepted_command script) item was now put ∙ ap (λ c. length (filter (is_accepted_command script) was) + (if not c && is_none why then 1 else 0)) client)
     (more-refused script item was now put)
-    ∙ frame-told script s why item.number (length (filter (is_accepted_frame script) was)) (length (filter (is_accepted_command script) was)) (length (refusal_list script was))
+    ∙ frame-told script s why item.number (length (filter (is_accepted_frame script) was)) (length (filter (is_accepted_command script) was)) (length (refusals_among script was))
 
 pub command-totals : (script : Script) (s : Counts) (item : Numbered) (order : Order) → IsOrderAt script.items s.commands item order →
     totals_of script (record s { commands = s.commands + 1 }) ≡ with_command_told (refusal_at script item) (totals_of script s)
@@ -285,8 +282,8 @@ command-totals script s item order at =
     let operator = operator-order item.item.due item.item.kind order at.is in
     counted script s (length (filter (is_accepted_frame script) now)) (length (filter (is_accepted_frame script) was) + 0)
     (length (filter (is_accepted_command script) now)) (length (filter (is_accepted_command script) was) + (if is_none why then 1 else 0))
-    (length (refusal_list script now)) (length (refusal_list script was) + length (refused_by item.number why))
+    (length (refusals_among script now)) (length (refusals_among script was) + length (refused_by item.number why))
     (one-more (is_accepted_frame script) item was now put ∙ ap (λ c. length (filter (is_accepted_frame script) was) + (if c && is_none why then 1 else 0)) operator)
     (one-more (is_accepted_command script) item was now put ∙ ap (λ c. length (filter (is_accepted_command script) was) + (if not c && is_none why then 1 else 0)) operator)
     (more-refused script item was now put)
-    ∙ command-told script s why item.number (length (filter (is_accepted_frame script) was)) (length (filter (is_accepted_command script) was)) (length (refusal_list script was))
+    ∙ command-told script s why item.number (length (filter (is_accepted_frame script) was)) (length (filter (is_accepted_command script) was)) (length (refusals_among script was))

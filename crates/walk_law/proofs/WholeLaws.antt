@@ -1,5 +1,5 @@
 -- Which rows are whole, and what is delivered while they are.
-use Rattle.std.proofs.Common.{◌≡◌, ℕ, zero, suc, ◌+◌, ◌-◌, ◌*◌, ◌/◌, ◌<◌, ◌≤◌, nat_le, nat_lt, ◌&&◌, Bool, true, false, inl, inr, List, [], ◌∷◌, length, slice_index_or, All, Option, refl, sym, ◌∙◌, ap, ap₂, subst, arith}
+use Rattle.std.proofs.Common.{◌≡◌, ℕ, zero, suc, ◌+◌, ◌-◌, ◌*◌, ◌/◌, ◌<◌, ◌≤◌, nat_le, nat_lt, ◌&&◌, ◌++◌, Bool, true, false, inl, inr, List, [], ◌∷◌, length, slice_index_or, All, Option, refl, sym, ◌∙◌, ap, ap₂, subst, arith}
 use Rattle.std.specs.List.{list_all}
 use Rattle.std.proofs.lemmas.Bool.{lt-leb, ltb-false, cases_Bool, cases_lt}
 use Rattle.std.proofs.lemmas.List.{get_or_past}
@@ -15,7 +15,8 @@ use Rattle.session_model.specs.Table.{Told, active}
 use Rattle.session_model.specs.Source.{table_of}
 use Rattle.session_model.specs.Back.{session_cells}
 use Rattle.session_model.specs.SessionRows.{is_whole_row}
-use Rattle.session_model.specs.Segment.{StreamRow}
+use Rattle.session_model.specs.Segment.{StreamRow, Segment, Segments, row_by, segments_on, segments}
+use Rattle.session_model.specs.Loss.{StartsTrue}
 use Rattle.session_model.specs.SessionStream.{row_of, rows_of}
 use Rattle.session_law.specs.Session.{AreWhole}
 use Rattle.session_law.proofs.DamageLaws.{readable-whole, good-whole, heard-line}
@@ -25,7 +26,7 @@ use Rattle.loss_law.proofs.SessionLossLaws.{pieces-sent}
 use Rattle.loss_law.proofs.SessionStreamLaws.{pieces-open, rows-carry, rows-length}
 use Rattle.loss_law.proofs.WholeLaws.{deliver-whole}
 use Rattle.walk_law.specs.Delivered.{delivered_of}
-use Rattle.walk_law.specs.Promise.{session_pieces, place_after, HasOctets, IsClear, row_from, AreWholeBefore}
+use Rattle.walk_law.specs.Promise.{session_pieces, place_after, HasOctets, IsClear, row_from, AreWholeBefore, ConfirmsTrue}
 
 -- ---- one line
 clear-carried : (windows : List Window) (from end n : ℕ) → IsClear windows from end → from ≤ n → n < end → carried windows n ≡ Whole
@@ -116,3 +117,25 @@ delivered-before script rows octets low whole =
     let carry : Carry (rows_of scenario cells rows) (idle ∷ idle ∷ opens.0) = subst (Carry (rows_of scenario cells rows)) opens.1 (rows-carry scenario cells rows script.config.ticks low) in
     deliver-whole 9600 opens.0 (rows_of scenario cells rows) (omega arith) sent carry (rows-whole scenario cells rows whole)
     ∙ ap₂ frames_by (rows-length scenario cells rows script.config.ticks low) (sym opens.1)
+
+-- ---- whole rows have one segment
+whole-segments : (rows : List StreamRow) (last : Segment) → last.first ≡ true → All IsWhole rows →
+    (final : Segment) × (final.first ≡ true) × (segments_on (record { ended = []; last = last }) rows ≡ record { ended = []; last = final })
+unfolding segments_on
+whole-segments [] last first each = (last, first, refl)
+whole-segments (row ∷ rows) last first each =
+    let whole : row.whole ≡ true = each 0 row (omega arith) in
+    let (final, is_first, e) =
+    whole-segments rows (record { first = last.first; base = last.base; octets = last.octets ++ row.octets }) first (λ k d inside. each (suc k) d (omega arith)) in
+    (final, is_first, ap (λ whole. segments_on (row_by whole (record { ended = []; last = last }) row.octets) rows) whole ∙ e)
+
+pub whole-starts : (script : Script) (rows : ℕ) → AreWholeBefore script rows → ConfirmsTrue script rows
+whole-starts script rows whole =
+    let scenario : Scenario = scenario_of script in
+    let cells : List (Option Told) = session_cells scenario in
+    let pieces : List Piece = session_pieces script in
+    let (final, is_first, e) =
+    whole-segments (rows_of scenario cells rows) (record { first = true; base = 0; octets = [] }) refl (rows-whole scenario cells rows whole) in
+    let only : segments (rows_of scenario cells rows) ≡ final ∷ [] = ap (λ (come : Segments). come.ended ++ come.last ∷ []) e in
+    subst (All (StartsTrue pieces)) (sym only)
+    (All-cons (StartsTrue pieces) final [] (λ later. absurd (let f : true ≡ false = sym is_first ∙ later in cc)) (All-nil (StartsTrue pieces)))

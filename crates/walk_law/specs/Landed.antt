@@ -95,9 +95,13 @@ abbrev pub refused_by : ℕ → Option Refusal → List (ℕ × Refusal)
 refused_by number None = []
 refused_by number (Some why) = (number, why) ∷ []
 
--- of the items that have landed those that are refused, in item order, and why
+-- of items those that are refused, in their order, and why
+abbrev pub refusals_among : Script → List Numbered → List (ℕ × Refusal)
+refusals_among script items = flat_map (λ item. refused_by item.number (refusal_at script item)) items
+
+-- and of the items that have landed
 abbrev pub refusals_of : Script → Counts → List (ℕ × Refusal)
-refusals_of script s = flat_map (λ item. refused_by item.number (refusal_at script item)) (landed_items script s)
+refusals_of script s = refusals_among script (landed_items script s)
 
 -- refusals of an item of some number are put in their place among those of other items
 pub record IsPlaced (number : ℕ) (put was now : List (ℕ × Refusal)) : Type 0 where
@@ -115,17 +119,21 @@ is_accepted_frame script item = is_client item.item.kind && is_none (refusal_at 
 abbrev pub is_accepted_command : Script → Numbered → Bool
 is_accepted_command script item = not (is_client item.item.kind) && is_none (refusal_at script item)
 
--- how many ticks were made and rows taken; how many frames and commands were accepted, and how many items were refused; how many
--- frames were delivered
-abbrev pub totals_of : Script → Counts → Totals
-totals_of script s = record {
-  ticks = s.ticks;
-  taken = s.rows;
-  frames = length (filter (is_accepted_frame script) (landed_items script s));
-  commands = length (filter (is_accepted_command script) (landed_items script s));
-  refused = length (refusals_of script s);
-  got = length (delivered_of script s.rows);
+-- how many ticks were made and rows taken; of items how many frames and commands are accepted, and how many items are refused; how
+-- many frames were delivered
+abbrev pub totals_among : Script → ℕ → ℕ → List Numbered → Totals
+totals_among script ticks rows items = record {
+  ticks = ticks;
+  taken = rows;
+  frames = length (filter (is_accepted_frame script) items);
+  commands = length (filter (is_accepted_command script) items);
+  refused = length (refusals_among script items);
+  got = length (delivered_of script rows);
 }
+
+-- and of the items that have landed
+abbrev pub totals_of : Script → Counts → Totals
+totals_of script s = totals_among script s.ticks s.rows (landed_items script s)
 
 -- the totals after one more frame, or one more command, is accepted or refused
 abbrev pub with_frame_told : Option Refusal → Totals → Totals

@@ -4,4 +4,5 @@ pub mod Landed
 pub mod Delivered
 pub mod Step
 pub mod Promise
+pub mod Report
 pub mod Worked

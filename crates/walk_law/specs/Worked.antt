@@ -1,5 +1,5 @@
 -- A worked script: what is refused, what is accepted, and what is counted.
-use Rattle.std.specs.Prelude.{ℕ, Bool, true, false, List, [], ◌∷◌, map, replicate}
+use Rattle.std.specs.Prelude.{ℕ, Bool, true, false, List, [], ◌∷◌, ◌++◌, map, replicate, codes}
 use Rattle.session_model.specs.declared.refusal.AcceptFault.TheVariants.{Length}
 use Rattle.session_model.specs.declared.refusal.CommandFault.TheVariants.{UnknownLine, AlreadyIn, NotIn}
 use Rattle.session_model.specs.declared.script.Config.{Config}
@@ -75,6 +75,11 @@ all_totals = record { ticks = 41; taken = 41; frames = 2; commands = 2; refused 
 
 abbrev pub two_frames : List (List ℕ)
 two_frames = replicate 64 1 ∷ replicate 64 2 ∷ []
+
+abbrev pub worked_report : List ℕ
+worked_report =
+    codes "refused 0 length 63\n" ++ codes "refused 1 unknown\n" ++ codes "refused 4 already in\n" ++ codes "refused 6 not in\n"
+    ++ codes "total ticks 41 taken 41 frames 2 commands 2 refused 4 got 0\n"
 
 -- ---- a failure
 -- one line, added at once, of which containers 1000 and 1001 fail and 1002 vanishes

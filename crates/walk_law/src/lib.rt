@@ -41,7 +41,8 @@ ghost use Rattle.walk_law.specs.Walk.{session_of, told_first, walk_plan, CanWalk
 ghost use Rattle.walk_law.specs.Rings.{delay_on, line_cells, AreDecidedBefore, sent_at, taken_by, cells_by, send_by, receive_by, all_lines, said_packet, back_cell, return_ring, inbox};
 ghost use Rattle.walk_law.specs.Delivered.{session_rows, delivered_of, IsReceived};
 ghost use Rattle.walk_law.specs.Step.{last_packet, table_in};
-ghost use Rattle.walk_law.specs.Worked.{worked_script, three_landed, at_the_end, first_refusals, all_refusals, first_totals, all_totals, two_frames, failing_script, seen_rows, seen_whole, whole_rows};
+ghost use Rattle.walk_law.specs.Report.{report_of, final_report};
+ghost use Rattle.walk_law.specs.Worked.{worked_script, three_landed, at_the_end, first_refusals, all_refusals, first_totals, all_totals, two_frames, worked_report, failing_script, seen_rows, seen_whole, whole_rows};
 ghost use Rattle.walk_law.specs.Promise.{numbered, accepted_frames, session_pieces, session_extents, session_waiting, place_after, HasOctets, HasNoFailure, IsClear, row_from, AreWholeBefore, ConfirmsTrue, drained, InUseBy};
 ghost use Rattle.walk_law.specs.Landed.{Numbered, landed_items, landed_scenario, told_before, IsOfferAt, IsOrderAt, refusal_at, refused_by, refusals_of, IsPlaced, totals_of, with_frame_told, with_command_told};
 
@@ -319,6 +320,8 @@ pub fn clear_law()
         ((line : ℕ) → line < length script.config.windows →
         IsClear (slice_index_or script.config.windows line []) (row_from t) (t + 1)) →
         is_whole_row (scenario_of script) (session_of script) t ≡ true }
+    ensures starts { (script : Script) (rows : ℕ) → AreWholeBefore script rows →
+        ConfirmsTrue script rows }
     ensures before { (script : Script) (rows : ℕ) → HasOctets script → rows ≤ script.config.ticks →
         AreWholeBefore script rows →
         delivered_of script rows ≡ frames_by (place_after script rows) (session_pieces script) }
@@ -340,7 +343,8 @@ pub fn failure_law()
 {}
 
 /// A walk is never stuck, and takes no row before its tick: where rows are left, some event moves or a Take pops a cell; the inbox never holds more return cells than the
-/// lag; and rounds end with all rows taken, within a bound. Then all ticks are made and all items have landed.
+/// lag; and rounds end with all rows taken, within a bound. Then all ticks are made and all items have
+/// landed, and the report is one and the same, whatever was tried before.
 pub fn drain_law()
     ensures moves { (script : Script) (s : Counts) → CanWalk script → IsWalked script s →
         s.rows < script.config.ticks → SomeProgress (walk_plan script) s }
@@ -356,6 +360,8 @@ pub fn drain_law()
         landed_items script (drained script s) ≡ numbered 0 script.items }
     ensures accepted { (script : Script) (s : Counts) → IsValid script → IsWalked script s →
         (totals_of script (drained script s)).frames ≡ length (accepted_frames script) }
+    ensures report { (script : Script) (s : Counts) → IsValid script → IsWalked script s →
+        report_of script (drained script s) ≡ final_report script }
 {}
 
 /// How soon a line that is added carries payload: fifteen packets and the lag later, where each line in ADD can be read meanwhile; and
@@ -393,6 +399,7 @@ pub fn worked_law()
     ensures refusals { refusals_of worked_script at_the_end ≡ all_refusals }
     ensures totals { totals_of worked_script at_the_end ≡ all_totals }
     ensures accepted { accepted_frames worked_script ≡ two_frames }
+    ensures report { report_of worked_script at_the_end ≡ worked_report }
     ensures valid { IsValid failing_script }
     ensures spoiled { whole_rows failing_script seen_rows ≡ seen_whole }
 {}

@@ -4,7 +4,7 @@ use Rattle.progress_law.proofs.ReachLaws.{reached-progress}
 use Rattle.walk_law.specs.Walk.{walk_plan}
 use Rattle.walk_law.proofs.PlanLaws.{has-plan}
 use Rattle.walk_law.proofs.PromiseLaws.{drain-ends}
-use Rattle.walk_law.proofs.EndLaws.{counts-within, drained-ticks, drained-landed, drained-accepted}
+use Rattle.walk_law.proofs.EndLaws.{counts-within, drained-ticks, drained-landed, drained-accepted, drained-report}
 use Rattle.walk_law.proofs.drain_law.Goals as goal
 
 pub returns-clause-moves : goal.returns-clause-moves
@@ -27,3 +27,6 @@ returns-clause-accepted c = drained-accepted
 
 pub returns-clause-within : goal.returns-clause-within
 returns-clause-within c = counts-within
+
+pub returns-clause-report : goal.returns-clause-report
+returns-clause-report c = drained-report

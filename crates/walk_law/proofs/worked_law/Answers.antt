@@ -1,5 +1,6 @@
 -- A worked script, computed.
 use Rattle.std.proofs.Common.{◌≤◌, ℕ, inl, [], ◌∷◌, refl, arith}
+use Rattle.std.specs.Fmt.{digits}
 use Rattle.std.proofs.lemmas.List.Elements.{All-nil, All-cons}
 use Rattle.std.proofs.lemmas.List.Sorted.{IsNonDecreasingBy-short}
 use Rattle.session_model.specs.declared.window.Window.{Window}
@@ -86,3 +87,7 @@ returns-clause-valid c = record {
   few = omega arith;
   events = All-nil (IsEvent 1);
 }
+
+pub returns-clause-report : goal.returns-clause-report
+unfolding digits landed_from carried are_whole after keep none_kept cells_before said_before exchange take_out turned admit stream_before reaching place_of rows_of segments_on delineate_within hunt_within
+returns-clause-report c = refl
