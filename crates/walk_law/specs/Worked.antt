@@ -81,6 +81,26 @@ worked_report =
     codes "refused 0 length 63\n" ++ codes "refused 1 unknown\n" ++ codes "refused 4 already in\n" ++ codes "refused 6 not in\n"
     ++ codes "total ticks 41 taken 41 frames 2 commands 2 refused 4 got 0\n"
 
+-- ---- a frame that is delivered
+abbrev pub delivering_config : Config
+delivering_config = record {
+  lines = 1;
+  delays = 0 ∷ [];
+  windows = [] ∷ [];
+  lost = [];
+  ring = 1;
+  lag = 1;
+  ticks = 41;
+  size = 756;
+}
+
+-- the line is in use in packet 1, so the last row is the first that carries payload
+abbrev pub delivering_script : Script
+delivering_script = record { config = delivering_config; items = item 0 (Add 0) ∷ item 0 (Frame (replicate 64 7)) ∷ []; events = [] }
+
+abbrev pub one_frame : List (List ℕ)
+one_frame = replicate 64 7 ∷ []
+
 -- ---- a failure
 -- one line, added at once, of which containers 1000 and 1001 fail and 1002 vanishes
 abbrev pub failing_config : Config

@@ -42,7 +42,7 @@ ghost use Rattle.walk_law.specs.Rings.{delay_on, line_cells, AreDecidedBefore, s
 ghost use Rattle.walk_law.specs.Delivered.{session_rows, delivered_of, IsReceived};
 ghost use Rattle.walk_law.specs.Step.{last_packet, table_in};
 ghost use Rattle.walk_law.specs.Report.{report_of, final_report};
-ghost use Rattle.walk_law.specs.Worked.{worked_script, three_landed, at_the_end, first_refusals, all_refusals, first_totals, all_totals, two_frames, worked_report, failing_script, seen_rows, seen_whole, whole_rows};
+ghost use Rattle.walk_law.specs.Worked.{worked_script, three_landed, at_the_end, first_refusals, all_refusals, first_totals, all_totals, two_frames, worked_report, delivering_script, one_frame, failing_script, seen_rows, seen_whole, whole_rows};
 ghost use Rattle.walk_law.specs.Promise.{numbered, accepted_frames, session_pieces, session_extents, session_waiting, place_after, HasOctets, HasNoFailure, IsClear, row_from, AreWholeBefore, ConfirmsTrue, drained, InUseBy};
 ghost use Rattle.walk_law.specs.Landed.{Numbered, landed_items, landed_scenario, told_before, IsOfferAt, IsOrderAt, refusal_at, refused_by, refusals_of, IsPlaced, totals_of, with_frame_told, with_command_told};
 
@@ -400,6 +400,7 @@ pub fn worked_law()
     ensures totals { totals_of worked_script at_the_end ≡ all_totals }
     ensures accepted { accepted_frames worked_script ≡ two_frames }
     ensures report { report_of worked_script at_the_end ≡ worked_report }
+    ensures delivered { delivered_of delivering_script 41 ≡ one_frame }
     ensures valid { IsValid failing_script }
     ensures spoiled { whole_rows failing_script seen_rows ≡ seen_whole }
 {}
