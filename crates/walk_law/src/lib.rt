@@ -1,7 +1,8 @@
 //! The law that a walk of a script is a course of its session: whatever events were tried in whatever order, the cells that the sink
 //! has popped by the counts decide the rows that the counts say were taken, and these rows and the return packets that came to the
-//! source are the session's. There is no code here. Begin at `walk_law`; `ring_law` and `take_law` say what the rings hold by the
-//! counts.
+//! source are the session's. There is no code here. Begin at `walk_law`; `ring_law`, `take_law` and `return_law` say what the rings hold
+//! by the counts, and `landing_law`, `source_law` and `report_law` what has landed. `delivery_law`, `failure_law`, `drain_law`,
+//! `member_law` and `answer_law` are what is promised of a script.
 #![tactic(auto)]
 
 ghost use Rattle.std.specs.Prelude.{◌≡◌, ◌↔◌, ℕ, Bool, true, ◌+◌, ◌-◌, ◌*◌, ◌/◌, ◌%◌, ◌<◌, ◌≤◌, ◌==◌, ◌&&◌, nat_le, nat_lt, min, if◌then◌else◌, List, [], ◌∷◌, ◌++◌, map, fold, length, take, drop, slice_get, slice_index_or, Option, Some, None, is_none, option_map};
@@ -307,6 +308,9 @@ pub fn delivery_law()
         HasNoFailure script → rows ≤ script.config.ticks →
         delivered_of script rows
         ≡ take (length (delivered_of script rows)) (accepted_frames script) }
+    ensures walked { (script : Script) (s : Counts) → CanWalk script → HasOctets script →
+        HasNoFailure script → IsWalked script s → delivered_of script s.rows
+        ≡ frames_by (place_after script s.rows) (session_pieces script) }
     ensures drained { (script : Script) (s : Counts) → CanWalk script → HasOctets script →
         HasNoFailure script → IsWalked script s → delivered_of script (drained script s).rows
         ≡ frames_by (place_after script script.config.ticks) (session_pieces script) }
@@ -334,6 +338,9 @@ pub fn failure_law()
     ensures kept { (script : Script) (rows : ℕ) → HasOctets script → rows ≤ script.config.ticks →
         ConfirmsTrue script rows →
         delivered_of script rows ≡ frames_kept (session_pieces script) (session_rows script rows) }
+    ensures walked { (script : Script) (s : Counts) → CanWalk script → HasOctets script →
+        IsWalked script s → ConfirmsTrue script s.rows → delivered_of script s.rows
+        ≡ frames_kept (session_pieces script) (session_rows script s.rows) }
     ensures accepted { (script : Script) → IsValid script →
         map (λ (extent : Extent). extent.frame) (session_extents script) ++ session_waiting script
         ≡ accepted_frames script }
@@ -342,8 +349,8 @@ pub fn failure_law()
         ↔ Lost (segments (session_rows script rows)) (session_extents script) frame }
 {}
 
-/// A walk is never stuck, and takes no row before its tick: where rows are left, some event moves or a Take pops a cell; the inbox never holds more return cells than the
-/// lag; and rounds end with all rows taken, within a bound. Then all ticks are made and all items have
+/// A walk is never stuck, and takes no row before its tick: where rows are left, some event moves or a Take pops a cell; the inbox never
+/// holds more return cells than the lag; and rounds end with all rows taken, within a bound. Then all ticks are made and all items have
 /// landed, and the report is one and the same, whatever was tried before.
 pub fn drain_law()
     ensures moves { (script : Script) (s : Counts) → CanWalk script → IsWalked script s →
@@ -391,8 +398,8 @@ pub fn answer_law()
         WasSaid (scenario_of script) (session_of script) j sq ok }
 {}
 
-/// Worked scripts, computed: what is refused and counted before the first tick and at the end, and what is accepted; and which rows a
-/// failure of three containers spoils.
+/// Worked scripts, computed: what is refused, counted, accepted and reported; a frame that is delivered; and which rows a failure of
+/// three containers spoils.
 pub fn worked_law()
     ensures first_refusals { refusals_of worked_script three_landed ≡ first_refusals }
     ensures first_totals { totals_of worked_script three_landed ≡ first_totals }

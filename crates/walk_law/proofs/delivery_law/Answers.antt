@@ -1,4 +1,6 @@
 -- Without a failure.
+use Rattle.std.proofs.Common.{arith}
+use Rattle.walk_law.proofs.EndLaws.{counts-within}
 use Rattle.walk_law.proofs.PromiseLaws.{fine-carried, fine-first, fine-drained}
 use Rattle.walk_law.proofs.delivery_law.Goals as goal
 
@@ -10,3 +12,7 @@ returns-clause-first c = fine-first
 
 pub returns-clause-drained : goal.returns-clause-drained
 returns-clause-drained c = fine-drained
+
+pub returns-clause-walked : goal.returns-clause-walked
+returns-clause-walked c script s can octets none walked =
+    let (low, high) = counts-within script s can walked in fine-carried script can octets none s.rows (omega arith)
