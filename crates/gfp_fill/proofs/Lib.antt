@@ -1,5 +1,1 @@
 pub mod StreamLaws
-pub mod FillLaws
-mod FillerSteps
-mod ScrambleSteps
-mod PieceSteps
