@@ -76,8 +76,7 @@ pub record Stands (core : Terminal) (scenario : Scenario) (cells : List (Option 
   pub orders : All (λ (order : Order). order.due ≤ core.ticks) scenario.orders
   pub told : length cells ≡ steps_in core.ticks - scenario.lag
   pub table : core.table ≡ course_now scenario cells core.ticks
-  pub waiting : core.waiting ≡ (stream_now scenario cells core.ticks).waiting
-  pub stream : HasWritten core.sender (stream_now scenario cells core.ticks).pieces (place_of scenario cells core.ticks)
+  pub stream : HasWritten core.sender core.queue (stream_now scenario cells core.ticks) (place_of scenario cells core.ticks)
   pub active : core.active ≡ active_now scenario cells core.ticks
   pub nibbles : core.nibbles ≡ nibbles_now scenario cells core.ticks
 

@@ -9,6 +9,7 @@ use Rattle.session_model.specs.Scenario.{steps_in}
 use Rattle.session_model.specs.Course.{Course, called, decides}
 use Rattle.session_model.specs.Forward.{forward_packet}
 use Rattle.session_law.proofs.PlanLaws.{Fits}
+use Rattle.gfp_fill.specs.Queue.{Held}
 use Rattle.gfp_fill.specs.Stream.{Sender}
 use Rattle.vcat_interleave.specs.Members.{AreLines}
 use Rattle.vcat_interleave.specs.Spread.{AreDistinct}
@@ -46,13 +47,13 @@ pub record AreMembers (lines : ℕ) (active : List ℕ) : Type 0 where
   pub most : length active ≤ lines
 
 -- what the fields of a terminal hold
-abbrev pub terminal_of : ℕ → ℕ → ℕ → List (List ℕ) → Sender → Course → List ℕ → List (List ℕ) → Terminal
-terminal_of lag size ticks waiting sender table active nibbles = record {
+abbrev pub terminal_of : ℕ → ℕ → ℕ → Held → Sender → Course → List ℕ → List (List ℕ) → Terminal
+terminal_of lag size ticks queue sender table active nibbles = record {
   lines = table.lines;
   lag = lag;
   size = size;
   ticks = ticks;
-  waiting = waiting;
+  queue = queue;
   sender = sender;
   table = table;
   active = active;

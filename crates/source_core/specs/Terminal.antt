@@ -1,17 +1,18 @@
 -- What a source terminal holds.
 use Rattle.std.specs.Prelude.{◌≡◌, ℕ, ◌+◌, ◌-◌, ◌*◌, ◌/◌, ◌%◌, ◌==◌, ◌&&◌, nat_le, if◌then◌else◌, List, Option, Some, None}
 use Rattle.session_model.specs.Course.{Course}
+use Rattle.gfp_fill.specs.Queue.{Held}
 use Rattle.gfp_fill.specs.Stream.{Sender}
 
--- how many lines there are; the lag in packets; the payload octets of a container; how many frames were made; the frames of the client
--- that wait, and the stream that is made of them; the table; the lines that carry payload, and the nibbles of each line's packet, as they
+-- how many lines there are; the lag in packets; the payload octets of a container; how many frames were made; the client's frames
+-- that aren't sent, and the stream that is made of them; the table; the lines that carry payload, and the nibbles of each line's packet, as they
 -- were in the frame that was made last
 pub record Terminal : Type 0 where
   pub lines : ℕ
   pub lag : ℕ
   pub size : ℕ
   pub ticks : ℕ
-  pub waiting : List (List ℕ)
+  pub queue : Held
   pub sender : Sender
   pub table : Course
   pub active : List ℕ

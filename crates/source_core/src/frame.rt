@@ -1,12 +1,12 @@
 //! The containers of a frame.
 
-ghost use Rattle.std.specs.Prelude.{◌≡◌, ℕ, ◌*◌, ◌<◌, ◌≤◌, All, length};
+ghost use Rattle.std.specs.Prelude.{◌≡◌, ℕ, ◌*◌, ◌<◌, ◌≤◌, All, length, replicate};
 ghost use Rattle.source_core.specs.Frame.{h4_by, with_no_payload, blanks_by, containers_by};
 ghost use Rattle.source_core.specs.Step.{AreMembers, AreNibbles};
 
 use crate::step::NIBBLES;
 use h4_multiframe::h4;
-use vc_cell::Container;
+use vc_cell::{Container, PAYLOAD};
 use vcat_interleave::spread_places;
 
 /// Writes the containers of all lines: the nibbles of their packets in H4, and the row over the active lines.
@@ -54,5 +54,13 @@ fn clear(h4: u8, container: &mut Container)
     ensures { container.new ≡ with_no_payload h4 }
 {
     container.h4 = h4;
-    container.payload.fill(0);
+    blank(&mut container.payload);
+}
+
+/// Writes zeros.
+fn blank(octets: &mut [u8; PAYLOAD])
+    ensures zeros { octets.new ≡ replicate (length octets.old) 0 }
+    ensures size { length octets.old ≡ 2340 }
+{
+    octets.fill(0);
 }

@@ -83,7 +83,7 @@ impl SourceCore {
 
     /// Takes a frame of the client, from its destination address to its FCS. A refusal tells its first cause, and changes nothing.
     pub fn accept(&mut self, frame: &[u8]) -> Result<(), AcceptFault>
-        ensures refused { refusal_in result ≡ refusal_while self.old.waiting frame.now }
+        ensures refused { refusal_in result ≡ refusal_while self.old.queue.waiting frame.now }
         ensures unchanged { OnErr result (self.new ≡ self.old) }
         ensures stands { (scenario : Scenario) (cells : List (Option Told)) →
             Stands self.old scenario cells →
