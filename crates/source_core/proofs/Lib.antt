@@ -1,2 +1,5 @@
 pub mod MemberLaws
 pub mod FrameLaws
+pub mod AlikeLaws
+pub mod GivenSteps
+pub mod FieldSteps

@@ -1,4 +1,7 @@
 use Rattle.source_core.proofs.MemberLaws.{active-members}
+use Rattle.source_core.proofs.AlikeLaws.{alike-frame}
+use Rattle.source_core.proofs.FieldSteps.{IsTerminal-ticked}
+use Rattle.source_core.proofs.GivenSteps.{lands-now}
 use Rattle.source_core.proofs.terminal.SourceCore.tick.Goals as goal
 
 pub slice_bounds-fill-end : goal.slice_bounds-fill-end
