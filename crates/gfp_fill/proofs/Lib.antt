@@ -1,1 +1,3 @@
 pub mod StreamLaws
+pub mod StreamSteps
+mod IdleLaws

@@ -38,7 +38,11 @@ pub record Stands (sender : Sender) (queue : Held) (stream : Stream) (place : �
 abbrev pub AreNext : Stream → ℕ → List ℕ → Type 0
 AreNext stream place octets = octets ≡ take (length octets) (drop place (stream_of (reached (place + length octets) stream).pieces))
 
--- whatever stream stood before, its next octets were written
+-- what stands after octets of a stream that are the next ones
+pub record HasWritten (sender : Sender) (queue : Held) (stream : Stream) (place : ℕ) (octets : List ℕ) : Type 0 where
+  pub stands : Stands sender queue (reached (place + length octets) stream) (place + length octets)
+  pub next : AreNext stream place octets
+
+-- whatever stream stood before, its next octets are written
 abbrev pub Writes : Sender → Held → Sender → Held → List ℕ → Type 0
-Writes before queue after rest octets = (stream : Stream) (place : ℕ) → Stands before queue stream place
-    → Stands after rest (reached (place + length octets) stream) (place + length octets) × AreNext stream place octets
+Writes before queue after rest octets = (stream : Stream) (place : ℕ) → Stands before queue stream place → HasWritten after rest stream place octets

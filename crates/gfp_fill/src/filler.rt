@@ -170,7 +170,7 @@ fn put_idles(out: &mut [u8]) -> usize
 {
     let n = out.len() / CORE_HEADER;
     for i in 0..n {
-        out[CORE_HEADER * i..CORE_HEADER * i + CORE_HEADER].copy_from_slice(&IDLE);
+        put(out, CORE_HEADER * i, &IDLE);
     }
     CORE_HEADER * n
 }
