@@ -3,3 +3,4 @@ pub mod FrameLaws
 pub mod AlikeLaws
 pub mod GivenSteps
 pub mod FieldSteps
+pub mod TickSteps

@@ -1,5 +1,6 @@
 use Rattle.source_core.proofs.MemberLaws.{active-members}
 use Rattle.source_core.proofs.AlikeLaws.{alike-frame}
+use Rattle.source_core.proofs.TickSteps.{is-due}
 use Rattle.source_core.proofs.FieldSteps.{IsTerminal-ticked}
 use Rattle.source_core.proofs.GivenSteps.{lands-now}
 use Rattle.source_core.proofs.terminal.SourceCore.tick.Goals as goal
