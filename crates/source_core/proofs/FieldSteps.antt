@@ -1,8 +1,10 @@
 -- What is true of a terminal's fields, call by call.
-use Rattle.std.proofs.Common.{◌≡◌, ℕ, zero, suc, ◌+◌, ◌-◌, ◌*◌, ◌/◌, ◌%◌, ◌<◌, ◌≤◌, ◌==◌, Bool, true, false, List, [], ◌∷◌, map, length, replicate, All, Option, option_map, refl, sym, ◌∙◌, ap, subst, arith}
+use Rattle.std.proofs.Common.{◌≡◌, ℕ, zero, suc, ◌+◌, ◌-◌, ◌*◌, ◌/◌, ◌%◌, ◌<◌, ◌≤◌, ◌==◌, Bool, true, false, List, [], ◌∷◌, map, length, take, All, Option, option_map, refl, sym, ◌∙◌, ap, subst, arith}
 use Rattle.std.specs.List.{range_with_len}
 use Rattle.std.proofs.lemmas.Bool.{eqb-true, eqb-false}
+use Rattle.std.proofs.lemmas.List.{length-take-le}
 use Rattle.std.proofs.lemmas.List.FromFn.{length-map-range_with_len}
+use Rattle.std.proofs.Math.Nat.{mul-le-mul_left}
 use Rattle.vc_cell.specs.declared.BackCell.{BackCell}
 use Rattle.session_model.specs.declared.table.Command.{Command}
 use Rattle.session_model.specs.Scenario.{steps_in}
@@ -74,3 +76,20 @@ IsTerminal-ticked lag size ticks queue later sender further table next active me
       nibbles = omega arith;
       below = below;
     }
+
+-- the lines that carry payload after a decision step
+pub next-members : (lag size ticks : ℕ) (queue : Held) (sender : Sender) (table : Course) (active members : List ℕ) (nibbles : List (List ℕ)) (octets : ℕ) →
+    members ≡ active_by (is_step ticks) table active → IsTerminal (terminal_of lag size ticks queue sender table active nibbles) octets → AreMembers table.lines members
+next-members lag size ticks queue sender table active members nibbles octets is fields =
+    subst (AreMembers table.lines) (sym is) (active_by-members (is_step ticks) table active fields.fits fields.active)
+
+-- the octets of a frame fit the room
+pub frame-fits : (size lines octets n x : ℕ) (active : List ℕ) → octets ≡ size * lines → AreMembers lines active → n ≡ size → x ≡ length active → n * x ≤ octets
+frame-fits size lines octets n x active room members is_size is_many =
+    let most = members.most in
+    let fits : size * length active ≤ size * lines = mul-le-mul_left size most in
+    let same : n * x ≡ size * length active = ap (λ n. n * x) is_size ∙ ap (λ x. size * x) is_many in
+    omega arith
+
+pub front-length : (n octets : ℕ) (xs : List ℕ) → n ≤ octets → octets ≡ length xs → length (take n xs) ≡ n
+front-length n octets xs low long = length-take-le n xs (omega arith)

@@ -11,7 +11,7 @@ ghost use Rattle.session_model.specs.Sent.{frame_of};
 ghost use Rattle.source_core.specs.Terminal.{needed, SameKind};
 ghost use Rattle.source_core.specs.Given.{with_frame, with_command, with_cell, IsFresh, Stands};
 
-use crate::frame::send;
+use crate::frame::{fill_front, send};
 use crate::step::{NIBBLES, take_step};
 use arrayvec::ArrayVec;
 use gfp_fill::{AcceptFault, Filler, FrameQueue};
@@ -159,15 +159,9 @@ impl SourceCore {
         );
         let size = usize::from(self.size);
         let len = size * self.active.len();
-        self.filler.fill(&mut self.queue, &mut self.row[..len]);
-        send(
-            self.ticks,
-            &self.nibbles,
-            &self.active,
-            size,
-            &self.row[..len],
-            out,
-        );
+        fill_front(&mut self.filler, &mut self.queue, len, &mut self.row);
+        let row = &self.row[..len];
+        send(self.ticks, &self.nibbles, &self.active, size, row, out);
         self.ticks += 1;
     }
 
