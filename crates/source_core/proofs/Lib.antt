@@ -4,3 +4,6 @@ pub mod AlikeLaws
 pub mod GivenSteps
 pub mod FieldSteps
 pub mod TickSteps
+pub mod NewSteps
+pub mod LandedLaws
+pub mod DealtLaws

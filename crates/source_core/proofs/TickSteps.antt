@@ -40,7 +40,7 @@ abbrev pub IsDue : ℕ → ℕ → Option BackCell → Type 0
 IsDue lag t None = t % 16 ≡ 8 → t / 16 < lag
 IsDue lag t (Some cell) = (t % 16 ≡ 8) × (lag ≤ t / 16)
 
-test-both : (a b c d : ℕ) → (a == b && nat_le c d) ≡ true → (a ≡ b) × (c ≤ d)
+pub test-both : (a b c d : ℕ) → (a == b && nat_le c d) ≡ true → (a ≡ b) × (c ≤ d)
 test-both a b c d e = (grind (arith, nat_tests, e), grind (arith, nat_tests, e))
 
 pub is-due : (lag t : ℕ) (back : Option BackCell) → (is_some back ≡ true) ↔ (is_some (needed_at lag t) ≡ true) → IsDue lag t back
@@ -204,7 +204,7 @@ active-at scenario cells t =
           ap (λ n. active (after scenario cells n).table) same
     ] refl
 
-width-at : (scenario : Scenario) (cells : List (Option Told)) (t : ℕ) → width scenario cells t ≡ length (active_at scenario cells t)
+pub width-at : (scenario : Scenario) (cells : List (Option Told)) (t : ℕ) → width scenario cells t ≡ length (active_at scenario cells t)
 width-at scenario cells t =
     elim (nat_lt t 24) as (λ b. (if b then 0 else length (active (table_of scenario cells ((t - 24) / 16)))) ≡ length (if b then [] else active (table_of scenario cells ((t - 24) / 16)))) [
       | true ↦ refl

@@ -12,7 +12,7 @@ ghost use Rattle.source_core.specs.Terminal.{needed, SameKind};
 ghost use Rattle.source_core.specs.Given.{with_frame, with_command, with_cell, IsFresh, Stands};
 
 use crate::frame::{fill_front, send};
-use crate::step::{NIBBLES, take_step};
+use crate::step::{NIBBLES, no_packets, take_step};
 use arrayvec::ArrayVec;
 use gfp_fill::{AcceptFault, Filler, FrameQueue};
 use lcas_source::{CommandFault, SourceTable};
@@ -76,7 +76,7 @@ impl SourceCore {
             size,
             ticks: 0,
             active: ArrayVec::new(),
-            nibbles: vec![in alloc; [0u8; NIBBLES]; usize::from(lines)]?,
+            nibbles: no_packets(alloc, lines)?,
             row: vec![in alloc; 0u8; usize::from(size) * usize::from(lines)]?,
         })
     }
