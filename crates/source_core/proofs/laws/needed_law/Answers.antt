@@ -1,7 +1,7 @@
 -- The number of the frame says which return cell a tick needs.
 use Rattle.std.proofs.Common.{◌≡◌, ◌≤◌, ◌<◌, ℕ, ◌+◌, ◌-◌, ◌*◌, ◌/◌, ◌%◌, ◌==◌, ◌&&◌, nat_le, true, false, Bool, if◌then◌else◌, Option, Some, None, refl, sym, ◌∙◌, ap, arith}
 use Rattle.std.proofs.lemmas.Bool.{eq-eqb, le-leb}
-use Rattle.std.proofs.lemmas.Option.{none-some, same_Some}
+use Rattle.std.proofs.lemmas.Option.{none-some}
 use Rattle.source_core.specs.Terminal.{needed_at}
 use Rattle.source_core.proofs.TickSteps.{test-both}
 use Rattle.source_core.proofs.laws.needed_law.Goals as goal
@@ -13,7 +13,7 @@ from-some lag t k =
           let both = test-both (t % 16) 8 lag (t / 16) e in
           let at = both.0 in
           let late = both.1 in
-          let is = same_Some h in
+          let is : t / 16 - lag ≡ k = cc in
           omega arith
       | false ↦ λ e h. absurd (none-some k h)
     ] refl
