@@ -2,7 +2,7 @@
 
 ghost use Rattle.std.specs.Prelude.{◌≡◌, ℕ, ◌+◌, ◌*◌, ◌<◌, ◌≤◌, ◌↔◌, [], List, Option, IfOk, OnErr, IsSome, length};
 ghost use Rattle.session_model.specs.declared.table.Command.TheVariants.{Add as add, Remove as remove};
-ghost use Rattle.session_model.specs.Scenario.{Scenario};
+ghost use Rattle.session_model.specs.Scenario.{Scenario, steps_in};
 ghost use Rattle.session_model.specs.Table.{Told};
 ghost use Rattle.session_model.specs.Source.{refusal};
 ghost use Rattle.session_model.specs.Client.{refusal_while};
@@ -174,7 +174,8 @@ impl SourceCore {
 
     /// The table of the lines after the last decision step.
     pub fn table(&self) -> &SourceTable
-        ensures { result.now ≡ self.now.table }
+        ensures table { result.now ≡ self.now.table }
+        ensures steps { result.now.steps ≡ steps_in self.now.ticks }
     {
         &self.table
     }
