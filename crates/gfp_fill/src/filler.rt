@@ -132,8 +132,10 @@ impl Filler {
     // Writes as many octets of the frame that is being sent as aren't written and `out` has room for, and says how many.
     fn send_frame(&mut self, waiting: &mut FrameQueue, out: &mut [u8]) -> usize
         ensures count { result ≡ min (length waiting.old.begun) (length out.old) }
-        ensures octets { ScramblesTo self.old.scrambler (take result waiting.old.begun) (take result out.new) }
-        ensures given { Continues self.old.scrambler self.new.scrambler (take result waiting.old.begun) }
+        ensures octets { let octets = take result waiting.old.begun in
+            ScramblesTo self.old.scrambler octets (take result out.new) }
+        ensures given { let octets = take result waiting.old.begun in
+            Continues self.old.scrambler self.new.scrambler octets }
         ensures rest { waiting.new.begun ≡ drop result waiting.old.begun }
         ensures waits { waiting.new.waiting ≡ waiting.old.waiting }
         ensures head { head_of self.new ≡ head_of self.old }
@@ -149,7 +151,8 @@ impl Filler {
         requires done { head_of self.old ≡ [] }
         ensures some { 0 < result }
         ensures within { result ≤ length out.old }
-        ensures octets { (n : ℕ) × (flat_map with_header (replicate n []) ≡ take result out.new ++ head_of self.new) }
+        ensures octets { (n : ℕ) ×
+            (flat_map with_header (replicate n []) ≡ take result out.new ++ head_of self.new) }
         ensures few { length (head_of self.new) < 4 }
         ensures scrambler { self.new.scrambler ≡ self.old.scrambler }
     {

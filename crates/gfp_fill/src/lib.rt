@@ -21,15 +21,18 @@ pub use session_model::AcceptFault;
 /// The pieces of a stream that reaches a place are the fewest, a place can be reached in parts, and octets that are written stand
 /// in each longer stream. Where all frames wait from the start, the pieces are those of the opening.
 pub fn filling_law()
-    ensures fewest { (place : ℕ) (stream : Stream) → IsFewest stream.pieces place (reached place stream).pieces }
+    ensures fewest { (place : ℕ) (stream : Stream) →
+        IsFewest stream.pieces place (reached place stream).pieces }
     ensures parts { (sooner later : ℕ) (stream : Stream) → sooner ≤ later →
         reached later (reached sooner stream) ≡ reached later stream }
-    ensures begun { (place : ℕ) (stream : Stream) → (n : ℕ) × (reached place stream ≡ begun n stream) }
+    ensures begun { (place : ℕ) (stream : Stream) →
+        (n : ℕ) × (reached place stream ≡ begun n stream) }
     ensures next { (n : ℕ) (stream : Stream) → begun n stream ≡
         record { pieces = stream.pieces ++ next_pieces n stream.waiting; waiting = drop n stream.waiting } }
-    ensures opening { (frames : List (List ℕ)) (idles : ℕ) → begun (length frames + idles) (unsent frames) ≡
-        record { pieces = opening frames idles; waiting = [] } }
-    ensures offers { (stream : Stream) (frame : List ℕ) → (offered stream frame).pieces ≡ stream.pieces }
+    ensures opening { (frames : List (List ℕ)) (idles : ℕ) →
+        begun (length frames + idles) (unsent frames) ≡ record { pieces = opening frames idles; waiting = [] } }
+    ensures offers { (stream : Stream) (frame : List ℕ) →
+        (offered stream frame).pieces ≡ stream.pieces }
     ensures long { (pieces : List Piece) → length (stream_of pieces) ≡ size pieces }
     ensures written { (pieces more : List Piece) (place : ℕ) → place ≤ size pieces →
         take place (stream_of (pieces ++ more)) ≡ take place (stream_of pieces) }

@@ -65,15 +65,18 @@ impl FrameQueue {
 
     /// Accepts a frame, or refuses it and stays as it was.
     pub fn push(&mut self, frame: &[u8]) -> Result<(), AcceptFault>
-        ensures length { (result ≡ Err (AcceptFault.Length (length frame.now))) ↔ IsOtherLength (length frame.now) }
+        ensures length { (result ≡ Err (AcceptFault.Length (length frame.now))) ↔
+            IsOtherLength (length frame.now) }
         ensures full { (result ≡ Err (AcceptFault.QueueFull most_waiting)) ↔
             (IsFrameLength (length frame.now) × (length self.old.waiting ≡ most_waiting)) }
-        ensures ok { IsOk result ↔ (IsFrameLength (length frame.now) × (length self.old.waiting < most_waiting)) }
+        ensures ok { IsOk result ↔
+            (IsFrameLength (length frame.now) × (length self.old.waiting < most_waiting)) }
         ensures accepted { OnOk result (self.new.waiting ≡ self.old.waiting ++ frame.now ∷ []) }
         ensures sending { self.new.begun ≡ self.old.begun }
         ensures unchanged { OnErr result (self.new ≡ self.old) }
         ensures refusal { result_err result ≡ refusal_while self.old.waiting frame.now }
-        ensures stands { (sender : Sender) (stream : Stream) (place : ℕ) → Stands sender self.old stream place →
+        ensures stands { (sender : Sender) (stream : Stream) (place : ℕ) →
+            Stands sender self.old stream place →
             Stands sender self.new (offered stream frame.now) place }
     {
         if frame.len() < MIN_FRAME || frame.len() > MAX_FRAME {
