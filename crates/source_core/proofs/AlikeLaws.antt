@@ -1,13 +1,13 @@
 -- What a session's tables, stream and containers depend on: what lands before each step and each frame, and the return cells.
-use Rattle.std.proofs.Common.{◌≡◌, ◌≤◌, ◌<◌, ℕ, zero, suc, ◌+◌, ◌-◌, ◌*◌, ◌/◌, ◌%◌, nat_lt, true, false, if◌then◌else◌, List, [], ◌∷◌, map, fold, length, take, drop, slice_index, replicate, Option, refl, sym, ◌∙◌, ap, arith}
+use Rattle.std.proofs.Common.{◌≡◌, ◌≤◌, ◌<◌, ℕ, zero, suc, ◌+◌, ◌-◌, ◌*◌, ◌/◌, ◌%◌, nat_lt, true, false, if◌then◌else◌, List, [], ◌∷◌, map, fold, length, take, drop, slice_index, replicate, Option, refl, ◌∙◌, ap, arith}
 use Rattle.std.specs.List.{range_with_len}
 use Rattle.std.proofs.lemmas.Bool.{ltb-false}
 use Rattle.vc_cell.specs.declared.Container.{Container}
 use Rattle.session_model.specs.Scenario.{Scenario, orders_at, frames_at, steps_in}
 use Rattle.session_model.specs.Packet.{packet_nibbles}
 use Rattle.session_model.specs.Piece.{stream_of}
-use Rattle.session_model.specs.Table.{Table, Told, active}
-use Rattle.session_model.specs.Source.{Source, asked_all, decide, cell_at, after, table_of}
+use Rattle.session_model.specs.Table.{Told, active}
+use Rattle.session_model.specs.Source.{asked_all, decide, cell_at, after, table_of}
 use Rattle.session_model.specs.Forward.{forward_packet}
 use Rattle.session_model.specs.Client.{Stream, offered, width, stream_before, place_of}
 use Rattle.session_model.specs.Payload.{payload_of}

@@ -1,6 +1,6 @@
 -- How the octets of a frame are dealt to the lines that carry payload.
-use Rattle.std.proofs.Common.{◌≡◌, ◌≢◌, ◌≤◌, ◌<◌, ℕ, zero, suc, ◌+◌, ◌-◌, ◌*◌, ◌/◌, ◌%◌, nat_lt, true, false, if◌then◌else◌, inl, inr, List, [], ◌∷◌, ◌++◌, length, replicate, slice_index, Option, Some, None, refl, sym, ◌∙◌, ap, subst, arith}
-use Rattle.std.proofs.lemmas.Bool.{cases_lt, ltb-true, ltb-false, lt-ltb}
+use Rattle.std.proofs.Common.{◌≡◌, ◌≤◌, ◌<◌, ℕ, ◌+◌, ◌-◌, ◌*◌, ◌/◌, ◌%◌, nat_lt, false, if◌then◌else◌, inl, inr, List, [], length, replicate, slice_index, Option, Some, None, refl, sym, ◌∙◌, ap, subst, arith}
+use Rattle.std.proofs.lemmas.Bool.{cases_lt, lt-ltb}
 use Rattle.std.proofs.lemmas.Bool.Decides.{nat_tests}
 use Rattle.std.proofs.lemmas.List.{get_or_append_left}
 use Rattle.session_model.specs.Scenario.{Scenario}
@@ -8,12 +8,12 @@ use Rattle.session_model.specs.Table.{Told, active}
 use Rattle.session_model.specs.Source.{after, table_of}
 use Rattle.session_model.specs.Interleave.{part_of}
 use Rattle.session_model.specs.Payload.{payload_of}
-use Rattle.session_model.specs.Sent.{rank_of, payload_by, payload_on, active_at, container_of}
+use Rattle.session_model.specs.Sent.{rank_of, payload_by, payload_on, active_at}
 use Rattle.session_law.proofs.PlanLaws.{Fits-after}
 use Rattle.session_law.proofs.ClientLaws.{payload-length}
 use Rattle.vcat_interleave.specs.Spread.{AreDistinct}
 use Rattle.vcat_interleave.proofs.RowLaws.{length-part_of, get-part_of, place-within}
-use Rattle.source_core.specs.Dealt.{carrier_of, place_of, IsDealt}
+use Rattle.source_core.specs.Dealt.{IsDealt}
 use Rattle.source_core.specs.Step.{AreMembers}
 use Rattle.source_core.proofs.MemberLaws.{active-members}
 use Rattle.source_core.proofs.FrameLaws.{IsRank, rank_of-is}

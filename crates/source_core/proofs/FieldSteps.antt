@@ -1,6 +1,5 @@
 -- What is true of a terminal's fields, call by call.
-use Rattle.std.proofs.Common.{◌≡◌, ℕ, zero, suc, ◌+◌, ◌-◌, ◌*◌, ◌/◌, ◌%◌, ◌<◌, ◌≤◌, ◌==◌, Bool, true, false, List, [], ◌∷◌, map, length, take, All, Option, option_map, refl, sym, ◌∙◌, ap, subst, arith}
-use Rattle.std.specs.List.{range_with_len}
+use Rattle.std.proofs.Common.{◌≡◌, ℕ, ◌+◌, ◌*◌, ◌%◌, ◌≤◌, Bool, true, false, List, length, take, Option, option_map, refl, sym, ◌∙◌, ap, subst, arith}
 use Rattle.std.proofs.lemmas.Bool.{eqb-true, eqb-false}
 use Rattle.std.proofs.lemmas.List.{length-take-le}
 use Rattle.std.proofs.lemmas.List.FromFn.{length-map-range_with_len}
@@ -9,11 +8,10 @@ use Rattle.vc_cell.specs.declared.BackCell.{BackCell}
 use Rattle.session_model.specs.declared.table.Command.{Command}
 use Rattle.session_model.specs.Scenario.{steps_in}
 use Rattle.session_model.specs.Told.{told_in}
-use Rattle.session_model.specs.Course.{Course, asks, decides, called, said_by}
+use Rattle.session_model.specs.Course.{Course, asks, called, said_by}
 use Rattle.session_law.proofs.PlanLaws.{Fits, Fits-asked, Fits-decide}
 use Rattle.gfp_fill.specs.Queue.{Held}
 use Rattle.gfp_fill.specs.Stream.{Sender}
-use Rattle.source_core.specs.Terminal.{Terminal}
 use Rattle.source_core.specs.Step.{is_step, table_by, active_by, nibbles_by, AreNibbles, AreMembers, terminal_of, IsTerminal}
 use Rattle.source_core.proofs.MemberLaws.{active-members}
 

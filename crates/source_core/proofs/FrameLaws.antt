@@ -1,16 +1,15 @@
 -- The containers of a frame: H4 and no payload first, and then the row over the lines that carry payload.
-use Rattle.std.proofs.Common.{◌≡◌, ◌≢◌, ℕ, zero, suc, ◌+◌, ◌-◌, ◌*◌, ◌<◌, ◌≤◌, ◌==◌, Bool, true, false, if◌then◌else◌, List, [], ◌∷◌, ◌++◌, map, take, drop, length, replicate, slice_index, slice_index_or, Option, Some, None, refl, sym, ◌∙◌, ap, subst, arith}
-use Rattle.std.specs.List.{range_with_len, position_from}
+use Rattle.std.proofs.Common.{◌≡◌, ◌≢◌, ℕ, zero, suc, ◌+◌, ◌-◌, ◌<◌, ◌==◌, true, false, if◌then◌else◌, List, [], ◌∷◌, ◌++◌, drop, length, replicate, slice_index, slice_index_or, Option, Some, None, refl, sym, ◌∙◌, ap, arith}
+use Rattle.std.specs.List.{position_from}
 use Rattle.std.proofs.lemmas.Bool.{eqb-true, eqb-false}
 use Rattle.std.proofs.lemmas.List.{drop-replicate}
 use Rattle.std.proofs.lemmas.List.FromFn.{get_or-map-range_with_len, fill_by_all}
 use Rattle.vc_cell.specs.declared.Container.{Container}
 use Rattle.session_model.specs.Interleave.{part_of}
-use Rattle.session_model.specs.Sent.{rank_of, payload_by, payload_on}
+use Rattle.session_model.specs.Sent.{rank_of, payload_by}
 use Rattle.vcat_interleave.specs.Members.{with_octets}
 use Rattle.vcat_interleave.proofs.RowLaws.{length-part_of}
 use Rattle.source_core.specs.Frame.{h4_by, with_no_payload, blanks_by, container_by, containers_by}
-use Rattle.source_core.specs.Step.{AreMembers}
 
 -- ---- the place of a line among lines
 -- a line stands at its place, or nowhere
@@ -50,24 +49,24 @@ pub sent-frame : (lines t : ℕ) (nibbles : List (List ℕ)) (active : List ℕ)
     length after ≡ lines → after ≡ containers_by lines t nibbles active size row
 sent-frame lines t nibbles active size row before after blank members others long =
     fill_by_all (container_by t nibbles active size row) after lines (with_no_payload 0) long each where
-  empty : (line : ℕ) → line < lines → slice_index_or before line (with_no_payload 0) ≡ with_no_payload (h4_by t (slice_index_or nibbles line []))
-  empty line low =
-      ap (λ xs. slice_index_or xs line (with_no_payload 0)) blank
-      ∙ get_or-map-range_with_len (λ line. with_no_payload (h4_by t (slice_index_or nibbles line []))) 0 lines line line (with_no_payload 0) low (omega arith)
+      empty : (line : ℕ) → line < lines → slice_index_or before line (with_no_payload 0) ≡ with_no_payload (h4_by t (slice_index_or nibbles line []))
+      empty line low =
+          ap (λ xs. slice_index_or xs line (with_no_payload 0)) blank
+          ∙ get_or-map-range_with_len (λ line. with_no_payload (h4_by t (slice_index_or nibbles line []))) 0 lines line line (with_no_payload 0) low (omega arith)
 
-  one : (line : ℕ) → line < lines → (found : Option ℕ) → IsRank active line 0 found →
-      slice_index_or after line (with_no_payload 0) ≡ record { h4 = h4_by t (slice_index_or nibbles line []); payload = payload_by found (length active) size row }
-  one line low None none = others line (with_no_payload 0) none ∙ empty line low
-  one line low (Some place) found =
-      let rank = found.0 in
-      let same : rank ≡ place = omega (arith, found.1) in
-      let part = part_of rank (length active) size row in
-      sym (ap (λ n. slice_index_or after n (with_no_payload 0)) found.3)
-      ∙ members rank (with_no_payload 0) found.2
-      ∙ ap (λ n. with_octets 0 part (slice_index_or before n (with_no_payload 0))) found.3
-      ∙ ap (with_octets 0 part) (empty line low)
-      ∙ part-put (h4_by t (slice_index_or nibbles line [])) size part (length-part_of rank (length active) size row)
-      ∙ ap (λ n. record { h4 = h4_by t (slice_index_or nibbles line []); payload = part_of n (length active) size row ++ replicate (2340 - size) 0 }) same
+      one : (line : ℕ) → line < lines → (found : Option ℕ) → IsRank active line 0 found →
+          slice_index_or after line (with_no_payload 0) ≡ record { h4 = h4_by t (slice_index_or nibbles line []); payload = payload_by found (length active) size row }
+      one line low None none = others line (with_no_payload 0) none ∙ empty line low
+      one line low (Some place) found =
+          let rank = found.0 in
+          let same : rank ≡ place = omega (arith, found.1) in
+          let part = part_of rank (length active) size row in
+          sym (ap (λ n. slice_index_or after n (with_no_payload 0)) found.3)
+          ∙ members rank (with_no_payload 0) found.2
+          ∙ ap (λ n. with_octets 0 part (slice_index_or before n (with_no_payload 0))) found.3
+          ∙ ap (with_octets 0 part) (empty line low)
+          ∙ part-put (h4_by t (slice_index_or nibbles line [])) size part (length-part_of rank (length active) size row)
+          ∙ ap (λ n. record { h4 = h4_by t (slice_index_or nibbles line []); payload = part_of n (length active) size row ++ replicate (2340 - size) 0 }) same
 
-  each : (line : ℕ) → line < lines → slice_index_or after line (with_no_payload 0) ≡ container_by t nibbles active size row line
-  each line low = one line low (rank_of active line) (rank_of-is active line)
+      each : (line : ℕ) → line < lines → slice_index_or after line (with_no_payload 0) ≡ container_by t nibbles active size row line
+      each line low = one line low (rank_of active line) (rank_of-is active line)

@@ -1,5 +1,5 @@
 -- What a frame, a command and a return cell make of a terminal's scenario.
-use Rattle.std.proofs.Common.{◌≡◌, ◌≤◌, ◌<◌, ℕ, zero, suc, ◌+◌, ◌-◌, ◌*◌, ◌/◌, ◌%◌, ◌&&◌, nat_le, nat_lt, true, false, Bool, if◌then◌else◌, List, [], ◌∷◌, ◌++◌, map, filter, fold, length, replicate, All, Option, Some, None, refl, sym, ◌∙◌, ap, subst, arith}
+use Rattle.std.proofs.Common.{◌≡◌, ◌≤◌, ◌<◌, ℕ, zero, suc, ◌+◌, ◌-◌, ◌*◌, ◌&&◌, nat_le, nat_lt, true, false, Bool, if◌then◌else◌, List, [], ◌∷◌, ◌++◌, map, filter, fold, length, All, Option, refl, sym, ◌∙◌, ap, subst, arith}
 use Rattle.std.specs.List.{range_with_len}
 use Rattle.std.proofs.lemmas.Bool.Decides.{nat_tests}
 use Rattle.std.proofs.lemmas.List.{map-append, append-nil}
@@ -8,14 +8,13 @@ use Rattle.std.proofs.lemmas.List.Sums.{fold-append}
 use Rattle.session_model.specs.declared.table.Command.{Command}
 use Rattle.session_model.specs.Scenario.{Scenario, Order, Offer, orders_at, frames_at, lands_at, comes_at, steps_in}
 use Rattle.session_model.specs.Table.{Told}
-use Rattle.session_model.specs.Source.{Source, asked, asked_all, after, source_at}
+use Rattle.session_model.specs.Source.{asked, asked_all, after}
 use Rattle.session_model.specs.Course.{Course, called, asks}
 use Rattle.session_model.specs.Client.{Stream, offered, stream_before, place_of}
 use Rattle.gfp_fill.specs.Queue.{Held}
 use Rattle.gfp_fill.specs.Stream.{Sender, Stands as HasWritten}
-use Rattle.source_core.specs.Terminal.{Terminal}
 use Rattle.source_core.specs.Step.{terminal_of}
-use Rattle.source_core.specs.Given.{with_frame, with_command, stream_now, source_now, course_now, nibbles_after, nibbles_now, active_now, Stands}
+use Rattle.source_core.specs.Given.{with_frame, with_command, stream_now, source_now, nibbles_after, Stands}
 use Rattle.source_core.proofs.AlikeLaws.{Alike, alike-after, alike-place, alike-stream, alike-active, alike-nibbles, map-same}
 
 -- ---- what lands when
@@ -85,7 +84,7 @@ Stands-with_frame lag size ticks queue next sender table active nibbles scenario
       lag = stands.lag;
       size = stands.size;
       offers = All-append (λ (offer : Offer). offer.due ≤ ticks) scenario.offers (offer_now ticks frame ∷ []) stands.offers
-      (All-one (λ (offer : Offer). offer.due ≤ ticks) (offer_now ticks frame) (omega arith));
+          (All-one (λ (offer : Offer). offer.due ≤ ticks) (offer_now ticks frame) (omega arith));
       orders = stands.orders;
       told = stands.told;
       table = stands.table ∙ sym (ap (λ source. record {
@@ -95,11 +94,11 @@ Stands-with_frame lag size ticks queue next sender table active nibbles scenario
         steps = steps_in ticks;
       }) (alike-after more cells scenario cells ticks (steps_in ticks) alike (omega arith)));
       stream = subst (λ s. HasWritten sender next s (place_of more cells ticks)) (sym (stream-with scenario cells ticks frame))
-      (subst (λ place. HasWritten sender next (offered (stream_now scenario cells ticks) frame) place) (sym (alike-place more cells scenario cells ticks alike))
-      (pushes (stream_now scenario cells ticks) (place_of scenario cells ticks) stands.stream));
+          (subst (λ place. HasWritten sender next (offered (stream_now scenario cells ticks) frame) place) (sym (alike-place more cells scenario cells ticks alike))
+          (pushes (stream_now scenario cells ticks) (place_of scenario cells ticks) stands.stream));
       active = stands.active ∙ sym (alike-active more cells scenario cells ticks alike);
       nibbles = stands.nibbles ∙ map-same (λ line. nibbles_after scenario cells line (steps_in ticks)) (λ line. nibbles_after more cells line (steps_in ticks))
-      (λ line. sym (alike-nibbles more cells scenario cells ticks line alike)) (range_with_len 0 (length scenario.windows));
+          (λ line. sym (alike-nibbles more cells scenario cells ticks line alike)) (range_with_len 0 (length scenario.windows));
     }
 
 -- ---- a command
@@ -152,7 +151,7 @@ Stands-with_command lag size ticks queue sender table next active nibbles scenar
       size = stands.size;
       offers = stands.offers;
       orders = All-append (λ (order : Order). order.due ≤ ticks) scenario.orders (order_now ticks command ∷ []) stands.orders
-      (All-one (λ (order : Order). order.due ≤ ticks) (order_now ticks command) (omega arith));
+          (All-one (λ (order : Order). order.due ≤ ticks) (order_now ticks command) (omega arith));
       told = stands.told;
       table = is ∙ ap (λ course. called course (asks command)) stands.table ∙ sym (ap (λ source. record {
         lines = length scenario.windows;
@@ -161,9 +160,9 @@ Stands-with_command lag size ticks queue sender table next active nibbles scenar
         steps = steps_in ticks;
       }) (source-with scenario cells ticks command));
       stream = subst (λ s. HasWritten sender queue s (place_of more cells ticks))
-      (sym (ap (λ stream. fold offered stream (frames_at scenario ticks)) (alike-stream more cells scenario cells ticks alike)))
-      (subst (λ place. HasWritten sender queue (stream_now scenario cells ticks) place) (sym (alike-place more cells scenario cells ticks alike)) stands.stream);
+          (sym (ap (λ stream. fold offered stream (frames_at scenario ticks)) (alike-stream more cells scenario cells ticks alike)))
+          (subst (λ place. HasWritten sender queue (stream_now scenario cells ticks) place) (sym (alike-place more cells scenario cells ticks alike)) stands.stream);
       active = stands.active ∙ sym (alike-active more cells scenario cells ticks alike);
       nibbles = stands.nibbles ∙ map-same (λ line. nibbles_after scenario cells line (steps_in ticks)) (λ line. nibbles_after more cells line (steps_in ticks))
-      (λ line. sym (alike-nibbles more cells scenario cells ticks line alike)) (range_with_len 0 (length scenario.windows));
+          (λ line. sym (alike-nibbles more cells scenario cells ticks line alike)) (range_with_len 0 (length scenario.windows));
     }

@@ -1,7 +1,7 @@
 -- What lands later changes nothing of what was sent before.
-use Rattle.std.proofs.Common.{◌≡◌, ◌≤◌, ◌<◌, ℕ, zero, suc, ◌+◌, ◌-◌, ◌*◌, ◌&&◌, nat_le, nat_lt, true, false, Bool, if◌then◌else◌, List, [], ◌∷◌, map, filter, take, length, Option, None, slice_index_or, refl, sym, ◌∙◌, ap, subst, arith}
+use Rattle.std.proofs.Common.{◌≡◌, ◌<◌, ℕ, ◌+◌, ◌-◌, ◌*◌, ◌&&◌, nat_le, nat_lt, true, false, Bool, if◌then◌else◌, List, [], ◌∷◌, map, filter, Option, None, slice_index_or, refl, sym, ◌∙◌, ap, arith}
 use Rattle.std.proofs.lemmas.Bool.Decides.{nat_tests}
-use Rattle.session_model.specs.Scenario.{Scenario, Order, Offer, orders_at, frames_at, lands_at, comes_at, steps_in}
+use Rattle.session_model.specs.Scenario.{Scenario, Order, Offer, lands_at, comes_at, steps_in}
 use Rattle.session_model.specs.Table.{Told}
 use Rattle.session_model.specs.Source.{cell_at}
 use Rattle.session_law.specs.Session.{AgreeBefore}
@@ -16,9 +16,9 @@ filter-filter fine all (x ∷ xs) within =
       | true ↦ λ e. ap (λ rest. if fine x then x ∷ rest else rest) (filter-filter fine all xs within)
       | false ↦ λ e. filter-filter fine all xs within ∙ sym (ap (λ b. if b then x ∷ filter fine xs else filter fine xs) (outside (fine x) refl e))
     ] refl where
-  outside : (b : Bool) → fine x ≡ b → all x ≡ false → fine x ≡ false
-  outside true is none = let there = within x is in cc
-  outside false is none = is
+      outside : (b : Bool) → fine x ≡ b → all x ≡ false → fine x ≡ false
+      outside true is none = let there = within x is in cc
+      outside false is none = is
 
 same-parts : {X : Type 0} (fine all : X → Bool) (xs ys : List X) → ((x : X) → fine x ≡ true → all x ≡ true) → filter all xs ≡ filter all ys → filter fine xs ≡ filter fine ys
 same-parts fine all xs ys within same = sym (filter-filter fine all xs within) ∙ ap (filter fine) same ∙ filter-filter fine all ys within
@@ -39,8 +39,8 @@ alike-landed one other a b t comes agree = record {
   lag = comes.lag;
   size = comes.size;
   orders = λ j low. ap (map (λ (order : Order). order.command))
-  (same-parts (lands_at j) (λ (order : Order). has_come t order.due) one.orders other.orders (λ order lands. lands-within order.due j t low lands) comes.orders);
+      (same-parts (lands_at j) (λ (order : Order). has_come t order.due) one.orders other.orders (λ order lands. lands-within order.due j t low lands) comes.orders);
   cells = λ j low. cells-same one other a b (steps_in t) comes.lag agree j low;
   offers = λ u low. ap (map (λ (offer : Offer). offer.frame))
-  (same-parts (comes_at u) (λ (offer : Offer). has_come t offer.due) one.offers other.offers (λ offer here. comes-within offer.due u t low here) comes.offers);
+      (same-parts (comes_at u) (λ (offer : Offer). has_come t offer.due) one.offers other.offers (λ offer here. comes-within offer.due u t low here) comes.offers);
 }

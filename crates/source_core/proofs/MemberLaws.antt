@@ -1,8 +1,8 @@
 -- The lines that carry payload: each is one of the group's, and none stands twice.
-use Rattle.std.proofs.Common.{◌≡◌, ◌≢◌, ℕ, zero, suc, ◌+◌, ◌<◌, ◌≤◌, ◌==◌, Bool, true, false, if◌then◌else◌, inl, inr, List, [], ◌∷◌, map, filter, length, slice_index, refl, sym, ◌∙◌, ap, subst, arith}
+use Rattle.std.proofs.Common.{◌≡◌, ℕ, zero, suc, ◌+◌, ◌<◌, ◌≤◌, true, false, if◌then◌else◌, inl, inr, List, [], ◌∷◌, map, filter, length, slice_index, subst, arith}
 use Rattle.std.proofs.lemmas.Bool.{cases_lt}
 use Rattle.session_model.specs.declared.table.Member.{Member}
-use Rattle.session_model.specs.Table.{Table, is_normal, active}
+use Rattle.session_model.specs.Table.{is_normal, active}
 use Rattle.session_model.specs.Source.{Source, planned_of}
 use Rattle.session_law.specs.Feedback.{lines_of}
 use Rattle.session_law.proofs.PlanLaws.{one, one-self, times, IsBelow, IsPlan-once, Fits, Fits-size}

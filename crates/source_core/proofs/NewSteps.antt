@@ -1,14 +1,13 @@
 -- A terminal to which nothing was given.
-use Rattle.std.proofs.Common.{◌≡◌, ◌≤◌, ◌<◌, ℕ, zero, suc, ◌+◌, ◌-◌, ◌*◌, List, [], ◌∷◌, map, filter, fold, length, replicate, All, Option, Some, None, refl, sym, ◌∙◌, ap, subst, arith}
-use Rattle.std.specs.List.{range_with_len}
+use Rattle.std.proofs.Common.{◌≡◌, ◌≤◌, ◌<◌, ℕ, ◌-◌, ◌*◌, List, [], map, filter, fold, length, replicate, All, refl, sym, ◌∙◌, ap, subst, arith}
 use Rattle.std.proofs.lemmas.List.{length-replicate, get_or-replicate}
 use Rattle.std.proofs.lemmas.List.Elements.{All-replicate}
 use Rattle.std.proofs.lemmas.List.FromFn.{fill_by_all}
 use Rattle.session_model.specs.Scenario.{Scenario, Order, Offer, orders_at, frames_at, lands_at, comes_at, steps_in}
-use Rattle.session_model.specs.Table.{Told, active}
-use Rattle.session_model.specs.Source.{Source, opening, asked_all, after}
+use Rattle.session_model.specs.Table.{active}
+use Rattle.session_model.specs.Source.{opening, asked_all, after}
 use Rattle.session_model.specs.Course.{Course, begun}
-use Rattle.session_model.specs.Client.{Stream, offered, stream_before, place_of}
+use Rattle.session_model.specs.Client.{offered, stream_before, place_of}
 use Rattle.session_law.proofs.PlanLaws.{opening-fits}
 use Rattle.gfp_fill.specs.Queue.{Held, unbegun}
 use Rattle.gfp_fill.specs.Stream.{Sender, unsent, Stands as HasWritten}
@@ -91,8 +90,8 @@ Stands-new lag size lines queue sender table active nibbles scenario is_queue wr
   told = omega arith;
   table = is_table ∙ course-new scenario lines fresh.no_orders fresh.of_lines;
   stream = subst (λ queue. HasWritten sender queue (stream_now scenario [] 0) (place_of scenario [] 0)) (sym is_queue)
-  (subst (λ stream. HasWritten sender (unbegun []) stream (place_of scenario [] 0)) (sym (stream-new scenario fresh.no_offers))
-  (subst (HasWritten sender (unbegun []) (unsent [])) (sym (place-new scenario)) written));
+      (subst (λ stream. HasWritten sender (unbegun []) stream (place_of scenario [] 0)) (sym (stream-new scenario fresh.no_offers))
+      (subst (HasWritten sender (unbegun []) (unsent [])) (sym (place-new scenario)) written));
   active = none ∙ sym (active-new scenario);
   nibbles = zeros ∙ nibbles-new scenario lines fresh.of_lines;
 }

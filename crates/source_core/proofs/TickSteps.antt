@@ -1,12 +1,12 @@
 -- What a tick makes of a terminal's scenario: a decision step where one is due, and the next octets of the stream.
-use Rattle.std.proofs.Common.{◌≡◌, ◌≤◌, ◌<◌, ◌↔◌, ℕ, zero, suc, ◌+◌, ◌-◌, ◌*◌, ◌/◌, ◌%◌, ◌==◌, ◌&&◌, nat_le, nat_lt, true, false, Bool, if◌then◌else◌, inl, inr, List, [], ◌∷◌, ◌++◌, map, filter, fold, length, take, drop, replicate, All, slice_index, slice_index_or, Option, Some, None, option_map, refl, sym, ◌∙◌, ap, subst, arith}
+use Rattle.std.proofs.Common.{◌≡◌, ◌≤◌, ◌<◌, ◌↔◌, ℕ, zero, suc, ◌+◌, ◌-◌, ◌*◌, ◌/◌, ◌%◌, ◌==◌, ◌&&◌, nat_le, nat_lt, true, false, Bool, if◌then◌else◌, inl, inr, List, [], ◌∷◌, ◌++◌, map, filter, fold, length, take, drop, All, slice_index, slice_index_or, Option, Some, None, option_map, refl, sym, ◌∙◌, ap, subst, arith}
 use Rattle.std.specs.Option.{is_some}
 use Rattle.std.specs.List.{range_with_len}
 use Rattle.std.proofs.lemmas.Bool.{cases_lt, eqb-true, eqb-false, eq-eqb, leb-true, le-leb, lt-ltb, ltb-true, ltb-false}
 use Rattle.std.proofs.lemmas.Bool.Decides.{nat_tests}
 use Rattle.std.proofs.lemmas.List.{get_or_at, get_or-replicate, length-append}
 use Rattle.std.proofs.lemmas.List.Elements.{All-head, All-tail}
-use Rattle.std.proofs.lemmas.List.FromFn.{length-map-range_with_len, get_or-map-range_with_len, fill_by_all, length-range_with_len}
+use Rattle.std.proofs.lemmas.List.FromFn.{length-map-range_with_len, get_or-map-range_with_len, fill_by_all}
 use Rattle.vc_cell.specs.declared.BackCell.{BackCell}
 use Rattle.vc_cell.specs.declared.Container.{Container}
 use Rattle.session_model.specs.Scenario.{Scenario, Order, Offer, orders_at, frames_at, lands_at, comes_at, steps_in}
@@ -27,8 +27,8 @@ use Rattle.gfp_fill.specs.Stream.{Sender, Stands as HasWritten}
 use Rattle.source_core.specs.Terminal.{needed_at}
 use Rattle.source_core.specs.Frame.{container_by, containers_by}
 use Rattle.source_core.specs.Step.{is_step, table_by, active_by, nibbles_of, nibbles_by, terminal_of}
-use Rattle.source_core.specs.Given.{with_cell, stream_now, source_now, course_now, nibbles_after, nibbles_now, active_now, Stands}
-use Rattle.source_core.proofs.AlikeLaws.{Alike, alike-after, alike-place, alike-stream, alike-active, map-same}
+use Rattle.source_core.specs.Given.{with_cell, stream_now, course_now, nibbles_after, nibbles_now, active_now, Stands}
+use Rattle.source_core.proofs.AlikeLaws.{Alike, alike-after, alike-place, alike-stream, map-same}
 
 -- ---- whether a return cell is there
 needed-when : (b : Bool) (n : ℕ) → is_some (if b then Some n else None) ≡ b
@@ -117,8 +117,8 @@ comes-late due t low = grind (arith, nat_tests, low)
 no-orders : (scenario : Scenario) (t j : ℕ) → t ≤ 16 * j + 8 → All (λ (order : Order). order.due ≤ t) scenario.orders → orders_at scenario (suc j) ≡ []
 no-orders scenario t j high due =
     ap (map (λ (order : Order). order.command)) (filter-none (lands_at (suc j)) scenario.orders (λ k d low. late (slice_index_or scenario.orders k d).due (due k d low))) where
-  late : (n : ℕ) → n ≤ t → (nat_lt (16 * suc j) (n + 8) && nat_le n (16 * suc j + 8)) ≡ false
-  late n low = grind (arith, nat_tests, low, high)
+      late : (n : ℕ) → n ≤ t → (nat_lt (16 * suc j) (n + 8) && nat_le n (16 * suc j + 8)) ≡ false
+      late n low = grind (arith, nat_tests, low, high)
 
 no-frames : (scenario : Scenario) (t : ℕ) → All (λ (offer : Offer). offer.due ≤ t) scenario.offers → frames_at scenario (t + 1) ≡ []
 no-frames scenario t due =
@@ -290,9 +290,9 @@ next-fields lag size t queue sender table next active members nibbles said back 
     record {
       table_is = table_is;
       members_are = are_members ∙ ap (λ course. active_by b course active) stands.table ∙ ap (active_by b (course_now scenario cells t)) stands.active
-      ∙ active-ticked scenario cells back t stands.told fits b refl;
+          ∙ active-ticked scenario cells back t stands.told fits b refl;
       nibbles_are = are_said ∙ ap (λ course. nibbles_by b course nibbles) table_is ∙ ap (nibbles_by b (course_now scenario (with_cell cells back) (t + 1))) stands.nibbles
-      ∙ nibbles-ticked scenario cells back t fits b refl;
+          ∙ nibbles-ticked scenario cells back t fits b refl;
     }
 
 -- the stream is written up to the place at which the next frame begins
@@ -329,7 +329,7 @@ Stands-ticked lag size t queue later sender further table next active members ni
   told = told-ticked scenario cells back t stands.told (subst (λ n. IsDue n t back) stands.lag due);
   table = fields.table_is;
   stream = stream-written size t (place_of scenario cells t + size * length members) later further members back scenario cells stands.told stands.size fields.members_are stands.offers refl
-  (writes (stream_now scenario cells t) (place_of scenario cells t) stands.stream);
+      (writes (stream_now scenario cells t) (place_of scenario cells t) stands.stream);
   active = fields.members_are;
   nibbles = fields.nibbles_are;
 }
@@ -361,8 +361,8 @@ nibble-by scenario cells line t (suc k) is =
     let place : (t % 16 + 8) % 16 ≡ (t - 8) % 16 = omega arith in
     ap (nibble_in scenario cells line k) place ∙ ap (λ k. nibble_in scenario cells line k ((t - 8) % 16)) same
     ∙ ap (λ b. if b then 0 else nibble_in scenario cells line ((t - 8) / 16) ((t - 8) % 16)) (sym (not-below t high)) where
-  not-below : (t : ℕ) → 8 ≤ t → nat_lt t 8 ≡ false
-  not-below t high = grind (arith, nat_tests, high)
+      not-below : (t : ℕ) → 8 ≤ t → nat_lt t 8 ≡ false
+      not-below t high = grind (arith, nat_tests, high)
 
 pub frame-ticked : (size t : ℕ) (table : Course) (members : List ℕ) (nibbles : List (List ℕ)) (row : List ℕ) (lines : ℕ) (scenario : Scenario) (more : List (Option Told)) →
     NextFields scenario more t table members nibbles → size ≡ scenario.size → row ≡ payload_of scenario more t → lines ≡ length scenario.windows →
@@ -376,15 +376,15 @@ frame-ticked size t table members nibbles row lines scenario more fields is_size
     ∙ ap (containers_by all t (nibbles_now scenario more (t + 1)) (active_at scenario more t) scenario.size) is_row
     ∙ fill_by_all (λ line. container_of scenario more line t) (containers_by all t (nibbles_now scenario more (t + 1)) (active_at scenario more t) scenario.size (payload_of scenario more t)) all
     (container_of scenario more 0 t) (length-map-range_with_len _ 0 all) each where
-  made : ℕ → ℕ → Container
-  made nibble line = record { h4 = 16 * nibble + t % 16; payload = payload_on (active_at scenario more t) line scenario.size (payload_of scenario more t) }
+      made : ℕ → ℕ → Container
+      made nibble line = record { h4 = 16 * nibble + t % 16; payload = payload_on (active_at scenario more t) line scenario.size (payload_of scenario more t) }
 
-  each : (line : ℕ) → line < length scenario.windows →
-      slice_index_or (containers_by (length scenario.windows) t (nibbles_now scenario more (t + 1)) (active_at scenario more t) scenario.size (payload_of scenario more t)) line (container_of scenario more 0 t)
-      ≡ container_of scenario more line t
-  each line low =
-      get_or-map-range_with_len (container_by t (nibbles_now scenario more (t + 1)) (active_at scenario more t) scenario.size (payload_of scenario more t)) 0 (length scenario.windows) line line
-      (container_of scenario more 0 t) low (omega arith)
-      ∙ ap (λ nibbles. made (slice_index nibbles ((t % 16 + 8) % 16)) line)
-      (get_or-map-range_with_len (λ line. nibbles_after scenario more line (steps_in (t + 1))) 0 (length scenario.windows) line line [] low (omega arith))
-      ∙ ap (λ nibble. made nibble line) (nibble-by scenario more line t (steps_in (t + 1)) refl)
+      each : (line : ℕ) → line < length scenario.windows →
+          slice_index_or (containers_by (length scenario.windows) t (nibbles_now scenario more (t + 1)) (active_at scenario more t) scenario.size (payload_of scenario more t)) line (container_of scenario more 0 t)
+          ≡ container_of scenario more line t
+      each line low =
+          get_or-map-range_with_len (container_by t (nibbles_now scenario more (t + 1)) (active_at scenario more t) scenario.size (payload_of scenario more t)) 0 (length scenario.windows) line line
+          (container_of scenario more 0 t) low (omega arith)
+          ∙ ap (λ nibbles. made (slice_index nibbles ((t % 16 + 8) % 16)) line)
+          (get_or-map-range_with_len (λ line. nibbles_after scenario more line (steps_in (t + 1))) 0 (length scenario.windows) line line [] low (omega arith))
+          ∙ ap (λ nibble. made nibble line) (nibble-by scenario more line t (steps_in (t + 1)) refl)

@@ -1,5 +1,5 @@
 -- A source terminal over any list of calls: the scenario that it was given so far, and what stands of it.
-use Rattle.std.specs.Prelude.{◌≡◌, ◌≤◌, ℕ, zero, suc, ◌+◌, ◌-◌, nat_lt, Bool, List, [], ◌∷◌, ◌++◌, map, filter, fold, length, replicate, All, Option, Some, None}
+use Rattle.std.specs.Prelude.{◌≡◌, ◌≤◌, ℕ, zero, suc, ◌-◌, nat_lt, Bool, List, [], ◌∷◌, ◌++◌, map, filter, fold, length, replicate, All, Option, Some, None}
 use Rattle.std.specs.List.{range_with_len}
 use Rattle.vc_cell.specs.declared.BackCell.{BackCell}
 use Rattle.session_model.specs.declared.table.Command.{Command}

@@ -1,5 +1,5 @@
 -- What a decision step makes of the fields of a terminal, in the ticks in which one is made.
-use Rattle.std.specs.Prelude.{◌≡◌, ◌≢◌, ◌<◌, ◌≤◌, ℕ, ◌-◌, ◌*◌, ◌%◌, ◌==◌, Bool, true, false, List, [], map, length, All, Option, option_map}
+use Rattle.std.specs.Prelude.{◌≡◌, ◌<◌, ◌≤◌, ℕ, ◌-◌, ◌*◌, ◌%◌, ◌==◌, Bool, true, false, List, map, length, All, Option, option_map}
 use Rattle.std.specs.List.{range_with_len}
 use Rattle.vc_cell.specs.declared.BackCell.{BackCell}
 use Rattle.session_model.specs.Packet.{packet_nibbles}

@@ -14,12 +14,7 @@ use vc_cell::{Container, PAYLOAD};
 use vcat_interleave::spread_places;
 
 /// Writes the next `len` octets of the stream at the front of a row.
-pub(crate) fn fill_front(
-    filler: &mut Filler,
-    queue: &mut FrameQueue,
-    len: usize,
-    row: &mut [u8],
-)
+pub(crate) fn fill_front(filler: &mut Filler, queue: &mut FrameQueue, len: usize, row: &mut [u8])
     requires { len ≤ length row.old }
     ensures stands { (stream : Stream) (place : ℕ) → Stands filler.old queue.old stream place →
         Stands filler.new queue.new (reached (place + len) stream) (place + len) }

@@ -94,7 +94,10 @@ fn a_frame_that_fits(rt: HostRuntime) -> Result<(), Fail> {
             tick(&mut core, &cells, &mut out);
         }
         let [container] = &out;
-        assert_eq!(rt; &container.payload[place..place + 4], [0xb6, 0xab, 0x31, 0xe0].as_slice());
+        assert_eq!(rt;
+            &container.payload[place..place + 4],
+            [0xb6, 0xab, 0x31, 0xe0].as_slice()
+        );
     }
     Ok(())
 }
@@ -119,7 +122,11 @@ fn answer(table: &SourceTable, lines: u8, group: u8, silent: Option<u8>) -> Back
 
 /// Which lines carry payload: an octet of a stream of idles is never 0.
 fn carrying(out: &[Container; 3]) -> [bool; 3] {
-    [out[0].payload[0] != 0, out[1].payload[0] != 0, out[2].payload[0] != 0]
+    [
+        out[0].payload[0] != 0,
+        out[1].payload[0] != 0,
+        out[2].payload[0] != 0,
+    ]
 }
 
 /// Three lines are added, and the second one is removed at 600 ticks: all carry payload up to frame 615, and two of them from then on.
@@ -186,7 +193,11 @@ fn land(draws: &mut Draws, frame: &mut [u8; 1600], core: &mut SourceCore, sum: &
     if draws.below(120) == 0 {
         let adds = draws.below(3) > 0;
         let line = draws.below(7) as u8;
-        let answer = if adds { core.add(line) } else { core.remove(line) };
+        let answer = if adds {
+            core.add(line)
+        } else {
+            core.remove(line)
+        };
         digest(sum, u8::from(answer.is_ok()));
     }
 }

@@ -1,6 +1,5 @@
 -- A payload has 2,340 octets.
-use Rattle.std.proofs.Common.{◌≡◌, replicate, ◌∙◌, ap}
-use Rattle.source_core.specs.Frame.{with_no_payload}
+use Rattle.std.proofs.Common.{replicate, ◌∙◌, ap}
 use Rattle.source_core.proofs.frame.clear.Goals as goal
 
 pub returns : goal.returns

@@ -1,5 +1,5 @@
 -- What lands alike goes alike.
-use Rattle.std.proofs.Common.{◌≡◌, ◌+◌, suc, subst, sym, arith}
+use Rattle.std.proofs.Common.{◌≡◌, ◌+◌, suc, subst, arith}
 use Rattle.source_core.proofs.AlikeLaws.{Alike, alike-after, alike-stream, alike-frame}
 use Rattle.source_core.proofs.LandedLaws.{alike-landed}
 use Rattle.source_core.proofs.laws.landed_law.Goals as goal

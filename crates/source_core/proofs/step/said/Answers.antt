@@ -1,5 +1,5 @@
 use Rattle.std.proofs.Common.{◌<◌, All, sym, subst, arith}
-use Rattle.session_model.specs.Packet.{IsPacket, packet_nibbles}
+use Rattle.session_model.specs.Packet.{IsPacket}
 use Rattle.session_model.proofs.PacketLaws.{packet_nibbles_below}
 use Rattle.source_core.proofs.step.said.Goals as goal
 

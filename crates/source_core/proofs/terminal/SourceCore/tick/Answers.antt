@@ -1,18 +1,16 @@
 -- A tick keeps what is true of the fields, makes the frame of the scenario, and leads to the next one.
-use Rattle.std.proofs.Common.{◌≡◌, ◌↔◌, true, ◌+◌, ◌*◌, ◌<◌, ◌≤◌, List, ℕ, take, drop, length, sym, ◌∙◌, ap, subst, arith}
+use Rattle.std.proofs.Common.{◌≡◌, ◌↔◌, true, ◌+◌, ◌*◌, take, drop, length, sym, ◌∙◌, ap, subst, arith}
 use Rattle.std.specs.Option.{is_some}
 use Rattle.std.specs.Vec.{with_items}
 use Rattle.std.proofs.lemmas.List.{with_items_is}
-use Rattle.session_model.specs.Scenario.{Scenario}
-use Rattle.session_model.specs.Table.{Told}
 use Rattle.session_model.specs.Piece.{stream_of}
-use Rattle.session_model.specs.Client.{Stream, reached, place_of}
+use Rattle.session_model.specs.Client.{reached, place_of}
 use Rattle.session_model.specs.Payload.{payload_of}
 use Rattle.session_model.specs.Sent.{frame_of}
 use Rattle.gfp_fill.specs.Stream.{Stands as HasWritten}
 use Rattle.source_core.specs.Terminal.{Terminal, needed}
 use Rattle.source_core.specs.Frame.{containers_by}
-use Rattle.source_core.specs.Step.{is_step, nibbles_by, AreMembers, terminal_of, IsTerminal}
+use Rattle.source_core.specs.Step.{is_step, nibbles_by, AreMembers}
 use Rattle.source_core.specs.Given.{with_cell, stream_now, Stands}
 use Rattle.source_core.proofs.FieldSteps.{next-members, nibbles_by-length, IsTerminal-ticked, frame-fits, front-length}
 use Rattle.source_core.proofs.TickSteps.{is-due, next-fields, Stands-ticked, row-ticked, frame-ticked}
