@@ -1,0 +1,4 @@
+pub mod ActiveLaws
+pub mod GivingLaws
+pub mod WholeLaws
+pub mod ReceivedLaws

@@ -7,8 +7,8 @@ use Rattle.session_model.specs.ReturnPacket.{Row}
 use Rattle.session_model.specs.Rows.{read_packets, row_at, first_open, return_at}
 use Rattle.session_model.specs.Segment.{StreamRow, deliver}
 use Rattle.loss_law.specs.Added.{whole_row, lost_row}
-use Rattle.sink_core.specs.declared.core.TakeAnswer.{TakeAnswer}
-use Rattle.sink_core.specs.declared.core.TakeAnswer.TheVariants.{Taken, Waiting}
+use Rattle.sink_core.specs.declared.sink.TakeAnswer.{TakeAnswer}
+use Rattle.sink_core.specs.declared.sink.TakeAnswer.TheVariants.{Taken, Waiting}
 
 -- ---- rows and frames
 -- a row, where it is whole with these octets. What was sent in a row that isn't whole is not known
