@@ -1,14 +1,12 @@
 -- Octets that a receiver gets one after the other, and the frames that they add.
-use Rattle.std.proofs.Common.{◌≡◌, ℕ, ◌+◌, ◌-◌, arith, take-add, take_all, length-drop, Bool, List, [], ◌∷◌, ◌++◌, length, take, drop, Some, refl, sym, ◌∙◌, ap, subst, append_assoc}
-use Rattle.std.specs.Prelude.{IfSome, ◌≤◌}
+use Rattle.std.proofs.Common.{◌≡◌, ℕ, ◌+◌, ◌-◌, arith, take-add, take_all, length-drop, Bool, List, [], ◌++◌, length, take, drop, refl, sym, ◌∙◌, ap, subst, append_assoc}
 use Rattle.std.specs.List.{flat_map}
-use Rattle.std.specs.Option.{option_to_list}
 use Rattle.std.proofs.lemmas.List.{append-nil, drop_at}
 use Rattle.std.proofs.lemmas.List.Concat.{flat_map-append}
 use Rattle.session_model.specs.Outcome.{outcomes}
 use Rattle.session_model.specs.Delivery.{frame_in}
 use Rattle.gfp_delineate.specs.declared.Step.{Step}
-use Rattle.gfp_delineate.specs.Receiver.{Receiver, StandsIn, frame_of, told_outcomes}
+use Rattle.gfp_delineate.specs.Receiver.{Receiver, StandsIn, told_outcomes}
 use Rattle.gfp_delineate.proofs.Frames.{told, frames_told}
 use Rattle.loss_law.specs.Added.{frames_in, next_frames}
 use Rattle.loss_law.proofs.SegmentLaws.{next-none, next-more}

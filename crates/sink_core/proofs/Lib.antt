@@ -2,3 +2,4 @@ pub mod ActiveLaws
 pub mod GivingLaws
 pub mod WholeLaws
 pub mod ReceivedLaws
+pub mod GivenLaws

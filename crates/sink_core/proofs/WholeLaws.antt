@@ -1,6 +1,6 @@
 -- Rows that are whole by their packets and the containers of their lines.
-use Rattle.std.proofs.Common.{◌≡◌, ℕ, zero, suc, ◌<◌, ◌==◌, ◌&&◌, Bool, true, false, List, [], ◌∷◌, map, length, slice_get, Option, Some, None, refl, sym, ◌∙◌, ap, ap₂, subst, inl, inr}
-use Rattle.std.specs.Prelude.{is_some, if◌then◌else◌}
+use Rattle.std.proofs.Common.{◌≡◌, ℕ, zero, suc, ◌<◌, ◌==◌, ◌&&◌, Bool, false, List, [], ◌∷◌, map, length, slice_get, Option, Some, None, refl, sym, ◌∙◌, ap, ap₂, inl, inr}
+use Rattle.std.specs.Prelude.{is_some}
 use Rattle.std.specs.Option.{option_map}
 use Rattle.std.proofs.lemmas.Bool.{cases_Bool}
 use Rattle.vc_cell.specs.declared.Container.{Container}
@@ -11,7 +11,7 @@ use Rattle.session_model.specs.Number.{verdict}
 use Rattle.session_model.specs.Interleave.{octets_from}
 use Rattle.session_model.specs.Rows.{active_of, container_in, container_on, with_first, containers_at, carried_row, row_by, row_under}
 use Rattle.line_law.proofs.ListLaws.{slice_get-inside}
-use Rattle.vcat_interleave.specs.Members.{payload_or, payload_at, payloads_of}
+use Rattle.vcat_interleave.specs.Members.{payload_or, payloads_of}
 use Rattle.sink_core.specs.Active.{act_of}
 use Rattle.sink_core.specs.Members.{Hold, octets_if}
 
