@@ -3,3 +3,5 @@ pub mod GivingLaws
 pub mod WholeLaws
 pub mod ReceivedLaws
 pub mod GivenLaws
+pub mod LaterLaws
+pub mod SessionLaws
