@@ -1,7 +1,9 @@
 -- Octets that a receiver gets one after the other, and the frames that they add.
-use Rattle.std.proofs.Common.{◌≡◌, ℕ, ◌+◌, ◌-◌, arith, take-add, take_all, length-drop, Bool, List, [], ◌++◌, length, take, drop, refl, sym, ◌∙◌, ap, subst, append_assoc}
+use Rattle.std.proofs.Common.{◌≡◌, ℕ, zero, suc, inl, inr, slice_index, ◌≤◌, ◌∷◌, ◌+◌, ◌-◌, arith, take-add, take_all, length-drop, Bool, List, [], ◌++◌, length, take, drop, refl, sym, ◌∙◌, ap, subst, append_assoc}
 use Rattle.std.specs.List.{flat_map}
-use Rattle.std.proofs.lemmas.List.{append-nil, drop_at}
+use Rattle.std.proofs.lemmas.Bool.{cases_lt}
+use Rattle.std.proofs.lemmas.List.{append-nil, drop_at, drop_more}
+use Rattle.session_model.specs.Interleave.{octets_from}
 use Rattle.std.proofs.lemmas.List.Concat.{flat_map-append}
 use Rattle.session_model.specs.Outcome.{outcomes}
 use Rattle.session_model.specs.Delivery.{frame_in}
@@ -52,3 +54,19 @@ pub take-next : (at n : ℕ) (piece : List ℕ) → take (at + n) piece ≡ take
 take-next at n piece =
     take-add at n piece
     ∙ ap (λ l. take at piece ++ take n l) (sym (take_all (length piece - at) (drop at piece) (let size = length-drop at piece in omega arith)))
+
+-- ---- the octets of one member
+pub octets_from-single : (place n : ℕ) (payload : List ℕ) → place + n ≤ length payload → octets_from place n (payload ∷ []) ≡ take n (drop place payload)
+unfolding octets_from
+octets_from-single place zero payload fits = refl
+octets_from-single place (suc n) payload fits =
+    let next = drop_more payload place 0 (omega arith) in
+    ap (λ l. slice_index payload place ∷ l) (octets_from-single (suc place) n payload (omega arith) ∙ ap (λ k. take n (drop k payload)) (let e : suc place ≡ place + 1 = omega arith in e))
+    ∙ sym (ap (take (suc n)) next)
+
+pub long-enough : (size : ℕ) (payload : List ℕ) → length (take size payload) ≡ size → size ≤ length payload
+long-enough size payload long =
+    elim (cases_lt (length payload) size) [
+      | inl few ↦ absurd (let e = ap length (take_all size payload (omega arith)) in omega arith)
+      | inr room ↦ room
+    ]

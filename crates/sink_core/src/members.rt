@@ -2,7 +2,7 @@
 
 ghost use Rattle.std.specs.Prelude.{◌≡◌, ℕ, ◌+◌, ◌*◌, ◌<◌, ◌≤◌, length, take};
 ghost use Rattle.session_model.specs.Interleave.{octets_from};
-ghost use Rattle.vcat_interleave.specs.Members.{payloads_of, AreLines};
+ghost use Rattle.vcat_interleave.specs.Members.{payload_at, payloads_of, AreLines};
 ghost use Rattle.sink_core.specs.Start.{Start};
 ghost use Rattle.sink_core.specs.Receives.{IsKnown, Grows, Gives};
 
@@ -57,7 +57,17 @@ fn places_of(x: usize) -> usize
     BLOCK / x / SIDE * SIDE
 }
 
-/// Gives the octets of a row to a receiver, block by block. `active` has the lines that carry payload, by rank, and `containers` has
+/// The octets of a row that one line carries alone.
+fn only_payload(containers: &[Container], line: u8, size: usize) -> &[u8]
+    requires line { line < length containers.now }
+    requires size { size ≤ 2340 }
+    ensures size { length result.now ≡ size }
+    ensures octets { result.now ≡ take size (payload_at containers.now line) }
+{
+    &containers[usize::from(line)].payload[..size]
+}
+
+/// Gives the octets of a row to a receiver, block by block, or as they lie where one line carries them alone. `active` has the lines that carry payload, by rank, and `containers` has
 /// the container of each line.
 pub(crate) fn take_members<F: FrameOut>(
     delineator: &mut Delineator,
@@ -78,6 +88,10 @@ pub(crate) fn take_members<F: FrameOut>(
         (octets_from 0 size (payloads_of containers.now active.now)) out.old out.new }
 {
     if active.is_empty() {
+        return;
+    }
+    if let [line] = active {
+        take_piece(delineator, only_payload(containers, *line, size), out);
         return;
     }
     let most = places_of(active.len());
