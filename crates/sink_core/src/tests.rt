@@ -58,24 +58,24 @@ fn carries(ctrl: Ctrl) -> bool {
 }
 
 /// How many lines carry payload.
-fn width(said: &Said) -> u32 {
-    said.3.iter().filter(|line| carries(line.0)).count() as u32
+fn width(said: &Said) -> usize {
+    said.3.iter().filter(|line| carries(line.0)).count()
 }
 
 /// The rank of a line that carries payload.
-fn rank(said: &Said, sq: u8) -> u32 {
+fn rank(said: &Said, sq: u8) -> usize {
     said.3
         .iter()
         .filter(|line| carries(line.0) && line.1 < sq)
-        .count() as u32
+        .count()
 }
 
 /// The place of the stream at which row `t` begins.
-fn place(case: &Case, t: u32) -> u32 {
-    let mut place = 0u32;
+fn place(case: &Case, t: u32) -> usize {
+    let mut place = 0usize;
     for row in 24..t {
         if let Some(said) = said(case.packets, (row - 24) / 16) {
-            place = place.wrapping_add(width(said).wrapping_mul(u32::from(case.size)));
+            place = place.wrapping_add(width(said).wrapping_mul(usize::from(case.size)));
         }
     }
     place
@@ -111,7 +111,7 @@ fn payload(case: &Case, stream: &[u8], line: u8, n: u32) -> [u8; PAYLOAD] {
             if carries(*ctrl) {
                 let mut at = place(case, n).wrapping_add(rank(said, *sq));
                 for p in 0..usize::from(case.size).min(PAYLOAD) {
-                    payload[p] = stream.get(at as usize).copied().unwrap_or(0);
+                    payload[p] = stream.get(at).copied().unwrap_or(0);
                     at = at.wrapping_add(width(said));
                 }
             }
@@ -134,21 +134,29 @@ fn container(case: &Case, stream: &[u8], line: u8, n: u32) -> Container {
     }
 }
 
+/// What comes of container `n` that lies in one of the windows: a sign of the failure, or nothing.
+fn damage(windows: &[(u32, u32, u16)], n: u32) -> Option<Option<Cell>> {
+    for (first, end, slip) in windows {
+        if *first <= n && n < *end {
+            return Some(if end - n > u32::from(*slip) {
+                Some(Cell::Fail)
+            } else {
+                None
+            });
+        }
+    }
+    None
+}
+
 /// The cell of container `n` of a line, if it gives one.
 fn cell(case: &Case, stream: &[u8], line: u8, n: u32) -> Option<Cell> {
     if n >= case.rows {
         return Some(Cell::End);
     }
-    for (first, end, slip) in *case.windows.get(usize::from(line))? {
-        if *first <= n && n < *end {
-            return if end - n > u32::from(*slip) {
-                Some(Cell::Fail)
-            } else {
-                None
-            };
-        }
+    match damage(case.windows.get(usize::from(line))?, n) {
+        Some(cell) => cell,
+        None => Some(Cell::Good(container(case, stream, line, n))),
     }
-    Some(Cell::Good(container(case, stream, line, n)))
 }
 
 /// Gives a line the cell of its next container.
@@ -220,13 +228,13 @@ fn compare(rt: &impl Abort, alloc: Global, case: &Case) -> Result<(), AllocError
     let mut next = [0u32; 3];
     for _ in 0..10_000 {
         let t = sink.taken();
+        if t >= case.rows {
+            compare_frames(rt, case, &out);
+            return Ok(());
+        }
         match sink.take(&mut rows, &mut out) {
             TakeAnswer::Waiting { line } => give(&mut rows, case, &stream, line, &mut next),
             TakeAnswer::Taken { back } => compare_back(rt, case, t, back),
-        }
-        if sink.taken() == case.rows {
-            compare_frames(rt, case, &out);
-            return Ok(());
         }
     }
     panic!(rt; "rows are left");
