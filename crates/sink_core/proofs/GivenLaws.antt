@@ -1,5 +1,5 @@
 -- Rows, frames and return packets of one row more.
-use Rattle.std.proofs.Common.{◌≡◌, ℕ, zero, suc, ◌+◌, ◌-◌, ◌/◌, ◌%◌, ◌<◌, ◌≤◌, ◌==◌, ◌&&◌, nat_lt, true, false, inl, inr, List, [], ◌∷◌, ◌++◌, map, length, Option, Some, None, refl, sym, ◌∙◌, ap, subst, arith}
+use Rattle.std.proofs.Common.{◌≡◌, ◌*◌, ℕ, zero, suc, ◌+◌, ◌-◌, ◌/◌, ◌%◌, ◌<◌, ◌≤◌, ◌==◌, ◌&&◌, nat_lt, true, false, inl, inr, List, [], ◌∷◌, ◌++◌, map, length, Option, Some, None, refl, sym, ◌∙◌, ap, subst, arith}
 use Rattle.std.specs.Prelude.{if◌then◌else◌, is_none, IsSome}
 use Rattle.std.specs.List.{position_from}
 use Rattle.std.proofs.lemmas.Bool.{cases_Bool, cases_lt}
@@ -26,6 +26,17 @@ pub length-read : (cells : List (List Cell)) (n : ℕ) → length (read_rows cel
 length-read cells n = length-map-range_with_len (read_packets cells) 0 n
 
 -- a packet ends with row t
+pub packet-ends : (t : ℕ) → (nat_lt 22 t && t % 16 == 7) ≡ true → (23 ≤ t) × (t % 16 ≡ 7)
+packet-ends t ends =
+    elim (cases_Bool (nat_lt 22 t)) [
+      | inr early ↦ absurd (let e : false ≡ true = rw early at ends in cc)
+      | inl late ↦
+          let a : 22 < t = grind (arith, nat_tests, late) in
+          let tested : (t % 16 == 7) ≡ true = rw late at ends in
+          let b : t % 16 ≡ 7 = grind (arith, nat_tests, tested) in
+          (omega arith, b)
+    ]
+
 pub packet_rows-more : (t : ℕ) → 23 ≤ t → t % 16 ≡ 7 → packet_rows (t + 1) ≡ packet_rows t + 1
 packet_rows-more t late last = omega arith
 
@@ -78,3 +89,20 @@ decided-more cells taken before here t low =
 
 pub answer-taken : (cells : List (List Cell)) (t : ℕ) (back : Option Packet) → first_open cells t ≡ None → back ≡ back_at cells t → Taken back ≡ answer_at cells t
 answer-taken cells t back none is = ap Taken is ∙ sym (ap (λ o. answer_by o cells t) none)
+
+-- ---- return packets at rows 16 k + 23 alone
+pub back-there : (cells : List (List Cell)) (k : ℕ) → back_at cells (16 * k + 23) ≡ Some (return_at cells k)
+back-there cells k =
+    let t = 16 * k + 23 in
+    let e : nat_lt 22 t ≡ true = grind (arith, nat_tests, (let h : 22 < t = omega arith in h)) in
+    let f : (t % 16 == 7) ≡ true = grind (arith, nat_tests, (let h : t % 16 ≡ 7 = omega arith in h)) in
+    ap (λ b. if b && t % 16 == 7 then Some (return_at cells ((t - 23) / 16)) else None) e
+    ∙ ap (λ b. if b then Some (return_at cells ((t - 23) / 16)) else None) f
+    ∙ ap (λ k. Some (return_at cells k)) (let g : (t - 23) / 16 ≡ k = omega arith in g)
+
+pub back-elsewhere : (cells : List (List Cell)) (t : ℕ) → ((k : ℕ) → t ≡ 16 * k + 23 → ⊥) → back_at cells t ≡ None
+back-elsewhere cells t other =
+    elim (cases_Bool (nat_lt 22 t && t % 16 == 7)) [
+      | inl ends ↦ let (late, last) = packet-ends t ends in absurd (other ((t - 23) / 16) (omega (arith, late, last)))
+      | inr no_end ↦ ap (λ b. if b then Some (return_at cells ((t - 23) / 16)) else None) no_end
+    ]

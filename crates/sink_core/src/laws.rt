@@ -1,6 +1,7 @@
 //! What more cells and more rows change of what a sink gives, and what it gives in a session.
 
-ghost use Rattle.std.specs.Prelude.{◌≡◌, ℕ, ◌<◌, ◌≤◌, List, ◌++◌, length, Option};
+ghost use Rattle.std.specs.Prelude.{◌≡◌, ◌≢◌, ℕ, ◌+◌, ◌*◌, ◌<◌, ◌≤◌, List, ◌++◌, length, Option, Some, None};
+ghost use Rattle.session_model.specs.Rows.{return_at};
 ghost use Rattle.vc_cell.specs.declared.Cell.{Cell};
 ghost use Rattle.session_model.specs.Scenario.{Scenario};
 ghost use Rattle.session_model.specs.Table.{Told};
@@ -12,7 +13,8 @@ ghost use Rattle.sink_core.specs.Given.{given_frames, added_frames, back_at};
 ghost use Rattle.sink_core.specs.Core.{Core, Stands};
 ghost use Rattle.sink_core.specs.Session.{AreSessionRows, TellRows};
 
-/// What was taken stays taken where more cells come, and more rows give more frames and change none of those before.
+/// What was taken stays taken where more cells come, and more rows give more frames and change none of those before. Return packet k
+/// is made at row 16 k + 23.
 pub fn sink_law()
     ensures stands { (core : Core) (cells longer : List (List Cell)) → IsLonger cells longer →
         Stands core cells → Stands core longer }
@@ -21,6 +23,10 @@ pub fn sink_law()
         given_frames size longer taken ≡ given_frames size cells taken }
     ensures back { (t : ℕ) (cells longer : List (List Cell)) → IsLonger cells longer →
         AreDecidedAt cells t → back_at longer t ≡ back_at cells t }
+    ensures there { (cells : List (List Cell)) (k : ℕ) →
+        back_at cells (16 * k + 23) ≡ Some (return_at cells k) }
+    ensures elsewhere { (cells : List (List Cell)) (t : ℕ) → ((k : ℕ) → t ≢ 16 * k + 23) →
+        back_at cells t ≡ None }
     ensures added { (size before taken : ℕ) (cells : List (List Cell)) → before ≤ taken →
         given_frames size cells taken
         ≡ given_frames size cells before ++ added_frames size cells before taken }

@@ -1,6 +1,8 @@
 //! The octets of the members of a row, given to a receiver, and the frames that they complete.
 
-ghost use Rattle.std.specs.Prelude.{◌≡◌, ℕ, ◌+◌, ◌*◌, ◌<◌, ◌≤◌, length, take};
+ghost use Rattle.std.specs.Prelude.{◌≡◌, ℕ, ◌+◌, ◌*◌, ◌<◌, ◌≤◌, Bool, false, List, [], ◌++◌, length, take, IfSome, IsSome};
+ghost use Rattle.std.specs.Option.{option_to_list};
+ghost use Rattle.gfp_delineate.specs.Receiver.{frame_of, StandsIn};
 ghost use Rattle.session_model.specs.Interleave.{octets_from};
 ghost use Rattle.vcat_interleave.specs.Members.{payload_at, payloads_of, AreLines};
 ghost use Rattle.sink_core.specs.Start.{Start};
@@ -17,6 +19,16 @@ pub(crate) const BLOCK: usize = 4096;
 /// A number of places that gathering likes.
 const SIDE: usize = 16;
 
+/// Gives the frame that a receiver holds to `out`.
+fn give<F: FrameOut>(delineator: &Delineator, out: &mut F)
+    requires held { IsSome (frame_of delineator.now) }
+    requires short { IfSome (frame_of delineator.now) (λ frame. length frame ≤ 9600) }
+    ensures { (start : Start) (frames : List (List ℕ)) → F.stands_for out.old start frames →
+        F.stands_for out.new start (frames ++ option_to_list (frame_of delineator.now)) }
+{
+    out.frame(delineator.frame());
+}
+
 /// Gives octets to a receiver, up to the first that completes a frame, and that frame to `out`. The answer is their number.
 fn take_some<F: FrameOut>(delineator: &mut Delineator, piece: &[u8], out: &mut F) -> usize
     requires { IsKnown delineator.old }
@@ -28,7 +40,7 @@ fn take_some<F: FrameOut>(delineator: &mut Delineator, piece: &[u8], out: &mut F
 {
     let (taken, step) = delineator.feed(piece);
     match step {
-        Step::Frame => out.frame(delineator.frame()),
+        Step::Frame => give(delineator, out),
         Step::Nothing | Step::Dropped(_) => {}
     }
     taken
@@ -103,4 +115,12 @@ pub(crate) fn take_members<F: FrameOut>(
         take_piece(delineator, piece, out);
         place += places;
     }
+}
+
+/// Tells a receiver of a break of the stream.
+pub(crate) fn take_break(delineator: &mut Delineator)
+    ensures { (first : Bool) (octets : List ℕ) → StandsIn delineator.old 9600 first octets →
+        StandsIn delineator.new 9600 false [] }
+{
+    delineator.broken();
 }

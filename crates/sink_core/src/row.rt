@@ -16,7 +16,7 @@ ghost use Rattle.sink_core.specs.Receives.{IsKnown, Receives};
 
 use crate::active::{find_active, leading_act};
 use crate::frames::FrameOut;
-use crate::members::take_members;
+use crate::members::{take_break, take_members};
 use gfp_delineate::Delineator;
 use line_reader::Verdict;
 use realign_core::RowGather;
@@ -101,6 +101,6 @@ pub(crate) fn take_row<F: FrameOut>(
             out,
         );
     } else {
-        delineator.broken();
+        take_break(delineator);
     }
 }

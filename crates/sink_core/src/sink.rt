@@ -1,6 +1,6 @@
 //! The sink.
 
-ghost use Rattle.std.specs.Prelude.{◌≡◌, ℕ, ◌+◌, ◌<◌, ◌≤◌, ◌⊎◌, List, ◌++◌, length, IfOk};
+ghost use Rattle.std.specs.Prelude.{◌≡◌, ℕ, ◌+◌, ◌%◌, ◌<◌, ◌≤◌, ◌==◌, ◌&&◌, ◌⊎◌, nat_lt, List, ◌++◌, length, IfOk};
 ghost use Rattle.vc_cell.specs.declared.Cell.{Cell};
 ghost use Rattle.realign_core.specs.Gather.{Stands as Gathers, line_count};
 ghost use Rattle.sink_core.specs.Start.{Start};
@@ -103,7 +103,8 @@ impl SinkCore {
         ensures taken { self.new.taken ≡ self.old.taken + rows_taken result }
         ensures rows { rows.new.rows ≡ self.new.taken }
         ensures lines { line_count rows.new ≡ line_count rows.old }
-        ensures same { (self.new.lines ≡ self.old.lines) × (self.new.size ≡ self.old.size) }
+        ensures own_lines { self.new.lines ≡ self.old.lines }
+        ensures size { self.new.size ≡ self.old.size }
         ensures gathers { (cells : List (List Cell)) → Gathers rows.old cells → Gathers rows.new cells }
         ensures stands { (cells : List (List Cell)) → Gathers rows.old cells → Stands self.old cells →
             Stands self.new cells }
@@ -143,6 +144,13 @@ impl SinkCore {
     }
 }
 
+/// Whether a packet ends with row `t`.
+fn ends_packet(t: u32) -> bool
+    ensures { result ≡ (nat_lt 22 t && t % 16 == 7) }
+{
+    t >= FIRST_ROW - 1 && t % 16 == 7
+}
+
 /// Counts row `t`, which was passed, and gives the return packet where a packet ends with it. `packets` govern the row after it.
 fn pass_row(table: &mut SinkTable, t: u32, packets: &[Option<Packet>]) -> Option<Packet>
     requires lines { length packets.now ≡ table.old.lines }
@@ -155,7 +163,7 @@ fn pass_row(table: &mut SinkTable, t: u32, packets: &[Option<Packet>]) -> Option
     ensures back { (cells : List (List Cell)) → packets.now ≡ governing cells (t + 1) →
         HasTold table.old (read_rows cells (packet_rows t)) → result ≡ back_at cells t }
 {
-    if t >= FIRST_ROW - 1 && t % 16 == 7 {
+    if ends_packet(t) {
         Some(table.packet_row(packets))
     } else {
         None

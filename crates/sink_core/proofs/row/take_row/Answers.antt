@@ -68,8 +68,8 @@ returns-else-is_whole-clause-receives g c cells come stands has =
     let t = c.args.rows.now.rows in
     let late : 24 ≤ c.args.t = omega (arith, c.if-t-lt-FIRST_ROW.false) in
     let row = is-no-row c.args.size cells c.args.t t late c.requires.row (c.if-is_whole.ensures.row c.args.size cells _ stands (hold-some cells t)) in
-    subst (λ row. Receives c.broken.new.self (come ++ row_in row ∷ [])) (sym row)
-    (receives-lost c.broken.new.self come [] (c.broken.ensures.stands_in 9600 (segments_of come).last.first (segments_of come).last.octets has))
+    subst (λ row. Receives c.take_break.new.delineator (come ++ row_in row ∷ [])) (sym row)
+    (receives-lost c.take_break.new.delineator come [] (c.take_break.ensures (segments_of come).last.first (segments_of come).last.octets has))
 
 pub returns-else-is_whole-clause-gives : goal.returns-else-is_whole-clause-gives
 returns-else-is_whole-clause-gives g c cells come stands has start frames given =
