@@ -9,8 +9,12 @@ use Rattle.vc_cell.specs.declared.Cell.{Cell}
 use Rattle.session_model.specs.declared.packet.Packet.{Packet}
 use Rattle.session_model.specs.ReturnPacket.{return_of}
 use Rattle.session_model.specs.Number.{verdict}
-use Rattle.session_model.specs.Rows.{read_packets, governing, row_at, first_open, return_at}
+use Rattle.session_model.specs.Rows.{read_packets, governing, active_of, row_at, first_open, return_at}
 use Rattle.line_law.specs.StableRows.{AreDecidedAt}
+use Rattle.realign_core.proofs.PacketLaws.{governing-same}
+use Rattle.std.proofs.lemmas.List.{nil_from_length}
+use Rattle.sink_core.specs.Active.{carrying}
+use Rattle.sink_core.proofs.ActiveLaws.{active_from-fits}
 use Rattle.sink_core.specs.Given.{row_in, received_rows, read_rows, packet_rows, back_at, answer_by, answer_at}
 use Rattle.sink_core.specs.declared.sink.TakeAnswer.TheVariants.{Taken}
 
@@ -106,3 +110,28 @@ back-elsewhere cells t other =
       | inl ends ↦ let (late, last) = packet-ends t ends in absurd (other ((t - 23) / 16) (omega (arith, late, last)))
       | inr no_end ↦ ap (λ b. if b then Some (return_at cells ((t - 23) / 16)) else None) no_end
     ]
+
+-- ---- the lines that carry payload
+pub governing-between : (cells : List (List Cell)) (t : ℕ) → (nat_lt 22 t && t % 16 == 7) ≡ false → governing cells (t + 1) ≡ governing cells t
+governing-between cells t no_end =
+    elim (cases_Bool (nat_lt 22 t)) [
+      | inl late ↦
+          let tested : (t % 16 == 7) ≡ false = rw late at no_end in
+          governing-same cells t (λ e. absurd (let f : (t % 16 == 7) ≡ true = grind (arith, nat_tests, (let h : t % 16 ≡ 7 = omega arith in h)) in let g : true ≡ false = sym f ∙ tested in cc))
+      | inr early ↦
+          let low : t ≤ 22 = grind (arith, nat_tests, early) in
+          let a : nat_lt (t + 1) 24 ≡ true = grind (arith, nat_tests, (let h : t + 1 < 24 = omega arith in h)) in
+          let b : nat_lt t 24 ≡ true = grind (arith, nat_tests, (let h : t < 24 = omega arith in h)) in
+          rw (a, b) refl
+    ]
+
+carrying-none : (cells : List (List Cell)) → carrying (map (λ own. None) cells) ≡ 0
+carrying-none [] = refl
+carrying-none (own ∷ cells) = carrying-none cells
+
+pub active-none : (cells : List (List Cell)) → active_of (governing cells 0) ≡ []
+active-none cells =
+    let packets : List (Option Packet) = map (λ own. None) cells in
+    let none = carrying-none cells in
+    let fits = active_from-fits 256 0 packets in
+    nil_from_length (active_of packets) (omega arith)

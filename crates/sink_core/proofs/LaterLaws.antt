@@ -7,12 +7,12 @@ use Rattle.std.proofs.lemmas.List.{append-nil}
 use Rattle.std.proofs.lemmas.Option.{slice_get_within}
 use Rattle.vc_cell.specs.declared.Cell.{Cell}
 use Rattle.session_model.specs.Number.{verdict}
-use Rattle.session_model.specs.Rows.{read_packets, row_at}
+use Rattle.session_model.specs.Rows.{read_packets, governing, active_of, row_at}
 use Rattle.session_model.specs.Segment.{StreamRow, deliver}
 use Rattle.line_law.specs.StableRows.{IsLonger, AreDecidedAt}
 use Rattle.line_law.proofs.ListLaws.{slice_get-inside, is-some}
 use Rattle.line_law.proofs.StableLaws.{verdict-stays}
-use Rattle.line_law.proofs.RowLaws.{map-same, read-stays, rows_stay, returns_stay}
+use Rattle.line_law.proofs.RowLaws.{map-same, nones-stay, read-stays, rows_stay, returns_stay}
 use Rattle.loss_law.proofs.GrowLaws.{deliver-grows}
 use Rattle.lcas_sink.specs.Stands as sink_table
 use Rattle.realign_core.specs.Gather.{with_cell}
@@ -35,6 +35,16 @@ packets-stay taken cells longer more decided =
     map-same (read_packets longer) (read_packets cells) 0 (packet_rows taken)
     (λ k low. read-stays cells longer k more (decided (16 * k + 23) (omega arith)))
 
+-- what governs the row after those that are decided
+governing-stays : (taken : ℕ) (cells longer : List (List Cell)) → IsLonger cells longer → AreDecidedTo cells taken → governing longer taken ≡ governing cells taken
+governing-stays taken cells longer more decided =
+    elim (cases_Bool (nat_lt taken 24)) [
+      | inl early ↦ rw early (nones-stay cells longer more.size)
+      | inr late ↦
+          let high : 24 ≤ taken = grind (arith, nat_tests, late) in
+          rw late (read-stays cells longer ((taken - 24) / 16) more (decided (16 * ((taken - 24) / 16) + 23) (omega arith)))
+    ]
+
 decided-stays : (t : ℕ) (cells longer : List (List Cell)) → IsLonger cells longer → AreDecidedAt cells t → AreDecidedAt longer t
 decided-stays t cells longer are decided m own here =
     let inside = slice_get_within longer m own here in
@@ -50,6 +60,7 @@ stands-longer core cells longer more stands = record {
   lines = more.size ∙ stands.lines;
   receives = subst (Receives core.receiver) (sym (received-stays core.size core.taken cells longer more stands.decided)) stands.receives;
   table = subst (sink_table.Stands core.table) (sym (packets-stay core.taken cells longer more stands.decided)) stands.table;
+  active = stands.active ∙ ap active_of (sym (governing-stays core.taken cells longer more stands.decided));
   decided = λ t low. decided-stays t cells longer more (stands.decided t low);
 }
 

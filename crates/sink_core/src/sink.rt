@@ -4,12 +4,15 @@ ghost use Rattle.std.specs.Prelude.{◌≡◌, ℕ, ◌+◌, ◌%◌, ◌<◌, �
 ghost use Rattle.vc_cell.specs.declared.Cell.{Cell};
 ghost use Rattle.realign_core.specs.Gather.{Stands as Gathers, line_count};
 ghost use Rattle.sink_core.specs.Start.{Start};
-ghost use Rattle.session_model.specs.Rows.{governing};
+ghost use Rattle.std.specs.Vec.{vec_capacity};
+ghost use Rattle.session_model.specs.Rows.{governing, active_of};
+ghost use Rattle.vcat_interleave.specs.Members.{AreLines};
 ghost use Rattle.lcas_sink.specs.Stands.{Stands as HasTold};
 ghost use Rattle.sink_core.specs.Given.{answer_at, added_frames, back_at, read_rows, packet_rows, rows_taken, IsWaiting, Allows};
 ghost use Rattle.sink_core.specs.Core.{Stands};
 
 use crate::frames::FrameOut;
+use crate::active::find_active;
 use crate::members::BLOCK;
 use crate::row::{FIRST_ROW, take_row};
 use gfp_delineate::Delineator;
@@ -48,7 +51,7 @@ pub struct SinkCore {
     taken: u32,
     delineator: Delineator,
     table: SinkTable,
-    /// The lines that carry payload in the last row, by rank.
+    /// The lines that carry payload in the next row, by rank.
     active: Vec<u8>,
     /// Octets of some places of a row, joined.
     block: Vec<u8>,
@@ -57,16 +60,18 @@ pub struct SinkCore {
 impl Model for SinkCore {
     ghost use Rattle.std.specs.Prelude.{◌≡◌, ◌≤◌, length};
     ghost use Rattle.std.specs.Vec.{vec_capacity};
+    ghost use Rattle.vcat_interleave.specs.Members.{AreLines};
     ghost use Rattle.sink_core.specs.Receives.{IsKnown};
     ghost use Rattle.sink_core.specs.Given.{packet_rows};
     ghost use Rattle.sink_core.specs.Core.{Core};
 
     ghost Value = { Core };
 
-    ghost view = { λ core. record { lines = core.lines; size = core.size; taken = core.taken; receiver = core.delineator; table = core.table } };
+    ghost view = { λ core. record { lines = core.lines; size = core.size; taken = core.taken; receiver = core.delineator; table = core.table; active = core.active.items } };
 
     ghost invariant = { λ core. IsKnown core.delineator × (core.lines ≤ 128) × (core.size ≤ 2340) × (core.table.lines ≡ core.lines)
-        × (core.table.taken ≡ packet_rows core.taken) × (128 ≤ vec_capacity core.active) × (length core.block.items ≡ 4096) };
+        × (core.table.taken ≡ packet_rows core.taken) × (128 ≤ vec_capacity core.active) × AreLines core.lines core.active.items × (length core.active.items ≤ 128)
+        × (length core.block.items ≡ 4096) };
 }
 
 impl SinkCore {
@@ -121,7 +126,7 @@ impl SinkCore {
             RowAnswer::Row => {
                 take_row(
                     &mut self.delineator,
-                    &mut self.active,
+                    &self.active,
                     &mut self.block,
                     self.size,
                     rows,
@@ -129,7 +134,9 @@ impl SinkCore {
                     out,
                 );
                 rows.advance();
-                let back = pass_row(&mut self.table, self.taken, rows.packets());
+                let packets = rows.packets();
+                let back = pass_row(&mut self.table, self.taken, packets);
+                keep_active(&mut self.active, self.taken, packets);
                 self.taken += 1;
                 TakeAnswer::Taken { back }
             }
@@ -167,5 +174,23 @@ fn pass_row(table: &mut SinkTable, t: u32, packets: &[Option<Packet>]) -> Option
         Some(table.packet_row(packets))
     } else {
         None
+    }
+}
+
+/// Finds the lines that carry payload after row `t`, where a packet ends with it; else they stay. `packets` govern the row after it.
+fn keep_active(active: &mut Vec<u8>, t: u32, packets: &[Option<Packet>])
+    requires few { length packets.now ≤ 128 }
+    requires room { 128 ≤ vec_capacity active.old }
+    requires lines { AreLines (length packets.now) active.old.items }
+    requires within { length active.old.items ≤ 128 }
+    ensures active { (cells : List (List Cell)) → packets.now ≡ governing cells (t + 1) →
+        active.old.items ≡ active_of (governing cells t) →
+        active.new.items ≡ active_of (governing cells (t + 1)) }
+    ensures lines { AreLines (length packets.now) active.new.items }
+    ensures within { length active.new.items ≤ 128 }
+    ensures room { 128 ≤ vec_capacity active.new }
+{
+    if ends_packet(t) {
+        find_active(packets, active);
     }
 }
