@@ -90,6 +90,7 @@ with_cell-longer cells line cell = record { size = size cells line; each = each 
     size [] line = refl
     size (own ∷ cells) zero = refl
     size (own ∷ cells) (suc line) = ap suc (size cells line)
+
     each : (cells : List (List Cell)) (line m : ℕ) (own : List Cell) → slice_get cells m ≡ Some own → (more : List Cell) × (slice_get (with_cell cells line cell) m ≡ Some (own ++ more))
     each [] line m own here = absurd cc
     each (first ∷ cells) zero zero own here = (cell ∷ [], ap (λ own. Some (own ++ cell ∷ [])) (let same : first ≡ own = cc in same))

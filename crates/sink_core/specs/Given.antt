@@ -56,6 +56,7 @@ abbrev pub rows_taken : TakeAnswer → ℕ
 rows_taken (Taken back) = 1
 rows_taken (Waiting line) = 0
 
+-- it takes none
 abbrev pub IsWaiting : TakeAnswer → Type 0
 IsWaiting answer = (line : ℕ) × (answer ≡ Waiting line)
 

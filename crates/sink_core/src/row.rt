@@ -77,8 +77,8 @@ pub(crate) fn take_row<F: FrameOut>(
         active.now ≡ active_of (governing cells t) → Receives delineator.old come →
         Receives delineator.new (come ++ row_in (row_at size cells t) ∷ []) }
     ensures gives { (cells : List (List Cell)) (come : List StreamRow) → Stands rows.now cells →
-        active.now ≡ active_of (governing cells t) → Receives delineator.old come → (start : Start) (frames : List (List ℕ)) →
-        F.stands_for out.old start frames →
+        active.now ≡ active_of (governing cells t) → Receives delineator.old come →
+        (start : Start) (frames : List (List ℕ)) → F.stands_for out.old start frames →
         F.stands_for out.new start (frames ++ added 9600 come (row_in (row_at size cells t))) }
 {
     if t < FIRST_ROW {

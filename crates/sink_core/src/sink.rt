@@ -11,8 +11,8 @@ ghost use Rattle.lcas_sink.specs.Stands.{Stands as HasTold};
 ghost use Rattle.sink_core.specs.Given.{answer_at, added_frames, back_at, read_rows, packet_rows, rows_taken, IsWaiting, Allows};
 ghost use Rattle.sink_core.specs.Core.{Stands};
 
-use crate::frames::FrameOut;
 use crate::active::find_active;
+use crate::frames::FrameOut;
 use crate::members::BLOCK;
 use crate::row::{FIRST_ROW, take_row};
 use gfp_delineate::Delineator;
@@ -67,11 +67,18 @@ impl Model for SinkCore {
 
     ghost Value = { Core };
 
-    ghost view = { λ core. record { lines = core.lines; size = core.size; taken = core.taken; receiver = core.delineator; table = core.table; active = core.active.items } };
+    ghost view = { λ core. record {
+      lines = core.lines;
+      size = core.size;
+      taken = core.taken;
+      receiver = core.delineator;
+      table = core.table;
+      active = core.active.items;
+    } };
 
     ghost invariant = { λ core. IsKnown core.delineator × (core.lines ≤ 128) × (core.size ≤ 2340) × (core.table.lines ≡ core.lines)
-        × (core.table.taken ≡ packet_rows core.taken) × (128 ≤ vec_capacity core.active) × AreLines core.lines core.active.items × (length core.active.items ≤ 128)
-        × (length core.block.items ≡ 4096) };
+        × (core.table.taken ≡ packet_rows core.taken) × (128 ≤ vec_capacity core.active)
+        × AreLines core.lines core.active.items × (length core.active.items ≤ 128) × (length core.block.items ≡ 4096) };
 }
 
 impl SinkCore {
@@ -166,7 +173,8 @@ fn pass_row(table: &mut SinkTable, t: u32, packets: &[Option<Packet>]) -> Option
     ensures lines { table.new.lines ≡ table.old.lines }
     ensures taken { table.new.taken ≡ packet_rows (t + 1) }
     ensures stands { (cells : List (List Cell)) → packets.now ≡ governing cells (t + 1) →
-        HasTold table.old (read_rows cells (packet_rows t)) → HasTold table.new (read_rows cells (packet_rows (t + 1))) }
+        HasTold table.old (read_rows cells (packet_rows t)) →
+        HasTold table.new (read_rows cells (packet_rows (t + 1))) }
     ensures back { (cells : List (List Cell)) → packets.now ≡ governing cells (t + 1) →
         HasTold table.old (read_rows cells (packet_rows t)) → result ≡ back_at cells t }
 {

@@ -1,5 +1,5 @@
 -- As many rows were passed as were taken, of as many lines.
-use Rattle.std.proofs.Common.{◌≡◌, ◌≤◌}
+use Rattle.std.proofs.Common.{◌≡◌}
 use Rattle.realign_core.specs.Gather.{line_count}
 use Rattle.sink_core.proofs.tests.compare.Given as goal
 
