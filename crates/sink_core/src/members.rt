@@ -80,8 +80,7 @@ fn only_payload(containers: &[Container], line: u8, size: usize) -> &[u8]
 }
 
 /// Gives the octets of a row to a receiver, block by block, or as they lie where one line carries them alone. `active` has the lines
-/// that carry payload, by rank, and
-/// the container of each line.
+/// that carry payload, by rank, and `containers` has the container of each line.
 pub(crate) fn take_members<F: FrameOut>(
     delineator: &mut Delineator,
     block: &mut [u8],
