@@ -50,8 +50,8 @@ next-told receiver step first octets more outcome =
     ∙ drop_at before (told receiver step) (length before) refl
 
 -- octets that follow a first part, of what is left after it
-pub take-next : (at n : ℕ) (piece : List ℕ) → take (at + n) piece ≡ take at piece ++ take n (take (length piece - at) (drop at piece))
-take-next at n piece =
+pub take-further : (at n : ℕ) (piece : List ℕ) → take (at + n) piece ≡ take at piece ++ take n (take (length piece - at) (drop at piece))
+take-further at n piece =
     take-add at n piece
     ∙ ap (λ l. take at piece ++ take n l) (sym (take_all (length piece - at) (drop at piece) (let size = length-drop at piece in omega arith)))
 

@@ -1,8 +1,9 @@
 -- Rows that are whole by their packets and the containers of their lines.
-use Rattle.std.proofs.Common.{◌≡◌, ℕ, zero, suc, ◌<◌, ◌==◌, ◌&&◌, Bool, false, List, [], ◌∷◌, map, length, slice_get, Option, Some, None, refl, sym, ◌∙◌, ap, ap₂, inl, inr}
+use Rattle.std.proofs.Common.{◌≡◌, ℕ, ◌<◌, ◌==◌, ◌&&◌, Bool, false, List, [], ◌∷◌, map, length, slice_get, Option, Some, None, refl, sym, ◌∙◌, ap, ap₂, inl, inr}
 use Rattle.std.specs.Prelude.{is_some}
 use Rattle.std.specs.Option.{option_map}
 use Rattle.std.proofs.lemmas.Bool.{cases_Bool}
+use Rattle.std.proofs.lemmas.Option.{slice_get-map}
 use Rattle.vc_cell.specs.declared.Container.{Container}
 use Rattle.vc_cell.specs.declared.Cell.{Cell}
 use Rattle.session_model.specs.declared.packet.Packet.{Packet}
@@ -87,11 +88,6 @@ abbrev pub told_or : Option Container → Container
 told_or None = record { h4 = 0; payload = [] }
 told_or (Some container) = container
 
-slice_get-map : {X Y : Type 0} (f : X → Y) (xs : List X) (m : ℕ) (x : X) → slice_get xs m ≡ Some x → slice_get (map f xs) m ≡ Some (f x)
-slice_get-map f [] m x e = absurd cc
-slice_get-map f (y ∷ ys) zero x e = ap (λ x. Some (f x)) (let same : y ≡ x = cc in same)
-slice_get-map f (y ∷ ys) (suc m) x e = slice_get-map f ys m x e
-
 pub hold-some : (cells : List (List Cell)) (t : ℕ) → Hold (map (λ own. told_or (container_in (verdict own t))) cells) cells t
 hold-some cells t = λ m own found here said.
-    slice_get-map (λ own. told_or (container_in (verdict own t))) cells m own here ∙ ap (λ told. Some (told_or (container_in told))) said
+    slice_get-map (λ own. told_or (container_in (verdict own t))) cells m ∙ ap (option_map (λ own. told_or (container_in (verdict own t)))) here ∙ ap (λ told. Some (told_or (container_in told))) said

@@ -2,7 +2,7 @@
 use Rattle.std.proofs.Common.{◌≡◌, ◌+◌, ◌-◌, ◌++◌, length, take, drop, sym, ◌∙◌, ap, subst, arith}
 use Rattle.std.proofs.lemmas.List.{length-drop, take_all}
 use Rattle.sink_core.specs.Receives.{Grows, Gives}
-use Rattle.sink_core.proofs.GivingLaws.{known-grows, grows-more, gives-more, take-next}
+use Rattle.sink_core.proofs.GivingLaws.{known-grows, grows-more, gives-more, take-further}
 use Rattle.sink_core.proofs.members.take_piece.Goals as goal
 
 pub loop-at-preserved : goal.loop-at-preserved
@@ -16,7 +16,7 @@ loop-at-preserved g c =
     let rest = take (length piece - at) (drop at piece) in
     let inv = c.loop-at.invariant in
     let size : length rest ≡ length piece - at = ap length (take_all (length piece - at) (drop at piece) (omega (arith, length-drop at piece))) ∙ length-drop at piece in
-    let next : take (at + n) piece ≡ take at piece ++ take n rest = take-next at n piece in
+    let next : take (at + n) piece ≡ take at piece ++ take n rest = take-further at n piece in
     record {
       within = omega (arith, size, c.take_some-at.ensures.within, inv.within);
       known = known-grows then' now (take n rest) inv.known c.take_some-at.ensures.grows;
