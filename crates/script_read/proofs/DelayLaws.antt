@@ -4,7 +4,8 @@ use Rattle.std.specs.Prelude.{Option, None, Some, replicate}
 use Rattle.std.specs.Option.{option_or}
 use Rattle.script_read.specs.declared.fault.LineKind.{LineKind}
 use Rattle.script_read.specs.Words.{number_of}
-use Rattle.script_read.specs.Statements.{fields_fault, number_fault, within, delays_fault}
+use Rattle.script_read.specs.Statements.{fields_fault, number_fault, within}
+use Rattle.script_read.specs.Drafts.{delays_fault}
 
 -- the first fault of delays
 abbrev pub delay_faults : List (List ℕ) → Option LineKind

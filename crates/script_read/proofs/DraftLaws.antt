@@ -10,8 +10,9 @@ use Rattle.script_read.specs.declared.fault.Stop.{Stop}
 use Rattle.script_read.specs.declared.fault.Stop.TheVariants as stop
 use Rattle.script_read.specs.declared.draft.Statement.{Statement}
 use Rattle.script_read.specs.Words.{words}
-use Rattle.script_read.specs.Statements.{words_fault, words_said, after, IsStop}
-use Rattle.script_read.specs.Script.{draft_from, unless_fault, at_line, at_end, fault_at}
+use Rattle.script_read.specs.Statements.{words_fault, words_said, after}
+use Rattle.script_read.specs.Drafts.{IsStop, fault_at}
+use Rattle.script_read.specs.Script.{draft_from, unless_fault, at_line, at_end}
 
 -- a faulty line
 pub line_faulty : (n : ℕ) (d : Draft) (all : List (List ℕ)) (l : List ℕ) (ls : List (List ℕ)) (kind : LineKind) → all ≡ l ∷ ls
@@ -22,13 +23,13 @@ line_faulty n d all l ls kind first fails =
     ∙ ap (λ (f : Option LineKind). unless_fault (at_line n f) (draft_from (n + 1) (after d (words_said (words l))) ls)) fails
 
 -- a line without a fault
-pub line_sound : (n : ℕ) (d new : Draft) (all : List (List ℕ)) (l : List ℕ) (ls : List (List ℕ)) (read : Line) → all ≡ l ∷ ls
-    → words_fault d (words l) ≡ None → read ≡ words_said (words l) → new ≡ after d read → draft_from n d all ≡ draft_from (n + 1) new ls
+pub line_sound : (n : ℕ) (d new : Draft) (all : List (List ℕ)) (l : List ℕ) (ls : List (List ℕ)) (said : Statement) → all ≡ l ∷ ls
+    → words_fault d (words l) ≡ None → said ≡ words_said (words l) → new ≡ after d said → draft_from n d all ≡ draft_from (n + 1) new ls
 unfolding draft_from
-line_sound n d new all l ls read first none said is =
+line_sound n d new all l ls said first none says is =
     ap (λ (x : List (List ℕ)). draft_from n d x) first
     ∙ ap (λ (f : Option LineKind). unless_fault (at_line n f) (draft_from (n + 1) (after d (words_said (words l))) ls)) none
-    ∙ ap (λ (r : Line). draft_from (n + 1) (after d r) ls) (sym said)
+    ∙ ap (λ (r : Statement). draft_from (n + 1) (after d r) ls) (sym says)
     ∙ ap (λ (d : Draft). draft_from (n + 1) d ls) (sym is)
 
 below : (n : ℕ) → n < 6 → nat_lt n 6 ≡ true

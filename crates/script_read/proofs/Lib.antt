@@ -1,3 +1,4 @@
 mod TextLaws
 mod DelayLaws
 mod DraftLaws
+mod LimitLaws

@@ -1,6 +1,7 @@
 //! What can be wrong with a script.
 
 ghost use Rattle.std.specs.Prelude.{◌≡◌};
+ghost use Rattle.script_read.specs.declared.fault.Stop.TheVariants as stop;
 
 use std::alloc::{AllocError, AllocFailed};
 use thiserror::Error;
@@ -63,7 +64,7 @@ pub(crate) enum Stop {
 }
 
 impl From<LineKind> for Stop {
-    ghost from_gives = { λ kind stop. stop ≡ Stop.Line kind };
+    ghost from_gives = { λ kind given. given ≡ stop.Line kind };
 
     fn from(kind: LineKind) -> Stop {
         Stop::Line(kind)
@@ -71,7 +72,7 @@ impl From<LineKind> for Stop {
 }
 
 impl From<AllocError> for Stop {
-    ghost from_gives = { λ _ stop. stop ≡ Stop.Memory };
+    ghost from_gives = { λ _ given. given ≡ stop.Memory };
 
     fn from(_: AllocError) -> Stop {
         Stop::Memory
@@ -79,7 +80,7 @@ impl From<AllocError> for Stop {
 }
 
 impl<T: Drop> From<AllocFailed<T>> for Stop {
-    ghost from_gives = { λ _ stop. stop ≡ Stop.Memory };
+    ghost from_gives = { λ _ given. given ≡ stop.Memory };
 
     fn from(_failed: AllocFailed<T>) -> Stop {
         Stop::Memory

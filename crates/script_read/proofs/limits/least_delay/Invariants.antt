@@ -1,6 +1,7 @@
-use Rattle.std.proofs.Common.{◌≡◌, drop, min, slice_index_or}
-use Rattle.std.specs.List.{fold}
+-- The least so far and that of the delays that are left.
+use Rattle.std.proofs.Common.{◌≡◌, drop}
+use Rattle.session_model.specs.Plan.{least, least_or}
 use Rattle.script_read.proofs.limits.least_delay.Given as goal
 
 abbrev pub invariant-loop-delay : goal.invariant-loop-delay
-invariant-loop-delay l = fold min (slice_index_or l.fn.delays 0 0) l.fn.delays ≡ fold min l.low (drop l.delay-index l.fn.delays)
+invariant-loop-delay l = least_or l.low (drop l.delay-index l.others) ≡ least l.fn.delays
