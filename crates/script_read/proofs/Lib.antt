@@ -2,3 +2,6 @@ mod TextLaws
 mod DelayLaws
 mod DraftLaws
 mod LimitLaws
+mod RowLaws
+mod GrowthLaws
+mod ValidLaws

@@ -59,7 +59,10 @@ pub(crate) fn read_delays(alloc: Global, rest: &[u8], lines: u8) -> Result<Delay
     let mut further = rest;
     while let Some((word, later)) = next_word(further) {
         further = later;
-        let delay = number_within(word, 0, 2047)? as u16;
+        let delay = match number_within(word, 0, 2047) {
+            Ok(delay) => delay as u16,
+            Err(kind) => return Err(Stop::Line(kind)),
+        };
         delays.push(delay)?;
     }
     Ok(Delays(delays))

@@ -2,7 +2,7 @@
 ghost use Rattle.std.specs.Prelude.{◌≡◌, ◌⊎◌, ◌≤◌, length, IfOk, IfErr, Ok, Err};
 ghost use Rattle.std.specs.Str.Lines.{lines};
 ghost use Rattle.script_read.specs.Statements.{at_first};
-ghost use Rattle.script_read.specs.Script.{script_of, draft_from};
+ghost use Rattle.script_read.specs.Script.{script_of, script_in, draft_from};
 ghost use Rattle.script_read.specs.Drafts.{IsDraft, fault_at};
 ghost use Rattle.script_read.specs.Valid.{IsValid};
 
@@ -57,6 +57,17 @@ fn read_draft(alloc: Global, text: &[u8]) -> Result<Draft, ScriptFault>
     Ok(draft)
 }
 
+// The script that a draft has become.
+fn finished(draft: Draft) -> Script
+    ensures { result ≡ script_in draft }
+{
+    Script {
+        config: draft.config,
+        items: draft.items,
+        events: draft.events,
+    }
+}
+
 /// The script of a text of at most 67,108,864 octets. Else its first fault: that of the first faulty line, counted from 1; or, where
 /// no line has one, the first that fails of the tests of slips, spread and lag. Want of memory may come in place of any answer. What
 /// a script that is given meets is `IsValid`.
@@ -74,9 +85,5 @@ pub fn read_script(alloc: Global, text: &[u8]) -> Result<Script, ScriptFault>
     if let Some(fault) = fault_of_config(&draft.config) {
         return Err(fault);
     }
-    Ok(Script {
-        config: draft.config,
-        items: draft.items,
-        events: draft.events,
-    })
+    Ok(finished(draft))
 }
