@@ -5,3 +5,4 @@ mod LimitLaws
 mod RowLaws
 mod GrowthLaws
 mod ValidLaws
+mod FirstFaultLaws

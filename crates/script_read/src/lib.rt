@@ -19,5 +19,5 @@ mod tests;
 mod words;
 
 pub use fault::{LineKind, ScriptFault};
-
+pub use laws::fault_law;
 pub use script::read_script;
