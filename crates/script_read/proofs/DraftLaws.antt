@@ -1,5 +1,5 @@
-use Rattle.std.proofs.Common.{◌≡◌, ℕ, ◌+◌, ◌<◌, ◌≤◌, List, [], ◌∷◌, ap, sym, ◌∙◌, arith, refl, true, false, Bool, inl, inr, ◌⊎◌}
-use Rattle.std.specs.Prelude.{Option, None, Some, Result, Ok, Err, nat_lt}
+use Rattle.std.proofs.Common.{◌≡◌, ℕ, ◌+◌, ◌<◌, ◌≤◌, List, [], ◌∷◌, ap, sym, ◌∙◌, arith, refl, true, false, inl, inr, ◌⊎◌}
+use Rattle.std.specs.Prelude.{Option, None, Some, Ok, Err, nat_lt}
 use Rattle.std.proofs.lemmas.Bool.Decides.{nat_tests}
 use Rattle.script_read.specs.declared.fault.LineKind.{LineKind}
 use Rattle.script_read.specs.declared.fault.LineKind.TheVariants.{Missing}
@@ -12,7 +12,7 @@ use Rattle.script_read.specs.declared.draft.Statement.{Statement}
 use Rattle.script_read.specs.Words.{words}
 use Rattle.script_read.specs.Statements.{words_fault, words_said, after}
 use Rattle.script_read.specs.Drafts.{IsStop, fault_at}
-use Rattle.script_read.specs.Script.{draft_from, unless_fault, at_line, at_end}
+use Rattle.script_read.specs.Script.{draft_from, unless_fault, at_line}
 
 -- a faulty line
 pub line_faulty : (n : ℕ) (d : Draft) (all : List (List ℕ)) (l : List ℕ) (ls : List (List ℕ)) (kind : LineKind) → all ≡ l ∷ ls

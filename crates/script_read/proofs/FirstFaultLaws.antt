@@ -1,5 +1,5 @@
 -- The first fault of lines, and what lines without a fault say.
-use Rattle.std.proofs.Common.{◌≡◌, ◌↔◌, ℕ, ◌+◌, ◌-◌, ◌<◌, ◌≤◌, nat_le, Bool, true, false, List, [], ◌∷◌, ◌++◌, length, ap, sym, ◌∙◌, arith, refl, ◌⊎◌, inl, inr, subst, append-nil, if◌then◌else◌}
+use Rattle.std.proofs.Common.{◌≡◌, ◌↔◌, ℕ, ◌+◌, ◌-◌, ◌≤◌, nat_le, Bool, true, false, List, [], ◌∷◌, ◌++◌, length, ap, sym, ◌∙◌, arith, refl, inl, inr, subst, append-nil}
 use Rattle.std.specs.Prelude.{Option, None, Some, Result, Ok, Err}
 use Rattle.std.specs.Str.Lines.{lines}
 use Rattle.std.proofs.lemmas.Bool.{cases_lt, cases_Bool}
@@ -15,7 +15,7 @@ use Rattle.script_read.specs.declared.draft.Draft.{Draft}
 use Rattle.script_read.specs.Words.{words}
 use Rattle.script_read.specs.Statements.{words_fault, words_said, after, at_first}
 use Rattle.script_read.specs.Script.{draft_from, unless_fault, at_line, fault_or, windows_fault, slip_fault, spread_fault, least_lag, lag_fault, config_fault, script_in, script_of_draft, script_of}
-use Rattle.script_read.specs.FirstFault.{AreSound, IsFaulty, IsShort, IsFirstFault, IsScriptOf}
+use Rattle.script_read.specs.FirstFault.{AreSound, IsShort, IsFirstFault, IsScriptOf}
 use Rattle.script_read.proofs.DraftLaws.{line_faulty, line_sound, end_missing, end_sound}
 
 abbrev told : ScriptFault → Result Draft ScriptFault
@@ -63,7 +63,10 @@ later_line : (n : ℕ) (d : Draft) (l : List ℕ) (ls : List (List ℕ)) (m : �
 unfolding AreSound
 later_line n d l ls m kind none (inl f) =
     inl (record {
-      before = l ∷ f.before; line = f.line; later = f.later; now = f.now;
+      before = l ∷ f.before;
+      line = f.line;
+      later = f.later;
+      now = f.now;
       here = ap (λ (x : List (List ℕ)). l ∷ x) f.here;
       count = omega (arith, f.count);
       sound = (none, f.sound);
@@ -81,7 +84,10 @@ this_line n d l ls m kind None is later e = later_line n d l ls m kind is (later
 this_line n d l ls m kind (Some k) is later e =
     let same = same_line n m k kind e in
     inl (record {
-      before = []; line = l; later = ls; now = d;
+      before = [];
+      line = l;
+      later = ls;
+      now = d;
       here = refl;
       count = omega (arith, same.0);
       sound = refl;

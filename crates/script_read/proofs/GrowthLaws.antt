@@ -1,5 +1,5 @@
 -- What a draft meets, the draft after one more line meets as well.
-use Rattle.std.proofs.Common.{◌≡◌, ℕ, zero, suc, ◌+◌, ◌-◌, ◌<◌, ◌≤◌, List, [], ◌∷◌, ◌++◌, length, ap, sym, ◌∙◌, arith, refl, slice_index_or, slice_set, subst, All, replicate, inr}
+use Rattle.std.proofs.Common.{◌≡◌, ℕ, ◌+◌, ◌<◌, ◌≤◌, List, [], ◌∷◌, ◌++◌, length, ap, sym, ◌∙◌, arith, refl, slice_set, subst, All, inr}
 use Rattle.std.specs.List.Sorted.{IsNonDecreasing}
 use Rattle.std.proofs.lemmas.List.{length-append, length-set, length-replicate, append-nil}
 use Rattle.std.proofs.lemmas.List.Elements.{All-set, All-get_or, All-replicate}
@@ -7,15 +7,14 @@ use Rattle.session_model.specs.declared.window.Window.{Window}
 use Rattle.session_model.specs.declared.script.Item.{Item}
 use Rattle.session_model.specs.declared.script.ItemKind.{ItemKind}
 use Rattle.session_model.specs.declared.script.ItemKind.TheVariants as item
-use Rattle.session_model.specs.declared.script.EventLine.{EventLine}
 use Rattle.session_model.specs.declared.script.Config.{Config}
 use Rattle.session_model.specs.Counts.{Due, command_due, due_of, dues_of, frame_dues, command_dues}
 use Rattle.script_read.specs.declared.draft.Draft.{Draft}
 use Rattle.script_read.specs.declared.draft.Statement.{Statement}
 use Rattle.script_read.specs.declared.draft.Statement.TheVariants as says
-use Rattle.script_read.specs.Statements.{windows_of, last_end, after, after_item, at_first}
+use Rattle.script_read.specs.Statements.{windows_of, after, after_item, at_first}
 use Rattle.script_read.specs.Valid.{HasLosses, IsItem, AreItems, IsEvent, AreApart}
-use Rattle.script_read.specs.Drafts.{AreInOrder, AreFailures, HasConfig, IsDraft, IsNext, IsNextLost, Fits, last_due}
+use Rattle.script_read.specs.Drafts.{AreInOrder, AreFailures, HasConfig, IsDraft, IsNext, IsNextLost, Fits}
 use Rattle.script_read.proofs.RowLaws.{All-none, All-one, rising-none, rising-one, most-one, most-up, frames-one, commands-one, order-one, apart-one}
 
 no_windows : (ticks : ℕ) → AreFailures ticks []

@@ -1,5 +1,5 @@
 -- A draft that passes the tests is a script that meets all that is said of one.
-use Rattle.std.proofs.Common.{◌≡◌, ◌≢◌, ℕ, zero, suc, ◌+◌, ◌-◌, ◌*◌, ◌/◌, ◌<◌, ◌≤◌, nat_le, Bool, true, false, List, [], ◌∷◌, length, ap, sym, ◌∙◌, arith, refl, slice_index_or, All, inl, inr, if◌then◌else◌}
+use Rattle.std.proofs.Common.{◌≡◌, ℕ, zero, suc, ◌+◌, ◌-◌, ◌<◌, ◌≤◌, nat_le, Bool, true, false, List, [], ◌∷◌, length, ap, sym, ◌∙◌, arith, refl, All, inl, inr, if◌then◌else◌}
 use Rattle.std.specs.Prelude.{Option, None, Some}
 use Rattle.std.proofs.lemmas.Bool.{cases_Bool}
 use Rattle.std.proofs.lemmas.Bool.Decides.{nat_tests}
@@ -11,8 +11,8 @@ use Rattle.script_read.specs.declared.fault.ScriptFault.{ScriptFault}
 use Rattle.script_read.specs.declared.fault.ScriptFault.TheVariants as fault
 use Rattle.script_read.specs.declared.draft.Draft.{Draft}
 use Rattle.script_read.specs.Script.{fault_or, windows_fault, slip_fault, spread_fault, least_lag, lag_fault, config_fault, script_in}
-use Rattle.script_read.specs.Valid.{HasFailures, IsNetwork, IsValid}
-use Rattle.script_read.specs.Drafts.{AreInOrder, AreFailures, HasConfig, IsDraft}
+use Rattle.script_read.specs.Valid.{HasFailures, IsValid}
+use Rattle.script_read.specs.Drafts.{AreInOrder, AreFailures, IsDraft}
 
 none_first : (f later : Option ScriptFault) → fault_or f later ≡ None → f ≡ None
 none_first None later is = refl

@@ -1,5 +1,5 @@
 -- What a draft meets, and what a line may say that stands after those of a draft.
-use Rattle.std.specs.Prelude.{◌≡◌, ◌⊎◌, ⊤, ℕ, ◌+◌, ◌-◌, ◌==◌, ◌<◌, ◌≤◌, not, List, [], ◌∷◌, length, replicate, Option, Some, All}
+use Rattle.std.specs.Prelude.{◌≡◌, ◌⊎◌, ⊤, ℕ, ◌==◌, ◌<◌, ◌≤◌, not, List, [], ◌∷◌, length, replicate, Option, Some, All}
 use Rattle.std.specs.Option.{option_or}
 use Rattle.session_model.specs.declared.window.Window.{Window}
 use Rattle.session_model.specs.declared.script.Config.{Config}
@@ -17,7 +17,7 @@ use Rattle.script_read.specs.declared.draft.Statement.TheVariants as says
 use Rattle.script_read.specs.declared.draft.Draft.{Draft}
 use Rattle.script_read.specs.Words.{word_at}
 use Rattle.script_read.specs.Statements.{where_true, within, number_fault, fields_fault, size_of, size_fault, windows_of, last_end, last_lost}
-use Rattle.script_read.specs.Valid.{IsWithin, HasLosses, IsSize, IsItem, IsKind, AreItems, IsEvent}
+use Rattle.script_read.specs.Valid.{IsWithin, HasLosses, IsSize, IsItem, AreItems, IsEvent}
 
 -- ---- faults
 -- a line that wasn't read has this fault, unless memory was short

@@ -34,10 +34,16 @@ pub enum LineKind {
 pub enum ScriptFault {
     /// Line `number` is the first faulty one.
     #[error("fault: line {number}: {kind}")]
-    Line { number: u32, kind: LineKind },
+    Line {
+        number: u32,
+        kind: LineKind,
+    },
     /// A window of a line lets as many containers vanish as it damages, or more.
     #[error("fault: slip line {line} window {window}")]
-    Slip { line: u8, window: u16 },
+    Slip {
+        line: u8,
+        window: u16,
+    },
     /// A ring of `ring` cells can't hold what lies between the delays `slow` and `fast`, in frames, and the greatest slip.
     #[error("fault: spread {slow} {fast} {slip} {ring}")]
     Spread {
@@ -48,7 +54,10 @@ pub enum ScriptFault {
     },
     /// The lag is below the least one that delays and slips allow, in packets.
     #[error("fault: lag {lag} least {least}")]
-    Lag { lag: u16, least: u32 },
+    Lag {
+        lag: u16,
+        least: u32,
+    },
     /// There was no memory.
     #[error("fault: no memory")]
     Memory,

@@ -4,7 +4,9 @@ ghost use Rattle.script_read.specs.Statements.{after, at_first};
 ghost use Rattle.script_read.specs.Drafts.{IsDraft, Fits};
 
 use crate::draft::{Draft, Statement};
-use session_model::{Config, Delays, EventList, ItemKind, ItemList, LostList, Window, WindowList, WindowLists};
+use session_model::{
+    Config, Delays, EventList, ItemKind, ItemList, LostList, Window, WindowList, WindowLists,
+};
 use std::alloc::{AllocError, Global};
 
 // No windows for so many lines.

@@ -92,7 +92,12 @@ pub(crate) fn fault_of_config(config: &Config) -> Option<ScriptFault>
     let slip = greatest_of_slips(&config.windows);
     let ring = config.ring;
     if u64::from(ring) < u64::from(slow.saturating_sub(fast)) + u64::from(slip) + 1 {
-        return Some(ScriptFault::Spread { slow, fast, slip, ring });
+        return Some(ScriptFault::Spread {
+            slow,
+            fast,
+            slip,
+            ring,
+        });
     }
     let lag = config.lag;
     let least = ((16 + u64::from(slow) + u64::from(slip) + 15) / 16) as u32;

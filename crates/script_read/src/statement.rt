@@ -25,12 +25,7 @@ fn read_count(rest: &[u8]) -> Result<u32, Stop>
 }
 
 // What the words after a keyword say that stands in its place.
-fn read_rest(
-    alloc: Global,
-    draft: &Draft,
-    keyword: Keyword,
-    rest: &[u8],
-) -> Result<Statement, Stop>
+fn read_rest(alloc: Global, draft: &Draft, keyword: Keyword, rest: &[u8]) -> Result<Statement, Stop>
     requires stands { IsPlaced draft.now.next (place keyword) }
     requires config { IsDraft draft.now }
     ensures ok { IfOk result (λ read. (rest_fault draft.now keyword (words rest.now) ≡ None)
@@ -42,11 +37,7 @@ fn read_rest(
     match keyword {
         Keyword::Container => Ok(Statement::Container(read_container(rest)?)),
         Keyword::Lines => Ok(Statement::Lines(read_one(rest, 1, 128)? as u8)),
-        Keyword::Delays => Ok(Statement::Delays(read_delays(
-            alloc,
-            rest,
-            draft.config.lines,
-        )?)),
+        Keyword::Delays => Ok(Statement::Delays(read_delays(alloc, rest, draft.config.lines)?)),
         Keyword::Ring => Ok(Statement::Ring(read_one(rest, 1, 2048)? as u16)),
         Keyword::Lag => Ok(Statement::Lag(read_one(rest, 1, 512)? as u16)),
         Keyword::Ticks => Ok(Statement::Ticks(read_one(rest, 1, 1_000_000)? as u32)),

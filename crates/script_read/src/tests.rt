@@ -6,6 +6,7 @@ use std::alloc::{AllocError, Global};
 use std::test::Fail;
 
 const ONE_LINE: &[u8] = b"lines 1\ndelays 0\nring 1\nlag 1\nticks 9\n";
+
 const TWO_LINES: &[u8] = b"lines 2\ndelays 0 63\nring 64\nlag 5\nticks 100\n";
 
 // A text, and what is told of it. `C` stands for the lines of one network, `D` for those of the other, which are five each; `/` for
@@ -158,19 +159,30 @@ fn windows_have_a_limit(rt: HostRuntime) -> Result<(), Fail> {
     let alloc = rt.alloc();
     for (word, slip) in [("fail 0", " 0"), ("lost", "")] {
         let early = format!(in alloc; "{word} 0 1{slip}")?;
-        let mut text = text_of(alloc, b"lines 1/delays 0/ring 1/lag 1/ticks 1000/".as_slice())?;
+        let mut text = text_of(
+            alloc,
+            b"lines 1/delays 0/ring 1/lag 1/ticks 1000/".as_slice(),
+        )?;
         for i in 0..255u16 {
             let line = format!(in alloc; "{word} {i} {}{slip}", i + 1)?;
             add_line(&mut text, &line)?;
         }
         let mut one_more = text.clone()?;
         add_line(&mut one_more, &early)?;
-        assert_eq!(rt; told(alloc, &one_more)?.as_str(), "fault: line 261: order", "{word}");
+        assert_eq!(rt;
+            told(alloc, &one_more)?.as_str(),
+            "fault: line 261: order",
+            "{word}"
+        );
         let last = format!(in alloc; "{word} 255 256{slip}")?;
         add_line(&mut text, &last)?;
         assert_eq!(rt; told(alloc, &text)?.as_str(), "fault: none", "{word}");
         add_line(&mut text, &early)?;
-        assert_eq!(rt; told(alloc, &text)?.as_str(), "fault: line 262: range", "{word}");
+        assert_eq!(rt;
+            told(alloc, &text)?.as_str(),
+            "fault: line 262: range",
+            "{word}"
+        );
     }
     Ok(())
 }
@@ -214,7 +226,10 @@ fn described(alloc: Global, script: &Script) -> Result<String, AllocError> {
     for item in &script.items.0 {
         let due = item.due;
         let line = match &item.kind {
-            ItemKind::Frame(octets) => format!(in alloc; "frame {due} {:?}\n", octets.0.as_slice())?,
+            ItemKind::Frame(octets) => format!(in alloc;
+                "frame {due} {:?}\n",
+                octets.0.as_slice()
+            )?,
             ItemKind::Add(line) => format!(in alloc; "add {due} {line}\n")?,
             ItemKind::Remove(line) => format!(in alloc; "remove {due} {line}\n")?,
         };
