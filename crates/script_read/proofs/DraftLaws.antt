@@ -1,3 +1,4 @@
+-- The recursion over lines, one line on and at the end.
 use Rattle.std.proofs.Common.{◌≡◌, ℕ, ◌+◌, ◌<◌, ◌≤◌, List, [], ◌∷◌, ap, sym, ◌∙◌, arith, refl, true, false, inl, inr, ◌⊎◌}
 use Rattle.std.specs.Prelude.{Option, None, Some, Ok, Err, nat_lt}
 use Rattle.std.proofs.lemmas.Bool.Decides.{nat_tests}

@@ -1,11 +1,11 @@
 //! What a line adds to a draft.
 ghost use Rattle.std.specs.Prelude.{◌≡◌, ◌≤◌, ◌<◌, ◌∷◌, ◌++◌, [], length, IfOk, OnOk, slice_index_or, slice_set, replicate};
-ghost use Rattle.script_read.specs.Statements.{after, at_first};
+ghost use Rattle.script_read.specs.Statements.{after, after_item, at_first};
 ghost use Rattle.script_read.specs.Drafts.{IsDraft, Fits};
 
 use crate::draft::{Draft, Statement};
 use session_model::{
-    Config, Delays, EventList, ItemKind, ItemList, LostList, Window, WindowList, WindowLists,
+    Config, Delays, EventList, Item, ItemKind, ItemList, LostList, Window, WindowList, WindowLists,
 };
 use std::alloc::{AllocError, Global};
 
@@ -23,7 +23,8 @@ fn no_windows(alloc: Global, lines: u8) -> Result<WindowLists, AllocError>
 // Appends a window to those of a line.
 fn add_window(lists: &mut WindowLists, m: u8, window: Window) -> Result<(), AllocError>
     requires { m < length lists.old }
-    ensures { OnOk result (lists.new ≡ slice_set lists.old m (slice_index_or lists.old m [] ++ window ∷ [])) }
+    ensures { OnOk result
+        (lists.new ≡ slice_set lists.old m (slice_index_or lists.old m [] ++ window ∷ [])) }
 {
     let list = &mut lists.0[usize::from(m)];
     list.0.push(window)?;
@@ -51,6 +52,19 @@ pub(crate) fn no_lines(alloc: Global) -> Draft
         frame_due: 0,
         command_due: 0,
     }
+}
+
+// Adds an item.
+fn add_item(draft: &mut Draft, item: Item) -> Result<(), AllocError>
+    ensures { OnOk result (draft.new ≡ after_item draft.old item item.kind) }
+{
+    match item.kind {
+        ItemKind::Frame(_) => draft.frame_due = item.due,
+        ItemKind::Add(_) | ItemKind::Remove(_) => draft.command_due = item.due,
+    }
+    draft.next = 7;
+    draft.items.0.push(item)?;
+    Ok(())
 }
 
 /// Adds what a line says.
@@ -88,14 +102,7 @@ pub(crate) fn add(alloc: Global, draft: &mut Draft, said: Statement) -> Result<(
         }
         Statement::Fail(m, window) => add_window(&mut draft.config.windows, m, window)?,
         Statement::Lost(first, end) => draft.config.lost.0.push((first, end))?,
-        Statement::Item(item) => {
-            match item.kind {
-                ItemKind::Frame(_) => draft.frame_due = item.due,
-                ItemKind::Add(_) | ItemKind::Remove(_) => draft.command_due = item.due,
-            }
-            draft.next = 7;
-            draft.items.0.push(item)?;
-        }
+        Statement::Item(item) => add_item(draft, item)?,
         Statement::Event(event) => {
             draft.next = 8;
             draft.events.0.push(event)?;

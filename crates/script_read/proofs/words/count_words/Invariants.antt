@@ -1,3 +1,4 @@
+-- The words counted so far and those that are left.
 use Rattle.std.proofs.Common.{◌≡◌, ◌≤◌, ◌+◌, length}
 use Rattle.script_read.specs.Words.{words}
 use Rattle.script_read.proofs.words.count_words.Given as goal

@@ -1,3 +1,4 @@
+-- The digits read so far, and their value.
 use Rattle.std.proofs.Common.{◌≡◌, ◌<◌, ◌^◌, take, drop, true}
 use Rattle.std.specs.List.{list_all}
 use Rattle.script_read.specs.Words.{number_after, number_of, is_digit}

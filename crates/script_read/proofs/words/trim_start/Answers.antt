@@ -1,3 +1,4 @@
+-- One space on.
 use Rattle.std.proofs.Common.{arith, ◌∙◌}
 use Rattle.script_read.proofs.TextLaws.{words_later}
 use Rattle.script_read.proofs.words.trim_start.Goals as goal
