@@ -5,7 +5,7 @@ use Rattle.std.proofs.lemmas.Bool.{cases_Bool}
 use Rattle.session_model.specs.declared.window.Window.{Window}
 use Rattle.session_model.specs.declared.window.Carried.TheVariants.{Whole, Fails, Vanishes}
 use Rattle.session_model.specs.Damage.{is_damaged, carried_in, carried, AreWindows}
-use Rattle.failure_window.proofs.WindowLaws.{carried-in, carried-after}
+use Rattle.session_model.proofs.PathLaws.{carried-in, carried-after}
 
 broken : (b : Bool) → (if b then Fails else Vanishes) ≡ Whole → ⊥
 broken true same = cc

@@ -3,25 +3,8 @@ use Rattle.std.proofs.Common.{◌≡◌, ℕ, zero, suc, ◌<◌, ◌≤◌, ◌
 use Rattle.session_model.specs.declared.window.Window.{Window}
 use Rattle.session_model.specs.declared.window.Carried.TheVariants.{Whole}
 use Rattle.session_model.specs.Damage.{carried_in, carried, AreWindows}
+use Rattle.session_model.proofs.PathLaws.{carried-in, carried-before, carried-after}
 use Rattle.failure_window.specs.Above.{IsFirstAbove}
-
-pub carried-in : (window : Window) (windows : List Window) (n : ℕ) → window.first ≤ n → n < window.end →
-    carried (window ∷ windows) n ≡ carried_in window n
-unfolding carried
-carried-in window windows n low high =
-    let inside : (nat_le window.first n && nat_lt n window.end) ≡ true = grind (arith, low, high) in rw inside refl
-
-pub carried-before : (window : Window) (windows : List Window) (n : ℕ) → n < window.first →
-    carried (window ∷ windows) n ≡ carried windows n
-unfolding carried
-carried-before window windows n low =
-    let outside : (nat_le window.first n && nat_lt n window.end) ≡ false = grind (arith, low) in rw outside refl
-
-pub carried-after : (window : Window) (windows : List Window) (n : ℕ) → window.end ≤ n →
-    carried (window ∷ windows) n ≡ carried windows n
-unfolding carried
-carried-after window windows n high =
-    let outside : (nat_le window.first n && nat_lt n window.end) ≡ false = grind (arith, high) in rw outside refl
 
 -- no window that begins later damages it
 pub carried-early : (from : ℕ) (windows : List Window) (n : ℕ) → AreWindows from windows → n < from → carried windows n ≡ Whole

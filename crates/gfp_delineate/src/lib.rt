@@ -107,7 +107,8 @@ impl Delineator {
         ensures stands_in { Advances self.old self.new (octet ∷ []) }
         ensures outcome { Brings self.old (octet ∷ []) (told_outcomes self.new result) }
         ensures held { IsSome (frame_of self.new) ↔ (result ≡ Step.Frame) }
-        ensures short { (longest : ℕ) (first : Bool) (octets : List ℕ) → StandsIn self.old longest first octets →
+        ensures short { (longest : ℕ) (first : Bool) (octets : List ℕ) →
+            StandsIn self.old longest first octets →
             IfSome (frame_of self.new) (λ frame. length frame ≤ longest) }
     {
         let (_, step) = self.step(&[octet]);
@@ -123,9 +124,11 @@ impl Delineator {
         ensures all { result.1 ≡ Step.Nothing → result.0 ≡ length piece.now }
         ensures stands_in { Advances self.old self.new (take result.0 piece.now) }
         ensures outcome { Brings self.old (take result.0 piece.now) (told_outcomes self.new result.1) }
-        ensures first_step { result.1 ≢ Step.Nothing → Brings self.old (take (result.0 - 1) piece.now) [] }
+        ensures first_step { result.1 ≢ Step.Nothing →
+            Brings self.old (take (result.0 - 1) piece.now) [] }
         ensures held { IsSome (frame_of self.new) ↔ (result.1 ≡ Step.Frame) }
-        ensures short { (longest : ℕ) (first : Bool) (octets : List ℕ) → StandsIn self.old longest first octets →
+        ensures short { (longest : ℕ) (first : Bool) (octets : List ℕ) →
+            StandsIn self.old longest first octets →
             IfSome (frame_of self.new) (λ frame. length frame ≤ longest) }
     {
         let (taken, step) = self.take(piece);
@@ -143,7 +146,8 @@ impl Delineator {
 
     /// A break of the stream: the octets that come belong to a new segment. A frame that is held stays.
     pub fn broken(&mut self)
-        ensures stands_in { (longest : ℕ) (first : Bool) (octets : List ℕ) → StandsIn self.old longest first octets →
+        ensures stands_in { (longest : ℕ) (first : Bool) (octets : List ℕ) →
+            StandsIn self.old longest first octets →
             StandsIn self.new longest false [] }
         ensures held { frame_of self.new ≡ frame_of self.old }
     {
@@ -153,7 +157,8 @@ impl Delineator {
 
     /// Whether the state is SYNC.
     pub fn synced(&self) -> bool
-        ensures { (longest : ℕ) (first : Bool) (octets : List ℕ) → StandsIn self.now longest first octets →
+        ensures { (longest : ℕ) (first : Bool) (octets : List ℕ) →
+            StandsIn self.now longest first octets →
             result ≡ is_sync octets }
     {
         match self.phase {
@@ -167,8 +172,10 @@ impl Delineator {
 /// are those whose piece ends in it.
 pub fn delivery_law()
     ensures { (longest : ℕ) (frames : List (List ℕ)) (idles place : ℕ) →
-        longest ≤ most → All (IsClientFrame longest) frames → place ≤ length (stream_of (opening frames idles)) →
-        delivered longest (take place (stream_of (opening frames idles))) ≡ frames_by place (opening frames idles) }
+        longest ≤ most → All (IsClientFrame longest) frames →
+        place ≤ length (stream_of (opening frames idles)) →
+        delivered longest (take place (stream_of (opening frames idles)))
+        ≡ frames_by place (opening frames idles) }
 {}
 
 #[cfg(test)]

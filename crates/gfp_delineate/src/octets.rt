@@ -50,7 +50,8 @@ fn idle_pairs(piece: &[u8]) -> usize
 #[inline]
 fn is_pair(piece: &[u8], at: usize) -> bool
     requires { at + 8 ≤ length piece.now }
-    ensures { result ≡ true → take (at + 8) piece.now ≡ (take at piece.now ++ 0xb6 ∷ 0xab ∷ 0x31 ∷ 0xe0 ∷ []) ++ 0xb6 ∷ 0xab ∷ 0x31 ∷ 0xe0 ∷ [] }
+    ensures { result ≡ true → take (at + 8) piece.now
+        ≡ (take at piece.now ++ 0xb6 ∷ 0xab ∷ 0x31 ∷ 0xe0 ∷ []) ++ 0xb6 ∷ 0xab ∷ 0x31 ∷ 0xe0 ∷ [] }
 {
     [
         piece[at],
@@ -68,7 +69,8 @@ fn is_pair(piece: &[u8], at: usize) -> bool
 #[inline]
 fn is_idle(piece: &[u8], at: usize) -> bool
     requires { at + 4 ≤ length piece.now }
-    ensures { result ≡ true → take (at + 4) piece.now ≡ take at piece.now ++ 0xb6 ∷ 0xab ∷ 0x31 ∷ 0xe0 ∷ [] }
+    ensures { result ≡ true →
+        take (at + 4) piece.now ≡ take at piece.now ++ 0xb6 ∷ 0xab ∷ 0x31 ∷ 0xe0 ∷ [] }
 {
     [piece[at], piece[at + 1], piece[at + 2], piece[at + 3]] == IDLE
 }

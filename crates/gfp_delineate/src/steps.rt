@@ -18,9 +18,11 @@ impl Delineator {
         ensures all { result.1 ≡ Step.Nothing → result.0 ≡ length piece.now }
         ensures takes { Advances self.old self.new (take result.0 piece.now) ×
             Brings self.old (take result.0 piece.now) (outcomes_told (Some (drop 4 self.new.progress.area)) result.1) }
-        ensures first { result.1 ≢ Step.Nothing → Brings self.old (take (result.0 - 1) piece.now) [] }
+        ensures first { result.1 ≢ Step.Nothing →
+            Brings self.old (take (result.0 - 1) piece.now) [] }
         ensures least { result.1 ≡ Step.Frame → 4 ≤ length self.new.progress.area }
-        ensures greatest { result.1 ≡ Step.Frame → length self.new.progress.area ≤ self.new.progress.longest + 4 }
+        ensures greatest { result.1 ≡ Step.Frame →
+            length self.new.progress.area ≤ self.new.progress.longest + 4 }
     {
         let mut at = 0;
         while at < piece.len() {
@@ -42,9 +44,11 @@ impl Delineator {
         ensures some { 0 < result.0 }
         ensures takes { Advances self.old self.new (take result.0 piece.now) ×
             Brings self.old (take result.0 piece.now) (outcomes_told (Some (drop 4 self.new.progress.area)) result.1) }
-        ensures first { result.1 ≢ Step.Nothing → Brings self.old (take (result.0 - 1) piece.now) [] }
+        ensures first { result.1 ≢ Step.Nothing →
+            Brings self.old (take (result.0 - 1) piece.now) [] }
         ensures least { result.1 ≡ Step.Frame → 4 ≤ length self.new.progress.area }
-        ensures greatest { result.1 ≡ Step.Frame → length self.new.progress.area ≤ self.new.progress.longest + 4 }
+        ensures greatest { result.1 ≡ Step.Frame →
+            length self.new.progress.area ≤ self.new.progress.longest + 4 }
     {
         match self.phase {
             Phase::Hunt { have } => {
@@ -87,7 +91,8 @@ impl Delineator {
         requires some { 0 < length piece.now }
         ensures within { result ≤ length piece.now }
         ensures some { 0 < result }
-        ensures takes { Advances self.old self.new (take result piece.now) × Brings self.old (take result piece.now) [] }
+        ensures takes { Advances self.old self.new (take result piece.now)
+            × Brings self.old (take result piece.now) [] }
     {
         let rest = usize::from(left);
         if piece.len() < rest {
@@ -121,7 +126,8 @@ impl Delineator {
         requires some { 0 < length piece.now }
         ensures within { result ≤ length piece.now }
         ensures some { 0 < result }
-        ensures takes { Advances self.old self.new (take result piece.now) × Brings self.old (take result piece.now) [] }
+        ensures takes { Advances self.old self.new (take result piece.now)
+            × Brings self.old (take result piece.now) [] }
     {
         if have == 0 && piece.len() >= 4 {
             let idles = idle_run(piece);
@@ -155,7 +161,8 @@ impl Delineator {
     fn take_three(&mut self, a: u8, b: u8, c: u8)
         requires { self.old.progress.phase ≡ Phase.SyncHeader 0 }
         ensures phase { self.new.progress.phase ≡ Phase.SyncHeader 3 }
-        ensures takes { Advances self.old self.new (a ∷ b ∷ c ∷ []) × Brings self.old (a ∷ b ∷ c ∷ []) [] }
+        ensures takes { Advances self.old self.new (a ∷ b ∷ c ∷ [])
+            × Brings self.old (a ∷ b ∷ c ∷ []) [] }
     {
         self.window = shifted(shifted(shifted(self.window, a), b), c);
         self.phase = Phase::SyncHeader { have: 3 };
@@ -164,7 +171,8 @@ impl Delineator {
     /// The last octet of a header that confirms, or of one in SYNC. Where it is no header, the run or the search for one begins
     /// anew, one octet after its first.
     fn take_header(&mut self, octet: u8)
-        requires { (self.old.progress.phase ≡ Phase.PresyncHeader 3) ⊎ (self.old.progress.phase ≡ Phase.SyncHeader 3) }
+        requires { (self.old.progress.phase ≡ Phase.PresyncHeader 3)
+            ⊎ (self.old.progress.phase ≡ Phase.SyncHeader 3) }
         ensures { Advances self.old self.new (octet ∷ []) × Brings self.old (octet ∷ []) [] }
     {
         self.window = shifted(self.window, octet);
@@ -200,9 +208,11 @@ impl Delineator {
         ensures some { 0 < result.0 }
         ensures takes { Advances self.old self.new (take result.0 piece.now) ×
             Brings self.old (take result.0 piece.now) (outcomes_told (Some (drop 4 self.new.progress.area)) result.1) }
-        ensures first { result.1 ≢ Step.Nothing → Brings self.old (take (result.0 - 1) piece.now) [] }
+        ensures first { result.1 ≢ Step.Nothing →
+            Brings self.old (take (result.0 - 1) piece.now) [] }
         ensures least { result.1 ≡ Step.Frame → 4 ≤ length self.new.progress.area }
-        ensures greatest { result.1 ≡ Step.Frame → length self.new.progress.area ≤ self.new.progress.longest + 4 }
+        ensures greatest { result.1 ≡ Step.Frame →
+            length self.new.progress.area ≤ self.new.progress.longest + 4 }
     {
         let rest = usize::from(left);
         if piece.len() < rest {
@@ -226,7 +236,8 @@ impl Delineator {
         ensures some { 0 < result.0 }
         ensures takes { Advances self.old self.new (take result.0 piece.now) ×
             Brings self.old (take result.0 piece.now) (outcomes_told (Some (drop 4 self.new.progress.area)) result.1) }
-        ensures first { result.1 ≢ Step.Nothing → Brings self.old (take (result.0 - 1) piece.now) [] }
+        ensures first { result.1 ≢ Step.Nothing →
+            Brings self.old (take (result.0 - 1) piece.now) [] }
         ensures none { result.1 ≢ Step.Frame }
     {
         let rest = usize::from(left);
@@ -256,7 +267,8 @@ fn shifted(window: [u8; 4], octet: u8) -> [u8; 4]
 /// What comes of a whole area that was kept.
 fn step_of(area: &[u8]) -> Step
     requires { 4 ≤ length area.now }
-    ensures outcome { outcomes_told (Some (drop 4 area.now)) result ≡ outcome_by (type_fault (take 4 area.now)) area.now ∷ [] }
+    ensures outcome { outcomes_told (Some (drop 4 area.now)) result
+        ≡ outcome_by (type_fault (take 4 area.now)) area.now ∷ [] }
     ensures some { result ≢ Step.Nothing }
 {
     match read_type(&first_four(area)) {

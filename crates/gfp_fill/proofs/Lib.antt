@@ -1,5 +1,3 @@
 pub mod StreamLaws
-pub mod FillLaws
-mod FillerSteps
-mod ScrambleSteps
-mod PieceSteps
+pub mod StreamSteps
+mod IdleLaws

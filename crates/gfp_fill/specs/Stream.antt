@@ -1,42 +1,48 @@
--- G.7041, frame multiplexing: which pieces a stream has, and which of its octets come next.
-use Rattle.std.specs.Prelude.{◌≡◌, ℕ, ◌+◌, ◌-◌, ◌<◌, ◌≤◌, List, ◌++◌, length, map, take, drop, replicate}
+-- G.7041, frame multiplexing: which octets of the client's stream a filler and its queue have written.
+use Rattle.std.specs.Prelude.{◌≡◌, ℕ, ◌+◌, ◌-◌, ◌≤◌, List, [], ◌∷◌, ◌++◌, length, map, take, drop, replicate}
+use Rattle.session_model.specs.Scramble.{scrambled_octets}
 use Rattle.session_model.specs.Piece.{Piece, idle, client, area_of, joined, stream_of}
+use Rattle.session_model.specs.Client.{size, Stream, reached}
 use Rattle.gfp_scramble.specs.Scrambler.{Scrambling, Stands as HasScrambled}
+use Rattle.gfp_fill.specs.Queue.{Held}
 
 -- the first n of: the waiting frames in order, and then idles without end
 abbrev pub next_pieces : ℕ → List (List ℕ) → List Piece
 next_pieces n waiting = map client (take n waiting) ++ replicate (n - length waiting) idle
 
--- n is the least number of further pieces with which the stream of these pieces has so many octets
-pub record AreFewest (pieces : List Piece) (waiting : List (List ℕ)) (octets n : ℕ) : Type 0 where
-  pub enough : octets ≤ length (stream_of (pieces ++ next_pieces n waiting))
-  pub fewest : (k : ℕ) → k < n → length (stream_of (pieces ++ next_pieces k waiting)) < octets
+-- the stream before its first octet is written: two idles are begun, and these frames wait
+abbrev pub unsent : List (List ℕ) → Stream
+unsent waiting = record { pieces = idle ∷ idle ∷ []; waiting = waiting }
 
--- the scrambler was given the payload areas of these pieces
-abbrev pub ScrambledAreas : Scrambling → List Piece → Type 0
-ScrambledAreas scrambler pieces = HasScrambled scrambler (joined (map area_of pieces))
-
--- behind these pieces the next one is begun: its octets are those by which the stream of the pieces grows
-pub record BeginsNext (pieces : List Piece) (waiting : List (List ℕ)) (scrambler : Scrambling) (octets : List ℕ) : Type 0 where
-  pub grown : stream_of (pieces ++ next_pieces 1 waiting) ≡ stream_of pieces ++ octets
-  pub scrambled : ScrambledAreas scrambler (pieces ++ next_pieces 1 waiting)
-
--- what a Filler knows: the octets of the pieces begun so far that aren't written yet, and the scrambler behind those pieces
+-- what a Filler knows: the octets of the headers begun last, how many of them are written, and the scrambler
 pub record Sender : Type 0 where
-  pub rest : List ℕ
+  pub headers : List ℕ
+  pub sent : ℕ
   pub scrambler : Scrambling
 
--- the Filler has begun these pieces, and written so many octets of their stream
-pub record Stands (sender : Sender) (pieces : List Piece) (written : ℕ) : Type 0 where
-  pub within : written ≤ length (stream_of pieces)
-  pub rest : sender.rest ≡ drop written (stream_of pieces)
-  pub scrambled : ScrambledAreas sender.scrambler pieces
+-- the octets of headers that aren't written yet
+abbrev pub head_of : Sender → List ℕ
+head_of sender = drop sender.sent sender.headers
 
--- a fill begins the fewest further pieces that are enough, takes their frames from those that wait, and writes the
--- next octets of the stream
-pub record Fills (pieces : List Piece) (written : ℕ) (before after : List (List ℕ)) (sender : Sender) (out : List ℕ) : Type 0 where
-  pub begun : ℕ
-  pub fewest : AreFewest pieces before (written + length out) begun
-  pub taken : after ≡ drop begun before
-  pub octets : out ≡ take (length out) (drop written (stream_of (pieces ++ next_pieces begun before)))
-  pub stands : Stands sender (pieces ++ next_pieces begun before) (written + length out)
+-- of a stream, the octets before a place are written: what is left of its pieces are octets of headers, and then those of the
+-- frame that is being sent, scrambled after the octets of areas that were given to the scrambler
+pub record Stands (sender : Sender) (queue : Held) (stream : Stream) (place : ℕ) : Type 0 where
+  pub waits : queue.waiting ≡ stream.waiting
+  pub within : place ≤ size stream.pieces
+  pub given : List ℕ
+  pub scrambled : HasScrambled sender.scrambler given
+  pub areas : joined (map area_of stream.pieces) ≡ given ++ queue.begun
+  pub rest : drop place (stream_of stream.pieces) ≡ head_of sender ++ drop (length given) (scrambled_octets (given ++ queue.begun))
+
+-- these octets are the next ones of a stream, and no piece is begun that they don't need
+abbrev pub AreNext : Stream → ℕ → List ℕ → Type 0
+AreNext stream place octets = octets ≡ take (length octets) (drop place (stream_of (reached (place + length octets) stream).pieces))
+
+-- what stands after octets of a stream that are the next ones
+pub record HasWritten (sender : Sender) (queue : Held) (stream : Stream) (place : ℕ) (octets : List ℕ) : Type 0 where
+  pub stands : Stands sender queue (reached (place + length octets) stream) (place + length octets)
+  pub next : AreNext stream place octets
+
+-- whatever stream stood before, its next octets are written
+abbrev pub Writes : Sender → Held → Sender → Held → List ℕ → Type 0
+Writes before queue after rest octets = (stream : Stream) (place : ℕ) → Stands before queue stream place → HasWritten after rest stream place octets

@@ -1,140 +1,179 @@
-ghost use Rattle.std.specs.Prelude.{◌≡◌, ℕ, ◌+◌, ◌<◌, ◌≤◌, ◌↔◌, IsTrue, List, [], ◌∷◌, ◌++◌, length, min, take, drop};
-ghost use Rattle.session_model.specs.Core.{core_header};
-ghost use Rattle.session_model.specs.Piece.{Piece, idle};
-ghost use Rattle.gfp_fill.specs.Stream.{ScrambledAreas, BeginsNext, Sender, Stands, Fills};
+//! The stream of GFP frames, octet by octet.
 
-use crate::octets::{copy_some, put, scramble};
-use crate::queue::{FrameQueue, MAX_FRAME};
+ghost use Rattle.std.specs.Prelude.{◌≡◌, ℕ, ◌+◌, ◌*◌, ◌/◌, ◌<◌, ◌≤◌, List, [], ◌∷◌, ◌++◌, length, min, take, drop, replicate};
+ghost use Rattle.std.specs.List.{flat_map};
+ghost use Rattle.session_model.specs.Core.{core_header};
+ghost use Rattle.session_model.specs.TypeHeader.{type_header};
+ghost use Rattle.session_model.specs.Piece.{with_header, stream_of};
+ghost use Rattle.session_model.specs.Client.{Stream, reached};
+ghost use Rattle.gfp_scramble.specs.Scrambler.{Continues, ScramblesTo};
+ghost use Rattle.gfp_fill.specs.Queue.{unbegun, longest_frame};
+ghost use Rattle.gfp_fill.specs.Stream.{Sender, head_of, unsent, Stands, Writes};
+
+use crate::octets::{copy_some, put};
+use crate::queue::FrameQueue;
 use gfp_headers::{core_bytes, type_bytes};
 use gfp_scramble::Scrambler;
 use std::marker::Model;
 
-// The octets of the headers before a frame, and of the longest piece.
+// The octets of a core header, and of both headers of a frame.
 const CORE_HEADER: usize = 4;
 
-const TYPE_HEADER: usize = 4;
+const HEADERS: usize = 8;
 
-const HEADERS: usize = CORE_HEADER + TYPE_HEADER;
+// The core header of an idle frame, and two of them.
+const IDLE: [u8; CORE_HEADER] = [0xb6, 0xab, 0x31, 0xe0];
 
-const LONGEST_PIECE: usize = HEADERS + MAX_FRAME;
+const TWO_IDLES: [u8; HEADERS] = [0xb6, 0xab, 0x31, 0xe0, 0xb6, 0xab, 0x31, 0xe0];
 
 /// Writes the stream of GFP frames: two idle frames, and then each frame that waits, or an idle frame where none does. The
-/// payload areas are scrambled as one list, and the core headers are not.
-#[derive(Drop)]
+/// payload areas are scrambled as one list, and the core headers are not. A frame is sent from the buffer in which it waited, so a
+/// `Filler` belongs to one `FrameQueue`.
+#[derive(Clone, Copy)]
 pub struct Filler {
-    idle: [u8; CORE_HEADER],
     scrambler: Scrambler,
-    piece: [u8; LONGEST_PIECE],
-    len: usize,
+    // The headers that were begun last, as they are sent, and how many of their octets are written.
+    headers: [u8; HEADERS],
     sent: usize,
 }
 
 impl Model for Filler {
+    ghost use Rattle.std.specs.Prelude.{◌≤◌};
+    ghost use Rattle.gfp_fill.specs.Stream.{Sender};
+
     ghost Value = { Sender };
 
-    ghost view = { λ filler. record { rest = drop filler.sent (take filler.len filler.piece); scrambler = filler.scrambler } };
+    ghost view = { λ filler. record { headers = filler.headers; sent = filler.sent; scrambler = filler.scrambler } };
 
-    ghost invariant = { λ filler. (filler.idle ≡ core_header 0) × (filler.sent ≤ filler.len) × (filler.len ≤ length filler.piece) };
+    ghost invariant = { λ filler. filler.sent ≤ 8 };
+
+    ghost inverse = { λ sender. record { scrambler = sender.scrambler; headers = sender.headers; sent = sender.sent } };
 }
 
 impl Filler {
     /// A stream of which nothing is written.
     pub fn new() -> Filler
-        ensures { Stands result (idle ∷ idle ∷ []) 0 }
+        ensures { (waiting : List (List ℕ)) → Stands result (unbegun waiting) (unsent waiting) 0 }
     {
-        let idle = core_bytes(0);
-        let mut piece = [0; LONGEST_PIECE];
-        put(&mut piece, 0, &idle);
-        put(&mut piece, CORE_HEADER, &idle);
         Filler {
-            idle,
             scrambler: Scrambler::new(),
-            piece,
-            len: 2 * CORE_HEADER,
+            headers: TWO_IDLES,
             sent: 0,
         }
     }
 
     /// Writes the next `out.len()` octets of the stream. A frame stops waiting when its first octet is written.
     pub fn fill(&mut self, waiting: &mut FrameQueue, out: &mut [u8])
-        ensures { (pieces : List Piece) (written : ℕ) → Stands self.old pieces written →
-            Fills pieces written waiting.old waiting.new self.new out.new }
+        ensures stands { (stream : Stream) (place : ℕ) → Stands self.old waiting.old stream place →
+            let further = place + length out.old in
+            Stands self.new waiting.new (reached further stream) further }
+        ensures octets { (stream : Stream) (place : ℕ) → Stands self.old waiting.old stream place →
+            let octets = stream_of (reached (place + length out.old) stream).pieces in
+            out.new ≡ take (length out.old) (drop place octets) }
     {
+        // A copy of its own is kept in registers.
+        let mut local = *self;
         let mut filled = 0;
         while filled < out.len() {
-            filled += self.fill_some(waiting, &mut out[filled..]);
+            filled += local.fill_some(waiting, &mut out[filled..]);
         }
+        *self = local;
     }
 
-    // Writes at least one octet, and none behind the end of a piece.
+    // Writes at least one octet, and none after the end of the piece, or of the idles, that it sends.
     fn fill_some(&mut self, waiting: &mut FrameQueue, out: &mut [u8]) -> usize
         requires { 0 < length out.old }
         ensures some { 0 < result }
         ensures within { result ≤ length out.old }
-        ensures fills { (pieces : List Piece) (written : ℕ) → Stands self.old pieces written →
-            Fills pieces written waiting.old waiting.new self.new (take result out.new) }
+        ensures writes { Writes self.old waiting.old self.new waiting.new (take result out.new) }
     {
-        if self.is_done() {
-            self.begin(waiting);
+        if self.sent < HEADERS {
+            return self.send_headers(out);
         }
-        self.send(out)
+        if waiting.left() > 0 {
+            return self.send_frame(waiting, out);
+        }
+        match waiting.begin() {
+            Some(n) => {
+                self.begin(n);
+                self.send_headers(out)
+            }
+            None => self.send_idles(out),
+        }
     }
 
-    // Whether all octets of the pieces begun are written.
-    fn is_done(&self) -> bool
-        ensures { IsTrue result ↔ (self.now.rest ≡ []) }
+    // Begins the headers of a frame of `n` octets.
+    fn begin(&mut self, n: usize)
+        requires { n ≤ longest_frame }
+        ensures core { take 4 (head_of self.new) ≡ core_header (4 + n) }
+        ensures area { ScramblesTo self.old.scrambler type_header (drop 4 (head_of self.new)) }
+        ensures given { Continues self.old.scrambler self.new.scrambler type_header }
+        ensures long { length (head_of self.new) ≡ 8 }
     {
-        self.sent == self.len
-    }
-
-    // Begins the next piece in place of the one before.
-    fn begin(&mut self, waiting: &mut FrameQueue)
-        ensures some { 0 < length self.new.rest }
-        ensures begun { (pieces : List Piece) → ScrambledAreas self.old.scrambler pieces →
-            BeginsNext pieces waiting.old self.new.scrambler self.new.rest }
-        ensures taken { waiting.new ≡ drop 1 waiting.old }
-    {
+        let mut area = type_bytes();
+        self.scrambler.area(&mut area);
+        put(&mut self.headers, 0, &core_bytes((CORE_HEADER + n) as u16));
+        put(&mut self.headers, CORE_HEADER, &area);
         self.sent = 0;
-        self.len = next_piece(&self.idle, waiting, &mut self.scrambler, &mut self.piece);
     }
 
-    // Writes as many octets of the pieces begun as there are and `out` has room for, and says how many.
-    fn send(&mut self, out: &mut [u8]) -> usize
-        ensures count { result ≡ min (length self.old.rest) (length out.old) }
-        ensures octets { take result out.new ≡ take result self.old.rest }
-        ensures rest { self.new.rest ≡ drop result self.old.rest }
+    // Writes as many octets of the headers as aren't written and `out` has room for, and says how many.
+    fn send_headers(&mut self, out: &mut [u8]) -> usize
+        ensures count { result ≡ min (length (head_of self.old)) (length out.old) }
+        ensures octets { take result out.new ≡ take result (head_of self.old) }
+        ensures rest { head_of self.new ≡ drop result (head_of self.old) }
         ensures scrambler { self.new.scrambler ≡ self.old.scrambler }
     {
-        let n = copy_some(&self.piece[self.sent..self.len], out);
+        let n = copy_some(&self.headers[self.sent..], out);
         self.sent += n;
         n
     }
+
+    // Writes as many octets of the frame that is being sent as aren't written and `out` has room for, and says how many.
+    fn send_frame(&mut self, waiting: &mut FrameQueue, out: &mut [u8]) -> usize
+        ensures count { result ≡ min (length waiting.old.begun) (length out.old) }
+        ensures octets { let octets = take result waiting.old.begun in
+            ScramblesTo self.old.scrambler octets (take result out.new) }
+        ensures given { let octets = take result waiting.old.begun in
+            Continues self.old.scrambler self.new.scrambler octets }
+        ensures rest { waiting.new.begun ≡ drop result waiting.old.begun }
+        ensures waits { waiting.new.waiting ≡ waiting.old.waiting }
+        ensures head { head_of self.new ≡ head_of self.old }
+    {
+        let n = waiting.send(out);
+        self.scrambler.area(&mut out[..n]);
+        n
+    }
+
+    // Writes idle frames, or where `out` has no room for one, the octets of one for which it has.
+    fn send_idles(&mut self, out: &mut [u8]) -> usize
+        requires room { 0 < length out.old }
+        requires done { head_of self.old ≡ [] }
+        ensures some { 0 < result }
+        ensures within { result ≤ length out.old }
+        ensures octets { (n : ℕ) ×
+            (flat_map with_header (replicate n []) ≡ take result out.new ++ head_of self.new) }
+        ensures few { length (head_of self.new) < 4 }
+        ensures scrambler { self.new.scrambler ≡ self.old.scrambler }
+    {
+        let n = put_idles(out);
+        if n > 0 {
+            return n;
+        }
+        self.headers = TWO_IDLES;
+        self.sent = CORE_HEADER;
+        self.send_headers(out)
+    }
 }
 
-// Writes the next piece of the stream at the front of `piece`, and says how many octets it has.
-fn next_piece(
-    idle: &[u8; CORE_HEADER],
-    waiting: &mut FrameQueue,
-    scrambler: &mut Scrambler,
-    piece: &mut [u8; LONGEST_PIECE],
-) -> usize
-    requires { idle.now ≡ core_header 0 }
-    ensures some { 0 < result }
-    ensures within { result ≤ length piece.new }
-    ensures begun { (pieces : List Piece) → ScrambledAreas scrambler.old pieces →
-        BeginsNext pieces waiting.old scrambler.new (take result piece.new) }
-    ensures taken { waiting.new ≡ drop 1 waiting.old }
+// Writes as many whole idle frames as there is room for, and says how many octets they have.
+fn put_idles(out: &mut [u8]) -> usize
+    ensures count { result ≡ 4 * (length out.old / 4) }
+    ensures idles { take result out.new ≡ flat_map with_header (replicate (length out.old / 4) []) }
 {
-    match waiting.take(&mut piece[HEADERS..]) {
-        Some(n) => {
-            put(piece, 0, &core_bytes((TYPE_HEADER + n) as u16));
-            put(piece, CORE_HEADER, &type_bytes());
-            scramble(scrambler, &mut piece[CORE_HEADER..HEADERS + n]);
-            HEADERS + n
-        }
-        None => {
-            put(piece, 0, idle);
-            CORE_HEADER
-        }
+    let n = out.len() / CORE_HEADER;
+    for i in 0..n {
+        put(out, CORE_HEADER * i, &IDLE);
     }
+    CORE_HEADER * n
 }

@@ -1,10 +1,9 @@
-ghost use Rattle.std.specs.Prelude.{◌≡◌, ℕ, ◌+◌, ◌≤◌, List, ◌++◌, length, min, take, drop};
-ghost use Rattle.session_model.specs.Scramble.{scrambled_octets};
-ghost use Rattle.gfp_scramble.specs.Scrambler.{Stands as HasScrambled};
+//! Octets that are copied.
 
-use gfp_scramble::Scrambler;
+ghost use Rattle.std.specs.Prelude.{◌≡◌, ℕ, ◌+◌, ◌≤◌, List, ◌++◌, length, min, take, drop};
 
 // Puts octets at a place of a slice.
+#[inline]
 pub(crate) fn put(out: &mut [u8], at: usize, octets: &[u8])
     requires { at + length octets.now ≤ length out.old }
     ensures front { take (at + length octets.now) out.new ≡ take at out.old ++ octets.now }
@@ -14,6 +13,7 @@ pub(crate) fn put(out: &mut [u8], at: usize, octets: &[u8])
 }
 
 // Copies as many octets as `out` has room for, and says how many.
+#[inline]
 pub(crate) fn copy_some(octets: &[u8], out: &mut [u8]) -> usize
     ensures count { result ≡ min (length octets.now) (length out.old) }
     ensures copied { take result out.new ≡ take result octets.now }
@@ -21,16 +21,4 @@ pub(crate) fn copy_some(octets: &[u8], out: &mut [u8]) -> usize
     let n = octets.len().min(out.len());
     out[..n].copy_from_slice(&octets[..n]);
     n
-}
-
-// Scrambles an area in place, behind the octets that the scrambler was given before.
-pub(crate) fn scramble(scrambler: &mut Scrambler, area: &mut [u8])
-    ensures area { (octets : List ℕ) → HasScrambled scrambler.old octets →
-        area.new ≡ drop (length octets) (scrambled_octets (octets ++ area.old)) }
-    ensures stands { (octets : List ℕ) → HasScrambled scrambler.old octets →
-        HasScrambled scrambler.new (octets ++ area.old) }
-{
-    for octet in area.iter_mut() {
-        *octet = scrambler.byte(*octet);
-    }
 }

@@ -1,3 +1,5 @@
+//! Worked octets of the stream, from outside the program, and the limits of a queue.
+
 use crate::{AcceptFault, Filler, FrameQueue};
 use std::test::Fail;
 
@@ -7,13 +9,13 @@ const BEGINNING: [u8; 28] = [
     0x00, 0x00, 0x00, 0x22, 0x04, 0x20, 0x00, 0x00, 0x04, 0x40, 0x84, 0x00,
 ];
 
-// Behind that frame: the core header of a frame of 64 octets of 5A, and the first octets of its scrambled area.
+// After that frame: the core header of a frame of 64 octets of 5A, and the first octets of its scrambled area.
 const SECOND: [u8; 20] = [
     0xb6, 0xef, 0x39, 0xa0, 0x10, 0x01, 0x10, 0x23, 0x7a, 0x18, 0x5a, 0x78, 0x5e, 0x35, 0x19, 0x51,
     0x15, 0x51, 0x9c, 0xf9,
 ];
 
-// Behind that one and an idle: the same of another frame of 64 octets of 5A.
+// After that one and an idle: the same of another frame of 64 octets of 5A.
 const THIRD: [u8; 20] = [
     0xb6, 0xef, 0x39, 0xa0, 0x38, 0xaf, 0x9a, 0x89, 0xd0, 0xbd, 0x4f, 0xa9, 0x0b, 0x60, 0x4d, 0xf3,
     0xaf, 0x7b, 0x36, 0x53,
@@ -27,6 +29,7 @@ fn one_fill_or_many_write_the_same_stream(rt: HostRuntime) -> Result<(), Fail> {
     Filler::new().fill(&mut queue, &mut whole);
     assert_eq!(rt; whole, BEGINNING);
 
+    let mut queue = FrameQueue::new(rt.alloc())?;
     assert_eq!(rt; queue.push(&[0; 64]), Ok(()));
     let mut filler = Filler::new();
     let mut first = [0; 3];
@@ -44,7 +47,7 @@ fn one_fill_or_many_write_the_same_stream(rt: HostRuntime) -> Result<(), Fail> {
 }
 
 #[test]
-fn areas_are_scrambled_behind_one_another(rt: HostRuntime) -> Result<(), Fail> {
+fn areas_are_scrambled_one_after_another(rt: HostRuntime) -> Result<(), Fail> {
     let mut queue = FrameQueue::new(rt.alloc())?;
     assert_eq!(rt; queue.push(&[0; 64]), Ok(()));
     assert_eq!(rt; queue.push(&[0x5a; 64]), Ok(()));
@@ -65,7 +68,7 @@ fn areas_are_scrambled_behind_one_another(rt: HostRuntime) -> Result<(), Fail> {
 }
 
 #[test]
-fn a_frame_is_begun_behind_the_idle_that_was_begun(rt: HostRuntime) -> Result<(), Fail> {
+fn a_frame_is_begun_after_the_idle_that_was_begun(rt: HostRuntime) -> Result<(), Fail> {
     let mut queue = FrameQueue::new(rt.alloc())?;
     let mut filler = Filler::new();
     let mut idles = [0; 10];

@@ -19,9 +19,11 @@ pub fn type_bytes() -> [u8; 4]
 /// (tHEC), or else the first field that differs.
 #[inline]
 pub fn read_type(octets: &[u8; 4]) -> Result<(), TypeFault>
-    ensures value { MatchOption (type_fault octets.now) (result ≡ Ok tt) (λ fault. result ≡ Err fault) }
+    ensures value { MatchOption (type_fault octets.now) (result ≡ Ok tt)
+        (λ fault. result ≡ Err fault) }
     ensures check { (said found : ℕ) → (result ≡ Err (TypeFault.Check said found)) ↔
-        ((said ≡ type_check octets.now) × (found ≡ hec_of (type_field octets.now)) × (said ≢ found)) }
+        ((said ≡ type_check octets.now) × (found ≡ hec_of (type_field octets.now))
+        × (said ≢ found)) }
     ensures ok { IsOk result ↔ (octets.now ≡ type_header) }
 {
     let [a, b, c, d] = *octets;

@@ -118,7 +118,8 @@ impl Descrambler {
 
     /// Whether the octets that come are those that were scrambled.
     pub fn known(&self) -> bool
-        ensures { (settled : Bool) (octets : List ℕ) → Stands self.now settled octets → IsTrue result ↔ IsKnown settled octets }
+        ensures { (settled : Bool) (octets : List ℕ) → Stands self.now settled octets →
+            IsTrue result ↔ IsKnown settled octets }
     {
         self.given == SETTLED
     }

@@ -76,14 +76,16 @@ impl MfiLock {
 
     /// Takes a cell that is not good.
     pub fn fail(&mut self)
-        ensures { (cells : List (Option ℕ)) → Stands self.old cells → Stands self.new (cells ++ None ∷ []) }
+        ensures { (cells : List (Option ℕ)) → Stands self.old cells →
+            Stands self.new (cells ++ None ∷ []) }
     {
         self.state = State::Unlocked;
     }
 
     /// Takes the H4 octet of a good cell.
     pub fn good(&mut self, h4: u8) -> Place
-        ensures stands { (cells : List (Option ℕ)) → Stands self.old cells → Stands self.new (cells ++ Some h4 ∷ []) }
+        ensures stands { (cells : List (Option ℕ)) → Stands self.old cells →
+            Stands self.new (cells ++ Some h4 ∷ []) }
         ensures place { (cells : List (Option ℕ)) → Stands self.old cells →
             IsPlace (cells ++ Some h4 ∷ []) (length cells) result }
     {
@@ -95,7 +97,8 @@ impl MfiLock {
 
 /// What a good cell with this H4 octet is, after this state.
 fn place_of(state: State, h4: u8) -> Place
-    ensures { (cells : List (Option ℕ)) → Stands state cells → IsPlace (cells ++ Some h4 ∷ []) (length cells) result }
+    ensures { (cells : List (Option ℕ)) → Stands state cells →
+        IsPlace (cells ++ Some h4 ∷ []) (length cells) result }
 {
     let mfi1 = nibble_lo(h4);
     match state {

@@ -8,11 +8,6 @@ use Rattle.hec16.specs.Hec.{crc16, hec_bits, hec_of}
 pub length-hec_bits : (word : ℕ) → length (hec_bits word) ≡ 16
 length-hec_bits word = length-remainder crc16 (bits 16 word) ∙ length-bits 16 0x1021
 
--- the check is a word
-pub hec_of_below : (word : ℕ) → hec_of word < 2 ^ 16
-unfolding hec_of
-hec_of_below word = subst (λ n. number (hec_bits word) < 2 ^ n) (length-hec_bits word) (number_below (hec_bits word))
-
 pub bits-hec_of : (word : ℕ) → bits 16 (hec_of word) ≡ hec_bits word
 unfolding hec_of
 bits-hec_of word = ap (λ n. bits n (number (hec_bits word))) (sym (length-hec_bits word)) ∙ bits-number (hec_bits word)

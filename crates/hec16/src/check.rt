@@ -9,7 +9,8 @@ ghost use Rattle.hec16.specs.Hec.{crc16, hec_of};
 pub fn hec(word: u16) -> u16
     ensures value { result ≡ hec_of word }
     ensures remainder { IsRemainder crc16 (bits 16 word) (bits 16 result) }
-    ensures only { (rest : List Bool) → IsRemainder crc16 (bits 16 word) rest → rest ≡ bits 16 result }
+    ensures only { (rest : List Bool) → IsRemainder crc16 (bits 16 word) rest →
+        rest ≡ bits 16 result }
 {
     let [upper, lower] = word.to_be_bytes();
     with_octet(with_octet(0, upper), lower)

@@ -14,7 +14,8 @@ pub struct NotHex;
 /// room for half as many octets as the text has characters.
 pub fn decode_into(text: &[u8], octets: &mut Vec<u8>) -> Result<(), NotHex>
     requires room { vec_len octets.old + length text.now / 2 ≤ vec_capacity octets.old }
-    ensures ok { OnOk result ((bytes : List ℕ) × (decode_of text.now ≡ Ok bytes) × (octets.new.items ≡ octets.old.items ++ bytes)) }
+    ensures ok { OnOk result ((bytes : List ℕ) × (decode_of text.now ≡ Ok bytes)
+        × (octets.new.items ≡ octets.old.items ++ bytes)) }
     ensures refused { OnErr result ((bytes : List ℕ) → decode_of text.now ≢ Ok bytes) }
     ensures unchanged { OnErr result (octets.new.items ≡ octets.old.items) }
     ensures capacity { vec_capacity octets.old ≤ vec_capacity octets.new }

@@ -15,15 +15,19 @@ use vc_cell::Ctrl;
 pub fn read(nibbles: &[u8; 16]) -> Result<Packet, PacketFault>
     requires { All (λ nibble. nibble < 16) nibbles.now }
     ensures value { result ≡ read_of nibbles.now }
-    ensures crc { (result ≡ Err (PacketFault.Crc (said_check nibbles.now) (found_check nibbles.now)))
+    ensures crc { (result
+        ≡ Err (PacketFault.Crc (said_check nibbles.now) (found_check nibbles.now)))
         ↔ (said_check nibbles.now ≢ found_check nibbles.now) }
     ensures ctrl { (result ≡ Err (PacketFault.Ctrl (said_code nibbles.now)))
-        ↔ ((said_check nibbles.now ≡ found_check nibbles.now) × (ctrl_of (said_code nibbles.now) ≡ None)) }
+        ↔ ((said_check nibbles.now ≡ found_check nibbles.now)
+        × (ctrl_of (said_code nibbles.now) ≡ None)) }
     ensures ok { IsOk result
-        ↔ ((said_check nibbles.now ≡ found_check nibbles.now) × IsSome (ctrl_of (said_code nibbles.now))) }
+        ↔ ((said_check nibbles.now ≡ found_check nibbles.now)
+        × IsSome (ctrl_of (said_code nibbles.now))) }
     // What is accepted is the nibbles of the answer, apart from the ignored bits and the check over them.
     ensures cleared { IfOk result (λ packet. covered_nibbles packet ≡ cleared_nibbles nibbles.now) }
-    ensures own { (packet : Packet) → IsPacket packet → nibbles.now ≡ packet_nibbles packet → result ≡ Ok packet }
+    ensures own { (packet : Packet) → IsPacket packet → nibbles.now ≡ packet_nibbles packet →
+        result ≡ Ok packet }
 {
     let said = octet(nibbles, 14);
     let found = check(nibbles);
@@ -40,13 +44,16 @@ pub fn read(nibbles: &[u8; 16]) -> Result<Packet, PacketFault>
 /// What is read of any list of numbers: what is sent is read back, and a list of which a packet is read is sixteen nibbles with a
 /// right check, which are those of the packet apart from the ignored bits.
 pub fn packet_law()
-    ensures back { (packet : Packet) → IsPacket packet → read_of (packet_nibbles packet) ≡ Ok packet }
+    ensures back { (packet : Packet) → IsPacket packet →
+        read_of (packet_nibbles packet) ≡ Ok packet }
     ensures nibbles { (nibbles : List ℕ) (packet : Packet) → read_of nibbles ≡ Ok packet →
         (length nibbles ≡ 16) × All (λ nibble. nibble < 16) nibbles }
-    ensures check { (nibbles : List ℕ) (packet : Packet) → read_of nibbles ≡ Ok packet → said_check nibbles ≡ found_check nibbles }
+    ensures check { (nibbles : List ℕ) (packet : Packet) → read_of nibbles ≡ Ok packet →
+        said_check nibbles ≡ found_check nibbles }
     ensures cleared { (nibbles : List ℕ) (packet : Packet) → read_of nibbles ≡ Ok packet →
         covered_nibbles packet ≡ cleared_nibbles nibbles }
-    ensures octets { (nibbles : List ℕ) (packet : Packet) → read_of nibbles ≡ Ok packet → IsPacket packet }
+    ensures octets { (nibbles : List ℕ) (packet : Packet) → read_of nibbles ≡ Ok packet →
+        IsPacket packet }
 {}
 
 /// The check over the first fourteen nibbles.

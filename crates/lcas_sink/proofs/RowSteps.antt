@@ -30,9 +30,6 @@ test-step line i other =
       | false ↦ λ e. let h : i ≤ line = grind (arith, nat_tests, e) in sym (test-false line (i + 1) (omega arith))
     ] refl
 
-pub upto-none : (states : List SinkState) (row : Row) (line : ℕ) → state_at states line ≡ state_upto 0 states row line
-upto-none states row line = rw (test-false line 0 (omega arith)) refl
-
 pub upto-more : (states old : List SinkState) (row : Row) (i : ℕ) (next seen : SinkState) → i < length states → seen ≡ state_at states i →
     next ≡ state_next seen (slice_index_or row i None) → ((line : ℕ) → state_at states line ≡ state_upto i old row line) →
     (line : ℕ) → state_at (slice_set states i next) line ≡ state_upto (i + 1) old row line

@@ -62,7 +62,8 @@ impl SinkTable {
         requires lines { length row.now ≡ self.old.lines }
         ensures lines { self.new.lines ≡ self.old.lines }
         ensures taken { self.new.taken ≡ self.old.taken + 1 }
-        ensures stands { (rows : List Row) → Stands self.old rows → Stands self.new (rows ++ row.now ∷ []) }
+        ensures stands { (rows : List Row) → Stands self.old rows →
+            Stands self.new (rows ++ row.now ∷ []) }
         ensures packet { (rows : List Row) → Stands self.old rows →
             result ≡ return_of (rows ++ row.now ∷ []) (length rows) }
     {
@@ -97,7 +98,8 @@ impl SinkTable {
 
 /// What was told of a row stands: further rows change no return packet of those before.
 pub fn rows_law()
-    ensures { (rows more : List Row) (k : ℕ) → k < length rows → return_of (rows ++ more) k ≡ return_of rows k }
+    ensures { (rows more : List Row) (k : ℕ) → k < length rows →
+        return_of (rows ++ more) k ≡ return_of rows k }
 {}
 
 /// No line is a member.

@@ -15,14 +15,6 @@ front-written rewrite i xs whole x y h step so_far =
     let rest : drop i xs ≡ slice_index_or xs i x ∷ drop (i + 1) xs = rw add-one (drop-cons xs i x h) in
     rw (take_more_set xs i y h, drop-set-lt (i + 1) xs i y (omega arith), append_assoc) (ap (λ tail. take i xs ++ tail) (sym step ∙ ap (rewrite i) (sym rest)) ∙ so_far)
 
--- one more place stays as it is
-pub front-kept : {X : Type 0} (rewrite : ℕ → List X → List X) (i : ℕ) (xs whole : List X) (x : X) → i < length xs →
-    rewrite i (slice_index_or xs i x ∷ drop (i + 1) xs) ≡ slice_index_or xs i x ∷ rewrite (i + 1) (drop (i + 1) xs) →
-    IsRewriting rewrite i xs whole → IsRewriting rewrite (i + 1) xs whole
-front-kept rewrite i xs whole x h step so_far =
-    let all = front-written rewrite i xs whole x (slice_index_or xs i x) h step so_far in
-    rw (set-get_or xs i x) at all
-
 -- the rest stays as it is
 pub front-stops : {X : Type 0} (rewrite : ℕ → List X → List X) (i : ℕ) (xs whole : List X) →
     rewrite i (drop i xs) ≡ drop i xs → IsRewriting rewrite i xs whole → xs ≡ whole

@@ -29,9 +29,11 @@ pub fn calls_law()
 /// what a session's definitions say.
 pub fn course_law()
     ensures source { (scenario : Scenario) (cells : List (Option Told)) (j : ℕ) →
-        (course_of (length scenario.windows) (calls_before scenario cells j)).source ≡ after scenario cells j }
+        (course_of (length scenario.windows) (calls_before scenario cells j)).source
+        ≡ after scenario cells j }
     ensures taken { (scenario : Scenario) (cells : List (Option Told)) (j : ℕ) →
-        (course_of (length scenario.windows) (calls_before scenario cells j)).taken ≡ j - scenario.lag }
+        (course_of (length scenario.windows) (calls_before scenario cells j)).taken
+        ≡ j - scenario.lag }
     ensures steps { (scenario : Scenario) (cells : List (Option Told)) (j : ℕ) →
         (course_of (length scenario.windows) (calls_before scenario cells j)).steps ≡ j }
 {}

@@ -375,7 +375,8 @@ fn status_at(mst: u8, bit: u32) -> Option<bool>
 /// Where the first line in ADD has FAIL and a later one has OK, the first such later line is taken out and put before it. Says
 /// whether there was such a line.
 fn exchange(members: &mut ArrayVec<Member, LINES>, statuses: &Statuses) -> bool
-    ensures made { OnTrue result (exchange (kept_in statuses.now) 0 members.old.items ≡ Some members.new.items) }
+    ensures made { OnTrue result (exchange (kept_in statuses.now) 0 members.old.items
+        ≡ Some members.new.items) }
     ensures none { OnFalse result (exchange (kept_in statuses.now) 0 members.old.items ≡ None) }
     ensures stays { OnFalse result (members.new ≡ members.old) }
 {
@@ -411,9 +412,11 @@ fn first_adding(members: &[Member]) -> Option<usize>
 fn first_confirmed(members: &[Member], from: usize, statuses: &Statuses) -> Option<usize>
     requires { length members.now ≤ 128 }
     ensures found { IfSome result (λ sq. (member : Member) →
-        take_out (kept_in statuses.now) from (drop from members.now) ≡ taken_out members.now from sq member) }
+        take_out (kept_in statuses.now) from (drop from members.now)
+        ≡ taken_out members.now from sq member) }
     ensures within { IfSome result (λ sq. (from ≤ sq) × (sq < length members.now)) }
-    ensures none { IfNone result (take_out (kept_in statuses.now) from (drop from members.now) ≡ None) }
+    ensures none { IfNone result (take_out (kept_in statuses.now) from (drop from members.now)
+        ≡ None) }
 {
     for sq in from..members.len() {
         if is_confirmed(&members[sq], statuses[sq]) {

@@ -240,7 +240,9 @@ fn are_nibbles(nibbles: &[u8; 16]) -> bool
 
 /// Makes a change, where the last one is acknowledged and there is one to make.
 fn change(table: &mut LineTable, pending: &mut ArrayVec<Command, PENDING>)
-    requires room { (line : ℕ) (commands : List CommandData) → pending.old.items ≡ add line ∷ commands → length table.old.order < 128 }
+    requires room { (line : ℕ) (commands : List CommandData) →
+        pending.old.items ≡ add line ∷ commands →
+        length table.old.order < 128 }
     requires count { table.old.count < 4294967295 }
     ensures table { table.new ≡ (changed_by pending.old.items table.old).table }
     ensures waiting { pending.new.items ≡ (changed_by pending.old.items table.old).waiting }

@@ -6,15 +6,7 @@ use Rattle.std.proofs.lemmas.Option.{slice_get_within}
 use Rattle.vc_cell.specs.declared.Container.{Container}
 use Rattle.session_model.specs.declared.window.Carried.{Carried}
 use Rattle.session_model.specs.Path.{cells_of, path, cells}
-
-pub path-append : (carries : ℕ → Carried) (n : ℕ) (xs ys : List Container) →
-    path carries n (xs ++ ys) ≡ path carries n xs ++ path carries (n + length xs) ys
-unfolding path
-path-append carries n [] ys = ap (λ n. path carries n ys) (let e : n ≡ n + 0 = omega arith in e)
-path-append carries n (x ∷ xs) ys =
-    ap (λ l. cells_of (carries n) x ++ l) (path-append carries (suc n) xs ys
-    ∙ ap (λ m. path carries (suc n) xs ++ path carries m ys) (let e : suc n + length xs ≡ n + suc (length xs) = omega arith in e))
-    ∙ sym (append_assoc (cells_of (carries n) x) (path carries (suc n) xs) (path carries (n + suc (length xs)) ys))
+use Rattle.session_model.proofs.PathLaws.{path-append}
 
 path-one : (carries : ℕ → Carried) (n : ℕ) (container : Container) → path carries n (container ∷ []) ≡ cells_of (carries n) container
 unfolding path

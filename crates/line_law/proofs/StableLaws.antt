@@ -11,6 +11,7 @@ use Rattle.vc_bits.proofs.LockLaws.{slice_get-append}
 use Rattle.session_model.specs.declared.window.Carried.{Carried}
 use Rattle.session_model.specs.Path.{cells_of, path, end_of, cells}
 use Rattle.session_model.specs.Number.{Lock, unlocked, begun, locked, over, sight_of, verdicts_by, Reading, read_at, read_on, reading_of, verdict_over, verdict_or, verdict_in, verdict}
+use Rattle.session_model.proofs.PathLaws.{path-append}
 use Rattle.line_law.proofs.RunLaws.{read_on-append}
 
 -- ---- verdicts
@@ -68,13 +69,6 @@ verdict-stays cells more t told is =
     (told-stays (reading_of cells) more t told (slice_get (reading_of cells).verdicts t) refl is)
 
 -- ---- cells
-pub path-append : (carries : ℕ → Carried) (n : ℕ) (xs ys : List Container) → path carries n (xs ++ ys) ≡ path carries n xs ++ path carries (n + length xs) ys
-unfolding path
-path-append carries n [] ys = ap (λ n. path carries n ys) (let e : n ≡ n + 0 = omega arith in e)
-path-append carries n (x ∷ xs) ys =
-    ap (λ l. cells_of (carries n) x ++ l) (path-append carries (suc n) xs ys ∙ ap (λ m. path carries (suc n) xs ++ path carries m ys) (let e : suc n + length xs ≡ n + suc (length xs) = omega arith in e))
-    ∙ sym (append_assoc (cells_of (carries n) x) (path carries (suc n) xs) (path carries (n + suc (length xs)) ys))
-
 path-part : (carries : ℕ → Carried) (containers : List Container) (n m : ℕ) → n ≤ m → (more : List Cell) × (path carries 0 (take m containers) ≡ path carries 0 (take n containers) ++ more)
 path-part carries containers n m h =
     let (more, e) = take-part containers n m h in

@@ -5,27 +5,10 @@ use Rattle.session_model.specs.declared.window.Window.{Window}
 use Rattle.session_model.specs.declared.window.Carried.{Carried}
 use Rattle.session_model.specs.declared.window.Carried.TheVariants.{Whole, Fails, Vanishes}
 use Rattle.session_model.specs.Damage.{carried_in, carried, is_whole, AreWindows, slip_after, slip_of}
+use Rattle.session_model.proofs.PathLaws.{carried-in, carried-before, carried-after}
 use Rattle.line_law.proofs.GoodLaws.{steady, lost, vanished}
 
 -- ---- what a window does to a container
-pub carried-in : (window : Window) (windows : List Window) (n : ℕ) → window.first ≤ n → n < window.end → carried (window ∷ windows) n ≡ carried_in window n
-unfolding carried
-carried-in window windows n low high =
-    let inside : (nat_le window.first n && nat_lt n window.end) ≡ true = grind (arith, low, high) in
-    rw inside refl
-
-pub carried-before : (window : Window) (windows : List Window) (n : ℕ) → n < window.first → carried (window ∷ windows) n ≡ carried windows n
-unfolding carried
-carried-before window windows n low =
-    let outside : (nat_le window.first n && nat_lt n window.end) ≡ false = grind (arith, low) in
-    rw outside refl
-
-pub carried-after : (window : Window) (windows : List Window) (n : ℕ) → window.end ≤ n → carried (window ∷ windows) n ≡ carried windows n
-unfolding carried
-carried-after window windows n high =
-    let outside : (nat_le window.first n && nat_lt n window.end) ≡ false = grind (arith, high) in
-    rw outside refl
-
 broken-in : (b : Bool) → is_whole (if b then Fails else Vanishes) ≡ false
 broken-in true = refl
 broken-in false = refl

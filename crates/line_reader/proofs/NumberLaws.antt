@@ -139,29 +139,6 @@ pass-bads lock next next' t (suc bad) whole ended place cells e' some stands =
     subst (λ b. Stands (record { lock = lock; next = next'; bad = b; whole = whole; ended = ended }) place cells (t + 1)) (let e : bad ≡ suc bad - 1 = omega arith in e)
     (pass-bad lock next next' t bad whole ended place cells e' stands)
 
-pub pass-last : (lock : MfiLock) (next next' t bad : ℕ) (whole ended : Bool) (place : Container) (cells : List Cell) → next' ≡ (next + 1) % 4096 → bad ≡ 0 →
-    (IsOpen (record { lock = lock; next = next; bad = bad; whole = whole; ended = ended }) → ⊥) →
-    Stands (record { lock = lock; next = next; bad = bad; whole = whole; ended = ended }) place cells t →
-    Stands (record { lock = lock; next = next'; bad = bad; whole = false; ended = ended }) place cells (t + 1)
-pass-last lock next next' t (suc bad) whole ended place cells e' zeroth shut stands = absurd (omega arith)
-pass-last lock next next' t zero true ended place cells e' zeroth shut stands =
-    let size : length (stands.passed ++ Some place ∷ []) ≡ length stands.passed + 1 = length-append stands.passed (Some place ∷ []) in
-    record {
-      number = next-number next next' t e' stands.number;
-      passed = stands.passed ++ Some place ∷ [];
-      verdicts = stands.verdicts ∙ append_one stands.passed (Some place) [];
-      runs = λ e. let runs = stands.runs e in (runs.0, runs.1, size ∙ ap (λ n. n + 1) runs.2);
-      over = λ e. absurd (nonempty (Some place) [] (stands.over e).1);
-    }
-pass-last lock next next' t zero false true place cells e' zeroth shut stands = record {
-  number = next-number next next' t e' stands.number;
-  passed = stands.passed;
-  verdicts = stands.verdicts;
-  runs = λ e. absurd (true-false e);
-  over = λ e. let over = stands.over e in (over.0, refl, (let low = over.2 in omega arith));
-}
-pass-last lock next next' t zero false false place cells e' zeroth shut stands = absurd (shut (record { bad = refl; whole = refl; ended = refl }))
-
 -- ---- what is said of the next number
 said-next : (cells : List Cell) (passed rest : List (Option Container)) (v : Option Container) (t : ℕ) → (reading_of cells).verdicts ≡ passed ++ v ∷ rest → length passed ≡ t → verdict cells t ≡ Some v
 said-next cells passed rest v t is size =

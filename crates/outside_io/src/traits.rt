@@ -19,7 +19,8 @@ pub trait ByteSource {
     /// At `Failed` nothing is taken, and one fault is counted; else none is.
     fn take(&mut self, buf: &mut [u8]) -> Result<usize, Failed>
         ensures bound { IfOk result (λ n. n ≤ length buf.new) }
-        ensures moved { IfOk result (λ n. left self.old ≡ prepend_known (take n buf.new) (left self.new)) }
+        ensures moved { IfOk result
+            (λ n. left self.old ≡ prepend_known (take n buf.new) (left self.new)) }
         ensures end { IfOk result (λ n. n ≡ 0 → 0 < length buf.old → IsAtEnd (left self.new)) }
         ensures stays { OnErr result (left self.new ≡ left self.old) }
         ensures quiet { OnOk result (faults self.new ≡ faults self.old) }
@@ -39,7 +40,8 @@ pub trait ByteSink {
     fn put(&mut self, piece: &[u8]) -> Result<usize, Failed>
         ensures bound { IfOk result (λ n. n ≤ length piece.now) }
         ensures moves { IfOk result (λ n. 0 < length piece.now → 0 < n) }
-        ensures appended { IfOk result (λ n. written self.new ≡ append_known (written self.old) (take n piece.now)) }
+        ensures appended { IfOk result
+            (λ n. written self.new ≡ append_known (written self.old) (take n piece.now)) }
         ensures stays { OnErr result (written self.new ≡ written self.old) }
         ensures quiet { OnOk result (faults self.new ≡ faults self.old) }
         ensures counted { OnErr result (faults self.new ≡ one_more (faults self.old)) };

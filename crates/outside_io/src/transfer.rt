@@ -45,8 +45,10 @@ pub fn read_all<S: ByteSource>(
 ) -> Result<Vec<u8>, ReadEnd>
     ensures whole { IfOk result (λ text. GivesAll S.left source.old source.new text.items) }
     ensures fits { IfOk result (λ text. vec_len text ≤ limit) }
-    ensures long { IsErrOf result ReadEnd.TooLong → IfSome (S.left source.old) (λ text. limit < length text) }
-    ensures failed { IsErrOf result ReadEnd.Failed → S.faults source.new ≡ one_more (S.faults source.old) }
+    ensures long { IsErrOf result ReadEnd.TooLong →
+        IfSome (S.left source.old) (λ text. limit < length text) }
+    ensures failed { IsErrOf result ReadEnd.Failed →
+        S.faults source.new ≡ one_more (S.faults source.old) }
     ensures quiet { ¬ IsErrOf result ReadEnd.Failed → S.faults source.new ≡ S.faults source.old }
 {
     let mut text = Vec::new(alloc);

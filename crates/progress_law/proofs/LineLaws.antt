@@ -24,7 +24,8 @@ use Rattle.line_law.proofs.InvariantLaws as invariant
 use Rattle.line_law.proofs.WindowLaws.{lost-slip_of}
 use Rattle.line_law.proofs.RunLaws.{line_read}
 use Rattle.line_law.proofs.EndLaws.{end-reading}
-use Rattle.line_law.proofs.StableLaws.{verdict-stays, path-append, cells-part}
+use Rattle.line_law.proofs.StableLaws.{verdict-stays, cells-part}
+use Rattle.session_model.proofs.PathLaws.{path-append}
 use Rattle.progress_law.specs.Progress.{IsPath, IsSound, IsPlan, AllPaths}
 use Rattle.progress_law.specs.Lines.{IsDecided, AreSentBy, CanRun}
 

@@ -42,7 +42,8 @@ impl Model for RowGather {
     ghost Value = { Gather };
 
     ghost invariant = { λ gather. (length gather.lines.items ≤ 128) × (length gather.places.items ≡ length gather.lines.items)
-        × (length gather.packets.items ≡ length gather.lines.items) × (gather.decided ≡ decided_lines gather.lines.items) };
+        × (length gather.packets.items ≡ length gather.lines.items)
+        × (gather.decided ≡ decided_lines gather.lines.items) };
 
     ghost view = { λ gather. record { lines = gather.lines.items; places = gather.places.items; packets = gather.packets.items; rows = gather.rows } };
 }

@@ -102,9 +102,6 @@ number_behind_is n (b ∷ bs) =
     ∙ regroup n (if b then 1 else 0) (2 ^ length bs) (number bs)
     ∙ ap₂ (λ p x. n * p + x) (sym (pow-suc 2 (length bs))) (sym (number_behind_is (2 * 0 + (if b then 1 else 0)) bs))
 
-pub number-append : (front back : List Bool) → number (front ++ back) ≡ number front * 2 ^ length back + number back
-number-append front back = number_behind-append 0 front back ∙ number_behind_is (number front) back
-
 pub number_below : (bs : List Bool) → number bs < 2 ^ length bs
 unfolding number_behind
 number_below [] = omega arith

@@ -85,16 +85,3 @@ octet_bits-bytes_high_first (suc count) n =
     (ap (bits 8) (byte_at_is count n) ∙ bits-mod 8 (n / 2 ^ (8 * count)))
     (octet_bits-bytes_high_first count n)
     ∙ sym (bits-add 8 (8 * count) n) ∙ ap (λ k. bits k n) e
-
--- exclusive or of octets, one more at the front
-pub octet_bits-xor : (a b : ℕ) (octets xs ys : List ℕ) → octet_bits octets ≡ xors (octet_bits xs) (octet_bits ys) →
-    octet_bits (bit_xor a b ∷ octets) ≡ xors (octet_bits (a ∷ xs)) (octet_bits (b ∷ ys))
-octet_bits-xor a b octets xs ys e =
-    ap₂ ◌++◌ (bits-xor 8 a b) e
-    ∙ sym (xors-append (bits 8 a) (bits 8 b) (octet_bits xs) (octet_bits ys) (length-bits 8 a ∙ sym (length-bits 8 b)))
-
--- two lists of octets with the same bits are equal
-pub same_from_octet_bits : (xs ys : List ℕ) → All (λ o. o < 256) xs → All (λ o. o < 256) ys → octet_bits xs ≡ octet_bits ys → xs ≡ ys
-same_from_octet_bits xs ys p q e =
-    let size : length xs ≡ length ys = omega (arith, length-octet_bits xs, length-octet_bits ys, ap length e) in
-    sym (octets_of-octet_bits xs p) ∙ ap₂ octets_of size e ∙ octets_of-octet_bits ys q

@@ -100,14 +100,3 @@ pub remainder-append_at : (m : ℕ) (lower word more : List Bool) → length mor
 remainder-append_at m lower word more e h =
     subst (λ n. n ≤ length lower → remainder lower (word ++ more) ≡ xors (remainder lower (xors (take n (remainder lower word)) more)) (drop n (remainder lower word) ++ replicate n false))
     e (remainder-append lower word more) h
-
--- the remainder of an exclusive or
-pub remainder-xors : (lower a b : List Bool) → length a ≡ length b → remainder lower (xors a b) ≡ xors (remainder lower a) (remainder lower b)
-remainder-xors lower a b e =
-    let zeros = replicate (length lower) false in
-    let size : length (xors a b) ≡ length a = length_xors a b e ∙ sym e in
-    ap (λ n. divide n lower (xors a b ++ zeros)) size
-    ∙ ap (divide (length a) lower)
-    (ap (λ l. xors a b ++ l) (sym (xors-zeros (length lower) zeros (omega (arith, length-replicate (length lower) false)))) ∙ sym (xors-append a b zeros zeros e))
-    ∙ divide-xors (length a) lower (a ++ zeros) (b ++ zeros)
-    ∙ ap (λ n. xors (remainder lower a) (divide n lower (b ++ zeros))) e

@@ -54,13 +54,6 @@ IsTable-from_entries lower table same =
           ∙ get_or-map-range_with_len (λ n. remainder lower (bits 4 n)) 0 16 nibble nibble [] h (omega arith);
     }
 
--- an octet is two nibbles
-pub bits-octet : (octet : ℕ) → bits 8 octet ≡ bits 4 (octet / 16) ++ bits 4 (octet % 16)
-bits-octet octet = bits-add 4 4 octet ∙ ap (λ l. bits 4 (octet / 16) ++ l) (sym (bits-mod 4 octet))
-
-pub nibble_bits-append : (front back : List ℕ) → nibble_bits (front ++ back) ≡ nibble_bits front ++ nibble_bits back
-nibble_bits-append front back = flat_map-append (bits 4) front back
-
 -- ---- what the code computes, for a register of `degree` bits
 upper_below : (degree register : ℕ) → 4 ≤ degree → register < 2 ^ degree → register / 2 ^ (degree - 4) < 2 ^ 4
 upper_below degree register least h =

@@ -13,5 +13,6 @@ pub use table::{remainder_of_nibbles, with_nibble};
 /// The law of remainders: by each generator each word has exactly one.
 pub fn remainder_law()
     ensures exists { (lower word : List Bool) → IsRemainder lower word (remainder lower word) }
-    ensures only { (lower word rest : List Bool) → IsRemainder lower word rest → rest ≡ remainder lower word }
+    ensures only { (lower word rest : List Bool) → IsRemainder lower word rest →
+        rest ≡ remainder lower word }
 {}

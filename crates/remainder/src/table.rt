@@ -15,7 +15,8 @@ pub fn with_nibble<const DEGREE: u32>(table: &[u32; 16], register: u32, nibble: 
     requires nibble { nibble < 16 }
     ensures within { result < 2 ^ DEGREE }
     ensures behind { (lower word : List Bool) → length lower ≡ DEGREE → IsTable lower table.now →
-        bits DEGREE register ≡ remainder lower word → bits DEGREE result ≡ remainder lower (word ++ bits 4 nibble) }
+        bits DEGREE register ≡ remainder lower word →
+        bits DEGREE result ≡ remainder lower (word ++ bits 4 nibble) }
 {
     let upper = register >> (DEGREE - 4);
     let lower = register % (1 << (DEGREE - 4));

@@ -15,7 +15,7 @@ use Rattle.session_model.specs.Payload.{payload_of}
 use Rattle.session_law.proofs.ClientLaws.{payload-length}
 use Rattle.row_law.specs.Received.{AreDealt, IsDealtRow, row_octets}
 
-payloads : List Container → List (List ℕ)
+abbrev payloads : List Container → List (List ℕ)
 payloads containers = map (λ container. container.payload) containers
 
 -- two runs of numbers, one after the other
@@ -42,7 +42,7 @@ place-map octet place from (container ∷ containers) dealt =
     (place-map octet place (from + 1) containers
     (λ r c here. let e : from + suc r ≡ from + 1 + r = omega arith in dealt (suc r) c here ∙ ap octet e))
 
-next_place : (p x : ℕ) → (p + 1) * x ≡ p * x + x
+next_place : (p x : ℕ) → suc p * x ≡ p * x + x
 next_place p x = omega arith
 
 next_size : (n x : ℕ) → suc n * x ≡ x + n * x
@@ -54,9 +54,9 @@ unfolding octets_from
 joined-from octet containers size dealt p zero fits = let e : 0 ≡ 0 * length containers = omega arith in ap (λ c. map octet (range_with_len (p * length containers) c)) e
 joined-from octet containers size dealt p (suc n) fits =
     let x = length containers in
-    ap (λ front. front ++ octets_from (p + 1) n (payloads containers)) (place-map octet p (p * x) containers (λ r c here. dealt r p c here (omega arith)))
+    ap (λ front. front ++ octets_from (suc p) n (payloads containers)) (place-map octet p (p * x) containers (λ r c here. dealt r p c here (omega arith)))
     ∙ ap (λ rest. map octet (range_with_len (p * x) x) ++ rest)
-    (joined-from octet containers size dealt (p + 1) n (omega arith) ∙ ap (λ c. map octet (range_with_len c (n * x))) (next_place p x))
+    (joined-from octet containers size dealt (suc p) n (omega arith) ∙ ap (λ c. map octet (range_with_len c (n * x))) (next_place p x))
     ∙ map-range octet (p * x) x (n * x)
     ∙ ap (λ c. map octet (range_with_len (p * x) c)) (sym (next_size n x))
 

@@ -30,7 +30,7 @@ SameTables-sooner one a other b i n sooner same = record { size = same.size; tab
 abbrev pub SameOffers : Scenario → Scenario → List (Option Told) → ℕ → Type 0
 SameOffers one other b t = (u : ℕ) → u < t → fold offered (stream_before other b u) (frames_at one u) ≡ fold offered (stream_before other b u) (frames_at other u)
 
-width-same : (one : Scenario) (a : List (Option Told)) (other : Scenario) (b : List (Option Told)) (t : ℕ) → SameTables one a other b ((t - 8) / 16) → width one a t ≡ width other b t
+pub width-same : (one : Scenario) (a : List (Option Told)) (other : Scenario) (b : List (Option Told)) (t : ℕ) → SameTables one a other b ((t - 8) / 16) → width one a t ≡ width other b t
 width-same one a other b t same =
     elim (nat_lt t 24) as (λ c. nat_lt t 24 ≡ c → (if c then 0 else length (active (table_of one a ((t - 24) / 16))))
     ≡ (if c then 0 else length (active (table_of other b ((t - 24) / 16))))) [
@@ -40,7 +40,7 @@ width-same one a other b t same =
           ap (λ source. length (active source.table)) (same.tables (suc ((t - 24) / 16)) (omega arith))
     ] refl
 
-place_of-same : (one : Scenario) (a : List (Option Told)) (other : Scenario) (b : List (Option Told)) (t : ℕ) → SameTables one a other b ((t - 8) / 16) → place_of one a t ≡ place_of other b t
+pub place_of-same : (one : Scenario) (a : List (Option Told)) (other : Scenario) (b : List (Option Told)) (t : ℕ) → SameTables one a other b ((t - 8) / 16) → place_of one a t ≡ place_of other b t
 unfolding place_of
 place_of-same one a other b zero same = refl
 place_of-same one a other b (suc t) same =

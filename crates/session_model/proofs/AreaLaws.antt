@@ -1,5 +1,5 @@
 -- The laws of areas that are scrambled or descrambled as one list.
-use Rattle.std.proofs.Common.{◌≡◌, ℕ, ◌<◌, ◌≤◌, List, [], ◌∷◌, ◌++◌, length, map, take, drop, sum, All, refl, sym, ◌∙◌, ap, ap₂, arith, append_assoc}
+use Rattle.std.proofs.Common.{◌≡◌, ℕ, ◌<◌, ◌≤◌, List, [], ◌∷◌, ◌++◌, length, map, take, drop, sum, All, sym, ◌∙◌, ap, ap₂, arith, append_assoc}
 use Rattle.std.proofs.lemmas.List.{append-nil, length-append, length-map, length-drop, map-append, take_all, drop-append-le}
 use Rattle.std.proofs.lemmas.List.Elements.{All-nil, All-append, All-head, All-tail}
 use Rattle.session_model.specs.Scramble.{scrambled_octets, descrambled_octets}
@@ -82,36 +82,15 @@ length-scrambled_single before area = length_single scrambled_octets length-scra
 pub scrambled_behind-single : (before area : List ℕ) → scrambled_behind before (area ∷ []) ≡ drop (length before) (scrambled_octets (before ++ area)) ∷ []
 scrambled_behind-single before area = made-single scrambled_octets length-scrambled_octets scrambled_octets-append before area
 
--- all areas are those behind no octets
-pub scrambled_areas-behind : (areas : List (List ℕ)) → scrambled_areas areas ≡ scrambled_behind [] areas
-scrambled_areas-behind areas = refl
-
 pub map-length-scrambled_areas : (areas : List (List ℕ)) → map length (scrambled_areas areas) ≡ map length areas
 map-length-scrambled_areas areas = map-length-scrambled_behind [] areas
-
-pub length-scrambled_areas : (areas : List (List ℕ)) → length (scrambled_areas areas) ≡ length areas
-length-scrambled_areas areas = length-scrambled_behind [] areas
 
 pub joined-scrambled_areas : (areas : List (List ℕ)) → joined (scrambled_areas areas) ≡ scrambled_octets (joined areas)
 joined-scrambled_areas areas = joined-scrambled_behind [] areas
 
-pub scrambled_areas-append : (areas more : List (List ℕ)) → scrambled_areas (areas ++ more) ≡ scrambled_areas areas ++ scrambled_behind (joined areas) more
-scrambled_areas-append areas more = scrambled_behind-append [] areas more
-
-pub scrambled_areas-push : (areas : List (List ℕ)) (area : List ℕ) →
-    scrambled_areas (areas ++ area ∷ []) ≡ scrambled_areas areas ++ drop (length (joined areas)) (scrambled_octets (joined areas ++ area)) ∷ []
-scrambled_areas-push areas area =
-    scrambled_areas-append areas (area ∷ []) ∙ ap (λ l. scrambled_areas areas ++ l) (scrambled_behind-single (joined areas) area)
-
 -- ---- descrambled areas
 pub map-length-descrambled_behind : (before : List ℕ) (areas : List (List ℕ)) → map length (descrambled_behind before areas) ≡ map length areas
 map-length-descrambled_behind before areas = map-length-made descrambled_octets length-descrambled_octets descrambled_octets-append before areas
-
-pub length-descrambled_behind : (before : List ℕ) (areas : List (List ℕ)) → length (descrambled_behind before areas) ≡ length areas
-length-descrambled_behind before areas = length-made descrambled_octets length-descrambled_octets descrambled_octets-append before areas
-
-pub joined-descrambled_behind : (before : List ℕ) (areas : List (List ℕ)) → joined (descrambled_behind before areas) ≡ drop (length before) (descrambled_octets (before ++ joined areas))
-joined-descrambled_behind before areas = joined-made descrambled_octets length-descrambled_octets descrambled_octets-append before areas
 
 -- areas in two parts
 pub descrambled_behind-append : (before : List ℕ) (areas more : List (List ℕ)) →
@@ -125,18 +104,8 @@ length-descrambled_single before area = length_single descrambled_octets length-
 pub descrambled_behind-single : (before area : List ℕ) → descrambled_behind before (area ∷ []) ≡ drop (length before) (descrambled_octets (before ++ area)) ∷ []
 descrambled_behind-single before area = made-single descrambled_octets length-descrambled_octets descrambled_octets-append before area
 
--- all areas are those behind no octets
-pub descrambled_areas-behind : (areas : List (List ℕ)) → descrambled_areas areas ≡ descrambled_behind [] areas
-descrambled_areas-behind areas = refl
-
 pub map-length-descrambled_areas : (areas : List (List ℕ)) → map length (descrambled_areas areas) ≡ map length areas
 map-length-descrambled_areas areas = map-length-descrambled_behind [] areas
-
-pub length-descrambled_areas : (areas : List (List ℕ)) → length (descrambled_areas areas) ≡ length areas
-length-descrambled_areas areas = length-descrambled_behind [] areas
-
-pub joined-descrambled_areas : (areas : List (List ℕ)) → joined (descrambled_areas areas) ≡ descrambled_octets (joined areas)
-joined-descrambled_areas areas = joined-descrambled_behind [] areas
 
 pub descrambled_areas-append : (areas more : List (List ℕ)) → descrambled_areas (areas ++ more) ≡ descrambled_areas areas ++ descrambled_behind (joined areas) more
 descrambled_areas-append areas more = descrambled_behind-append [] areas more

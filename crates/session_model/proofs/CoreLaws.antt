@@ -1,5 +1,5 @@
 -- A core header and its PLI determine each other.
-use Rattle.std.proofs.Common.{◌≡◌, ◌≢◌, ℕ, ◌^◌, ◌<◌, ◌≤◌, ◌⊎◌, ◌&&◌, Bool, true, false, List, ◌++◌, length, take, All, Some, None, if◌then◌else◌, refl, sym, ◌∙◌, ap, ap₂, subst, arith, mod-eq_of_lt, lt_of_lt_of_le, le_of_eq, pow_mono}
+use Rattle.std.proofs.Common.{◌≡◌, ℕ, ◌^◌, ◌<◌, ◌≤◌, ◌⊎◌, ◌&&◌, Bool, true, false, List, ◌++◌, length, take, All, Some, None, if◌then◌else◌, refl, sym, ◌∙◌, ap, ap₂, subst, arith, mod-eq_of_lt, lt_of_lt_of_le, le_of_eq, pow_mono}
 use Rattle.std.specs.Str.{bytes_eq}
 use Rattle.std.proofs.lemmas.Bool.Decides.{nat_tests}
 use Rattle.std.proofs.lemmas.List.{take_at}
@@ -64,10 +64,6 @@ some_if true true n pli e = (refl, refl, cc)
 some_if true false n pli e = absurd cc
 some_if false b n pli e = absurd cc
 
-none_if : (a b : Bool) (n : ℕ) → a ≢ true → (if a && b then Some n else None) ≡ None
-none_if true b n h = absurd (h refl)
-none_if false b n h = refl
-
 bytes_eq-self : (octets : List ℕ) → bytes_eq octets octets ≡ true
 bytes_eq-self octets = (bytes_eq-Decides octets octets).1 refl
 
@@ -91,9 +87,3 @@ pub IsPli-head : (octets : List ℕ) (pli : ℕ) → head octets ≡ Some pli �
 IsPli-head octets pli h =
     let t = headed octets pli h in
     subst IsPli t.2 (pli_of_below octets, is_pli_tells (pli_of octets) t.1)
-
-pub head-short : (octets : List ℕ) → length octets ≢ 4 → head octets ≡ None
-unfolding head
-head-short octets h =
-    none_if (bytes_eq (core_header (pli_of octets)) octets) (is_pli (pli_of octets)) (pli_of octets)
-    (λ e. h (ap length (sym ((bytes_eq-Decides (core_header (pli_of octets)) octets).0 e)) ∙ length-core_header (pli_of octets)))

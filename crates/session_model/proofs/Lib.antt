@@ -7,3 +7,5 @@ pub mod AreaLaws
 pub mod StreamLaws
 pub mod OctetsOfHeader
 pub mod ReachLaws
+pub mod PathLaws
+pub mod IdleLaws

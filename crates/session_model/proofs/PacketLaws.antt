@@ -1,5 +1,5 @@
 -- What is read of a list: sixteen nibbles whose check is right and whose code is that of a control word, and nothing else.
-use Rattle.std.proofs.Common.{◌≡◌, ◌≢◌, ◌↔◌, ℕ, zero, suc, ◌+◌, ◌*◌, ◌/◌, ◌%◌, ◌<◌, ◌==◌, nat_lt, Bool, true, false, inl, inr, List, [], ◌∷◌, ◌++◌, length, slice_index, All, Option, Some, None, IsSome, IsOk, Result, Ok, Err, refl, sym, ◌∙◌, ap, subst, arith, lit<}
+use Rattle.std.proofs.Common.{◌≡◌, ◌≢◌, ℕ, zero, suc, ◌+◌, ◌*◌, ◌/◌, ◌%◌, ◌<◌, ◌==◌, nat_lt, Bool, true, false, inl, inr, List, [], ◌∷◌, ◌++◌, length, slice_index, All, Option, Some, None, Ok, Err, refl, sym, ◌∙◌, ap, subst, arith, lit<}
 use Rattle.std.specs.List.{list_all}
 use Rattle.std.proofs.lemmas.Bool.{and_parts, and_from, and_left, and_right, eqb-true, eq-eqb, ne_eqb, ltb-true, lt-ltb, cases_Bool, cases_eq}
 use Rattle.std.proofs.lemmas.List.Elements.{All-nil, All-cons, All-append, All-head, All-tail}
@@ -9,8 +9,7 @@ use Rattle.vc_cell.specs.declared.Ctrl.{Ctrl}
 use Rattle.vc_cell.specs.Code.{code_of, ctrl_of}
 use Rattle.vc_cell.proofs.CodeLaws.{code_of_below, ctrl_of-code_of, ctrl_of-some}
 use Rattle.session_model.specs.declared.packet.Packet.{Packet}
-use Rattle.session_model.specs.declared.packet.PacketFault.{PacketFault}
-use Rattle.session_model.specs.declared.packet.PacketFault.TheVariants.{Crc, Ctrl as CtrlFault}
+use Rattle.session_model.specs.declared.packet.PacketFault.TheVariants.{Crc}
 use Rattle.session_model.specs.Packet.{octet_nibbles, bit_nibble, IsPacket, covered_nibbles, packet_nibbles, octet_at, said_check, found_check, said_code, packet_of, cleared_nibbles, are_nibbles, read_by, read_of}
 
 abbrev pub AreNibbles : List ℕ → Type 0
@@ -183,55 +182,6 @@ read_of-packet_nibbles packet p =
       ctrl = ctrl_of-code_of packet.ctrl;
       fields = sym (packet_of-packet_nibbles packet);
     })
-
--- ---- what is read of sixteen nibbles, case by case
--- the check is told exactly where it is wrong
-pub read_of-crc_iff : (nibbles : List ℕ) → are_nibbles nibbles ≡ true →
-    (read_of nibbles ≡ Err (Crc (said_check nibbles) (found_check nibbles))) ↔ (said_check nibbles ≢ found_check nibbles)
-read_of-crc_iff nibbles are =
-    (λ e check. not_crc (ctrl_of (said_code nibbles)) nibbles (sym (read_of-checked nibbles are check) ∙ e), read_of-crc nibbles)
-  where
-    not_crc : (ctrl : Option Ctrl) (nibbles : List ℕ) → read_by ctrl nibbles ≡ Err (Crc (said_check nibbles) (found_check nibbles)) → ⊥
-    not_crc None nibbles e = cc
-    not_crc (Some ctrl) nibbles e = cc
-
--- the code is told exactly where the check is right and no word has the code
-pub read_of-ctrl_iff : (nibbles : List ℕ) → are_nibbles nibbles ≡ true →
-    (read_of nibbles ≡ Err (CtrlFault (said_code nibbles))) ↔ ((said_check nibbles ≡ found_check nibbles) × (ctrl_of (said_code nibbles) ≡ None))
-read_of-ctrl_iff nibbles are = (
-  λ e. elim (cases_eq (said_check nibbles) (found_check nibbles)) [
-    | inl check ↦ (check, not_word (ctrl_of (said_code nibbles)) (sym (read_of-checked nibbles are check) ∙ e))
-    | inr other ↦ let fault = sym (read_of-crc nibbles other) ∙ e in absurd cc
-  ],
-  λ both. read_of-checked nibbles are both.0 ∙ ap (λ ctrl. read_by ctrl nibbles) both.1,
-)
-  where
-    not_word : (ctrl : Option Ctrl) → read_by ctrl nibbles ≡ Err (CtrlFault (said_code nibbles)) → ctrl ≡ None
-    not_word None e = refl
-    not_word (Some ctrl) e = absurd cc
-
--- a packet is read exactly where the check is right and a word has the code
-pub read_of-ok_iff : (nibbles : List ℕ) → are_nibbles nibbles ≡ true →
-    IsOk (read_of nibbles) ↔ ((said_check nibbles ≡ found_check nibbles) × IsSome (ctrl_of (said_code nibbles)))
-read_of-ok_iff nibbles are = (
-  λ ok. elim (cases_eq (said_check nibbles) (found_check nibbles)) [
-    | inl check ↦ (check, is_word (ctrl_of (said_code nibbles)) (subst IsOk (read_of-checked nibbles are check) ok))
-    | inr other ↦ absurd (not_ok (read_of nibbles) (Crc (said_check nibbles) (found_check nibbles)) (read_of-crc nibbles other) ok)
-  ],
-  λ both. subst IsOk (sym (read_of-checked nibbles are both.0)) (is_ok (ctrl_of (said_code nibbles)) both.1),
-)
-  where
-    not_ok : (result : Result Packet PacketFault) (fault : PacketFault) → result ≡ Err fault → IsOk result → ⊥
-    not_ok (Ok packet) fault e ok = cc
-    not_ok (Err other) fault e ok = cc
-
-    is_word : (ctrl : Option Ctrl) → IsOk (read_by ctrl nibbles) → IsSome ctrl
-    is_word None e = absurd cc
-    is_word (Some ctrl) e = refl
-
-    is_ok : (ctrl : Option Ctrl) → IsSome ctrl → IsOk (read_by ctrl nibbles)
-    is_ok None e = absurd cc
-    is_ok (Some ctrl) e = refl
 
 -- what is accepted is the nibbles of the packet, apart from the ignored bits and the check over them
 pub accepted_cleared : (nibbles : List ℕ) (packet : Packet) → IsAccepted nibbles packet → covered_nibbles packet ≡ cleared_nibbles nibbles

@@ -45,14 +45,6 @@ scrambled_octets-append xs ys = begins (length xs) (scrambled_octets (xs ++ ys))
 pub length-descrambled_octets : (xs : List ℕ) → length (descrambled_octets xs) ≡ length xs
 length-descrambled_octets xs = length-octets_of (length xs) (descrambled (octet_bits xs))
 
--- each is an octet
-pub descrambled_octets_below : (xs : List ℕ) → All (λ o. o < 256) (descrambled_octets xs)
-descrambled_octets_below xs = octets_of_below (length xs) (descrambled (octet_bits xs))
-
-pub octet_bits-descrambled_octets : (xs : List ℕ) → octet_bits (descrambled_octets xs) ≡ descrambled (octet_bits xs)
-octet_bits-descrambled_octets xs =
-    octet_bits-octets_of (length xs) (descrambled (octet_bits xs)) (length-descrambled (octet_bits xs) ∙ length-octet_bits xs)
-
 -- they begin with those of the first part
 pub take-descrambled_octets : (xs ys : List ℕ) → take (length xs) (descrambled_octets (xs ++ ys)) ≡ descrambled_octets xs
 take-descrambled_octets xs ys =

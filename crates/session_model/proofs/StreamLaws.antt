@@ -20,9 +20,6 @@ length-with_header area = omega (arith, length-append (core_header (length area)
 abbrev pub stream_behind : List ℕ → List Piece → List ℕ
 stream_behind before pieces = flat_map with_header (scrambled_behind before (map area_of pieces))
 
-pub stream_of-behind : (pieces : List Piece) → stream_of pieces ≡ stream_behind [] pieces
-stream_of-behind pieces = refl
-
 -- pieces in two parts
 pub stream_behind-append : (before : List ℕ) (pieces more : List Piece) →
     stream_behind before (pieces ++ more) ≡ stream_behind before pieces ++ stream_behind (before ++ joined (map area_of pieces)) more

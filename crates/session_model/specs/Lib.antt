@@ -38,4 +38,5 @@ pub mod Loss
 pub mod SessionStream
 pub mod Counts
 pub mod Plan
+pub mod Valid
 pub mod Interleave

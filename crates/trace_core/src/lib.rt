@@ -64,7 +64,8 @@ impl H4Decoder {
     pub fn octet(&mut self, h4: u8) -> Option<(u64, Result<Packet, PacketFault>)>
         requires { self.old.given < 4294967295 }
         ensures given { self.new.given ≡ self.old.given + 1 }
-        ensures stands { (octets : List ℕ) → Stands self.old octets → Stands self.new (octets ++ h4 ∷ []) }
+        ensures stands { (octets : List ℕ) → Stands self.old octets →
+            Stands self.new (octets ++ h4 ∷ []) }
         ensures packets { (octets : List ℕ) → Stands self.old octets →
             packets_in (octets ++ h4 ∷ []) ≡ packets_in octets ++ option_to_list result }
     {

@@ -34,10 +34,3 @@ crc8_of_below nibbles =
 pub crc8_of_from_bits : (nibbles : List ℕ) (n : ℕ) → n < 256 → bits 8 n ≡ remainder crc8_lower (nibble_bits nibbles) → n ≡ crc8_of nibbles
 unfolding crc8_of
 crc8_of_from_bits nibbles n small same = sym (mod-eq_of_lt small) ∙ sym (number-bits 8 n) ∙ ap number same
-
--- the bits of the check are the remainder
-pub bits-crc8_of : (nibbles : List ℕ) → bits 8 (crc8_of nibbles) ≡ remainder crc8_lower (nibble_bits nibbles)
-unfolding crc8_of
-bits-crc8_of nibbles =
-    let rest = remainder crc8_lower (nibble_bits nibbles) in
-    ap (λ n. bits n (number rest)) (sym (length-crc8_rest nibbles)) ∙ bits-number rest

@@ -42,7 +42,8 @@ pub fn join_nibbles(hi: u8, lo: u8) -> u8
 pub fn crc8(nibbles: &[u8; 14]) -> u8
     requires { All (λ nibble. nibble < 16) nibbles.now }
     ensures remainder { IsRemainder crc8_lower (nibble_bits nibbles.now) (bits 8 result) }
-    ensures only { (rest : List Bool) → IsRemainder crc8_lower (nibble_bits nibbles.now) rest → rest ≡ bits 8 result }
+    ensures only { (rest : List Bool) → IsRemainder crc8_lower (nibble_bits nibbles.now) rest →
+        rest ≡ bits 8 result }
     ensures value { result ≡ crc8_of nibbles.now }
 {
     remainder_of_nibbles::<8>(&CRC8, nibbles) as u8

@@ -14,9 +14,6 @@ ctrl_of-code_of Eos = refl
 ctrl_of-code_of Idle = refl
 ctrl_of-code_of Dnu = refl
 
-pub code_of-injective : (a b : Ctrl) → code_of a ≡ code_of b → a ≡ b
-code_of-injective a b e = let same = sym (ctrl_of-code_of a) ∙ ap ctrl_of e ∙ ctrl_of-code_of b in cc
-
 -- a word that has the code is the only one
 pub ctrl_of-own : (ctrl : Ctrl) (code : ℕ) → code_of ctrl ≡ code → ctrl_of code ≡ Some ctrl
 ctrl_of-own ctrl code e = sym (ap ctrl_of e) ∙ ctrl_of-code_of ctrl
@@ -42,10 +39,6 @@ ctrl_of-some code ctrl e =
     (by_test code 1 Add ctrl norm refl
     (by_test code 2 Norm ctrl eos refl
     (by_test code 3 Eos ctrl idle refl (by_test code 5 Idle ctrl dnu refl (by_test code 15 Dnu ctrl None refl none))))) e
-
--- where none is computed, no word has the code
-pub ctrl_of-none : (code : ℕ) → ctrl_of code ≡ None → (ctrl : Ctrl) → code_of ctrl ≢ code
-ctrl_of-none code none ctrl e = let same = sym none ∙ ctrl_of-own ctrl code e in absurd cc
 
 -- a code has four bits
 pub code_of_below : (ctrl : Ctrl) → code_of ctrl < 16

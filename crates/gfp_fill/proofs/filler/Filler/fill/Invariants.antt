@@ -1,12 +1,12 @@
-use Rattle.std.proofs.Common.{ℕ, ◌-◌, ◌≤◌, List, length, take}
-use Rattle.session_model.specs.Piece.{Piece}
-use Rattle.gfp_fill.specs.Stream.{Stands, Fills}
+-- The octets that are filled are the next ones of the stream.
+use Rattle.std.proofs.Common.{◌-◌, ◌≤◌, length, take}
+use Rattle.gfp_fill.specs.Stream.{Writes}
 use Rattle.gfp_fill.proofs.filler.Filler.fill.Given as goal
 
 abbrev pub invariant-loop-filled : goal.invariant-loop-filled
 invariant-loop-filled l = record {
   within : l.filled ≤ length l.out;
-  fills : (pieces : List Piece) (written : ℕ) → Stands l.fn.self pieces written → Fills pieces written l.fn.waiting l.waiting l.self (take l.filled l.out);
+  writes : Writes l.fn.self l.fn.waiting l.local l.waiting (take l.filled l.out);
 }
 
 abbrev pub decreases-loop-filled : goal.decreases-loop-filled

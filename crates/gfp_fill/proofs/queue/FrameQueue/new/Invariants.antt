@@ -2,12 +2,12 @@ use Rattle.std.proofs.Common.{◌≡◌, ◌≤◌, vec_len}
 use Rattle.std.specs.List.{All}
 use Rattle.std.specs.Vec.{vec_capacity}
 use Rattle.gfp_fill.specs.Store.{HasRoom}
-use Rattle.gfp_fill.specs.declared.queue.TheConstants.{MAX_WAITING}
+use Rattle.gfp_fill.specs.Queue.{most_waiting}
 use Rattle.gfp_fill.proofs.queue.FrameQueue.new.Given as goal
 
 abbrev pub invariant-loop : goal.invariant-loop
 invariant-loop l = record {
   made : vec_len l.spare ≡ l.counter;
-  spares : MAX_WAITING ≤ vec_capacity l.spare;
+  spares : most_waiting ≤ vec_capacity l.spare;
   room : All HasRoom l.spare.items;
 }

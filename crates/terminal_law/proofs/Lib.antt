@@ -1,0 +1,9 @@
+pub mod ListLaws
+pub mod SentLaws
+pub mod DealtLaws
+pub mod OctetLaws
+pub mod CellLaws
+pub mod RowLaws
+pub mod CourseLaws
+pub mod KeepLaws
+pub mod LoopLaws
