@@ -8,7 +8,7 @@ use Rattle.session_model.specs.declared.window.Window.{Window}
 use Rattle.session_model.specs.declared.script.Item.{Item}
 use Rattle.session_model.specs.Counts.{Due, frame_due, command_due, due_of, dues_of, frame_dues, command_dues}
 use Rattle.script_read.specs.Statements.{last_end, last_lost}
-use Rattle.script_read.specs.Valid.{AreApart}
+use Rattle.session_model.specs.Valid.{AreApart}
 use Rattle.script_read.specs.Drafts.{AreInOrder}
 
 pub All-none : {X : Type 0} (P : X → Type 0) → All P []

@@ -11,7 +11,7 @@ use Rattle.script_read.specs.declared.fault.ScriptFault.{ScriptFault}
 use Rattle.script_read.specs.declared.fault.ScriptFault.TheVariants as fault
 use Rattle.script_read.specs.declared.draft.Draft.{Draft}
 use Rattle.script_read.specs.Script.{fault_or, windows_fault, slip_fault, spread_fault, least_lag, lag_fault, config_fault, script_in}
-use Rattle.script_read.specs.Valid.{HasFailures, IsValid}
+use Rattle.session_model.specs.Valid.{HasFailures, IsValid}
 use Rattle.script_read.specs.Drafts.{AreInOrder, AreFailures, IsDraft}
 
 none_first : (f later : Option ScriptFault) → fault_or f later ≡ None → f ≡ None

@@ -3,5 +3,5 @@ pub mod Words
 pub mod Statements
 pub mod Script
 pub mod FirstFault
-pub mod Valid
+pub mod Octets
 pub mod Drafts

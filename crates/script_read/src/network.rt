@@ -2,7 +2,7 @@
 ghost use Rattle.std.specs.Prelude.{◌≡◌, ◌≤◌, ◌<◌, length, IfOk, IfErr, None, Some, slice_index_or, [], map, All};
 ghost use Rattle.script_read.specs.Words.{words, word_at, number_at, number_of};
 ghost use Rattle.script_read.specs.Statements.{rest_fault, said, last_end, last_lost, size_of};
-ghost use Rattle.script_read.specs.Valid.{IsSize};
+ghost use Rattle.session_model.specs.Valid.{IsSize};
 ghost use Rattle.script_read.specs.Drafts.{IsStop, IsDraft, IsNext, IsNextLost, one_fault, container_fault, delays_fault};
 
 use crate::draft::{Draft, Statement};

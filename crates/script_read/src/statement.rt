@@ -3,7 +3,7 @@ ghost use Rattle.std.specs.Prelude.{◌≡◌, ◌≤◌, IfOk, IfErr, None, Som
 ghost use Rattle.script_read.specs.Words.{words, number_at};
 ghost use Rattle.script_read.specs.Statements.{place, rest_fault, words_fault, words_said, said};
 ghost use Rattle.script_read.specs.Drafts.{IsStop, IsDraft, IsPlaced, Fits, one_fault};
-ghost use Rattle.script_read.specs.Valid.{IsCount};
+ghost use Rattle.session_model.specs.Valid.{IsCount};
 
 use crate::draft::{Draft, Statement};
 use crate::fault::{LineKind, Stop};
