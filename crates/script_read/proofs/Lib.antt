@@ -2,7 +2,7 @@ mod TextLaws
 mod DelayLaws
 mod DraftLaws
 mod LimitLaws
-mod RowLaws
+pub mod RowLaws
 mod GrowthLaws
 mod ValidLaws
 mod FirstFaultLaws

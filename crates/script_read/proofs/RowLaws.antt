@@ -47,13 +47,13 @@ pub most-up : (ns : List ℕ) (old n : ℕ) → All (λ m. m ≤ old) ns → old
 most-up ns old n most less i d within = let m = most i d within in omega (arith, m, less)
 
 -- ---- due ticks
-frames-append : (xs ys : List Due) → frame_dues (xs ++ ys) ≡ frame_dues xs ++ frame_dues ys
+pub frames-append : (xs ys : List Due) → frame_dues (xs ++ ys) ≡ frame_dues xs ++ frame_dues ys
 unfolding frame_dues
 frames-append [] ys = refl
 frames-append (frame_due due ∷ xs) ys = ap (λ (l : List ℕ). due ∷ l) (frames-append xs ys)
 frames-append (command_due due ∷ xs) ys = frames-append xs ys
 
-commands-append : (xs ys : List Due) → command_dues (xs ++ ys) ≡ command_dues xs ++ command_dues ys
+pub commands-append : (xs ys : List Due) → command_dues (xs ++ ys) ≡ command_dues xs ++ command_dues ys
 unfolding command_dues
 commands-append [] ys = refl
 commands-append (frame_due due ∷ xs) ys = commands-append xs ys
