@@ -1,19 +1,18 @@
 -- The items of a load: one on, and what they meet.
-use Rattle.std.proofs.Common.{◌≡◌, ℕ, zero, suc, ◌+◌, ◌-◌, ◌*◌, ◌/◌, ◌%◌, ◌^◌, ◌<◌, ◌≤◌, List, [], ◌∷◌, ◌++◌, length, map, replicate, max, ap, sym, ◌∙◌, subst, arith, refl, All, inr, slice_index_or}
+use Rattle.std.proofs.Common.{◌≡◌, ℕ, zero, suc, ◌+◌, ◌-◌, ◌*◌, ◌/◌, ◌^◌, ◌<◌, ◌≤◌, List, [], ◌∷◌, ◌++◌, length, map, replicate, ap, sym, ◌∙◌, subst, arith, refl, All, inr}
 use Rattle.std.specs.List.{range_with_len}
 use Rattle.std.specs.List.Sorted.{IsNonDecreasing}
 use Rattle.std.proofs.lemmas.List.{append-nil, append_assoc, length-append, length-replicate, map-append}
 use Rattle.std.proofs.lemmas.List.FromFn.{length-map-range_with_len, get_or-map-range_with_len, map-range_with_len_more}
 use Rattle.std.proofs.lemmas.Nat.{mod_below}
 use Rattle.std.proofs.lemmas.List.Elements.{All-cons, All-append, All-replicate}
-use Rattle.session_model.specs.declared.window.Window.{Window}
 use Rattle.session_model.specs.declared.script.Item.{Item}
 use Rattle.session_model.specs.declared.script.ItemKind.TheVariants.{Frame, Add}
 use Rattle.session_model.specs.Counts.{due_of, dues_of, frame_dues, command_dues}
 use Rattle.session_model.specs.declared.script.Script.{Script}
-use Rattle.session_model.specs.Damage.{slip_after, slip_of, AreWindows}
+use Rattle.session_model.specs.Damage.{slip_after, AreWindows}
 use Rattle.session_model.specs.Plan.{greatest, greatest_slip}
-use Rattle.session_model.specs.Valid.{IsItem, IsKind, HasFailures, HasLosses, AreApart, AreItems, IsValid}
+use Rattle.session_model.specs.Valid.{IsItem, HasFailures, HasLosses, AreApart, AreItems, IsValid}
 use Rattle.script_read.specs.Octets.{HasOctets, HaveOctets}
 use Rattle.script_read.proofs.RowLaws.{All-none, rising-none, frames-append, commands-append}
 use Rattle.make_load.specs.Draws.{next, drawn, draws, after_draws}
@@ -200,10 +199,10 @@ valid_load number lines ticks few time =
       };
       items = are_items number lines ticks few.1 time.0;
       few =
-        (let size = length-append (additions lines) (frames (frame_count ticks) 0 (after_draws lines number)) in
-        let added = length-map-range_with_len addition 0 lines in
-        let framed = length-frames (frame_count ticks) 0 (after_draws lines number) in
-        omega (arith, size, added, framed, few.1, time.1));
+          (let size = length-append (additions lines) (frames (frame_count ticks) 0 (after_draws lines number)) in
+          let added = length-map-range_with_len addition 0 lines in
+          let framed = length-frames (frame_count ticks) 0 (after_draws lines number) in
+          omega (arith, size, added, framed, few.1, time.1));
       events = All-none _;
     }
 

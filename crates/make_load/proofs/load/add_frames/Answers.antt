@@ -1,5 +1,5 @@
 -- One frame on, and after the last one.
-use Rattle.std.proofs.Common.{◌≡◌, ◌≤◌, ◌<◌, ◌∙◌, ◌+◌, ◌-◌, ◌*◌, List, [], ◌∷◌, ◌++◌, ap, sym, rules, arith}
+use Rattle.std.proofs.Common.{◌≡◌, ◌≤◌, ◌<◌, ◌∙◌, ◌+◌, ◌-◌, ◌*◌, List, [], ◌∷◌, ◌++◌, ap, sym, rules}
 use Rattle.session_model.specs.declared.script.Item.{Item}
 use Rattle.session_model.specs.declared.script.ItemKind.TheVariants.{Frame}
 use Rattle.make_load.specs.Load.{frames, frame_count}

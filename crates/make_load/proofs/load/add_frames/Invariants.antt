@@ -1,5 +1,5 @@
 -- The frames so far, and those that are left.
-use Rattle.std.proofs.Common.{◌≡◌, ◌+◌, ◌-◌, ◌*◌, ◌++◌}
+use Rattle.std.proofs.Common.{◌≡◌, ◌-◌, ◌*◌, ◌++◌}
 use Rattle.make_load.specs.Load.{frames, frame_count}
 use Rattle.make_load.proofs.load.add_frames.Given as goal
 
