@@ -12,4 +12,4 @@ mod windows;
 pub use fault::WindowFault;
 pub use laws::{damage_law, fault_law, slip_law};
 pub use session_model::{Carried, Window};
-pub use windows::Windows;
+pub use windows::{Windows, greatest_slip};

@@ -87,8 +87,8 @@ fn carried_by_first(list: &[Window], n: u32) -> Carried
     }
 }
 
-// The greatest slip of a run of near windows.
-fn greatest_slip(list: &[Window]) -> u32
+/// The slip of windows that stand in order, apart, and give a sign each: the greatest sum of slips over a run of near ones.
+pub fn greatest_slip(list: &[Window]) -> u32
     requires { AreWindows 0 list.now }
     ensures { result ≡ slip_of list.now }
 {

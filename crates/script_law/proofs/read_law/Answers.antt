@@ -1,0 +1,22 @@
+-- Each fact of what a valid script meets.
+use Rattle.std.proofs.Common.{arith}
+use Rattle.script_law.proofs.ItemLaws.{orders_rise, offers_rise, offers_octets}
+use Rattle.script_law.proofs.read_law.Goals as goal
+
+pub returns-clause-limits : goal.returns-clause-limits
+returns-clause-limits c script is = record {
+  lag = (let least = is.network.lag.0 in omega (arith, least));
+  lines =
+      (let each = is.network.windows_each in
+      let most = is.network.lines.1 in
+      omega (arith, each, most));
+}
+
+pub returns-clause-orders : goal.returns-clause-orders
+returns-clause-orders c script is = orders_rise script.items is.items.commands
+
+pub returns-clause-offers : goal.returns-clause-offers
+returns-clause-offers c script is = offers_rise script.items is.items.frames
+
+pub returns-clause-octets : goal.returns-clause-octets
+returns-clause-octets c script are = offers_octets script.items are

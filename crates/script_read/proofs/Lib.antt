@@ -1,0 +1,8 @@
+mod TextLaws
+mod DelayLaws
+mod DraftLaws
+mod LimitLaws
+pub mod RowLaws
+mod GrowthLaws
+mod ValidLaws
+mod FirstFaultLaws

@@ -1,0 +1,119 @@
+-- What a draft meets, and what a line may say that stands after those of a draft.
+use Rattle.std.specs.Prelude.{◌≡◌, ◌⊎◌, ⊤, ℕ, ◌==◌, ◌<◌, ◌≤◌, not, List, [], ◌∷◌, length, replicate, Option, Some, All}
+use Rattle.std.specs.Option.{option_or}
+use Rattle.session_model.specs.declared.window.Window.{Window}
+use Rattle.session_model.specs.declared.script.Config.{Config}
+use Rattle.session_model.specs.declared.script.ItemKind.{ItemKind}
+use Rattle.session_model.specs.declared.script.ItemKind.TheVariants as item
+use Rattle.session_model.specs.Counts.{dues_of, frame_dues, command_dues}
+use Rattle.script_read.specs.declared.fault.LineKind.{LineKind}
+use Rattle.script_read.specs.declared.fault.LineKind.TheVariants.{Word}
+use Rattle.script_read.specs.declared.fault.ScriptFault.{ScriptFault}
+use Rattle.script_read.specs.declared.fault.ScriptFault.TheVariants as fault
+use Rattle.script_read.specs.declared.fault.Stop.{Stop}
+use Rattle.script_read.specs.declared.fault.Stop.TheVariants as stop
+use Rattle.script_read.specs.declared.draft.Statement.{Statement}
+use Rattle.script_read.specs.declared.draft.Statement.TheVariants as says
+use Rattle.script_read.specs.declared.draft.Draft.{Draft}
+use Rattle.script_read.specs.Words.{word_at}
+use Rattle.script_read.specs.Statements.{where_true, within, number_fault, fields_fault, size_of, size_fault, windows_of, last_end, last_lost}
+use Rattle.session_model.specs.Valid.{IsWithin, HasLosses, IsSize, IsItem, AreItems, IsEvent}
+use Rattle.script_read.specs.Octets.{HasOctets, HaveOctets}
+
+-- ---- faults
+-- a line that wasn't read has this fault, unless memory was short
+abbrev pub IsStop : Stop → Option LineKind → Type 0
+IsStop (stop.Line kind) found = found ≡ Some kind
+IsStop stop.Memory found = ⊤
+
+-- the fault of line n, which wasn't read
+abbrev pub fault_at : ℕ → Stop → ScriptFault
+fault_at n (stop.Line kind) = fault.Line n kind
+fault_at n stop.Memory = fault.Memory
+
+-- the fault of the words of a line of one number, of a container, and of so many delays
+abbrev pub one_fault : ℕ → ℕ → List (List ℕ) → Option LineKind
+one_fault least most ws = option_or (where_true (not (length ws == 1)) Word) (number_fault least most (word_at 0 ws))
+
+abbrev pub container_fault : List (List ℕ) → Option LineKind
+container_fault ws = option_or (where_true (not (length ws == 1)) Word) (size_fault (size_of (word_at 0 ws)))
+
+abbrev pub delays_fault : ℕ → List (List ℕ) → Option LineKind
+delays_fault n ws = option_or (where_true (not (length ws == n)) Word) (fields_fault (replicate n (within 0 2047)) 0 ws)
+
+-- a keyword's place may stand next
+abbrev pub IsPlaced : ℕ → ℕ → Type 0
+IsPlaced next at = (at ≤ 5 → (next ≡ at) ⊎ ((next ≡ 0) × (at ≡ 1))) × (6 ≤ at → (6 ≤ next) × (next ≤ at))
+
+-- ---- the lines of a draft
+-- windows each of which isn't empty and begins at the end of the one before or later, from this container on
+unfoldable pub AreInOrder : ℕ → List Window → Type 0
+AreInOrder from [] = Unit {0}
+AreInOrder from (window ∷ windows) = (from ≤ window.first) × (window.first < window.end) × AreInOrder window.end windows
+
+-- the windows of a line, before their slips are tested
+pub record AreFailures (ticks : ℕ) (windows : List Window) : Type 0 where
+  pub few : length windows ≤ 256
+  pub order : AreInOrder 0 windows
+  pub ends : All (λ (window : Window). window.end ≤ ticks) windows
+  pub slips : All (λ (window : Window). window.slip ≤ 2047) windows
+
+-- the configuration, line by line: each fact stands once the next place is beyond that line
+pub record HasConfig (next : ℕ) (config : Config) : Type 0 where
+  pub few : config.lines ≤ 128
+  pub lines : 2 ≤ next → (1 ≤ config.lines) × (length config.windows ≡ config.lines)
+  pub delay_each : 3 ≤ next → length config.delays ≡ config.lines
+  pub delays : All (λ delay. delay ≤ 2047) config.delays
+  pub ring : 4 ≤ next → IsWithin 1 2048 config.ring
+  pub lag : 5 ≤ next → IsWithin 1 512 config.lag
+  pub ticks : 6 ≤ next → IsWithin 1 1000000 config.ticks
+  pub size : IsSize config.size
+  pub none : next ≤ 5 → All (λ windows. windows ≡ []) config.windows
+  pub windows : All (AreFailures config.ticks) config.windows
+  pub lost : HasLosses config.lost
+
+pub record IsDraft (d : Draft) : Type 0 where
+  pub config : HasConfig d.next d.config
+  pub no_items : d.next ≤ 6 → d.items ≡ []
+  pub items : AreItems d.config.ticks d.items
+  pub octets : HaveOctets d.items
+  pub frame_due : All (λ due. due ≤ d.frame_due) (frame_dues (dues_of d.items))
+  pub command_due : All (λ due. due ≤ d.command_due) (command_dues (dues_of d.items))
+  pub no_events : d.next ≤ 7 → d.events ≡ []
+  pub events : All (IsEvent d.config.lines) d.events
+
+-- ---- what may come next
+-- the due tick of the last item of its kind
+abbrev pub last_due : Draft → ItemKind → ℕ
+last_due d (item.Frame octets) = d.frame_due
+last_due d (item.Add line) = d.command_due
+last_due d (item.Remove line) = d.command_due
+
+-- a window that line m may have next
+pub record IsNext (d : Draft) (m : ℕ) (window : Window) : Type 0 where
+  pub line : m < d.config.lines
+  pub some : window.first < window.end
+  pub ends : window.end ≤ d.config.ticks
+  pub slips : window.slip ≤ 2047
+  pub order : last_end (windows_of d m) ≤ window.first
+  pub room : length (windows_of d m) < 256
+
+-- and a return window
+pub record IsNextLost (d : Draft) (first end : ℕ) : Type 0 where
+  pub some : first < end
+  pub ends : end ≤ 62500
+  pub order : last_lost d.config.lost ≤ first
+  pub room : length d.config.lost < 256
+
+abbrev pub Fits : Draft → Statement → Type 0
+Fits d says.Nothing = ⊤
+Fits d (says.Container n) = (d.next ≡ 0) × IsSize n
+Fits d (says.Lines n) = (d.next ≤ 1) × IsWithin 1 128 n
+Fits d (says.Delays ns) = (d.next ≡ 2) × (length ns ≡ d.config.lines) × All (λ n. n ≤ 2047) ns
+Fits d (says.Ring n) = (d.next ≡ 3) × IsWithin 1 2048 n
+Fits d (says.Lag n) = (d.next ≡ 4) × IsWithin 1 512 n
+Fits d (says.Ticks n) = (d.next ≡ 5) × IsWithin 1 1000000 n
+Fits d (says.Fail m window) = (d.next ≡ 6) × IsNext d m window
+Fits d (says.Lost first end) = (d.next ≡ 6) × IsNextLost d first end
+Fits d (says.Item it) = (6 ≤ d.next) × (d.next ≤ 7) × IsItem d.config.ticks it × (last_due d it.kind ≤ it.due) × HasOctets it.kind
+Fits d (says.Event e) = (6 ≤ d.next) × IsEvent d.config.lines e

@@ -1,0 +1,7 @@
+pub mod Cut
+pub mod Words
+pub mod Statements
+pub mod Script
+pub mod FirstFault
+pub mod Octets
+pub mod Drafts

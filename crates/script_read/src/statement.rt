@@ -1,0 +1,105 @@
+//! A line of a script: which one it is, and what it says.
+ghost use Rattle.std.specs.Prelude.{◌≡◌, ◌≤◌, IfOk, IfErr, None, Some};
+ghost use Rattle.script_read.specs.Words.{words, number_at};
+ghost use Rattle.script_read.specs.Statements.{place, rest_fault, words_fault, words_said, said};
+ghost use Rattle.script_read.specs.Drafts.{IsStop, IsDraft, IsPlaced, Fits, one_fault};
+ghost use Rattle.session_model.specs.Valid.{IsCount};
+
+use crate::draft::{Draft, Statement};
+use crate::fault::{LineKind, Stop};
+use crate::items::{read_carry, read_command, read_frame};
+use crate::keyword::{Keyword, check_place};
+use crate::network::{read_container, read_delays, read_fail, read_lost, read_one};
+use crate::words::next_word;
+use session_model::{EventLine, Item, ItemKind};
+use std::alloc::Global;
+
+// The count of an event line.
+fn read_count(rest: &[u8]) -> Result<u32, Stop>
+    ensures ok { IfOk result (λ n.
+        (one_fault 1 1000000 (words rest.now) ≡ None) × (n ≡ number_at 0 (words rest.now))) }
+    ensures fits { IfOk result IsCount }
+    ensures err { IfErr result (λ stop. IsStop stop (one_fault 1 1000000 (words rest.now))) }
+{
+    Ok(read_one(rest, 1, 1_000_000)? as u32)
+}
+
+// What the words after a keyword say that stands in its place.
+fn read_rest(alloc: Global, draft: &Draft, keyword: Keyword, rest: &[u8]) -> Result<Statement, Stop>
+    requires stands { IsPlaced draft.now.next (place keyword) }
+    requires config { IsDraft draft.now }
+    ensures ok { IfOk result (λ read. (rest_fault draft.now keyword (words rest.now) ≡ None)
+        × (read ≡ said keyword (words rest.now))) }
+    ensures fits { IfOk result (λ read. Fits draft.now read) }
+    ensures err { IfErr result (λ stop.
+        IsStop stop (rest_fault draft.now keyword (words rest.now))) }
+{
+    match keyword {
+        Keyword::Container => Ok(Statement::Container(read_container(rest)?)),
+        Keyword::Lines => Ok(Statement::Lines(read_one(rest, 1, 128)? as u8)),
+        Keyword::Delays => Ok(Statement::Delays(read_delays(alloc, rest, draft.config.lines)?)),
+        Keyword::Ring => Ok(Statement::Ring(read_one(rest, 1, 2048)? as u16)),
+        Keyword::Lag => Ok(Statement::Lag(read_one(rest, 1, 512)? as u16)),
+        Keyword::Ticks => Ok(Statement::Ticks(read_one(rest, 1, 1_000_000)? as u32)),
+        Keyword::Fail => {
+            let (m, window) = read_fail(draft, rest)?;
+            Ok(Statement::Fail(m, window))
+        }
+        Keyword::Lost => {
+            let (first, end) = read_lost(draft, rest)?;
+            Ok(Statement::Lost(first, end))
+        }
+        Keyword::Frame => Ok(Statement::Item(read_frame(alloc, draft, rest)?)),
+        Keyword::Add => {
+            let (due, line) = read_command(draft, rest)?;
+            Ok(Statement::Item(Item {
+                due,
+                kind: ItemKind::Add(line),
+            }))
+        }
+        Keyword::Remove => {
+            let (due, line) = read_command(draft, rest)?;
+            Ok(Statement::Item(Item {
+                due,
+                kind: ItemKind::Remove(line),
+            }))
+        }
+        Keyword::Client => Ok(Statement::Event(EventLine::Client(read_count(rest)?))),
+        Keyword::Operator => Ok(Statement::Event(EventLine::Operator(read_count(rest)?))),
+        Keyword::Tick => Ok(Statement::Event(EventLine::Tick(read_count(rest)?))),
+        Keyword::Carry => {
+            let (m, count) = read_carry(draft, rest)?;
+            Ok(Statement::Event(EventLine::Carry(m, count)))
+        }
+        Keyword::Back => Ok(Statement::Event(EventLine::Back(read_count(rest)?))),
+        Keyword::Take => Ok(Statement::Event(EventLine::Take(read_count(rest)?))),
+        Keyword::Round => Ok(Statement::Event(EventLine::Round(read_count(rest)?))),
+        Keyword::Drain => match next_word(rest) {
+            None => Ok(Statement::Event(EventLine::Drain)),
+            Some(_) => Err(Stop::Line(LineKind::Word)),
+        },
+    }
+}
+
+/// What a line says after those of a draft.
+pub(crate) fn read_line(alloc: Global, draft: &Draft, line: &[u8]) -> Result<Statement, Stop>
+    requires { IsDraft draft.now }
+    ensures ok { IfOk result (λ read. (words_fault draft.now (words line.now) ≡ None)
+        × (read ≡ words_said (words line.now))) }
+    ensures fits { IfOk result (λ read. Fits draft.now read) }
+    ensures err { IfErr result (λ stop. IsStop stop (words_fault draft.now (words line.now))) }
+{
+    let Some((word, rest)) = next_word(line) else {
+        return Ok(Statement::Nothing);
+    };
+    if word.first() == Some(&b'#') {
+        return Ok(Statement::Nothing);
+    }
+    let Some(keyword) = Keyword::of(word) else {
+        return Err(Stop::Line(LineKind::Word));
+    };
+    match check_place(draft.next, keyword.place()) {
+        Ok(()) => read_rest(alloc, draft, keyword, rest),
+        Err(kind) => Err(Stop::Line(kind)),
+    }
+}
