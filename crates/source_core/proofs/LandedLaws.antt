@@ -1,13 +1,16 @@
 -- What lands later changes nothing of what was sent before.
-use Rattle.std.proofs.Common.{◌≡◌, ◌<◌, ℕ, ◌+◌, ◌-◌, ◌*◌, ◌&&◌, nat_le, nat_lt, true, false, Bool, if◌then◌else◌, List, [], ◌∷◌, map, filter, Option, None, slice_index_or, refl, sym, ◌∙◌, ap, arith}
+use Rattle.std.proofs.Common.{◌≡◌, ◌≤◌, ◌<◌, ℕ, ◌+◌, ◌-◌, ◌*◌, ◌&&◌, nat_le, nat_lt, true, false, Bool, if◌then◌else◌, List, [], ◌∷◌, ◌++◌, map, filter, take, drop, All, Option, None, slice_index_or, refl, sym, ◌∙◌, ap, arith}
 use Rattle.std.proofs.lemmas.Bool.Decides.{nat_tests}
+use Rattle.std.proofs.lemmas.List.{append-nil, take-append-drop}
+use Rattle.std.proofs.lemmas.List.Elements.{filter-append}
 use Rattle.session_model.specs.Scenario.{Scenario, Order, Offer, lands_at, comes_at, steps_in}
 use Rattle.session_model.specs.Table.{Told}
 use Rattle.session_model.specs.Source.{cell_at}
 use Rattle.session_law.specs.Session.{AgreeBefore}
 use Rattle.session_law.proofs.SessionLaws.{Agree-first}
-use Rattle.source_core.specs.Given.{has_come, ComesAlike}
+use Rattle.source_core.specs.Given.{has_come, first_items, ComesAlike}
 use Rattle.source_core.proofs.AlikeLaws.{Alike}
+use Rattle.source_core.proofs.TickSteps.{filter-none}
 
 filter-filter : {X : Type 0} (fine all : X → Bool) (xs : List X) → ((x : X) → fine x ≡ true → all x ≡ true) → filter fine (filter all xs) ≡ filter fine xs
 filter-filter fine all [] within = refl
@@ -43,4 +46,23 @@ alike-landed one other a b t comes agree = record {
   cells = λ j low. cells-same one other a b (steps_in t) comes.lag agree j low;
   offers = λ u low. ap (map (λ (offer : Offer). offer.frame))
       (same-parts (comes_at u) (λ (offer : Offer). has_come t offer.due) one.offers other.offers (λ offer here. comes-within offer.due u t low here) comes.offers);
+}
+
+-- ---- the first items of a session, where none of the others is due yet
+prefix-alike : {X : Type 0} (all : X → Bool) (n : ℕ) (xs : List X) → All (λ x. all x ≡ false) (drop n xs) → filter all (take n xs) ≡ filter all xs
+prefix-alike all n xs none =
+    sym (append-nil (filter all (take n xs))) ∙ ap (λ rest. filter all (take n xs) ++ rest) (sym (filter-none all (drop n xs) none))
+    ∙ sym (filter-append all (take n xs) (drop n xs)) ∙ ap (filter all) (take-append-drop n xs)
+
+not-come : (t due : ℕ) → t ≤ due → nat_lt due t ≡ false
+not-come t due late = grind (arith, nat_tests, late)
+
+pub first-alike : (scenario : Scenario) (n m t : ℕ) → All (λ (order : Order). t ≤ order.due) (drop n scenario.orders) → All (λ (offer : Offer). t ≤ offer.due) (drop m scenario.offers) →
+    ComesAlike (first_items scenario n m) scenario t
+first-alike scenario n m t orders offers = record {
+  lines = refl;
+  lag = refl;
+  size = refl;
+  offers = prefix-alike (λ (offer : Offer). has_come t offer.due) m scenario.offers (λ k d low. not-come t (slice_index_or (drop m scenario.offers) k d).due (offers k d low));
+  orders = prefix-alike (λ (order : Order). has_come t order.due) n scenario.orders (λ k d low. not-come t (slice_index_or (drop n scenario.orders) k d).due (orders k d low));
 }

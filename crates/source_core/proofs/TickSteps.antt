@@ -105,7 +105,7 @@ told-ticked scenario cells None t told due =
     ] refl
 
 -- ---- nothing that is due by now lands later
-filter-none : {X : Type 0} (test : X → Bool) (xs : List X) → All (λ x. test x ≡ false) xs → filter test xs ≡ []
+pub filter-none : {X : Type 0} (test : X → Bool) (xs : List X) → All (λ x. test x ≡ false) xs → filter test xs ≡ []
 filter-none test [] none = refl
 filter-none test (x ∷ xs) none =
     let first = All-head (λ x. test x ≡ false) x xs none in

@@ -1,5 +1,5 @@
 -- A source terminal over any list of calls: the scenario that it was given so far, and what stands of it.
-use Rattle.std.specs.Prelude.{◌≡◌, ◌≤◌, ℕ, zero, suc, ◌-◌, nat_lt, Bool, List, [], ◌∷◌, ◌++◌, map, filter, fold, length, replicate, All, Option, Some, None}
+use Rattle.std.specs.Prelude.{◌≡◌, ◌≤◌, ℕ, zero, suc, ◌-◌, nat_lt, Bool, List, [], ◌∷◌, ◌++◌, map, filter, fold, take, length, replicate, All, Option, Some, None}
 use Rattle.std.specs.List.{range_with_len}
 use Rattle.vc_cell.specs.declared.BackCell.{BackCell}
 use Rattle.session_model.specs.declared.table.Command.{Command}
@@ -84,6 +84,10 @@ pub record Stands (core : Terminal) (scenario : Scenario) (cells : List (Option 
 -- what is due lands before t ticks are made
 abbrev pub has_come : ℕ → ℕ → Bool
 has_come t due = nat_lt due t
+
+-- the session of the first n commands and the first m frames alone
+abbrev pub first_items : Scenario → ℕ → ℕ → Scenario
+first_items scenario n m = with_items scenario (take n scenario.orders) (take m scenario.offers)
 
 -- up to t ticks the same frames and commands come, in the same session
 pub record ComesAlike (one other : Scenario) (t : ℕ) : Type 0 where

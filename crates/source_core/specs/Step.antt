@@ -40,7 +40,7 @@ nibbles_by false table nibbles = nibbles
 abbrev pub AreNibbles : List (List ℕ) → Type 0
 AreNibbles lists = All (λ nibbles. All (λ nibble. nibble < 16) nibbles) lists
 
--- lines that can carry payload together: each is one of so many, none stands twice, and there are no more than there are lines
+-- lines that can carry payload together: each is one of the group's, none stands twice, and there are no more than there are lines
 pub record AreMembers (lines : ℕ) (active : List ℕ) : Type 0 where
   pub among : AreLines lines active
   pub distinct : AreDistinct active

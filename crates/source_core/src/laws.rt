@@ -1,16 +1,17 @@
 //! Laws of what a source terminal sends, over the definitions alone.
 
-ghost use Rattle.std.specs.Prelude.{◌≡◌, ◌↔◌, ◌<◌, ◌≤◌, ◌+◌, ◌-◌, ◌*◌, ℕ, [], List, Option, Some, None, length, replicate};
+ghost use Rattle.std.specs.Prelude.{◌≡◌, ◌↔◌, ◌<◌, ◌≤◌, ◌+◌, ◌-◌, ◌*◌, ℕ, [], List, Option, Some, None, All, drop, length, replicate};
 ghost use Rattle.session_model.specs.Scenario.{Scenario, steps_in};
 ghost use Rattle.session_model.specs.Table.{Told, active};
 ghost use Rattle.session_model.specs.Source.{after, table_of};
 ghost use Rattle.session_model.specs.Client.{stream_before};
 ghost use Rattle.session_model.specs.Payload.{payload_of};
+ghost use Rattle.session_model.specs.Journal.{replayed};
 ghost use Rattle.session_model.specs.Sent.{rank_of, active_at, container_of, frame_of};
 ghost use Rattle.session_law.specs.Session.{AgreeBefore};
 ghost use Rattle.vcat_interleave.specs.Spread.{AreDistinct};
 ghost use Rattle.source_core.specs.Terminal.{needed_at};
-ghost use Rattle.source_core.specs.Given.{ComesAlike};
+ghost use Rattle.source_core.specs.Given.{ComesAlike, first_items};
 ghost use Rattle.source_core.specs.Dealt.{IsDealt};
 
 /// What lands later, and return cells that come later, change nothing of what was sent before: so what a terminal makes of the
@@ -25,6 +26,16 @@ pub fn landed_law()
     ensures tables { (one other : Scenario) (a b : List (Option Told)) (t j : ℕ) →
         ComesAlike one other t → AgreeBefore (steps_in t - one.lag) a b → j ≤ steps_in t →
         after one a j ≡ after other b j }
+    ensures prefix { (scenario : Scenario) (n m t : ℕ) →
+        All (λ order. t ≤ order.due) (drop n scenario.orders) →
+        All (λ offer. t ≤ offer.due) (drop m scenario.offers) →
+        ComesAlike (first_items scenario n m) scenario t }
+{}
+
+/// What was refused changes no container: the session of what was accepted alone has the same ones.
+pub fn accepted_law()
+    ensures { (scenario : Scenario) (cells : List (Option Told)) (t u : ℕ) → u < t →
+        frame_of (replayed scenario cells t) cells u ≡ frame_of scenario cells u }
 {}
 
 /// The octets of a frame are dealt to the lines that the table of its packet has in NORM, all of them and no other; each octet is

@@ -46,7 +46,7 @@ fn tick(core: &mut SourceCore, cells: &[BackCell], out: &mut [Container])
     core.tick(cell, out);
 }
 
-/// The first lines of a stream: two idles, and then the headers of a frame of 64 zeros and its first octets, scrambled.
+/// The first octets of a stream: two idles, and then the headers of a frame of 64 zeros and its first octets, scrambled.
 const STREAM: [u8; 28] = [
     0xb6, 0xab, 0x31, 0xe0, 0xb6, 0xab, 0x31, 0xe0, 0xb6, 0xef, 0x39, 0xa0, 0x00, 0x01, 0x10, 0x21,
     0x00, 0x00, 0x00, 0x22, 0x04, 0x20, 0x00, 0x00, 0x04, 0x40, 0x84, 0x00,

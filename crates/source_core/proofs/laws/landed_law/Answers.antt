@@ -1,7 +1,7 @@
 -- What lands alike goes alike.
 use Rattle.std.proofs.Common.{◌≡◌, ◌+◌, suc, subst, arith}
 use Rattle.source_core.proofs.AlikeLaws.{Alike, alike-after, alike-stream, alike-frame}
-use Rattle.source_core.proofs.LandedLaws.{alike-landed}
+use Rattle.source_core.proofs.LandedLaws.{alike-landed, first-alike}
 use Rattle.source_core.proofs.laws.landed_law.Goals as goal
 
 pub returns-clause-frames : goal.returns-clause-frames
@@ -14,3 +14,6 @@ returns-clause-streams c one other a b t comes agree = alike-stream one a other 
 
 pub returns-clause-tables : goal.returns-clause-tables
 returns-clause-tables c one other a b t j comes agree low = alike-after one a other b t j (alike-landed one other a b t comes agree) low
+
+pub returns-clause-prefix : goal.returns-clause-prefix
+returns-clause-prefix c scenario n m t orders offers = first-alike scenario n m t orders offers

@@ -1,3 +1,4 @@
+-- The numbers of a packet are octets, so each of its nibbles has four bits.
 use Rattle.std.proofs.Common.{◌<◌, All, sym, subst, arith}
 use Rattle.session_model.specs.Packet.{IsPacket}
 use Rattle.session_model.proofs.PacketLaws.{packet_nibbles_below}
