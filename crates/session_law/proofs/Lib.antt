@@ -14,3 +14,4 @@ pub mod AcceptedLaws
 pub mod LandingLaws
 pub mod ClientLaws
 pub mod JournalLaws
+pub mod AlikeLaws

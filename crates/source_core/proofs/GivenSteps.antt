@@ -15,7 +15,8 @@ use Rattle.gfp_fill.specs.Queue.{Held}
 use Rattle.gfp_fill.specs.Stream.{Sender, Stands as HasWritten}
 use Rattle.source_core.specs.Step.{terminal_of}
 use Rattle.source_core.specs.Given.{with_frame, with_command, stream_now, source_now, nibbles_after, Stands}
-use Rattle.source_core.proofs.AlikeLaws.{Alike, alike-after, alike-place, alike-stream, alike-active, alike-nibbles, map-same}
+use Rattle.session_law.proofs.AlikeLaws.{Alike, alike-after, alike-place, alike-stream, map-same}
+use Rattle.source_core.proofs.AlikeLaws.{alike-active, alike-nibbles}
 
 -- ---- what lands when
 comes-later : (due u t : ℕ) → u < t → t ≤ due → (nat_le due u && nat_le u due) ≡ false

@@ -9,7 +9,7 @@ use Rattle.session_model.specs.Source.{cell_at}
 use Rattle.session_law.specs.Session.{AgreeBefore}
 use Rattle.session_law.proofs.SessionLaws.{Agree-first}
 use Rattle.source_core.specs.Given.{has_come, first_items, ComesAlike}
-use Rattle.source_core.proofs.AlikeLaws.{Alike}
+use Rattle.session_law.proofs.AlikeLaws.{Alike}
 use Rattle.source_core.proofs.TickSteps.{filter-none}
 
 filter-filter : {X : Type 0} (fine all : X → Bool) (xs : List X) → ((x : X) → fine x ≡ true → all x ≡ true) → filter fine (filter all xs) ≡ filter fine xs

@@ -28,7 +28,7 @@ use Rattle.source_core.specs.Terminal.{needed_at}
 use Rattle.source_core.specs.Frame.{container_by, containers_by}
 use Rattle.source_core.specs.Step.{is_step, table_by, active_by, nibbles_of, nibbles_by, terminal_of}
 use Rattle.source_core.specs.Given.{with_cell, stream_now, course_now, nibbles_after, nibbles_now, active_now, Stands}
-use Rattle.source_core.proofs.AlikeLaws.{Alike, alike-after, alike-place, alike-stream, map-same}
+use Rattle.session_law.proofs.AlikeLaws.{Alike, alike-after, alike-place, alike-stream, map-same}
 
 -- ---- whether a return cell is there
 needed-when : (b : Bool) (n : ℕ) → is_some (if b then Some n else None) ≡ b

@@ -3,7 +3,6 @@ pub mod WalkLaws
 pub mod RingLaws
 pub mod WaitLaws
 pub mod LandLaws
-pub mod AlikeLaws
 pub mod SourceLaws
 pub mod ReportLaws
 pub mod ReturnLaws

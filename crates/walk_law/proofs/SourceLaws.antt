@@ -19,7 +19,7 @@ use Rattle.walk_law.specs.Walk.{CanWalk, IsWalked}
 use Rattle.walk_law.specs.Landed.{Numbered, landed_scenario, told_before, IsOfferAt, IsOrderAt, stream_met, source_met, kind_refusal, refusal_at}
 use Rattle.walk_law.proofs.WalkLaws.{fits}
 use Rattle.walk_law.proofs.LandLaws.{frame-waits, command-waits, frames-landed, orders-landed, offer-at, order-at}
-use Rattle.walk_law.proofs.AlikeLaws.{Alike, Alike-sooner, alike-after, alike-stream, alike-frame}
+use Rattle.session_law.proofs.AlikeLaws.{Alike, Alike-sooner, alike-after, alike-stream, alike-frame}
 
 few-used : (rows ticks backs used : ℕ) → rows ≤ ticks → backs ≤ (rows - 8) / 16 → used ≤ backs → used ≤ (ticks - 8) / 16
 few-used rows ticks backs used low most taken = omega arith

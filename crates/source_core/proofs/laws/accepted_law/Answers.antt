@@ -1,5 +1,5 @@
 -- What was accepted leads to the same tables and streams.
-use Rattle.source_core.proofs.AlikeLaws.{replayed-frame}
+use Rattle.session_law.proofs.AlikeLaws.{replayed-frame}
 use Rattle.source_core.proofs.laws.accepted_law.Goals as goal
 
 pub returns : goal.returns

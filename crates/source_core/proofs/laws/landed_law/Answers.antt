@@ -1,6 +1,6 @@
 -- What lands alike goes alike.
 use Rattle.std.proofs.Common.{◌≡◌, ◌+◌, suc, subst, arith}
-use Rattle.source_core.proofs.AlikeLaws.{Alike, alike-after, alike-stream, alike-frame}
+use Rattle.session_law.proofs.AlikeLaws.{Alike, alike-after, alike-stream, alike-frame}
 use Rattle.source_core.proofs.LandedLaws.{alike-landed, first-alike}
 use Rattle.source_core.proofs.laws.landed_law.Goals as goal
 
