@@ -72,7 +72,7 @@ module _ (slow fast slip : ℕ) (plan : Plan) (is : IsPlanOf slow fast slip plan
   lines-at : (s : Counts) → Fits plan s → Each (At s) plan.paths s.lines
   lines-at s fits = each-with (IsSound plan.ticks slow fast slip) (LineFits plan.ticks plan.ring s.ticks s.rows) plan.paths s.lines is.paths fits.lines
 
-  rows-ticks : (s : Counts) → Fits plan s → s.rows ≤ s.ticks
+  pub rows-ticks : (s : Counts) → Fits plan s → s.rows ≤ s.ticks
   rows-ticks s fits =
       let (path, line, at_) = each-some (At s) plan.paths s.lines is.some (lines-at s fits) in
       let early = at_.0.is_path.early line.carried line.popped at_.1.carries at_.1.pops in

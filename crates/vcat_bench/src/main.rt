@@ -1,6 +1,8 @@
-//! Spreads rows over the members of a group, or gathers them, to be timed from outside. It prints how many octets went through
-//! and a sum, and never a time.
+//! Spreads rows over the members of a group, gathers them, or makes the frames of a source terminal, to be timed from outside. It
+//! prints how many octets went through and a sum, and never a time.
 #![tactic(auto)]
+
+mod source;
 
 ghost use Rattle.std.specs.Prelude.{◌≡◌, ℕ, ◌*◌, ◌<◌, ◌≤◌, length, slice_index, IfOk};
 
@@ -15,11 +17,18 @@ const PIECE: usize = 2048;
 /// The most members of a group.
 const MEMBERS: usize = 128;
 
+/// What is done with a row.
+#[derive(Clone, Copy)]
+enum Pass {
+    Spread,
+    Gather,
+}
+
 /// What is timed.
 #[derive(Clone, Copy)]
 enum Way {
-    Spread,
-    Gather,
+    Rows(Pass),
+    Source,
 }
 
 /// The places of a piece.
@@ -109,6 +118,22 @@ fn gather(
 fn run(alloc: Global, way: Way, members: usize, octets: u64) -> Result<(u64, u64), AllocError>
     requires { members ≤ 128 }
 {
+    match way {
+        Way::Rows(pass) => run_rows(alloc, pass, members, octets),
+        Way::Source if members == 0 => Ok((0, 0)),
+        Way::Source => source::source(alloc, members as u8, octets),
+    }
+}
+
+/// Spreads or gathers at least `octets` octets.
+fn run_rows(
+    alloc: Global,
+    pass: Pass,
+    members: usize,
+    octets: u64,
+) -> Result<(u64, u64), AllocError>
+    requires { members ≤ 128 }
+{
     let blank = Container {
         h4: 0,
         payload: [0x5a; PAYLOAD],
@@ -123,9 +148,9 @@ fn run(alloc: Global, way: Way, members: usize, octets: u64) -> Result<(u64, u64
     } else {
         octets.div_ceil(a_round)
     };
-    let sum = match way {
-        Way::Spread => spread(rounds, places, &active, &mut row, &mut containers),
-        Way::Gather => gather(rounds, places, &active, &mut row, &mut containers),
+    let sum = match pass {
+        Pass::Spread => spread(rounds, places, &active, &mut row, &mut containers),
+        Pass::Gather => gather(rounds, places, &active, &mut row, &mut containers),
     };
     Ok((rounds.wrapping_mul(a_round), sum))
 }
@@ -137,8 +162,9 @@ fn read_words(
     octets: Option<&str>,
 ) -> Option<(Way, usize, u64)> {
     let way = match way? {
-        "spread" => Way::Spread,
-        "gather" => Way::Gather,
+        "spread" => Way::Rows(Pass::Spread),
+        "gather" => Way::Rows(Pass::Gather),
+        "source" => Way::Source,
         _ => return None,
     };
     let members = members?.parse::<usize>().ok()?;
@@ -157,7 +183,7 @@ fn main(rt: HostRuntime) -> io::Result<()> {
         members.as_deref(),
         octets.as_deref(),
     ) else {
-        return println!(rt; "usage: vcat_bench spread or gather, members and octets");
+        return println!(rt; "usage: vcat_bench spread, gather or source, members and octets");
     };
     let (done, sum) = run(alloc, way, members.min(MEMBERS), octets)?;
     println!(rt; "octets {done} sum {sum}")

@@ -10,7 +10,7 @@ use Rattle.vc_cell.specs.declared.Container.{Container}
 use Rattle.vc_cell.specs.declared.Cell.{Cell}
 use Rattle.session_model.specs.declared.window.Carried.{Carried}
 use Rattle.session_model.specs.declared.script.Script.{Script}
-use Rattle.session_model.specs.Valid.{IsValid}
+use Rattle.session_model.specs.declared.walk.Event.{Event}
 use Rattle.session_model.specs.Path.{cells}
 use Rattle.session_model.specs.Number.{verdict}
 use Rattle.session_model.specs.Scenario.{Scenario, scenario_of, carried_by, packets_in, packets, steps_in}
@@ -23,21 +23,23 @@ use Rattle.session_model.specs.Payload.{payload_of}
 use Rattle.session_model.specs.Rows.{row_at}
 use Rattle.session_model.specs.SessionRows.{is_whole_row}
 use Rattle.session_model.specs.Sent.{frame_of}
-use Rattle.session_model.specs.Counts.{LinePath, LineCounts, Counts}
+use Rattle.session_model.specs.Counts.{LinePath, LineCounts, Counts, step, run, begin, drain}
 use Rattle.session_model.specs.Plan.{all_cells, path_of}
 use Rattle.line_law.specs.StableRows.{AreDecidedAt}
 use Rattle.line_law.proofs.StableLaws.{cells-part}
 use Rattle.progress_law.specs.Progress.{Each, LineFits, Fits}
 use Rattle.progress_law.proofs.LineLaws.{is_decided}
 use Rattle.progress_law.proofs.MoveLaws.{reached-fits}
+use Rattle.progress_law.proofs.ReachLaws.{run-none, Leads-then, Leads-drain}
 use Rattle.terminal_law.specs.Lines.{given, ComesOf, ComeOf}
-use Rattle.terminal_law.specs.Course.{back_of, told_of}
+use Rattle.terminal_law.specs.Course.{back_of, told_of, IsCourse}
 use Rattle.terminal_law.proofs.SentLaws.{containers-size}
 use Rattle.terminal_law.proofs.ListLaws.{range-at}
 use Rattle.terminal_law.proofs.CellLaws.{given-whole}
 use Rattle.terminal_law.proofs.RowLaws.{row-told}
+use Rattle.terminal_law.proofs.CourseLaws.{session-agree, come-same}
 use Rattle.terminal_law.proofs.LoopLaws.{frame-same, source-same, stream-same, next-cell}
-use Rattle.walk_law.specs.Walk.{sent_on, walk_plan, IsWalked, counts_at, cells_on, popped_on, popped_cells, path_on}
+use Rattle.walk_law.specs.Walk.{sent_on, walk_plan, CanWalk, IsWalked, counts_at, cells_on, popped_on, popped_cells, path_on}
 use Rattle.walk_law.proofs.PlanLaws.{has-lines, has-plan, line-path}
 
 each-there : (P : LinePath → LineCounts → Type 0) (paths : List LinePath) (lines : List LineCounts) (m : ℕ) (path : LinePath) (d : LineCounts) → Each P paths lines →
@@ -88,24 +90,24 @@ line-first script line carries popped low fits =
     first-given (carried_by scenario line) delay containers carries popped (omega arith) fits
     ∙ ap (λ n. take popped (cells (carried_by scenario line) delay n containers carries)) size
 
-module _ (script : Script) (s : Counts) (valid : IsValid script) (walked : IsWalked script s) where
+module _ (script : Script) (s : Counts) (can : CanWalk script) (walked : IsWalked script s) where
   abbrev scenario : Scenario
   scenario = scenario_of script
 
   abbrev session : List (Option Told)
   session = session_cells (scenario_of script)
 
-  fits : Fits (walk_plan script) s
-  fits = reached-fits (walk_plan script) s (has-plan script valid) walked
+  pub fits : Fits (walk_plan script) s
+  fits = reached-fits (walk_plan script) s (has-plan script can) walked
 
   abbrev delay_of : ℕ → ℕ
   delay_of line = slice_index_or script.config.delays line 0
 
-  line-fits : (line : ℕ) → line < length script.config.windows →
+  pub line-fits : (line : ℕ) → line < length script.config.windows →
       LineFits script.config.ticks script.config.ring s.ticks s.rows (path_of (carried_by scenario line) (delay_of line) (sent_on scenario line)) (counts_at s.lines line)
   line-fits line inside =
       each-there (LineFits script.config.ticks script.config.ring s.ticks s.rows) (walk_plan script).paths s.lines line
-      (path_of (carried_by scenario line) (delay_of line) (sent_on scenario line)) (record { carried = 0; popped = 0 }) fits.lines (line-path script valid line inside)
+      (path_of (carried_by scenario line) (delay_of line) (sent_on scenario line)) (record { carried = 0; popped = 0 }) fits.lines (line-path script can line inside)
 
   popped-comes : (line : ℕ) → line < length script.config.windows → ComesOf scenario session line s.ticks (popped_on script s.lines line)
   popped-comes line inside =
@@ -167,11 +169,11 @@ module _ (script : Script) (s : Counts) (valid : IsValid script) (walked : IsWal
       row_at script.config.size (popped_cells script s.lines) t ≡ (if is_whole_row scenario session t then Some (payload_of scenario session t) else None)
   rows-are t low =
       let rows = fits.rows in
-      row-told scenario session s.ticks (popped_cells script s.lines) t (has-lines script valid) cells-come (omega arith) (cells-decide t low)
+      row-told scenario session s.ticks (popped_cells script s.lines) t (has-lines script can) cells-come (omega arith) (cells-decide t low)
 
   -- ---- the return path
-  lag : 0 < scenario.lag
-  lag = let fits_lag = valid.network.lag.0 in omega arith
+  pub lag : 0 < scenario.lag
+  lag = let fits_lag = can.lag in omega arith
 
   few-packets : (rows ticks n : ℕ) → rows ≤ ticks → n ≤ (rows - 8) / 16 → n ≤ (ticks - 8) / 16
   few-packets rows ticks n low most = omega arith
@@ -205,8 +207,36 @@ module _ (script : Script) (s : Counts) (valid : IsValid script) (walked : IsWal
       ap (λ k. map f (range_with_len 0 k)) e
       ∙ map-range_with_len_more f 0 n n (omega arith)
       ∙ ap (λ l. l ++ f n ∷ []) (told-first n (omega arith))
-      ∙ sym (next-cell scenario s.ticks n popped (has-lines script valid) lag (few-packets s.rows script.config.ticks (suc n) fits.rows inside) cells-come
+      ∙ sym (next-cell scenario s.ticks n popped (has-lines script can) lag (few-packets s.rows script.config.ticks (suc n) fits.rows inside) cells-come
       (cells-decide (16 * n + 23) (ends s.rows n inside)))
 
   pub backs-are : told_of scenario (popped_cells script s.lines) s.backs ≡ cells_before scenario s.backs
   backs-are = told-first s.backs (omega arith)
+
+  pub is-course : IsCourse scenario s.ticks s.backs (popped_cells script s.lines)
+  is-course =
+      let used = fits.used in
+      let most = few-packets s.rows script.config.ticks s.backs fits.rows fits.backs in
+      let agree = session-agree scenario s.backs s.backs most (omega arith) in
+      record {
+        most = most;
+        used = omega arith;
+        come = subst (λ returns. ComeOf scenario returns s.ticks (popped_cells script s.lines)) (sym backs-are)
+            (come-same scenario session (cells_before scenario s.backs) s.ticks s.backs (popped_cells script s.lines) (omega arith) (sym agree) cells-come);
+        decided = λ k low.
+            let backs = fits.backs in
+            cells-decide (16 * k + 23) (ends s.rows k (omega arith));
+      }
+
+-- ---- what is walked
+pub begins-walked : (script : Script) → IsWalked script (begin (walk_plan script))
+begins-walked script = ([], sym (run-none (walk_plan script) (begin (walk_plan script))))
+
+pub steps-walked : (script : Script) (s : Counts) (event : Event) → IsWalked script s → IsWalked script (step (walk_plan script) s event).counts
+unfolding run
+steps-walked script s event walked =
+    Leads-then (walk_plan script) (begin (walk_plan script)) s (step (walk_plan script) s event).counts walked (event ∷ [], refl)
+
+pub drains-walked : (script : Script) (s : Counts) (k : ℕ) → IsWalked script s → IsWalked script (drain k (walk_plan script) s)
+drains-walked script s k walked =
+    Leads-then (walk_plan script) (begin (walk_plan script)) s (drain k (walk_plan script) s) walked (Leads-drain k (walk_plan script) s)

@@ -1,15 +1,17 @@
 -- A walk of a script: its counts, and the cells that they speak of.
-use Rattle.std.specs.Prelude.{ℕ, List, map, take, length, slice_index_or, Option}
+use Rattle.std.specs.Prelude.{◌≡◌, ℕ, ◌<◌, ◌≤◌, List, map, take, length, slice_index_or, All, Option}
 use Rattle.std.specs.List.{range_with_len}
+use Rattle.std.specs.List.Sorted.{IsNonDecreasing}
 use Rattle.vc_cell.specs.declared.Container.{Container}
 use Rattle.vc_cell.specs.declared.Cell.{Cell}
 use Rattle.session_model.specs.declared.script.Script.{Script}
+use Rattle.session_model.specs.Damage.{AreWindows}
 use Rattle.session_model.specs.Scenario.{Scenario, scenario_of, carried_by}
 use Rattle.session_model.specs.Table.{Told}
 use Rattle.session_model.specs.Back.{cells_before, session_cells}
 use Rattle.session_model.specs.Sent.{containers_of}
-use Rattle.session_model.specs.Counts.{LinePath, Plan, LineCounts, Counts}
-use Rattle.session_model.specs.Plan.{all_cells, path_of, plan_of}
+use Rattle.session_model.specs.Counts.{LinePath, Plan, LineCounts, Counts, frame_dues, command_dues, dues_of}
+use Rattle.session_model.specs.Plan.{all_cells, path_of, plan_of, FitsRing, FitsLag}
 use Rattle.progress_law.specs.Progress.{IsReached}
 
 -- ---- the session of a script
@@ -32,6 +34,20 @@ sent_of scenario = map (sent_on scenario) (range_with_len 0 (length scenario.win
 -- the plan of a script's walk
 abbrev pub walk_plan : Script → Plan
 walk_plan script = plan_of script.config script.items (sent_of (scenario_of script))
+
+-- ---- what is asked of a script: one line at least and at most 128, each with a delay, and with windows in order and apart; due ticks
+-- that never fall; and rings that fit. A valid script has all that
+pub record CanWalk (script : Script) : Type 0 where
+  pub some : 0 < length script.config.windows
+  pub few : length script.config.windows ≤ 128
+  pub delays : length script.config.delays ≡ length script.config.windows
+  pub apart : All (AreWindows 0) script.config.windows
+  pub frames : IsNonDecreasing (frame_dues (dues_of script.items))
+  pub commands : IsNonDecreasing (command_dues (dues_of script.items))
+  pub some_room : 1 ≤ script.config.ring
+  pub room : script.config.ring ≤ 2048
+  pub ring : FitsRing script.config
+  pub lag : FitsLag script.config
 
 -- some list of events leads to these counts
 abbrev pub IsWalked : Script → Counts → Type 0

@@ -1,24 +1,41 @@
 -- A walk is a course of the session.
-use Rattle.walk_law.proofs.WalkLaws.{frames-are, sources-are, streams-are, cells-come, cells-decide, rows-are, backs-are}
+use Rattle.progress_law.proofs.ReachLaws.{walked-reached}
+use Rattle.walk_law.specs.Walk.{walk_plan}
+use Rattle.walk_law.proofs.WalkLaws.{begins-walked, steps-walked, drains-walked, is-course, sources-are, streams-are, frames-are, cells-come, cells-decide, rows-are, backs-are}
 use Rattle.walk_law.proofs.walk_law.Goals as goal
 
 pub returns-clause-frames : goal.returns-clause-frames
-returns-clause-frames c script s t valid walked = frames-are script s valid walked t
+returns-clause-frames c script s t can walked = frames-are script s can walked t
 
 pub returns-clause-come : goal.returns-clause-come
 returns-clause-come c = cells-come
 
 pub returns-clause-decided : goal.returns-clause-decided
-returns-clause-decided c script s t valid walked = cells-decide script s valid walked t
+returns-clause-decided c script s t can walked = cells-decide script s can walked t
 
 pub returns-clause-rows : goal.returns-clause-rows
-returns-clause-rows c script s t valid walked = rows-are script s valid walked t
+returns-clause-rows c script s t can walked = rows-are script s can walked t
 
 pub returns-clause-backs : goal.returns-clause-backs
 returns-clause-backs c = backs-are
 
+pub returns-clause-begins : goal.returns-clause-begins
+returns-clause-begins c = begins-walked
+
+pub returns-clause-steps : goal.returns-clause-steps
+returns-clause-steps c = steps-walked
+
+pub returns-clause-drains : goal.returns-clause-drains
+returns-clause-drains c = drains-walked
+
+pub returns-clause-event_lines : goal.returns-clause-event_lines
+returns-clause-event_lines c script = walked-reached (walk_plan script) script.events
+
+pub returns-clause-course : goal.returns-clause-course
+returns-clause-course c = is-course
+
 pub returns-clause-sources : goal.returns-clause-sources
-returns-clause-sources c script s j valid walked = sources-are script s valid walked j
+returns-clause-sources c script s j can walked = sources-are script s can walked j
 
 pub returns-clause-streams : goal.returns-clause-streams
-returns-clause-streams c script s t valid walked = streams-are script s valid walked t
+returns-clause-streams c script s t can walked = streams-are script s can walked t

@@ -1,0 +1,5 @@
+pub mod Terminal
+pub mod Given
+pub mod Frame
+pub mod Step
+pub mod Dealt

@@ -1,0 +1,141 @@
+-- Which rows are whole, and what is delivered while they are.
+use Rattle.std.proofs.Common.{◌≡◌, ℕ, zero, suc, ◌+◌, ◌-◌, ◌*◌, ◌/◌, ◌<◌, ◌≤◌, nat_le, nat_lt, ◌&&◌, ◌++◌, Bool, true, false, inl, inr, List, [], ◌∷◌, length, slice_index_or, All, Option, refl, sym, ◌∙◌, ap, ap₂, subst, arith}
+use Rattle.std.specs.List.{list_all}
+use Rattle.std.proofs.lemmas.Bool.{lt-leb, ltb-false, cases_Bool, cases_lt}
+use Rattle.std.proofs.lemmas.List.{get_or_past}
+use Rattle.std.proofs.lemmas.List.Elements.{All-nil, All-cons, All-append}
+use Rattle.session_model.specs.declared.window.Window.{Window}
+use Rattle.session_model.specs.declared.window.Carried.{Carried}
+use Rattle.session_model.specs.declared.window.Carried.TheVariants.{Whole}
+use Rattle.session_model.specs.declared.script.Script.{Script}
+use Rattle.session_model.specs.Damage.{carried, is_good}
+use Rattle.session_model.specs.Piece.{Piece, idle, frames_by}
+use Rattle.session_model.specs.Scenario.{Scenario, scenario_of, carried_by, is_read, is_heard}
+use Rattle.session_model.specs.Table.{Told, active}
+use Rattle.session_model.specs.Source.{table_of}
+use Rattle.session_model.specs.Back.{session_cells}
+use Rattle.session_model.specs.SessionRows.{is_whole_row}
+use Rattle.session_model.specs.Segment.{StreamRow, Segment, Segments, row_by, segments_on, segments}
+use Rattle.session_model.specs.Loss.{StartsTrue}
+use Rattle.session_model.specs.SessionStream.{row_of, rows_of}
+use Rattle.session_law.specs.Session.{AreWhole}
+use Rattle.session_law.proofs.DamageLaws.{readable-whole, good-whole, heard-line}
+use Rattle.loss_law.specs.Carried.{Carry, IsSentPiece}
+use Rattle.loss_law.proofs.FilterLaws.{and_false}
+use Rattle.loss_law.proofs.SessionLossLaws.{pieces-sent}
+use Rattle.loss_law.proofs.SessionStreamLaws.{pieces-open, rows-carry, rows-length}
+use Rattle.loss_law.proofs.WholeLaws.{deliver-whole}
+use Rattle.walk_law.specs.Delivered.{delivered_of}
+use Rattle.walk_law.specs.Promise.{session_pieces, place_after, HasOctets, IsClear, row_from, AreWholeBefore, ConfirmsTrue}
+
+-- ---- one line
+clear-carried : (windows : List Window) (from end n : ℕ) → IsClear windows from end → from ≤ n → n < end → carried windows n ≡ Whole
+unfolding carried
+clear-carried [] from end n clear low high = refl
+clear-carried (window ∷ windows) from end n clear low high =
+    let rest = clear-carried windows from end n (λ k d inside. clear (suc k) d (omega arith)) low high in
+    elim (clear 0 window (omega arith)) [
+      | inl later ↦ let e : nat_le window.first n ≡ false = lt-leb window.first n (omega arith) in rw e rest
+      | inr sooner ↦
+          let e : (nat_le window.first n && nat_lt n window.end) ≡ false =
+          ap (λ b. nat_le window.first n && b) (grind (arith, (let h : window.end ≤ n = omega arith in h))) ∙ and_false (nat_le window.first n) in
+          rw e rest
+    ]
+
+pub clear-whole : (windows : List Window) (from end : ℕ) → IsClear windows from end → AreWhole (carried windows) from end
+clear-whole windows from end clear n low high = clear-carried windows from end n clear low high
+
+-- ---- a row
+all-true : (test : ℕ → Bool) (xs : List ℕ) → ((x : ℕ) → test x ≡ true) → list_all test xs ≡ true
+all-true test [] each = refl
+all-true test (x ∷ xs) each = rw (each x, all-true test xs each) refl
+
+sooner-whole : (carries : ℕ → Carried) (a from b end : ℕ) → a ≤ from → end ≤ b → AreWhole carries a b → AreWhole carries from end
+sooner-whole carries a from b end low high whole n above below = whole n (omega arith) (omega arith)
+
+module _ (script : Script) (some : 0 < length script.config.windows) (t : ℕ)
+    (clear : (line : ℕ) → line < length script.config.windows → IsClear (slice_index_or script.config.windows line []) (row_from t) (t + 1)) where
+  abbrev scenario : Scenario
+  scenario = scenario_of script
+
+  line-clear : (line : ℕ) → IsClear (slice_index_or script.config.windows line []) (row_from t) (t + 1)
+  line-clear line =
+      elim (cases_lt line (length script.config.windows)) [
+        | inl inside ↦ clear line inside
+        | inr beyond ↦
+            subst (λ windows. IsClear windows (row_from t) (t + 1)) (sym (get_or_past script.config.windows line [] beyond)) (λ k d inside. absurd (omega arith))
+      ]
+
+  line-whole : (line : ℕ) → AreWhole (carried_by scenario line) (row_from t) (t + 1)
+  line-whole line = clear-whole (slice_index_or script.config.windows line []) (row_from t) (t + 1) (line-clear line)
+
+  line-read : (line : ℕ) → 24 ≤ t → is_read scenario line ((t - 24) / 16) ≡ true
+  line-read line late =
+      let k : ℕ = (t - 24) / 16 in
+      (readable-whole (carried_by scenario line) k).1
+      (sooner-whole (carried_by scenario line) (row_from t) (16 * k) (t + 1) (16 * k + 24) (omega arith) (omega arith) (line-whole line))
+
+  line-good : (line : ℕ) → 24 ≤ t → is_good (carried_by scenario line) t ≡ true
+  line-good line late =
+      (good-whole (carried_by scenario line) t).1
+      (omega arith, sooner-whole (carried_by scenario line) (row_from t) (16 * ((t - 2) / 16)) (t + 1) (t + 1) (omega arith) (omega arith) (line-whole line))
+
+  pub row-whole : is_whole_row scenario (session_cells scenario) t ≡ true
+  row-whole =
+      elim (cases_Bool (nat_lt t 24)) [
+        | inl early ↦ rw early refl
+        | inr late ↦
+            let k : ℕ = (t - 24) / 16 in
+            let high = ltb-false t 24 late in
+            let heard : is_heard scenario k ≡ true = (heard-line scenario k).1 (0, some, line-read 0 high) in
+            let each : (line : ℕ) → (is_read scenario line k && is_good (carried_by scenario line) t) ≡ true =
+            λ line. ap₂ (λ a b. a && b) (line-read line high) (line-good line high) in
+            rw (late, heard) (all-true (λ line. is_read scenario line k && is_good (carried_by scenario line) t) (active (table_of scenario (session_cells scenario) k)) each)
+      ]
+
+-- ---- the rows before the first that isn't whole
+abbrev IsWhole : StreamRow → Type 0
+IsWhole row = row.whole ≡ true
+
+rows-whole : (scenario : Scenario) (cells : List (Option Told)) (rows : ℕ) → ((t : ℕ) → t < rows → is_whole_row scenario cells t ≡ true) → All IsWhole (rows_of scenario cells rows)
+unfolding rows_of
+rows-whole scenario cells zero each = All-nil IsWhole
+rows-whole scenario cells (suc rows) each =
+    All-append IsWhole (rows_of scenario cells rows) (row_of scenario cells rows ∷ [])
+    (rows-whole scenario cells rows (λ t low. each t (omega arith)))
+    (All-cons IsWhole (row_of scenario cells rows) [] (each rows (omega arith)) (All-nil IsWhole))
+
+pub delivered-before : (script : Script) (rows : ℕ) → HasOctets script → rows ≤ script.config.ticks → AreWholeBefore script rows →
+    delivered_of script rows ≡ frames_by (place_after script rows) (session_pieces script)
+delivered-before script rows octets low whole =
+    let scenario : Scenario = scenario_of script in
+    let cells : List (Option Told) = session_cells scenario in
+    let pieces : List Piece = session_pieces script in
+    let opens = pieces-open scenario cells script.config.ticks in
+    let all : All (IsSentPiece 9600) (idle ∷ idle ∷ opens.0) = subst (All (IsSentPiece 9600)) opens.1 (pieces-sent scenario cells script.config.ticks octets) in
+    let sent : All (IsSentPiece 9600) opens.0 = λ k d inside. all (suc (suc k)) d (omega arith) in
+    let carry : Carry (rows_of scenario cells rows) (idle ∷ idle ∷ opens.0) = subst (Carry (rows_of scenario cells rows)) opens.1 (rows-carry scenario cells rows script.config.ticks low) in
+    deliver-whole 9600 opens.0 (rows_of scenario cells rows) (omega arith) sent carry (rows-whole scenario cells rows whole)
+    ∙ ap₂ frames_by (rows-length scenario cells rows script.config.ticks low) (sym opens.1)
+
+-- ---- whole rows have one segment
+whole-segments : (rows : List StreamRow) (last : Segment) → last.first ≡ true → All IsWhole rows →
+    (final : Segment) × (final.first ≡ true) × (segments_on (record { ended = []; last = last }) rows ≡ record { ended = []; last = final })
+unfolding segments_on
+whole-segments [] last first each = (last, first, refl)
+whole-segments (row ∷ rows) last first each =
+    let whole : row.whole ≡ true = each 0 row (omega arith) in
+    let (final, is_first, e) =
+    whole-segments rows (record { first = last.first; base = last.base; octets = last.octets ++ row.octets }) first (λ k d inside. each (suc k) d (omega arith)) in
+    (final, is_first, ap (λ whole. segments_on (row_by whole (record { ended = []; last = last }) row.octets) rows) whole ∙ e)
+
+pub whole-starts : (script : Script) (rows : ℕ) → AreWholeBefore script rows → ConfirmsTrue script rows
+whole-starts script rows whole =
+    let scenario : Scenario = scenario_of script in
+    let cells : List (Option Told) = session_cells scenario in
+    let pieces : List Piece = session_pieces script in
+    let (final, is_first, e) =
+    whole-segments (rows_of scenario cells rows) (record { first = true; base = 0; octets = [] }) refl (rows-whole scenario cells rows whole) in
+    let only : segments (rows_of scenario cells rows) ≡ final ∷ [] = ap (λ (come : Segments). come.ended ++ come.last ∷ []) e in
+    subst (All (StartsTrue pieces)) (sym only)
+    (All-cons (StartsTrue pieces) final [] (λ later. absurd (let f : true ≡ false = sym is_first ∙ later in cc)) (All-nil (StartsTrue pieces)))

@@ -1,0 +1,32 @@
+-- A walk is never stuck.
+use Rattle.progress_law.proofs.MoveLaws.{inbox-fits}
+use Rattle.progress_law.proofs.ReachLaws.{reached-progress}
+use Rattle.walk_law.specs.Walk.{walk_plan}
+use Rattle.walk_law.proofs.PlanLaws.{has-plan}
+use Rattle.walk_law.proofs.PromiseLaws.{drain-ends}
+use Rattle.walk_law.proofs.EndLaws.{counts-within, drained-ticks, drained-landed, drained-accepted, drained-report}
+use Rattle.walk_law.proofs.drain_law.Goals as goal
+
+pub returns-clause-moves : goal.returns-clause-moves
+returns-clause-moves c script s can walked open_ = reached-progress (walk_plan script) s (has-plan script can) walked open_
+
+pub returns-clause-inbox : goal.returns-clause-inbox
+returns-clause-inbox c script s can walked = inbox-fits (walk_plan script) s (has-plan script can) walked
+
+pub returns-clause-drained : goal.returns-clause-drained
+returns-clause-drained c = drain-ends
+
+pub returns-clause-ticks : goal.returns-clause-ticks
+returns-clause-ticks c = drained-ticks
+
+pub returns-clause-landed : goal.returns-clause-landed
+returns-clause-landed c = drained-landed
+
+pub returns-clause-accepted : goal.returns-clause-accepted
+returns-clause-accepted c = drained-accepted
+
+pub returns-clause-within : goal.returns-clause-within
+returns-clause-within c = counts-within
+
+pub returns-clause-report : goal.returns-clause-report
+returns-clause-report c = drained-report

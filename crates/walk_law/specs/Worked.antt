@@ -1,0 +1,129 @@
+-- A worked script: what is refused, what is accepted, and what is counted.
+use Rattle.std.specs.Prelude.{ℕ, Bool, true, false, List, [], ◌∷◌, ◌++◌, map, replicate, codes}
+use Rattle.session_model.specs.declared.refusal.AcceptFault.TheVariants.{Length}
+use Rattle.session_model.specs.declared.refusal.CommandFault.TheVariants.{UnknownLine, AlreadyIn, NotIn}
+use Rattle.session_model.specs.declared.script.Config.{Config}
+use Rattle.session_model.specs.declared.script.Item.{Item}
+use Rattle.session_model.specs.declared.script.ItemKind.{ItemKind}
+use Rattle.session_model.specs.declared.script.ItemKind.TheVariants.{Frame, Add, Remove}
+use Rattle.session_model.specs.declared.script.Script.{Script}
+use Rattle.session_model.specs.Scenario.{scenario_of}
+use Rattle.session_model.specs.SessionRows.{is_whole_row}
+use Rattle.session_model.specs.Counts.{Counts}
+use Rattle.report_text.specs.declared.report.Refusal.{Refusal}
+use Rattle.report_text.specs.declared.report.Refusal.TheVariants.{Frame as frame_fault, Command as command_fault}
+use Rattle.report_text.specs.declared.report.Totals.{Totals}
+use Rattle.walk_law.specs.Walk.{session_of}
+
+abbrev pub item : ℕ → ItemKind → Item
+item due kind = record { due = due; kind = kind }
+
+-- one line without delay; 41 ticks; a frame that is too short, a line that there isn't, and a line that is added twice and removed twice
+abbrev pub one_line : Config
+one_line = record {
+  lines = 1;
+  delays = 0 ∷ [];
+  windows = [] ∷ [];
+  lost = [];
+  ring = 1;
+  lag = 2;
+  ticks = 41;
+  size = 756;
+}
+
+abbrev pub eight_items : List Item
+eight_items =
+    item 0 (Frame (replicate 63 0)) ∷ item 0 (Add 1) ∷ item 0 (Frame (replicate 64 1)) ∷ item 0 (Add 0) ∷ item 5 (Add 0)
+    ∷ item 20 (Remove 0) ∷ item 20 (Remove 0) ∷ item 40 (Frame (replicate 64 2)) ∷ []
+
+abbrev pub worked_script : Script
+worked_script = record { config = one_line; items = eight_items; events = [] }
+
+-- all have landed and all rows are taken; and one frame and two commands have landed before the first tick
+abbrev pub at_the_end : Counts
+at_the_end = record {
+  ticks = 41;
+  frames = 3;
+  commands = 5;
+  lines = record { carried = 42; popped = 41 } ∷ [];
+  rows = 41;
+  backs = 2;
+}
+
+abbrev pub three_landed : Counts
+three_landed = record {
+  ticks = 0;
+  frames = 1;
+  commands = 2;
+  lines = record { carried = 0; popped = 0 } ∷ [];
+  rows = 0;
+  backs = 0;
+}
+
+abbrev pub first_refusals : List (ℕ × Refusal)
+first_refusals = (0, frame_fault (Length 63)) ∷ (1, command_fault (UnknownLine 1)) ∷ []
+
+abbrev pub all_refusals : List (ℕ × Refusal)
+all_refusals =
+    (0, frame_fault (Length 63)) ∷ (1, command_fault (UnknownLine 1)) ∷ (4, command_fault AlreadyIn) ∷ (6, command_fault NotIn) ∷ []
+
+abbrev pub first_totals : Totals
+first_totals = record { ticks = 0; taken = 0; frames = 0; commands = 1; refused = 2; got = 0 }
+
+abbrev pub all_totals : Totals
+all_totals = record { ticks = 41; taken = 41; frames = 2; commands = 2; refused = 4; got = 0 }
+
+abbrev pub two_frames : List (List ℕ)
+two_frames = replicate 64 1 ∷ replicate 64 2 ∷ []
+
+abbrev pub worked_report : List ℕ
+worked_report =
+    codes "refused 0 length 63\n" ++ codes "refused 1 unknown\n" ++ codes "refused 4 already in\n" ++ codes "refused 6 not in\n"
+    ++ codes "total ticks 41 taken 41 frames 2 commands 2 refused 4 got 0\n"
+
+-- ---- a frame that is delivered
+abbrev pub delivering_config : Config
+delivering_config = record {
+  lines = 1;
+  delays = 0 ∷ [];
+  windows = [] ∷ [];
+  lost = [];
+  ring = 1;
+  lag = 1;
+  ticks = 41;
+  size = 756;
+}
+
+-- the line is in use in packet 1, so the last row is the first that carries payload
+abbrev pub delivering_script : Script
+delivering_script = record { config = delivering_config; items = item 0 (Add 0) ∷ item 0 (Frame (replicate 64 7)) ∷ []; events = [] }
+
+abbrev pub one_frame : List (List ℕ)
+one_frame = replicate 64 7 ∷ []
+
+-- ---- a failure
+-- one line, added at once, of which containers 1000 and 1001 fail and 1002 vanishes
+abbrev pub failing_config : Config
+failing_config = record {
+  lines = 1;
+  delays = 0 ∷ [];
+  windows = (record { first = 1000; «end» = 1003; slip = 1 } ∷ []) ∷ [];
+  lost = [];
+  ring = 4;
+  lag = 2;
+  ticks = 1100;
+  size = 756;
+}
+
+abbrev pub failing_script : Script
+failing_script = record { config = failing_config; items = item 0 (Add 0) ∷ []; events = [] }
+
+-- the rows at each end of the gaps
+abbrev pub seen_rows : List ℕ
+seen_rows = 999 ∷ 1000 ∷ 1009 ∷ 1010 ∷ 1015 ∷ 1016 ∷ 1031 ∷ 1032 ∷ []
+
+abbrev pub seen_whole : List Bool
+seen_whole = true ∷ false ∷ false ∷ true ∷ true ∷ false ∷ false ∷ true ∷ []
+
+abbrev pub whole_rows : Script → List ℕ → List Bool
+whole_rows script rows = map (λ t. is_whole_row (scenario_of script) (session_of script) t) rows
