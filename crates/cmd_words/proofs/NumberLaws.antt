@@ -1,8 +1,7 @@
 -- Numbers that are too large before their last digit.
-use Rattle.std.proofs.Common.{◌≡◌, ℕ, zero, suc, ◌+◌, ◌-◌, ◌*◌, ◌<◌, ◌≤◌, List, [], ◌∷◌, length, slice_index_or, drop, sym, ◌∙◌, arith, refl, Bool, true, false, nat_le, ◌&&◌, if◌then◌else◌, ap}
-use Rattle.std.specs.Prelude.{Option, Some, None}
+use Rattle.std.proofs.Common.{◌≡◌, ℕ, ◌+◌, ◌-◌, ◌*◌, ◌<◌, ◌≤◌, List, [], ◌∷◌, length, slice_index_or, drop, sym, arith, refl, Bool, true, false, nat_le, ◌&&◌, if◌then◌else◌, ap}
+use Rattle.std.specs.Prelude.{Some, None}
 use Rattle.std.proofs.lemmas.List.{at_drop_more}
-use Rattle.std.proofs.lemmas.Bool.{cases_Bool}
 use Rattle.std.proofs.lemmas.Bool.Decides.{nat_tests}
 use Rattle.script_read.specs.Words.{number_after, number_of}
 use Rattle.cmd_words.specs.Commands.{is_number, number_in}

@@ -1,5 +1,5 @@
 -- Which lists of words are a command.
-use Rattle.std.specs.Prelude.{ℕ, ◌==◌, ◌&&◌, nat_le, not, true, false, Bool, List, [], ◌∷◌, length, slice_index_or, Option, Some, None, codes, bytes_eq, if◌then◌else◌}
+use Rattle.std.specs.Prelude.{ℕ, ◌==◌, ◌&&◌, nat_le, true, false, Bool, List, [], length, slice_index_or, Option, Some, None, codes, bytes_eq, if◌then◌else◌}
 use Rattle.std.specs.List.{list_all}
 use Rattle.cmd_words.specs.declared.command.Command.{Command}
 use Rattle.cmd_words.specs.declared.command.Command.TheVariants.{Walk, Decode, Make, Run}
@@ -43,7 +43,7 @@ abbrev pub walk_command : List (List ℕ) → Option Command
 walk_command ws =
     if length ws == 1 then single (word_at 0 ws)
     else if length ws == 4 && bytes_eq (word_at 0 ws) (codes "make") then
-      make_of (number_in 0 18446744073709551615 (word_at 1 ws)) (number_in 1 64 (word_at 2 ws)) (number_in 1 1000000 (word_at 3 ws))
+    make_of (number_in 0 18446744073709551615 (word_at 1 ws)) (number_in 1 64 (word_at 2 ws)) (number_in 1 1000000 (word_at 3 ws))
     else None
 
 abbrev pub run_command : List (List ℕ) → Option Command

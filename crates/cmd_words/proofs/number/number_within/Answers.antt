@@ -1,5 +1,5 @@
 -- A value beyond the bound stays there.
-use Rattle.std.proofs.Common.{◌≡◌, ◌+◌, ◌-◌, ◌*◌, ◌<◌, slice_index_or, rules, arith}
+use Rattle.std.proofs.Common.{◌+◌, ◌-◌, ◌*◌, slice_index_or, rules}
 use Rattle.cmd_words.proofs.NumberLaws.{too_large}
 use Rattle.cmd_words.proofs.number.number_within.Goals as goal
 
