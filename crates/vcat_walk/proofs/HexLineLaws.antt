@@ -1,5 +1,5 @@
 -- Lines of hexadecimal digits: how a text is cut, trimmed and read line by line.
-use Rattle.std.proofs.Common.{◌≡◌, ℕ, zero, suc, ◌+◌, ◌-◌, ◌<◌, ◌≤◌, ◌==◌, List, [], ◌∷◌, ◌++◌, length, map, reverse, arith, refl, ap, sym, ◌∙◌, ap₂, subst, get_or, take, drop, All, Bool, true, false, inl, inr}
+use Rattle.std.proofs.Common.{◌≡◌, ℕ, zero, suc, ◌+◌, ◌-◌, ◌<◌, ◌≤◌, ◌==◌, List, [], ◌∷◌, ◌++◌, length, map, reverse, arith, refl, ap, sym, ◌∙◌, ap₂, subst, get_or, take, drop, All, false, inl, inr}
 use Rattle.std.specs.Prelude.{Option, Some}
 use Rattle.std.specs.List.{slice_split, flat_map}
 use Rattle.std.specs.Str.Lines.{lines, lines_of_parts, strip_carriage_return}
@@ -9,7 +9,7 @@ use Rattle.std.proofs.lemmas.List.Splits.{slice_split_none, slice_split_at, leng
 use Rattle.std.proofs.lemmas.Grind.{flat_map-append}
 use Rattle.std.proofs.lemmas.Bool.Decides.{nat_tests}
 use Rattle.vcat_walk.specs.Form.{IsLine}
-use Rattle.vcat_walk.specs.HexLines.{behind_spaces, line_octets, Takes}
+use Rattle.vcat_walk.specs.HexLines.{behind_spaces, line_octets}
 
 parts_more : (part : List ℕ) (parts : List (List ℕ)) → 0 < length parts → lines_of_parts (part ∷ parts) ≡ strip_carriage_return part ∷ lines_of_parts parts
 parts_more part [] some = absurd (omega arith)
@@ -123,15 +123,14 @@ pub record IsRead (text rest : List ℕ) (number : ℕ) (octets : List ℕ) : Ty
   pub count : number ≡ length before
   pub parts : HasParts before octets
 
-pub IsRead-next : (text rest : List ℕ) (number : ℕ) (octets line now : List ℕ) (more : List ℕ) (sound : Bool) → IsRead text rest number octets
-    → lines rest ≡ line ∷ lines now → sound ≡ true → Takes sound (line_octets line) octets more → IsRead text now (number + 1) more
-IsRead-next text rest number octets line now more sound read first is said =
-    let takes = subst (λ (b : Bool). Takes b (line_octets line) octets more) is said in
+pub IsRead-next : (text rest : List ℕ) (number : ℕ) (octets line now : List ℕ) (more part : List ℕ) → IsRead text rest number octets
+    → lines rest ≡ line ∷ lines now → line_octets line ≡ Some part → more ≡ octets ++ part → IsRead text now (number + 1) more
+IsRead-next text rest number octets line now more part read first said grown =
     record {
       before = read.before ++ line ∷ [];
       here = one_more_line (lines text) read.before line (lines rest) (lines now) read.here first;
       count = omega (arith, read.count, length-append read.before (line ∷ []));
-      parts = subst (λ (o : List ℕ). HasParts (read.before ++ line ∷ []) o) (sym takes.2) (one_more_part read.before octets line takes.0 read.parts takes.1);
+      parts = subst (λ (o : List ℕ). HasParts (read.before ++ line ∷ []) o) (sym grown) (one_more_part read.before octets line part read.parts said);
     }
 
 pub lines_nothing : (text : List ℕ) (n : ℕ) → n ≡ 0 → lines (take n (drop (length text) text)) ≡ []

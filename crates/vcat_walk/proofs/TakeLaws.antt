@@ -66,14 +66,6 @@ none_written written faults before after start now waiting told got has is none 
       count = (let size = ap (λ (fs : List (List ℕ)). length fs) same in let so_far = has.count in omega arith);
     }
 
--- no octet is taken yet
-pub none_taken : {K : Type 0} (written : K → Option (List ℕ)) (faults : K → ℕ) (before : List ℕ) (start now : K) (waiting : List ℕ) (got : ℕ)
-    → HasGot written faults before start now waiting got → HasGot written faults (before ++ []) start now waiting (got + 0)
-none_taken written faults before start now waiting got has =
-    let P : List ℕ → Type 0 = λ os. HasGot written faults os start now waiting (got + 0) in
-    let Q : ℕ → Type 0 = λ n. HasGot written faults before start now waiting n in
-    subst P (sym (append-nil before)) (subst Q (let e : got ≡ got + 0 = omega arith in e) has)
-
 -- the octets of a row after a place
 abbrev pub rest_of : ℕ → List ℕ → List ℕ
 rest_of at row = take (length row - at) (drop at row)

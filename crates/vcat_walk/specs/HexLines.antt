@@ -1,6 +1,6 @@
 -- A text of lines of hexadecimal digits. Spaces at either end of a line are dropped; a line with nothing else, or whose first
 -- other octet is '#', is skipped.
-use Rattle.std.specs.Prelude.{◌≡◌, ℕ, ◌+◌, ◌==◌, Bool, true, false, List, [], ◌∷◌, ◌++◌, length, map, reverse, Option, Some, None, if◌then◌else◌}
+use Rattle.std.specs.Prelude.{◌≡◌, ℕ, ◌+◌, ◌==◌, List, [], ◌∷◌, ◌++◌, length, map, reverse, Option, Some, None, if◌then◌else◌}
 use Rattle.std.specs.List.{flat_map}
 use Rattle.std.specs.Result.{result_ok}
 use Rattle.std.specs.Str.Lines.{lines}
@@ -39,8 +39,3 @@ pub record IsFirstFault (text : List ℕ) (number : ℕ) : Type 0 where
   pub faulty : line_octets line ≡ None
   pub parts : List (List ℕ)
   pub sound : map line_octets before ≡ map Some parts
-
--- what appending the octets of a piece, said to be some or none, does to a list
-abbrev pub Takes : Bool → Option (List ℕ) → List ℕ → List ℕ → Type 0
-Takes true said old new = (part : List ℕ) × (said ≡ Some part) × (new ≡ old ++ part)
-Takes false said old new = said ≡ None

@@ -44,8 +44,10 @@ impl LineBlock {
     /// Adds the line of a delivered frame, and puts what waits where it is much.
     pub fn add_got<K: ByteSink>(&mut self, frame: &[u8], out: &mut K) -> Result<(), Failed>
         requires { length frame.now ≤ 9600 }
-        ensures ok { OnOk result (Holds K.written K.faults out.old out.new self.new (self.old ++ got_text frame.now)) }
-        ensures err { OnErr result (AppendsPart K.written K.faults out.old out.new (self.old ++ got_text frame.now)) }
+        ensures ok { let text = self.old ++ got_text frame.now in
+            OnOk result (Holds K.written K.faults out.old out.new self.new text) }
+        ensures err { let text = self.old ++ got_text frame.now in
+            OnErr result (AppendsPart K.written K.faults out.old out.new text) }
     {
         let end = self.len + got_line(frame, &mut self.octets[self.len..]);
         if end < MUCH {
@@ -58,8 +60,10 @@ impl LineBlock {
 
     /// Adds the line of totals, and puts all that waits.
     pub fn put_total<K: ByteSink>(&mut self, totals: &Totals, out: &mut K) -> Result<(), Failed>
-        ensures ok { OnOk result (Appends K.written K.faults out.old out.new (self.old ++ total_text totals.now)) }
-        ensures err { OnErr result (AppendsPart K.written K.faults out.old out.new (self.old ++ total_text totals.now)) }
+        ensures ok { let text = self.old ++ total_text totals.now in
+            OnOk result (Appends K.written K.faults out.old out.new text) }
+        ensures err { let text = self.old ++ total_text totals.now in
+            OnErr result (AppendsPart K.written K.faults out.old out.new text) }
     {
         let end = self.len + total_line(totals, &mut self.octets[self.len..]);
         self.len = 0;

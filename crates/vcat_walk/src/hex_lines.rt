@@ -1,12 +1,12 @@
 //! The octets that lines of hexadecimal digits say.
-ghost use Rattle.std.specs.Prelude.{◌≡◌, ℕ, ◌≤◌, ◌<◌, ◌+◌, ◌*◌, ◌^◌, ◌∷◌, [], List, reverse, length, vec_len, IfOk, OnOk, IfSome, IfNone};
+ghost use Rattle.std.specs.Prelude.{◌≡◌, ℕ, ◌≤◌, ◌<◌, ◌+◌, ◌*◌, ◌/◌, ◌∷◌, ◌++◌, [], List, reverse, length, vec_len, IfOk, OnOk, OnErr, IfSome, IfNone};
 ghost use Rattle.std.specs.Str.Lines.{lines, strip_carriage_return};
-ghost use Rattle.hex.specs.Hex.{decode_of};
-ghost use Rattle.vcat_walk.specs.HexLines.{IsHexText, IsFirstFault, behind_spaces, trimmed, line_octets, Takes};
-ghost use Rattle.std.specs.Result.{result_ok};
+ghost use Rattle.std.specs.Vec.{vec_capacity};
+ghost use Rattle.vcat_walk.specs.HexLines.{IsHexText, IsFirstFault, behind_spaces, trimmed, line_octets};
 
 use crate::lines::first_line;
-use std::alloc::{AllocError, Global};
+use hex_text::{NotHex, decode_into};
+use std::alloc::Global;
 
 /// Why a text gives no octets.
 #[derive(Clone, Copy, Debug, PartialEq, Eq)]
@@ -75,27 +75,18 @@ fn trim(line: &[u8]) -> &[u8]
     trim_end(trim_start(line))
 }
 
-/// Appends the octets of hexadecimal digits, and says whether they were that.
-fn take_digits(digits: &[u8], octets: &mut Vec<u8>) -> Result<bool, AllocError>
-    requires { vec_len octets.old + length digits.now < 2 ^ 63 }
-    ensures octets { IfOk result (λ sound. Takes sound (result_ok (decode_of digits.now)) octets.old.items octets.new.items) }
-    ensures short { OnOk result (2 * vec_len octets.new ≤ 2 * vec_len octets.old + length digits.now) }
-{
-    let start = octets.len();
-    octets.resize(start + digits.len() / 2, 0)?;
-    Ok(hex::decode_to_slice(digits, &mut octets.as_mut_slice()[start..]).is_ok())
-}
-
-/// Appends the octets of a line, and says whether the line was sound.
-fn take_line(line: &[u8], octets: &mut Vec<u8>) -> Result<bool, AllocError>
-    requires { vec_len octets.old + length line.now < 2 ^ 63 }
-    ensures octets { IfOk result (λ sound. Takes sound (line_octets line.now) octets.old.items octets.new.items) }
+/// Appends the octets of a line, where it is sound. There has to be room for half as many octets as the line has characters.
+fn take_line(line: &[u8], octets: &mut Vec<u8>) -> Result<(), NotHex>
+    requires room { vec_len octets.old + length line.now / 2 ≤ vec_capacity octets.old }
+    ensures ok { OnOk result ((part : List ℕ) × (line_octets line.now ≡ Some part)
+        × (octets.new.items ≡ octets.old.items ++ part)) }
+    ensures err { OnErr result (line_octets line.now ≡ None) }
     ensures short { OnOk result (2 * vec_len octets.new ≤ 2 * vec_len octets.old + length line.now) }
+    ensures capacity { vec_capacity octets.old ≤ vec_capacity octets.new }
 {
-    let word = trim(line);
-    match word {
-        [] | [b'#', ..] => Ok(true),
-        _ => take_digits(word, octets),
+    match trim(line) {
+        [] | [b'#', ..] => Ok(()),
+        word => decode_into(word, octets),
     }
 }
 
@@ -115,9 +106,8 @@ pub fn read_octets(alloc: Global, text: &[u8]) -> Result<Vec<u8>, HexLinesFault>
         number += 1;
         rest = behind;
         match take_line(line, &mut octets) {
-            Ok(true) => {}
-            Ok(false) => return Err(HexLinesFault::Line { number }),
-            Err(AllocError) => return Err(HexLinesFault::Memory),
+            Ok(()) => {}
+            Err(NotHex) => return Err(HexLinesFault::Line { number }),
         }
     }
     Ok(octets)

@@ -33,7 +33,8 @@ fn take_some<K: ByteSink>(
         IfOk result (λ taken. Stands delineator.new 9600 (before ++ take taken.0 piece.now)) }
     ensures ok { (before : List ℕ) (start : K) (got : ℕ) → Stands delineator.old 9600 before →
         HasGot K.written K.faults before start out.old block.old got →
-        IfOk result (λ taken. HasGot K.written K.faults (before ++ take taken.0 piece.now) start out.new block.new (got + taken.1)) }
+        IfOk result (λ taken. let octets = before ++ take taken.0 piece.now in
+        HasGot K.written K.faults octets start out.new block.new (got + taken.1)) }
     ensures err { (before : List ℕ) (start : K) (got : ℕ) → Stands delineator.old 9600 before →
         HasGot K.written K.faults before start out.old block.old got →
         OnErr result (StopsWithin K.written K.faults before piece.now start out.new) }
@@ -62,7 +63,8 @@ fn take_row<K: ByteSink>(
         OnOk result (Stands delineator.new 9600 (before ++ row.now)) }
     ensures ok { (before : List ℕ) (start : K) (got : ℕ) → Stands delineator.old 9600 before →
         HasGot K.written K.faults before start out.old block.old got →
-        IfOk result (λ n. HasGot K.written K.faults (before ++ row.now) start out.new block.new (got + n)) }
+        IfOk result (λ n. let octets = before ++ row.now in
+        HasGot K.written K.faults octets start out.new block.new (got + n)) }
     ensures err { (before : List ℕ) (start : K) (got : ℕ) → Stands delineator.old 9600 before →
         HasGot K.written K.faults before start out.old block.old got →
         OnErr result (StopsWithin K.written K.faults before row.now start out.new) }
@@ -91,14 +93,15 @@ fn carry<K: ByteSink>(
     block: &mut LineBlock,
     out: &mut K,
 ) -> Result<u64, Failed>
-    requires frames { All IsFrame queue.old }
+    requires frames { All IsFrame queue.old.waiting }
+    requires unsent { queue.old.begun ≡ [] }
     requires fresh { Stands delineator.old 9600 [] }
     requires none { block.old ≡ [] }
-    ensures ok { let frames = frames_by (row_octets * rows) (opening queue.old 0) in
+    ensures ok { let frames = frames_by (row_octets * rows) (opening queue.old.waiting 0) in
         OnOk result (Holds K.written K.faults out.old out.new block.new (got_texts frames)) }
-    ensures count { let frames = frames_by (row_octets * rows) (opening queue.old 0) in
+    ensures count { let frames = frames_by (row_octets * rows) (opening queue.old.waiting 0) in
         IfOk result (λ got. got ≡ length frames) }
-    ensures err { let frames = frames_by (row_octets * rows) (opening queue.old 0) in
+    ensures err { let frames = frames_by (row_octets * rows) (opening queue.old.waiting 0) in
         OnErr result (AppendsPart K.written K.faults out.old out.new (got_texts frames)) }
 {
     delivery_law();
@@ -115,23 +118,26 @@ fn carry<K: ByteSink>(
     Ok(got)
 }
 
-/// Runs a script of one line to its end and writes its report.
+/// Runs a script of one line to its end and writes its report. The frames are those that wait.
 pub fn run<K: ByteSink>(
     ticks: u32,
-    queue: &mut FrameQueue,
+    mut queue: FrameQueue,
     delineator: &mut Delineator,
     out: &mut K,
 ) -> Result<(), Failed>
     requires ticks { IsTicks ticks }
-    requires frames { All IsFrame queue.old }
+    requires frames { All IsFrame queue.waiting }
+    requires unsent { queue.begun ≡ [] }
     requires fresh { Stands delineator.old 9600 [] }
-    ensures ok { OnOk result (Appends K.written K.faults out.old out.new (report ticks queue.old)) }
-    ensures err { OnErr result (AppendsPart K.written K.faults out.old out.new (report ticks queue.old)) }
+    ensures ok { let text = report ticks queue.waiting in
+        OnOk result (Appends K.written K.faults out.old out.new text) }
+    ensures err { let text = report ticks queue.waiting in
+        OnErr result (AppendsPart K.written K.faults out.old out.new text) }
 {
     let frames = queue.waiting();
     let mut block = LineBlock::new();
     let rows = ticks.saturating_sub(EMPTY_ROWS);
-    let got = match carry(rows, queue, delineator, &mut block, out) {
+    let got = match carry(rows, &mut queue, delineator, &mut block, out) {
         Ok(got) => got,
         Err(Failed) => return Err(Failed),
     };

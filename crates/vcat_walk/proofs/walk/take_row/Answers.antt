@@ -1,5 +1,5 @@
 -- Piece by piece.
-use Rattle.std.proofs.Common.{arith, List, ℕ, ◌+◌, ◌++◌, length, take, drop, subst}
+use Rattle.std.proofs.Common.{arith, List, ℕ, ◌+◌, ◌++◌, take, subst}
 use Rattle.std.proofs.lemmas.List.{take_all}
 use Rattle.gfp_delineate.specs.Receiver.{Stands}
 use Rattle.vcat_walk.specs.Written.{HasGot}

@@ -1,5 +1,5 @@
 -- Octets that complete a frame write its line, and others write nothing.
-use Rattle.std.proofs.Common.{ap, ◌∙◌, true, List, [], ◌∷◌, ℕ, ◌++◌, take}
+use Rattle.std.proofs.Common.{ap, ◌∙◌, true, List, ℕ, ◌++◌, take}
 use Rattle.session_model.specs.Delivery.{delivered}
 use Rattle.gfp_delineate.proofs.Frames.{told, delivered-told}
 use Rattle.vcat_walk.proofs.TakeLaws.{told_frame, told_none, one_written, one_stopped, none_written}

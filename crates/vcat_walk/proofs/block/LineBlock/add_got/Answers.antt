@@ -1,8 +1,7 @@
 -- The line stands after those that wait, and all of them go out or wait.
-use Rattle.std.proofs.Common.{rules, arith, sym, ◌≡◌, ◌++◌, ◌+◌, ◌-◌, ℕ, List, take, subst}
+use Rattle.std.proofs.Common.{rules, ◌-◌, ℕ, List, subst}
 use Rattle.std.proofs.lemmas.Result.{on_ok_weaker, on_err_weaker}
 use Rattle.outside_io.specs.Transfer.{AppendsPart}
-use Rattle.report_text.specs.Report.{got_text}
 use Rattle.vcat_walk.proofs.BlockLaws.{Holds-waits, Holds-all, front_added}
 use Rattle.vcat_walk.proofs.block.LineBlock.add_got.Goals as goal
 

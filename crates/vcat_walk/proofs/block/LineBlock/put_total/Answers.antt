@@ -1,5 +1,5 @@
 -- The line stands after those that wait, and all of them go out.
-use Rattle.std.proofs.Common.{rules, arith, sym, ◌≡◌, ◌++◌, ◌+◌, ◌-◌, ℕ, List, take, subst}
+use Rattle.std.proofs.Common.{rules, ◌-◌, ℕ, List, subst}
 use Rattle.std.proofs.lemmas.Result.{on_ok_weaker, on_err_weaker}
 use Rattle.outside_io.specs.Transfer.{Appends, AppendsPart}
 use Rattle.vcat_walk.proofs.BlockLaws.{front_added}
