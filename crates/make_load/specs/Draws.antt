@@ -9,7 +9,7 @@ next state = (state * 6364136223846793005 + 1442695040888963407) % 2 ^ 64
 abbrev pub drawn : ℕ → ℕ → ℕ
 drawn state bound = state / 2 ^ 33 % bound
 
--- so many draws below a bound, from a state on
+-- a number of draws below a bound, from a state on
 unfoldable pub draws : ℕ → ℕ → ℕ → List ℕ
 draws zero bound state = []
 draws (suc count) bound state = drawn (next state) bound ∷ draws count bound (next state)

@@ -26,7 +26,7 @@ addition line = record { due = 0; kind = Add line }
 abbrev pub additions : ℕ → List Item
 additions lines = map addition (range_with_len 0 lines)
 
--- so many frames, each due eight ticks after the one before it
+-- a number of frames, each due eight ticks after the one before it
 unfoldable pub frames : ℕ → ℕ → ℕ → List Item
 frames zero due state = []
 frames (suc count) due state = record { due = due; kind = Frame (frame_of state) } ∷ frames count (due + 8) (after_frame state)

@@ -25,7 +25,7 @@ impl Draws {
         self.state / (1 << 33) % bound
     }
 
-    /// So many octets.
+    /// A number of octets.
     #[tactic(auto, using(crate::proofs::DrawLaws::draws_next, crate::proofs::DrawLaws::after_next, crate::proofs::DrawLaws::draws_end, crate::proofs::DrawLaws::after_end))]
     pub(crate) fn octets(&mut self, alloc: Global, count: usize) -> Result<Octets, AllocError>
         ensures octets { IfOk result (λ octets. octets ≡ draws count 256 self.old.state) }
@@ -38,7 +38,7 @@ impl Draws {
         Ok(Octets(octets))
     }
 
-    /// The delays of so many lines, in frames, up to 40.
+    /// The delays of a number of lines, in frames, up to 40.
     #[tactic(auto, using(crate::proofs::DrawLaws::draws_next, crate::proofs::DrawLaws::after_next, crate::proofs::DrawLaws::draws_end, crate::proofs::DrawLaws::after_end))]
     pub(crate) fn delays(&mut self, alloc: Global, lines: u8) -> Result<Delays, AllocError>
         ensures delays { IfOk result (λ delays. delays ≡ draws lines 41 self.old.state) }

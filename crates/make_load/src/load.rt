@@ -57,7 +57,7 @@ fn add_frames(
     Ok(())
 }
 
-// No windows for so many lines.
+// No windows for a number of lines.
 fn no_windows(alloc: Global, lines: u8) -> Result<WindowLists, AllocError>
     ensures { IfOk result (λ lists. lists ≡ replicate lines []) }
 {

@@ -39,7 +39,7 @@ below n less = grind (arith, nat_tests)
 not_below : (n : ℕ) → 6 ≤ n → nat_lt n 6 ≡ false
 not_below n least = grind (arith, nat_tests)
 
--- behind the last line
+-- after the last line
 pub end_missing : (n : ℕ) (d : Draft) (all : List (List ℕ)) → all ≡ [] → d.next < 6 → draft_from n d all ≡ Err (fault.Line n Missing)
 unfolding draft_from
 end_missing n d all none less = ap (λ (x : List (List ℕ)). draft_from n d x) none ∙ rw (below d.next less) refl

@@ -18,7 +18,7 @@ nothing : (text : List ℕ) → length text ≡ 0 → text ≡ []
 nothing [] none = refl
 nothing (c ∷ text) none = absurd (omega arith)
 
--- what is left behind the end of a text
+-- what is left after the end of a text
 pub end_is_empty : (text : List ℕ) (n : ℕ) → n ≡ 0 → take n (drop (length text) text) ≡ []
 end_is_empty text n none = nothing _ (omega (arith, none, length-drop (length text) text, length-take-le n (drop (length text) text)))
 

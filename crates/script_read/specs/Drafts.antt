@@ -31,7 +31,7 @@ abbrev pub fault_at : ℕ → Stop → ScriptFault
 fault_at n (stop.Line kind) = fault.Line n kind
 fault_at n stop.Memory = fault.Memory
 
--- the fault of the words of a line of one number, of a container, and of so many delays
+-- the fault of the words of a line of one number, of a container, and of a number of delays
 abbrev pub one_fault : ℕ → ℕ → List (List ℕ) → Option LineKind
 one_fault least most ws = option_or (where_true (not (length ws == 1)) Word) (number_fault least most (word_at 0 ws))
 

@@ -9,7 +9,7 @@ use session_model::{
 };
 use std::alloc::{AllocError, Global};
 
-// No windows for so many lines.
+// No windows for a number of lines.
 fn no_windows(alloc: Global, lines: u8) -> Result<WindowLists, AllocError>
     ensures { IfOk result (λ lists. lists ≡ replicate lines []) }
 {

@@ -44,7 +44,7 @@ pub(crate) fn read_container(rest: &[u8]) -> Result<u16, LineKind>
     }
 }
 
-/// The delays of so many lines.
+/// The delays of a number of lines.
 pub(crate) fn read_delays(alloc: Global, rest: &[u8], lines: u8) -> Result<Delays, Stop>
     ensures ok { IfOk result (λ delays. (delays_fault lines (words rest.now) ≡ None)
         × (delays ≡ map number_of (words rest.now))) }

@@ -1,4 +1,4 @@
--- So many lines are added.
+-- The lines so far are added.
 use Rattle.std.proofs.Common.{◌≡◌}
 use Rattle.make_load.specs.Load.{additions}
 use Rattle.make_load.proofs.load.add_lines.Given as goal

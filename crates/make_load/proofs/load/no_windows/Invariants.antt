@@ -1,4 +1,4 @@
--- So many lines have no windows.
+-- The lines so far have no windows.
 use Rattle.std.proofs.Common.{◌≡◌, [], replicate}
 use Rattle.make_load.proofs.load.no_windows.Given as goal
 

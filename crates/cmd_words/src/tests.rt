@@ -1,0 +1,82 @@
+//! Words, one by one.
+
+use crate::{Program, read_words};
+use std::alloc::{AllocError, Global};
+use std::test::Fail;
+
+// Words with one space between them, and the command of the program of walks that they are.
+const WALKS: &str = "\
+    walk=> Walk { trace: false }\n\
+    trace=> Walk { trace: true }\n\
+    decode=> Decode\n\
+    make 1 1 1=> Make { number: 1, lines: 1, ticks: 1 }\n\
+    make 0 64 1000000=> Make { number: 0, lines: 64, ticks: 1000000 }\n\
+    make 18446744073709551615 1 1=> Make { number: 18446744073709551615, lines: 1, ticks: 1 }\n\
+    make 000000000000000000000000007 0008 0004000=> Make { number: 7, lines: 8, ticks: 4000 }\n\
+    make 18446744073709551616 1 1=> usage\n\
+    make 36893488147419103233 1 1=> usage\n\
+    make 1 0 1=> usage\n\
+    make 1 65 1=> usage\n\
+    make 1 257 1=> usage\n\
+    make 1 1 0=> usage\n\
+    make 1 1 1000001=> usage\n\
+    make 1 1 4294967297=> usage\n\
+    make +1 1 1=> usage\n\
+    make -1 1 1=> usage\n\
+    make 1x 1 1=> usage\n\
+    make  1 1=> usage\n\
+    make 1 1=> usage\n\
+    make 1 1 1 1=> usage\n\
+    make=> usage\n\
+    Walk=> usage\n\
+    walk x=> usage\n\
+    walk walk=> usage\n\
+    walk --trace=> usage\n\
+    run 2=> usage\n\
+    -=> usage\n\
+    --=> usage\n\
+    -h=> usage\n\
+    --help=> usage\n\
+    --version=> usage\n\
+    help=> usage\n\
+    => usage";
+
+// And the command of the program of runs.
+const RUNS: &str = "\
+    run 1=> Run { workers: 1 }\n\
+    run 0064=> Run { workers: 64 }\n\
+    run 0=> usage\n\
+    run 65=> usage\n\
+    run 257=> usage\n\
+    run=> usage\n\
+    run 1 1=> usage\n\
+    run -1=> usage\n\
+    Run 1=> usage\n\
+    walk=> usage\n\
+    --help=> usage\n\
+    => usage";
+
+// What a program is told by words with one space between them.
+fn told(alloc: Global, text: &str, program: Program) -> Result<String, AllocError> {
+    let mut words = Vec::new(alloc);
+    for word in text.split(' ') {
+        words.push(String::from_str(alloc, word)?)?;
+    }
+    match read_words(words.as_slice(), program) {
+        Ok(command) => format!(in alloc; "{command:?}"),
+        Err(fault) => format!(in alloc; "{fault}"),
+    }
+}
+
+#[test]
+fn words_are_commands(rt: HostRuntime) -> Result<(), Fail> {
+    let alloc = rt.alloc();
+    for (rows, program) in [(WALKS, Program::Walk), (RUNS, Program::Run)] {
+        for row in rows.lines() {
+            let (text, want) = row.split_once("=> ").unwrap_or((row, "a row"));
+            assert_eq!(rt; told(alloc, text, program)?.as_str(), want, "{row}");
+        }
+        assert_eq!(rt; read_words(&[], program).is_err(), true);
+    }
+    Ok(())
+}
