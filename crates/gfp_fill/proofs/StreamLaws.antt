@@ -34,11 +34,6 @@ next_pieces-add (suc n) k (frame ∷ waiting) =
     ap (λ m. next_pieces m (frame ∷ waiting)) sum ∙ next_pieces-cons (n + k) frame waiting
     ∙ ap (λ ps. client frame ∷ ps) rest ∙ ap (λ ps. ps ++ next_pieces k (drop n waiting)) (sym (next_pieces-cons n frame waiting))
 
--- pieces begun in two turns
-pub append-next_pieces : (pieces : List Piece) (n k : ℕ) (waiting : List (List ℕ)) → pieces ++ next_pieces (n + k) waiting ≡ (pieces ++ next_pieces n waiting) ++ next_pieces k (drop n waiting)
-append-next_pieces pieces n k waiting =
-    ap (λ ps. pieces ++ ps) (next_pieces-add n k waiting) ∙ sym (append_assoc pieces (next_pieces n waiting) (next_pieces k (drop n waiting)))
-
 -- all frames that wait, and then so many idles
 next_pieces-all : (waiting : List (List ℕ)) (idles : ℕ) → next_pieces (length waiting + idles) waiting ≡ map client waiting ++ replicate idles idle
 next_pieces-all waiting idles =

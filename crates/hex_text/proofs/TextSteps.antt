@@ -6,7 +6,7 @@ use Rattle.std.proofs.lemmas.Bool.{and_parts}
 use Rattle.std.proofs.lemmas.List.{append-nil, length-append, length-drop, take_at, drop_all, drop-drop, get_or-take, get_or-drop}
 use Rattle.std.proofs.lemmas.List.FromFn.{get_or-map-range_with_len}
 use Rattle.hex.specs.Hex.{decode_of, decode_pairs, pair_value, hex_digit_value, is_hex_digit}
-use Rattle.hex.proofs.Pairs.{prepend, decode_start, decode_step}
+use Rattle.hex.proofs.Pairs.{prepend, decode_step}
 use Rattle.hex.proofs.HexLemmas.{decode_of-ok}
 
 -- the octet of two digits
@@ -49,9 +49,6 @@ written_after start len old more xs ys end before is size all =
 pub record IsDecoded (text octets : List ℕ) (i : ℕ) (right : Bool) : Type 0 where
   pub yes : right ≡ true → decode_pairs 0 text ≡ prepend (take i octets) (decode_pairs (2 * i) (drop (2 * i) text))
   pub no : right ≡ false → HasOther text (2 * i)
-
-pub none_decoded : (text octets : List ℕ) → IsDecoded text octets 0 true
-none_decoded text octets = record { yes = λ _. decode_start text octets; no = λ e. absurd cc }
 
 -- one more pair, whose characters are these
 pub pair_decoded : (text octets : List ℕ) (i upper lower v w : ℕ) (right a b : Bool) → 2 * i + 1 < length text → i < length octets

@@ -63,10 +63,6 @@ pub stream_of-push : (pieces : List Piece) (piece : Piece) →
 stream_of-push pieces piece =
     stream_of-append pieces (piece ∷ []) ∙ ap (λ l. stream_of pieces ++ l) (stream_behind-single (joined (map area_of pieces)) piece)
 
-pub length-stream_of-append : (pieces more : List Piece) → length (stream_of (pieces ++ more)) ≡ length (stream_of pieces) + length (stream_of more)
-length-stream_of-append pieces more =
-    omega (arith, ap length (stream_of-append pieces more), length-append (stream_of pieces) (stream_behind (joined (map area_of pieces)) more), length-stream_behind (joined (map area_of pieces)) more, length-stream_of more)
-
 -- the octets of the first of several pieces
 pub length-stream_of-cons : (piece : Piece) (pieces : List Piece) → length (stream_of (piece ∷ pieces)) ≡ size_of piece + length (stream_of pieces)
 length-stream_of-cons piece pieces =

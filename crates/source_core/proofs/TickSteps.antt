@@ -234,9 +234,6 @@ nibbles-ticked scenario cells back t due false e =
     ∙ ap (λ cells. map (λ line. nibbles_after scenario cells line (steps_in (t + 1))) (range_with_len 0 (length scenario.windows))) (sym (no-cell scenario cells back t e due))
 
 -- ---- the stream
-abbrev pub further_of : Scenario → List (Option Told) → ℕ → ℕ
-further_of scenario more t = place_of scenario more t + scenario.size * width scenario more t
-
 place-next : (scenario : Scenario) (cells : List (Option Told)) (t : ℕ) → place_of scenario cells (suc t) ≡ place_of scenario cells t + scenario.size * width scenario cells t
 unfolding place_of
 place-next scenario cells t = refl

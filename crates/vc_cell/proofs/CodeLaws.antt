@@ -1,5 +1,5 @@
 -- A code stands for one word, and the word of a code is computed.
-use Rattle.std.proofs.Common.{◌≡◌, ◌≢◌, ℕ, ◌==◌, ◌<◌, Option, Some, None, if◌then◌else◌, inl, inr, refl, sym, ◌∙◌, ap, lit<}
+use Rattle.std.proofs.Common.{◌≡◌, ℕ, ◌==◌, ◌<◌, Option, Some, None, if◌then◌else◌, inl, inr, refl, sym, ◌∙◌, ap, lit<}
 use Rattle.std.proofs.lemmas.Bool.{cases_eq, eq-eqb, ne_eqb}
 use Rattle.vc_cell.specs.declared.Ctrl.{Ctrl}
 use Rattle.vc_cell.specs.declared.Ctrl.TheVariants.{Fixed, Add, Norm, Eos, Idle, Dnu}
@@ -13,10 +13,6 @@ ctrl_of-code_of Norm = refl
 ctrl_of-code_of Eos = refl
 ctrl_of-code_of Idle = refl
 ctrl_of-code_of Dnu = refl
-
--- a word that has the code is the only one
-pub ctrl_of-own : (ctrl : Ctrl) (code : ℕ) → code_of ctrl ≡ code → ctrl_of code ≡ Some ctrl
-ctrl_of-own ctrl code e = sym (ap ctrl_of e) ∙ ctrl_of-code_of ctrl
 
 -- the word that is computed has the code
 by_test : (code n : ℕ) (word ctrl : Ctrl) (others : Option Ctrl) → code_of word ≡ n → (others ≡ Some ctrl → code_of ctrl ≡ code) →
