@@ -4,8 +4,8 @@ use Rattle.std.proofs.Math.Seq.{take-add, take-append-add}
 use Rattle.std.proofs.lemmas.List.{drop-drop, take-take, length-take-le}
 use Rattle.std.proofs.lemmas.List.Concat.{flat_map-append}
 use Rattle.std.proofs.lemmas.List.Elements.{All-take, All-weaker}
-use Rattle.outside_io.specs.Transfer.{Appends, AppendsPart}
-use Rattle.outside_io.proofs.Parts.{Appends-none, AppendsPart-longer}
+use Rattle.outside_io.specs.Transfer.{AppendsPart}
+use Rattle.outside_io.proofs.Parts.{AppendsPart-longer}
 use Rattle.session_model.specs.Piece.{Piece, idle, stream_of, frames_by, opening}
 use Rattle.session_model.specs.Delivery.{delivered}
 use Rattle.gfp_fill.specs.Stream.{Sender, Fills, next_pieces}
@@ -13,8 +13,9 @@ use Rattle.gfp_fill.specs.Stream.{Stands as Sends}
 use Rattle.gfp_fill.proofs.StreamLaws.{append-next_pieces, take-stream_of, next_pieces-zero}
 use Rattle.gfp_delineate.specs.Receiver.{Receiver, Stands, IsClientFrame}
 use Rattle.vcat_walk.specs.Form.{IsFrame}
-use Rattle.vcat_walk.specs.Report.{got_texts, got_text}
-use Rattle.vcat_walk.specs.Written.{HasGot, StopsWithin}
+use Rattle.report_text.specs.Report.{got_texts, got_text}
+use Rattle.vcat_walk.specs.Written.{Holds, HasGot, StopsWithin}
+use Rattle.vcat_walk.proofs.BlockLaws.{Holds-waits}
 use Rattle.vcat_walk.proofs.PlaceLaws.{begun_pieces, frames_by-begun, frames_by-grow, frames_by-zero}
 
 -- what the two ends of a stream tell of each other
@@ -72,28 +73,28 @@ filled octets frames waiting after sender next receiver out so_far fill =
           ∙ ap (λ (pieces : List Piece). take (octets + length out) (stream_of pieces)) same;
     }
 
--- the lines of the frames that end in the octets so far
-pub record HasLines {K : Type 0} (written : K → Option (List ℕ)) (faults : K → ℕ) (octets : ℕ) (frames : List (List ℕ)) (start now : K) (got : ℕ) : Type 0 where
-  pub lines : Appends written faults start now (got_texts (frames_by octets (opening frames 0)))
+-- the lines of the frames that end in the octets so far are written or wait
+pub record HasLines {K : Type 0} (written : K → Option (List ℕ)) (faults : K → ℕ) (octets : ℕ) (frames : List (List ℕ)) (start now : K) (pending : List ℕ) (got : ℕ) : Type 0 where
+  pub lines : Holds written faults start now pending (got_texts (frames_by octets (opening frames 0)))
   pub count : got ≡ length (frames_by octets (opening frames 0))
 
 -- the lines after one more row
 lines_filled : {K : Type 0} (written : K → Option (List ℕ)) (faults : K → ℕ) → DeliveryLaw → (octets size : ℕ) (frames waiting : List (List ℕ)) (sender : Sender) (before out : List ℕ)
-    (start now : K) (got : ℕ) → All IsFrame frames → (fill : IsFilled (octets + size) frames waiting sender before out)
-    → HasGot written faults (before ++ out) start now got → HasLines written faults (octets + size) frames start now got
-lines_filled written faults law octets size frames waiting sender before out start now got each fill has =
+    (start now : K) (pending : List ℕ) (got : ℕ) → All IsFrame frames → (fill : IsFilled (octets + size) frames waiting sender before out)
+    → HasGot written faults (before ++ out) start now pending got → HasLines written faults (octets + size) frames start now pending got
+lines_filled written faults law octets size frames waiting sender before out start now pending got each fill has =
     let ends : delivered 9600 (before ++ out) ≡ frames_by (octets + size) (opening frames 0) =
     ap (λ (os : List ℕ). delivered 9600 os) fill.all ∙ delivered_by law (octets + size) fill.begun frames each fill.sends.within in
-    let P : List (List ℕ) → Type 0 = λ fs. Appends written faults start now (got_texts fs) in
+    let P : List (List ℕ) → Type 0 = λ fs. Holds written faults start now pending (got_texts fs) in
     record { lines = subst P ends has.lines; count = has.count ∙ ap (λ (fs : List (List ℕ)). length fs) ends }
 
 -- the lines before a row, as the receiver has them
 lines_before : {K : Type 0} (written : K → Option (List ℕ)) (faults : K → ℕ) → DeliveryLaw → (octets : ℕ) (frames waiting : List (List ℕ)) (sender : Sender) (receiver : Receiver)
-    (start now : K) (got : ℕ) → All IsFrame frames → (so_far : IsCarried octets frames waiting sender receiver) → HasLines written faults octets frames start now got
-    → HasGot written faults (take octets (stream_of (begun_pieces so_far.begun frames))) start now got
-lines_before written faults law octets frames waiting sender receiver start now got each so_far has =
+    (start now : K) (pending : List ℕ) (got : ℕ) → All IsFrame frames → (so_far : IsCarried octets frames waiting sender receiver) → HasLines written faults octets frames start now pending got
+    → HasGot written faults (take octets (stream_of (begun_pieces so_far.begun frames))) start now pending got
+lines_before written faults law octets frames waiting sender receiver start now pending got each so_far has =
     let ends = sym (delivered_by law octets so_far.begun frames each so_far.sends.within) in
-    let P : List (List ℕ) → Type 0 = λ fs. Appends written faults start now (got_texts fs) in
+    let P : List (List ℕ) → Type 0 = λ fs. Holds written faults start now pending (got_texts fs) in
     record { lines = subst P ends has.lines; count = has.count ∙ ap (λ (fs : List (List ℕ)). length fs) ends }
 
 -- the front of a row, behind the octets before it
@@ -138,41 +139,41 @@ none_carried frames sender receiver sends stands =
     let P : List Piece → Type 0 = λ pieces. Sends sender pieces 0 in
     record { begun = 0; sends = subst P (sym (begun_none frames)) sends; waits = refl; stands = stands }
 
-pub no_lines : {K : Type 0} (written : K → Option (List ℕ)) (faults : K → ℕ) (frames : List (List ℕ)) (start : K) → HasLines written faults 0 frames start start 0
+pub no_lines : {K : Type 0} (written : K → Option (List ℕ)) (faults : K → ℕ) (frames : List (List ℕ)) (start : K) → HasLines written faults 0 frames start start [] 0
 no_lines written faults frames start =
     let none = sym (frames_by-zero (opening frames 0)) in
-    let P : List (List ℕ) → Type 0 = λ fs. Appends written faults start start (got_texts fs) in
-    record { lines = subst P none (Appends-none written faults start); count = ap (λ (fs : List (List ℕ)). length fs) none }
+    let P : List (List ℕ) → Type 0 = λ fs. Holds written faults start start [] (got_texts fs) in
+    record { lines = subst P none (Holds-waits written faults start [] [] refl); count = ap (λ (fs : List (List ℕ)). length fs) none }
 
 -- what is carried and written after one more row
-pub record IsNext {K : Type 0} (written : K → Option (List ℕ)) (faults : K → ℕ) (octets : ℕ) (frames waiting : List (List ℕ)) (sender : Sender) (receiver : Receiver) (start now : K) (got : ℕ) : Type 0 where
+pub record IsNext {K : Type 0} (written : K → Option (List ℕ)) (faults : K → ℕ) (octets : ℕ) (frames waiting : List (List ℕ)) (sender : Sender) (receiver : Receiver) (start now : K) (pending : List ℕ) (got : ℕ) : Type 0 where
   pub carried : IsCarried octets frames waiting sender receiver
-  pub lines : HasLines written faults octets frames start now got
+  pub lines : HasLines written faults octets frames start now pending got
 
 pub next_row : {K : Type 0} (written : K → Option (List ℕ)) (faults : K → ℕ) → DeliveryLaw → (octets : ℕ) (frames waiting after : List (List ℕ)) (sender next : Sender) (receiver later : Receiver) (out : List ℕ)
-    (start old new : K) (got n : ℕ) → All IsFrame frames → (so_far : IsCarried octets frames waiting sender receiver) → HasLines written faults octets frames start old got
+    (start old new : K) (pending later_pending : List ℕ) (got n : ℕ) → All IsFrame frames → (so_far : IsCarried octets frames waiting sender receiver) → HasLines written faults octets frames start old pending got
     → Fills (begun_pieces so_far.begun frames) octets waiting after next out
     → ((before : List ℕ) → Stands receiver 9600 before → Stands later 9600 (before ++ out))
-    → ((before : List ℕ) (start : K) (got : ℕ) → Stands receiver 9600 before → HasGot written faults before start old got → HasGot written faults (before ++ out) start new (got + n))
-    → IsNext written faults (octets + length out) frames after next later start new (got + n)
-next_row written faults law octets frames waiting after sender next receiver later out start old new got n each so_far lines fill stands writes =
+    → ((before : List ℕ) (start : K) (got : ℕ) → Stands receiver 9600 before → HasGot written faults before start old pending got → HasGot written faults (before ++ out) start new later_pending (got + n))
+    → IsNext written faults (octets + length out) frames after next later start new later_pending (got + n)
+next_row written faults law octets frames waiting after sender next receiver later out start old new pending later_pending got n each so_far lines fill stands writes =
     let before = take octets (stream_of (begun_pieces so_far.begun frames)) in
-    let had = lines_before written faults law octets frames waiting sender receiver start old got each so_far lines in
+    let had = lines_before written faults law octets frames waiting sender receiver start old pending got each so_far lines in
     let full = filled octets frames waiting after sender next receiver out so_far fill in
     let P : List ℕ → Type 0 = λ os. Stands later 9600 os in
     record {
       carried = record { begun = full.begun; sends = full.sends; waits = full.waits; stands = subst P full.all (stands before so_far.stands) };
-      lines = lines_filled written faults law octets (length out) frames after next before out start new (got + n) each full (writes before start got so_far.stands had);
+      lines = lines_filled written faults law octets (length out) frames after next before out start new later_pending (got + n) each full (writes before start got so_far.stands had);
     }
 
 pub stops_in_row : {K : Type 0} (written : K → Option (List ℕ)) (faults : K → ℕ) → DeliveryLaw → (octets last : ℕ) (frames waiting after : List (List ℕ)) (sender next : Sender) (receiver : Receiver) (out : List ℕ)
-    (start old new : K) (got : ℕ) → All IsFrame frames → (so_far : IsCarried octets frames waiting sender receiver) → HasLines written faults octets frames start old got
+    (start old new : K) (pending : List ℕ) (got : ℕ) → All IsFrame frames → (so_far : IsCarried octets frames waiting sender receiver) → HasLines written faults octets frames start old pending got
     → Fills (begun_pieces so_far.begun frames) octets waiting after next out → octets + length out ≤ last
-    → ((before : List ℕ) (start : K) (got : ℕ) → Stands receiver 9600 before → HasGot written faults before start old got → StopsWithin written faults before out start new)
+    → ((before : List ℕ) (start : K) (got : ℕ) → Stands receiver 9600 before → HasGot written faults before start old pending got → StopsWithin written faults before out start new)
     → AppendsPart written faults start new (got_texts (frames_by last (opening frames 0)))
-stops_in_row written faults law octets last frames waiting after sender next receiver out start old new got each so_far lines fill most stops =
+stops_in_row written faults law octets last frames waiting after sender next receiver out start old new pending got each so_far lines fill most stops =
     let before = take octets (stream_of (begun_pieces so_far.begun frames)) in
-    let had = lines_before written faults law octets frames waiting sender receiver start old got each so_far lines in
+    let had = lines_before written faults law octets frames waiting sender receiver start old pending got each so_far lines in
     let full = filled octets frames waiting after sender next receiver out so_far fill in
     stopped written faults law octets (length out) last frames after next before out start new each full
     (length-take-le octets (stream_of (begun_pieces so_far.begun frames)) so_far.sends.within) refl most (stops before start got so_far.stands had)
