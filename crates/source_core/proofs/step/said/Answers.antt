@@ -1,0 +1,10 @@
+use Rattle.std.proofs.Common.{◌<◌, All, sym, subst, arith}
+use Rattle.session_model.specs.Packet.{IsPacket, packet_nibbles}
+use Rattle.session_model.proofs.PacketLaws.{packet_nibbles_below}
+use Rattle.source_core.proofs.step.said.Goals as goal
+
+pub returns-clause-below : goal.returns-clause-below
+returns-clause-below c =
+    let packet = c.args.packet in
+    let octets : IsPacket packet = record { mst = omega arith; sq = omega arith; mfi2 = omega arith; act = omega arith } in
+    subst (All (λ nibble. nibble < 16)) (sym c.nibbles.ensures) (packet_nibbles_below packet octets)

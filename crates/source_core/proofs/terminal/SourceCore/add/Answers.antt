@@ -1,0 +1,8 @@
+use Rattle.std.proofs.Common.{◌≡◌, refl}
+use Rattle.source_core.proofs.terminal.SourceCore.add.Goals as goal
+
+pub invariant_of-self : goal.invariant_of-self
+invariant_of-self c = ?
+
+pub returns-clause-stands : goal.returns-clause-stands
+returns-clause-stands c = ?

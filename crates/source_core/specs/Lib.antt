@@ -1,0 +1,4 @@
+pub mod Terminal
+pub mod Given
+pub mod Frame
+pub mod Step

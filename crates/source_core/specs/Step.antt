@@ -1,0 +1,72 @@
+-- What a decision step makes of the fields of a terminal, in the ticks in which one is made.
+use Rattle.std.specs.Prelude.{◌≡◌, ◌≢◌, ◌<◌, ◌≤◌, ℕ, ◌-◌, ◌*◌, ◌%◌, ◌==◌, Bool, true, false, List, [], map, length, All, Option, option_map}
+use Rattle.std.specs.List.{range_with_len}
+use Rattle.vc_cell.specs.declared.BackCell.{BackCell}
+use Rattle.session_model.specs.Packet.{packet_nibbles}
+use Rattle.session_model.specs.Table.{active}
+use Rattle.session_model.specs.Told.{told_in}
+use Rattle.session_model.specs.Scenario.{steps_in}
+use Rattle.session_model.specs.Course.{Course, called, decides}
+use Rattle.session_model.specs.Forward.{forward_packet}
+use Rattle.session_law.proofs.PlanLaws.{Fits}
+use Rattle.gfp_fill.specs.Queue.{Held}
+use Rattle.gfp_fill.specs.Stream.{Sender}
+use Rattle.vcat_interleave.specs.Members.{AreLines}
+use Rattle.vcat_interleave.specs.Spread.{AreDistinct}
+use Rattle.source_core.specs.Terminal.{Terminal}
+
+-- a decision step is made in the tick of frame t
+abbrev pub is_step : ℕ → Bool
+is_step t = t % 16 == 8
+
+abbrev pub table_by : Bool → Option BackCell → Course → Course
+table_by true back table = called table (decides (option_map told_in back))
+table_by false back table = table
+
+-- the lines that carry payload are those of the table before the step
+abbrev pub active_by : Bool → Course → List ℕ → List ℕ
+active_by true table lines = active table.source.table
+active_by false table lines = lines
+
+-- the nibbles of the packets of a number of lines are those of the table after it
+abbrev pub nibbles_of : Course → ℕ → List (List ℕ)
+nibbles_of table lines = map (λ line. packet_nibbles (forward_packet table.source.table line (table.steps - 1))) (range_with_len 0 lines)
+
+abbrev pub nibbles_by : Bool → Course → List (List ℕ) → List (List ℕ)
+nibbles_by true table nibbles = nibbles_of table (length nibbles)
+nibbles_by false table nibbles = nibbles
+
+-- each number of some lists has four bits
+abbrev pub AreNibbles : List (List ℕ) → Type 0
+AreNibbles lists = All (λ nibbles. All (λ nibble. nibble < 16) nibbles) lists
+
+-- lines that can carry payload together: each is one of so many, none stands twice, and there are no more than there are lines
+pub record AreMembers (lines : ℕ) (active : List ℕ) : Type 0 where
+  pub among : AreLines lines active
+  pub distinct : AreDistinct active
+  pub most : length active ≤ lines
+
+-- what the fields of a terminal hold
+abbrev pub terminal_of : ℕ → ℕ → ℕ → Held → Sender → Course → List ℕ → List (List ℕ) → Terminal
+terminal_of lag size ticks queue sender table active nibbles = record {
+  lines = table.lines;
+  lag = lag;
+  size = size;
+  ticks = ticks;
+  queue = queue;
+  sender = sender;
+  table = table;
+  active = active;
+  nibbles = nibbles;
+}
+
+-- what is true of the fields
+pub record IsTerminal (core : Terminal) (octets : ℕ) : Type 0 where
+  pub lines : core.lines ≤ 128
+  pub size : core.size ≤ 2340
+  pub room : octets ≡ core.size * core.lines
+  pub fits : Fits core.lines core.table.source
+  pub steps : core.table.steps ≡ steps_in core.ticks
+  pub active : AreMembers core.lines core.active
+  pub nibbles : length core.nibbles ≡ core.lines
+  pub below : AreNibbles core.nibbles

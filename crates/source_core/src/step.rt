@@ -1,0 +1,57 @@
+//! A decision step, and what the lines send until the next one.
+
+ghost use Rattle.std.specs.Prelude.{◌≡◌, ℕ, ◌<◌, ◌≤◌, All, length};
+ghost use Rattle.session_model.specs.Packet.{packet_nibbles};
+ghost use Rattle.source_core.specs.Step.{is_step, table_by, active_by, nibbles_of, nibbles_by, AreNibbles};
+
+use arrayvec::ArrayVec;
+use lcas_packet::Packet;
+use lcas_source::SourceTable;
+use vc_cell::BackCell;
+
+/// The nibbles of a packet.
+pub(crate) const NIBBLES: usize = 16;
+
+/// Makes the decision step of a frame, where one is made. From this frame on the lines send the packets of the table after the step,
+/// and those carry payload that the table before it says.
+pub(crate) fn take_step(
+    ticks: u32,
+    back: Option<BackCell>,
+    table: &mut SourceTable,
+    active: &mut ArrayVec<u8, 128>,
+    nibbles: &mut [[u8; NIBBLES]],
+)
+    requires few { table.old.steps < 4294967295 }
+    requires lines { length nibbles.old ≤ 128 }
+    requires below { AreNibbles nibbles.old }
+    ensures table { table.new ≡ table_by (is_step ticks) back table.old }
+    ensures active { active.new.items ≡ active_by (is_step ticks) table.old active.old.items }
+    ensures nibbles { nibbles.new ≡ nibbles_by (is_step ticks) table.new nibbles.old }
+    ensures below { AreNibbles nibbles.new }
+{
+    if ticks % 16 == 8 {
+        *active = table.active();
+        table.decide(back);
+        say_all(table, nibbles);
+    }
+}
+
+/// The nibbles of the packets of all lines since the last decision step.
+fn say_all(table: &SourceTable, nibbles: &mut [[u8; NIBBLES]])
+    requires steps { 0 < table.now.steps }
+    requires lines { length nibbles.old ≤ 128 }
+    ensures nibbles { nibbles.new ≡ nibbles_of table.now (length nibbles.old) }
+    ensures below { AreNibbles nibbles.new }
+{
+    for line in 0..nibbles.len() {
+        nibbles[line] = said(table.packet(line as u8));
+    }
+}
+
+/// The nibbles of a packet.
+fn said(packet: Packet) -> [u8; NIBBLES]
+    ensures nibbles { result ≡ packet_nibbles packet }
+    ensures below { All (λ nibble. nibble < 16) result }
+{
+    packet.nibbles()
+}

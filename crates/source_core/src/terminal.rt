@@ -1,0 +1,187 @@
+//! The source terminal.
+
+ghost use Rattle.std.specs.Prelude.{◌≡◌, ℕ, ◌+◌, ◌*◌, ◌<◌, ◌≤◌, ◌↔◌, [], List, Option, IfOk, OnErr, IsSome, length};
+ghost use Rattle.session_model.specs.declared.table.Command.TheVariants.{Add as add, Remove as remove};
+ghost use Rattle.session_model.specs.Scenario.{Scenario};
+ghost use Rattle.session_model.specs.Table.{Told};
+ghost use Rattle.session_model.specs.Source.{refusal};
+ghost use Rattle.session_model.specs.Client.{refusal_while};
+ghost use Rattle.session_model.specs.Accepted.{refusal_in};
+ghost use Rattle.session_model.specs.Sent.{frame_of};
+ghost use Rattle.source_core.specs.Terminal.{needed, SameKind};
+ghost use Rattle.source_core.specs.Given.{with_frame, with_command, with_cell, IsFresh, Stands};
+
+use crate::frame::send;
+use crate::step::{NIBBLES, take_step};
+use arrayvec::ArrayVec;
+use gfp_fill::{AcceptFault, Filler, FrameQueue};
+use lcas_source::{CommandFault, SourceTable};
+use std::alloc::{AllocError, Global};
+use std::marker::Model;
+use vc_cell::{BackCell, Container};
+
+/// The source terminal of a group.
+#[derive(Drop)]
+pub struct SourceCore {
+    /// The accepted frames of which no octet is sent yet.
+    queue: FrameQueue,
+    /// The stream that the frames are put into.
+    filler: Filler,
+    /// The table of the lines.
+    table: SourceTable,
+    /// The return cell of packet `k` is taken in decision step `k + lag`.
+    lag: u16,
+    /// The payload octets of a container.
+    size: u16,
+    /// How many frames were made.
+    ticks: u32,
+    /// The lines that carry payload.
+    active: ArrayVec<u8, 128>,
+    /// The nibbles of the packet of each line.
+    nibbles: Vec<[u8; NIBBLES]>,
+    /// The payload of one frame, over all lines.
+    row: Vec<u8>,
+}
+
+impl Model for SourceCore {
+    ghost use Rattle.std.specs.Prelude.{length};
+    ghost use Rattle.source_core.specs.Terminal.{Terminal};
+    ghost use Rattle.source_core.specs.Step.{terminal_of, IsTerminal};
+
+    ghost Value = { Terminal };
+
+    ghost view = { λ s. terminal_of s.lag s.size s.ticks s.queue s.filler s.table s.active.items s.nibbles.items };
+
+    ghost invariant = { λ s. IsTerminal (terminal_of s.lag s.size s.ticks s.queue s.filler s.table s.active.items s.nibbles.items) (length s.row.items) };
+}
+
+impl SourceCore {
+    /// The terminal of a group of `lines` lines, up to 128, with `size` payload octets in a container, up to 2,340. The return cell
+    /// of packet `k` comes with the tick of frame `16 (k + lag) + 8`.
+    pub fn new(alloc: Global, lines: u8, lag: u16, size: u16) -> Result<SourceCore, AllocError>
+        requires lines { lines ≤ 128 }
+        requires size { size ≤ 2340 }
+        ensures stands { IfOk result (λ core. (scenario : Scenario) → IsFresh scenario lines lag size →
+            Stands core scenario []) }
+        ensures lines { IfOk result (λ core. core.lines ≡ lines) }
+        ensures lag { IfOk result (λ core. core.lag ≡ lag) }
+        ensures size { IfOk result (λ core. core.size ≡ size) }
+        ensures ticks { IfOk result (λ core. core.ticks ≡ 0) }
+    {
+        Ok(SourceCore {
+            queue: FrameQueue::new(alloc)?,
+            filler: Filler::new(),
+            table: SourceTable::new(lines),
+            lag,
+            size,
+            ticks: 0,
+            active: ArrayVec::new(),
+            nibbles: vec![in alloc; [0u8; NIBBLES]; usize::from(lines)]?,
+            row: vec![in alloc; 0u8; usize::from(size) * usize::from(lines)]?,
+        })
+    }
+
+    /// Takes a frame of the client, from its destination address to its FCS. A refusal tells its first cause, and changes nothing.
+    pub fn accept(&mut self, frame: &[u8]) -> Result<(), AcceptFault>
+        ensures refused { refusal_in result ≡ refusal_while self.old.queue.waiting frame.now }
+        ensures unchanged { OnErr result (self.new ≡ self.old) }
+        ensures stands { (scenario : Scenario) (cells : List (Option Told)) →
+            Stands self.old scenario cells →
+            Stands self.new (with_frame scenario self.old.ticks frame.now) cells }
+        ensures ticks { self.new.ticks ≡ self.old.ticks }
+        ensures kind { SameKind self.new self.old }
+    {
+        self.queue.push(frame)
+    }
+
+    /// Asks for a line to become a member. A refusal tells its first cause, and changes nothing.
+    pub fn add(&mut self, line: u8) -> Result<(), CommandFault>
+        ensures refused { refusal_in result ≡ refusal self.old.lines (add line) self.old.table.source }
+        ensures unchanged { OnErr result (self.new ≡ self.old) }
+        ensures stands { (scenario : Scenario) (cells : List (Option Told)) →
+            Stands self.old scenario cells →
+            Stands self.new (with_command scenario self.old.ticks (add line)) cells }
+        ensures ticks { self.new.ticks ≡ self.old.ticks }
+        ensures kind { SameKind self.new self.old }
+    {
+        self.table.add(line)
+    }
+
+    /// Asks for a line to be no member any more. A refusal tells its first cause, and changes nothing.
+    pub fn remove(&mut self, line: u8) -> Result<(), CommandFault>
+        ensures refused { refusal_in result
+            ≡ refusal self.old.lines (remove line) self.old.table.source }
+        ensures unchanged { OnErr result (self.new ≡ self.old) }
+        ensures stands { (scenario : Scenario) (cells : List (Option Told)) →
+            Stands self.old scenario cells →
+            Stands self.new (with_command scenario self.old.ticks (remove line)) cells }
+        ensures ticks { self.new.ticks ≡ self.old.ticks }
+        ensures kind { SameKind self.new self.old }
+    {
+        self.table.remove(line)
+    }
+
+    /// The number of the return cell that the next tick takes. It takes one exactly where it makes decision step `j`, so that the
+    /// next frame is `16 j + 8`, and `j` is the lag or more; the cell's number is then `j` less the lag.
+    pub fn needs_back(&self) -> Option<u32>
+        ensures { result ≡ needed self.now }
+    {
+        let step = self.ticks / 16;
+        let lag = u32::from(self.lag);
+        if self.ticks % 16 == 8 && step >= lag {
+            Some(step - lag)
+        } else {
+            None
+        }
+    }
+
+    /// Makes the next frame, a container for each line at its place in `out`. The return cell that `needs_back` names is there
+    /// exactly where it names one.
+    pub fn tick(&mut self, back: Option<BackCell>, out: &mut [Container])
+        requires places { length out.old ≡ self.old.lines }
+        requires back { IsSome back ↔ IsSome (needed self.old) }
+        requires few { self.old.ticks < 4294967295 }
+        ensures stands { (scenario : Scenario) (cells : List (Option Told)) →
+            Stands self.old scenario cells →
+            Stands self.new scenario (with_cell cells back) }
+        ensures frame { (scenario : Scenario) (cells : List (Option Told)) →
+            Stands self.old scenario cells →
+            out.new ≡ frame_of scenario (with_cell cells back) self.old.ticks }
+        ensures ticks { self.new.ticks ≡ self.old.ticks + 1 }
+        ensures kind { SameKind self.new self.old }
+    {
+        take_step(
+            self.ticks,
+            back,
+            &mut self.table,
+            &mut self.active,
+            &mut self.nibbles,
+        );
+        let size = usize::from(self.size);
+        let len = size * self.active.len();
+        self.filler.fill(&mut self.queue, &mut self.row[..len]);
+        send(
+            self.ticks,
+            &self.nibbles,
+            &self.active,
+            size,
+            &self.row[..len],
+            out,
+        );
+        self.ticks += 1;
+    }
+
+    /// How many frames were made.
+    pub fn ticks(&self) -> u32
+        ensures { result ≡ self.now.ticks }
+    {
+        self.ticks
+    }
+
+    /// The table of the lines after the last decision step.
+    pub fn table(&self) -> &SourceTable
+        ensures { result.now ≡ self.now.table }
+    {
+        &self.table
+    }
+}
