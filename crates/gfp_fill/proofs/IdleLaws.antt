@@ -18,7 +18,7 @@ use Rattle.gfp_fill.proofs.StreamSteps.{idle_written, written-both}
 abbrev pub idle_header : List ℕ
 idle_header = 0xb6 ∷ 0xab ∷ 0x31 ∷ 0xe0 ∷ []
 
-pub core_header-idle : core_header 0 ≡ idle_header
+core_header-idle : core_header 0 ≡ idle_header
 unfolding core_header octets_of xors bits divide add_front number_behind
 core_header-idle = refl
 
@@ -27,7 +27,7 @@ abbrev pub idles : ℕ → List ℕ
 idles n = flat_map with_header (replicate n [])
 
 -- one more in front, and one more at the end
-pub idles-suc : (n : ℕ) → idles (suc n) ≡ core_header 0 ++ idles n
+idles-suc : (n : ℕ) → idles (suc n) ≡ core_header 0 ++ idles n
 idles-suc n = ap (λ l. l ++ idles n) (append-nil (core_header 0))
 
 pub idles-more : (n : ℕ) → idles (n + 1) ≡ idles n ++ idle_header
@@ -37,7 +37,7 @@ idles-more (suc n) =
     ap idles e ∙ idles-suc (n + 1) ∙ ap (λ l. core_header 0 ++ l) (idles-more n)
     ∙ sym (append_assoc (core_header 0) (idles n) idle_header) ∙ ap (λ l. l ++ idle_header) (sym (idles-suc n))
 
-pub length-idles : (n : ℕ) → length (idles n) ≡ 4 * n
+length-idles : (n : ℕ) → length (idles n) ≡ 4 * n
 length-idles zero = refl
 length-idles (suc n) = omega (arith, ap length (idles-suc n), length-append (core_header 0) (idles n), length-core_header 0, length-idles n)
 

@@ -1,28 +1,10 @@
--- Laws of the pieces that come next, and of the lengths of streams.
-use Rattle.std.proofs.Common.{◌≡◌, ℕ, zero, suc, ◌+◌, ◌-◌, ◌*◌, ◌≤◌, List, [], ◌∷◌, ◌++◌, length, map, take, drop, replicate, refl, sym, ap, ap₂, ◌∙◌, arith, append_assoc, length-append, length-take}
-use Rattle.std.proofs.lemmas.List.{append-nil, drop_all, length-map, length-replicate, replicate-append-replicate, take_all, take-append-le}
-use Rattle.session_model.specs.Piece.{Piece, idle, client, area_of, joined, stream_of, size_of, opening}
+-- Laws of the pieces that come next: how they follow one another, and what their stream keeps.
+use Rattle.std.proofs.Common.{◌≡◌, ℕ, zero, suc, ◌+◌, ◌-◌, ◌≤◌, List, [], ◌∷◌, ◌++◌, length, map, take, drop, replicate, refl, sym, ap, ap₂, ◌∙◌, arith, append_assoc}
+use Rattle.std.proofs.lemmas.List.{append-nil, drop_all, replicate-append-replicate, take_all, take-append-le}
+use Rattle.session_model.specs.Piece.{Piece, idle, client, area_of, joined, stream_of, opening}
 use Rattle.session_model.proofs.StreamLaws.{stream_behind, stream_of-append}
-use Rattle.session_model.proofs.StreamLaws.{length-stream_of-append as length_of_both, length-stream_of-cons as length_of_first}
 use Rattle.session_model.specs.Client.{Stream, begun}
-use Rattle.gfp_fill.specs.Stream.{next_pieces}
-
--- the octets of pieces behind one another
-pub length-stream_of-append : (pieces more : List Piece) → length (stream_of (pieces ++ more)) ≡ length (stream_of pieces) + length (stream_of more)
-length-stream_of-append = length_of_both
-
--- the octets of the first of several pieces
-pub length-stream_of-cons : (piece : Piece) (pieces : List Piece) → length (stream_of (piece ∷ pieces)) ≡ size_of piece + length (stream_of pieces)
-length-stream_of-cons = length_of_first
-
--- each piece has four octets at least
-pub four_each : (pieces : List Piece) → 4 * length pieces ≤ length (stream_of pieces)
-four_each [] = omega arith
-four_each (piece ∷ pieces) = omega (arith, four_each pieces, length-stream_of-cons piece pieces)
-
--- a stream is no longer than that of more pieces
-pub stream_grows : (pieces more : List Piece) → length (stream_of pieces) ≤ length (stream_of (pieces ++ more))
-stream_grows pieces more = omega (arith, length-stream_of-append pieces more)
+use Rattle.gfp_fill.specs.Stream.{next_pieces, unsent}
 
 -- where none waits there are idles
 pub next_pieces-nil : (n : ℕ) → next_pieces n [] ≡ replicate n idle
@@ -33,11 +15,11 @@ pub next_pieces-zero : (waiting : List (List ℕ)) → next_pieces 0 waiting ≡
 next_pieces-zero waiting = ap (λ k. replicate k idle) (let e : 0 - length waiting ≡ 0 = omega arith in e)
 
 -- the first frame that waits comes next
-pub next_pieces-cons : (n : ℕ) (frame : List ℕ) (waiting : List (List ℕ)) → next_pieces (suc n) (frame ∷ waiting) ≡ client frame ∷ next_pieces n waiting
+next_pieces-cons : (n : ℕ) (frame : List ℕ) (waiting : List (List ℕ)) → next_pieces (suc n) (frame ∷ waiting) ≡ client frame ∷ next_pieces n waiting
 next_pieces-cons n frame waiting =
     ap (λ k. client frame ∷ map client (take n waiting) ++ replicate k idle) (let e : suc n - suc (length waiting) ≡ n - length waiting = omega arith in e)
 
--- further pieces come behind those before them
+-- further pieces come after those before them
 pub next_pieces-add : (n k : ℕ) (waiting : List (List ℕ)) → next_pieces (n + k) waiting ≡ next_pieces n waiting ++ next_pieces k (drop n waiting)
 next_pieces-add zero k waiting =
     let none = next_pieces-zero waiting in
@@ -52,27 +34,13 @@ next_pieces-add (suc n) k (frame ∷ waiting) =
     ap (λ m. next_pieces m (frame ∷ waiting)) sum ∙ next_pieces-cons (n + k) frame waiting
     ∙ ap (λ ps. client frame ∷ ps) rest ∙ ap (λ ps. ps ++ next_pieces k (drop n waiting)) (sym (next_pieces-cons n frame waiting))
 
-pub length-next_pieces : (n : ℕ) (waiting : List (List ℕ)) → length (next_pieces n waiting) ≡ n
-length-next_pieces n waiting = omega (arith, length-append (map client (take n waiting)) (replicate (n - length waiting) idle), length-map (take n waiting) client, length-take n waiting, length-replicate (n - length waiting) idle)
-
--- the next piece is the first frame that waits
-pub next_pieces-first : (frame : List ℕ) (waiting : List (List ℕ)) → next_pieces 1 (frame ∷ waiting) ≡ client frame ∷ []
-next_pieces-first frame waiting = next_pieces-cons 0 frame waiting ∙ ap (λ ps. client frame ∷ ps) (next_pieces-zero waiting)
-
 -- pieces begun in two turns
 pub append-next_pieces : (pieces : List Piece) (n k : ℕ) (waiting : List (List ℕ)) → pieces ++ next_pieces (n + k) waiting ≡ (pieces ++ next_pieces n waiting) ++ next_pieces k (drop n waiting)
 append-next_pieces pieces n k waiting =
     ap (λ ps. pieces ++ ps) (next_pieces-add n k waiting) ∙ sym (append_assoc pieces (next_pieces n waiting) (next_pieces k (drop n waiting)))
 
--- frames that come to wait later change no piece that is begun before them
-pub next_pieces-append : (n : ℕ) (waiting more : List (List ℕ)) → n ≤ length waiting → next_pieces n (waiting ++ more) ≡ next_pieces n waiting
-next_pieces-append n waiting more within =
-    let front = take-append-le n waiting more within in
-    let idles : n - length (waiting ++ more) ≡ n - length waiting = omega (arith, length-append waiting more) in
-    cc
-
 -- all frames that wait, and then so many idles
-pub next_pieces-all : (waiting : List (List ℕ)) (idles : ℕ) → next_pieces (length waiting + idles) waiting ≡ map client waiting ++ replicate idles idle
+next_pieces-all : (waiting : List (List ℕ)) (idles : ℕ) → next_pieces (length waiting + idles) waiting ≡ map client waiting ++ replicate idles idle
 next_pieces-all waiting idles =
     let front = take_all (length waiting + idles) waiting (omega arith) in
     let rest : length waiting + idles - length waiting ≡ idles = omega arith in
@@ -81,20 +49,6 @@ next_pieces-all waiting idles =
 -- the stream in which all frames wait from the start
 pub opening-next_pieces : (frames : List (List ℕ)) (idles : ℕ) → opening frames idles ≡ (idle ∷ idle ∷ []) ++ next_pieces (length frames + idles) frames
 opening-next_pieces frames idles = ap (λ ps. idle ∷ idle ∷ ps) (sym (next_pieces-all frames idles))
-
--- the stream of further pieces is no longer than that of still more
-pub next_pieces_grow : (pieces : List Piece) (n m : ℕ) (waiting : List (List ℕ)) → n ≤ m → length (stream_of (pieces ++ next_pieces n waiting)) ≤ length (stream_of (pieces ++ next_pieces m waiting))
-next_pieces_grow pieces n m waiting within =
-    let sum : n + (m - n) ≡ m = omega arith in
-    let split = append-next_pieces pieces n (m - n) waiting in
-    let more = stream_grows (pieces ++ next_pieces n waiting) (next_pieces (m - n) (drop n waiting)) in
-    let same : pieces ++ next_pieces m waiting ≡ (pieces ++ next_pieces n waiting) ++ next_pieces (m - n) (drop n waiting) = cc in
-    omega (arith, ap (λ ps. length (stream_of ps)) same)
-
--- each further piece has four octets at least
-pub next_pieces_reach : (pieces : List Piece) (n : ℕ) (waiting : List (List ℕ)) → length (stream_of pieces) + 4 * n ≤ length (stream_of (pieces ++ next_pieces n waiting))
-next_pieces_reach pieces n waiting =
-    omega (arith, length-stream_of-append pieces (next_pieces n waiting), four_each (next_pieces n waiting), length-next_pieces n waiting)
 
 -- more pieces leave the octets of those before as they are
 pub take-stream_of : (n : ℕ) (pieces more : List Piece) → n ≤ length (stream_of pieces) → take n (stream_of (pieces ++ more)) ≡ take n (stream_of pieces)
@@ -118,3 +72,9 @@ begun_of (suc n) (frame ∷ waiting) pieces =
 
 pub begun-next_pieces : (n : ℕ) (stream : Stream) → begun n stream ≡ record { pieces = stream.pieces ++ next_pieces n stream.waiting; waiting = drop n stream.waiting }
 begun-next_pieces n stream = begun_of n stream.waiting stream.pieces
+
+-- where all frames wait from the start, they are those of the opening
+pub begun-opening : (frames : List (List ℕ)) (idles : ℕ) → begun (length frames + idles) (unsent frames) ≡ record { pieces = opening frames idles; waiting = [] }
+begun-opening frames idles =
+    begun-next_pieces (length frames + idles) (unsent frames)
+    ∙ ap₂ (λ ps ws. record { pieces = ps; waiting = ws }) (sym (opening-next_pieces frames idles)) (drop_all (length frames + idles) frames (omega arith))

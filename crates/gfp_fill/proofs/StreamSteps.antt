@@ -98,7 +98,7 @@ areas-push pieces piece =
     ∙ ap (λ l. joined (map area_of pieces) ++ l) (append-nil (area_of piece))
 
 -- where all octets of the pieces are written, the place is at the end of the stream
-pub all_written : (s : Sender) (queue : Held) (stream : Stream) (place : ℕ) → Stands s queue stream place → head_of s ≡ [] → queue.begun ≡ [] → place ≡ size stream.pieces
+all_written : (s : Sender) (queue : Held) (stream : Stream) (place : ℕ) → Stands s queue stream place → head_of s ≡ [] → queue.begun ≡ [] → place ≡ size stream.pieces
 all_written s queue stream place stands head begun =
     let given = stands.given in
     let none : drop place (stream_of stream.pieces) ≡ [] =
@@ -208,7 +208,7 @@ within-append n k octets more within =
     ap (take k) (drop-append-le n octets more (omega arith)) ∙ take-append-le k (drop n octets) more (omega (arith, length-drop n octets))
 
 -- octets that are written stand in the stream of a later place
-pub still_next : (stream : Stream) (place n later : ℕ) → place + n ≤ later
+still_next : (stream : Stream) (place n later : ℕ) → place + n ≤ later
     → take n (drop place (stream_of (reached later stream).pieces)) ≡ take n (drop place (stream_of (reached (place + n) stream).pieces))
 still_next stream place n later more =
     let sooner = reached (place + n) stream in
@@ -250,6 +250,7 @@ take-written at n out part back within some =
     ap (λ k. take (k + n) (take at out ++ (part ++ back))) (sym front) ∙ take-append-add (take at out) (part ++ back) n
     ∙ ap (λ octets. take at out ++ octets) (take-append-le n part back some)
 
+-- octets of which there are none
 pub none_of : (octets : List ℕ) → length octets ≡ 0 → octets ≡ []
 none_of [] e = refl
 none_of (o ∷ octets) e = absurd (omega (arith, e))

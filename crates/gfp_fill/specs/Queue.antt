@@ -1,17 +1,17 @@
 -- Which frames are accepted, how many may wait, and what a queue holds. The limits are this project's own.
 use Rattle.std.specs.Prelude.{ℕ, ◌<◌, ◌≤◌, ◌⊎◌, List, []}
 
--- a length that is accepted
-abbrev pub IsFrameLength : ℕ → Type 0
-IsFrameLength n = (64 ≤ n) × (n ≤ 9600)
-
--- a length that is refused
-abbrev pub IsOtherLength : ℕ → Type 0
-IsOtherLength n = (n < 64) ⊎ (9600 < n)
-
 -- the greatest number of octets in a frame that is accepted
 abbrev pub longest_frame : ℕ
 longest_frame = 9600
+
+-- a length that is accepted
+abbrev pub IsFrameLength : ℕ → Type 0
+IsFrameLength n = (64 ≤ n) × (n ≤ longest_frame)
+
+-- a length that is refused
+abbrev pub IsOtherLength : ℕ → Type 0
+IsOtherLength n = (n < 64) ⊎ (longest_frame < n)
 
 -- how many frames may wait
 abbrev pub most_waiting : ℕ

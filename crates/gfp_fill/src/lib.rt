@@ -3,10 +3,10 @@
 //! `Stands` in `specs/Stream.antt`, over the streams of session_model's `specs/Client.antt`.
 #![tactic(auto)]
 
-ghost use Rattle.std.specs.Prelude.{◌≡◌, ℕ, ◌+◌, ◌≤◌, List, ◌++◌, length, take, drop};
-ghost use Rattle.session_model.specs.Piece.{Piece, stream_of};
+ghost use Rattle.std.specs.Prelude.{◌≡◌, ℕ, ◌+◌, ◌≤◌, List, [], ◌++◌, length, take, drop};
+ghost use Rattle.session_model.specs.Piece.{Piece, stream_of, opening};
 ghost use Rattle.session_model.specs.Client.{size, Stream, offered, begun, reached, IsFewest};
-ghost use Rattle.gfp_fill.specs.Stream.{next_pieces};
+ghost use Rattle.gfp_fill.specs.Stream.{next_pieces, unsent};
 
 mod filler;
 mod octets;
@@ -19,7 +19,7 @@ pub use queue::{FrameQueue, MAX_FRAME, MAX_WAITING, MIN_FRAME};
 pub use session_model::AcceptFault;
 
 /// The pieces of a stream that reaches a place are the fewest, a place can be reached in parts, and octets that are written stand
-/// in each longer stream.
+/// in each longer stream. Where all frames wait from the start, the pieces are those of the opening.
 pub fn filling_law()
     ensures fewest { (place : ℕ) (stream : Stream) → IsFewest stream.pieces place (reached place stream).pieces }
     ensures parts { (sooner later : ℕ) (stream : Stream) → sooner ≤ later →
@@ -27,6 +27,8 @@ pub fn filling_law()
     ensures begun { (place : ℕ) (stream : Stream) → (n : ℕ) × (reached place stream ≡ begun n stream) }
     ensures next { (n : ℕ) (stream : Stream) → begun n stream ≡
         record { pieces = stream.pieces ++ next_pieces n stream.waiting; waiting = drop n stream.waiting } }
+    ensures opening { (frames : List (List ℕ)) (idles : ℕ) → begun (length frames + idles) (unsent frames) ≡
+        record { pieces = opening frames idles; waiting = [] } }
     ensures offers { (stream : Stream) (frame : List ℕ) → (offered stream frame).pieces ≡ stream.pieces }
     ensures long { (pieces : List Piece) → length (stream_of pieces) ≡ size pieces }
     ensures written { (pieces more : List Piece) (place : ℕ) → place ≤ size pieces →

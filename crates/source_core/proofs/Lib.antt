@@ -1,2 +1,9 @@
 pub mod MemberLaws
 pub mod FrameLaws
+pub mod AlikeLaws
+pub mod GivenSteps
+pub mod FieldSteps
+pub mod TickSteps
+pub mod NewSteps
+pub mod LandedLaws
+pub mod DealtLaws

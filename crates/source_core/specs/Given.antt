@@ -1,5 +1,5 @@
 -- A source terminal over any list of calls: the scenario that it was given so far, and what stands of it.
-use Rattle.std.specs.Prelude.{◌≡◌, ◌≤◌, ℕ, zero, suc, ◌+◌, ◌-◌, nat_le, Bool, List, [], ◌∷◌, ◌++◌, map, filter, fold, length, replicate, All, Option, Some, None}
+use Rattle.std.specs.Prelude.{◌≡◌, ◌≤◌, ℕ, zero, suc, ◌+◌, ◌-◌, nat_lt, Bool, List, [], ◌∷◌, ◌++◌, map, filter, fold, length, replicate, All, Option, Some, None}
 use Rattle.std.specs.List.{range_with_len}
 use Rattle.vc_cell.specs.declared.BackCell.{BackCell}
 use Rattle.session_model.specs.declared.table.Command.{Command}
@@ -81,11 +81,11 @@ pub record Stands (core : Terminal) (scenario : Scenario) (cells : List (Option 
   pub nibbles : core.nibbles ≡ nibbles_now scenario cells core.ticks
 
 -- ---- what a longer scenario leaves as it was
--- what lands before frame t is made
+-- what is due lands before t ticks are made
 abbrev pub has_come : ℕ → ℕ → Bool
-has_come t due = nat_le due t
+has_come t due = nat_lt due t
 
--- up to frame t the same frames and commands came, in the same session
+-- up to t ticks the same frames and commands come, in the same session
 pub record ComesAlike (one other : Scenario) (t : ℕ) : Type 0 where
   pub lines : length one.windows ≡ length other.windows
   pub lag : one.lag ≡ other.lag

@@ -2,3 +2,4 @@ pub mod Terminal
 pub mod Given
 pub mod Frame
 pub mod Step
+pub mod Dealt

@@ -1,13 +1,34 @@
 //! The containers of a frame.
 
-ghost use Rattle.std.specs.Prelude.{◌≡◌, ℕ, ◌*◌, ◌<◌, ◌≤◌, All, length, replicate};
+ghost use Rattle.std.specs.Prelude.{◌≡◌, ℕ, ◌+◌, ◌*◌, ◌<◌, ◌≤◌, All, length, take, drop, replicate};
+ghost use Rattle.session_model.specs.Piece.{stream_of};
+ghost use Rattle.session_model.specs.Client.{Stream, reached};
+ghost use Rattle.gfp_fill.specs.Stream.{Stands};
 ghost use Rattle.source_core.specs.Frame.{h4_by, with_no_payload, blanks_by, containers_by};
 ghost use Rattle.source_core.specs.Step.{AreMembers, AreNibbles};
 
 use crate::step::NIBBLES;
+use gfp_fill::{Filler, FrameQueue};
 use h4_multiframe::h4;
 use vc_cell::{Container, PAYLOAD};
 use vcat_interleave::spread_places;
+
+/// Writes the next `len` octets of the stream at the front of a row.
+pub(crate) fn fill_front(
+    filler: &mut Filler,
+    queue: &mut FrameQueue,
+    len: usize,
+    row: &mut [u8],
+)
+    requires { len ≤ length row.old }
+    ensures stands { (stream : Stream) (place : ℕ) → Stands filler.old queue.old stream place →
+        Stands filler.new queue.new (reached (place + len) stream) (place + len) }
+    ensures octets { (stream : Stream) (place : ℕ) → Stands filler.old queue.old stream place →
+        take len row.new
+        ≡ take len (drop place (stream_of (reached (place + len) stream).pieces)) }
+{
+    filler.fill(queue, &mut row[..len]);
+}
 
 /// Writes the containers of all lines: the nibbles of their packets in H4, and the row over the active lines.
 pub(crate) fn send(

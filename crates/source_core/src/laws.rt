@@ -1,1 +1,53 @@
-//! Laws of what a source terminal sends.
+//! Laws of what a source terminal sends, over the definitions alone.
+
+ghost use Rattle.std.specs.Prelude.{◌≡◌, ◌↔◌, ◌<◌, ◌≤◌, ◌+◌, ◌-◌, ◌*◌, ℕ, [], List, Option, Some, None, length, replicate};
+ghost use Rattle.session_model.specs.Scenario.{Scenario, steps_in};
+ghost use Rattle.session_model.specs.Table.{Told, active};
+ghost use Rattle.session_model.specs.Source.{after, table_of};
+ghost use Rattle.session_model.specs.Client.{stream_before};
+ghost use Rattle.session_model.specs.Payload.{payload_of};
+ghost use Rattle.session_model.specs.Sent.{rank_of, active_at, container_of, frame_of};
+ghost use Rattle.session_law.specs.Session.{AgreeBefore};
+ghost use Rattle.vcat_interleave.specs.Spread.{AreDistinct};
+ghost use Rattle.source_core.specs.Terminal.{needed_at};
+ghost use Rattle.source_core.specs.Given.{ComesAlike};
+ghost use Rattle.source_core.specs.Dealt.{IsDealt};
+
+/// What lands later, and return cells that come later, change nothing of what was sent before: so what a terminal makes of the
+/// items that have landed is what the definitions say of the whole session.
+pub fn landed_law()
+    ensures frames { (one other : Scenario) (a b : List (Option Told)) (t : ℕ) →
+        ComesAlike one other (t + 1) → AgreeBefore (steps_in (t + 1) - one.lag) a b →
+        frame_of one a t ≡ frame_of other b t }
+    ensures streams { (one other : Scenario) (a b : List (Option Told)) (t : ℕ) →
+        ComesAlike one other t → AgreeBefore (steps_in t - one.lag) a b →
+        stream_before one a t ≡ stream_before other b t }
+    ensures tables { (one other : Scenario) (a b : List (Option Told)) (t j : ℕ) →
+        ComesAlike one other t → AgreeBefore (steps_in t - one.lag) a b → j ≤ steps_in t →
+        after one a j ≡ after other b j }
+{}
+
+/// The octets of a frame are dealt to the lines that the table of its packet has in NORM, all of them and no other; each octet is
+/// carried once. A change of membership takes effect for all lines in the same frame: packet `k` governs frames `16 k + 24` to
+/// `16 k + 39`, and nothing is carried before frame 24.
+pub fn membership_law()
+    ensures governed { (scenario : Scenario) (cells : List (Option Told)) (k i : ℕ) → i < 16 →
+        active_at scenario cells (16 * k + 24 + i) ≡ active (table_of scenario cells k) }
+    ensures none { (scenario : Scenario) (cells : List (Option Told)) (t : ℕ) → t < 24 →
+        active_at scenario cells t ≡ [] }
+    ensures distinct { (scenario : Scenario) (cells : List (Option Told)) (t : ℕ) →
+        AreDistinct (active_at scenario cells t) }
+    ensures size { (scenario : Scenario) (cells : List (Option Told)) (t : ℕ) →
+        length (payload_of scenario cells t)
+        ≡ scenario.size * length (active_at scenario cells t) }
+    ensures dealt { (scenario : Scenario) (cells : List (Option Told)) (t i : ℕ) →
+        i < length (payload_of scenario cells t) → IsDealt scenario cells t i }
+    ensures others { (scenario : Scenario) (cells : List (Option Told)) (t line : ℕ) →
+        rank_of (active_at scenario cells t) line ≡ None →
+        (container_of scenario cells line t).payload ≡ replicate 2340 0 }
+{}
+
+/// A tick needs return cell `k` exactly where it makes frame `16 (k + lag) + 8`.
+pub fn needed_law()
+    ensures { (lag t k : ℕ) → (needed_at lag t ≡ Some k) ↔ (t ≡ 16 * (k + lag) + 8) }
+{}

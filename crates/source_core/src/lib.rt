@@ -11,5 +11,6 @@ mod terminal;
 mod tests;
 
 pub use gfp_fill::AcceptFault;
+pub use laws::{landed_law, membership_law, needed_law};
 pub use lcas_source::CommandFault;
 pub use terminal::SourceCore;

@@ -1,12 +1,13 @@
 //! A decision step, and what the lines send until the next one.
 
-ghost use Rattle.std.specs.Prelude.{◌≡◌, ℕ, ◌<◌, ◌≤◌, All, length};
+ghost use Rattle.std.specs.Prelude.{◌≡◌, ℕ, ◌<◌, ◌≤◌, All, IfOk, length, replicate};
 ghost use Rattle.session_model.specs.Packet.{packet_nibbles};
 ghost use Rattle.source_core.specs.Step.{is_step, table_by, active_by, nibbles_of, nibbles_by, AreNibbles};
 
 use arrayvec::ArrayVec;
 use lcas_packet::Packet;
 use lcas_source::SourceTable;
+use std::alloc::{AllocError, Global};
 use vc_cell::BackCell;
 
 /// The nibbles of a packet.
@@ -54,4 +55,15 @@ fn said(packet: Packet) -> [u8; NIBBLES]
     ensures below { All (λ nibble. nibble < 16) result }
 {
     packet.nibbles()
+}
+
+/// The nibbles of the lines before the first decision step.
+pub(crate) fn no_packets(alloc: Global, lines: u8) -> Result<Vec<[u8; NIBBLES]>, AllocError>
+    ensures { IfOk result (λ nibbles. nibbles.items ≡ replicate lines (replicate 16 0)) }
+{
+    let mut nibbles = Vec::with_capacity(alloc, usize::from(lines))?;
+    for _ in 0..lines {
+        nibbles.push([0; NIBBLES])?;
+    }
+    Ok(nibbles)
 }

@@ -2,7 +2,7 @@
 
 ghost use Rattle.std.specs.Prelude.{◌≡◌, ℕ, ◌+◌, ◌*◌, ◌<◌, ◌≤◌, ◌↔◌, [], List, Option, IfOk, OnErr, IsSome, length};
 ghost use Rattle.session_model.specs.declared.table.Command.TheVariants.{Add as add, Remove as remove};
-ghost use Rattle.session_model.specs.Scenario.{Scenario};
+ghost use Rattle.session_model.specs.Scenario.{Scenario, steps_in};
 ghost use Rattle.session_model.specs.Table.{Told};
 ghost use Rattle.session_model.specs.Source.{refusal};
 ghost use Rattle.session_model.specs.Client.{refusal_while};
@@ -11,8 +11,8 @@ ghost use Rattle.session_model.specs.Sent.{frame_of};
 ghost use Rattle.source_core.specs.Terminal.{needed, SameKind};
 ghost use Rattle.source_core.specs.Given.{with_frame, with_command, with_cell, IsFresh, Stands};
 
-use crate::frame::send;
-use crate::step::{NIBBLES, take_step};
+use crate::frame::{fill_front, send};
+use crate::step::{NIBBLES, no_packets, take_step};
 use arrayvec::ArrayVec;
 use gfp_fill::{AcceptFault, Filler, FrameQueue};
 use lcas_source::{CommandFault, SourceTable};
@@ -76,7 +76,7 @@ impl SourceCore {
             size,
             ticks: 0,
             active: ArrayVec::new(),
-            nibbles: vec![in alloc; [0u8; NIBBLES]; usize::from(lines)]?,
+            nibbles: no_packets(alloc, lines)?,
             row: vec![in alloc; 0u8; usize::from(size) * usize::from(lines)]?,
         })
     }
@@ -159,15 +159,9 @@ impl SourceCore {
         );
         let size = usize::from(self.size);
         let len = size * self.active.len();
-        self.filler.fill(&mut self.queue, &mut self.row[..len]);
-        send(
-            self.ticks,
-            &self.nibbles,
-            &self.active,
-            size,
-            &self.row[..len],
-            out,
-        );
+        fill_front(&mut self.filler, &mut self.queue, len, &mut self.row);
+        let row = &self.row[..len];
+        send(self.ticks, &self.nibbles, &self.active, size, row, out);
         self.ticks += 1;
     }
 
@@ -180,7 +174,8 @@ impl SourceCore {
 
     /// The table of the lines after the last decision step.
     pub fn table(&self) -> &SourceTable
-        ensures { result.now ≡ self.now.table }
+        ensures table { result.now ≡ self.now.table }
+        ensures steps { result.now.steps ≡ steps_in self.now.ticks }
     {
         &self.table
     }

@@ -1,5 +1,6 @@
+-- The laws of streams that users of a filler need.
 use Rattle.session_model.proofs.ReachLaws.{reached-fewest, reached-join, reached-begun}
-use Rattle.gfp_fill.proofs.StreamLaws.{take-stream_of, begun-next_pieces}
+use Rattle.gfp_fill.proofs.StreamLaws.{take-stream_of, begun-next_pieces, begun-opening}
 use Rattle.gfp_fill.proofs.StreamSteps.{long}
 use Rattle.gfp_fill.proofs.filling_law.Goals as goal
 use Rattle.std.proofs.Common.{arith}
@@ -21,3 +22,6 @@ returns-clause-long c = long
 
 pub returns-clause-written : goal.returns-clause-written
 returns-clause-written c pieces more place within = take-stream_of place pieces more (omega (arith, long pieces))
+
+pub returns-clause-opening : goal.returns-clause-opening
+returns-clause-opening c = begun-opening

@@ -1,5 +1,14 @@
-use Rattle.std.proofs.Common.{◌≡◌, refl}
+-- A frame more came.
+use Rattle.std.proofs.Common.{sym, subst}
+use Rattle.source_core.specs.Step.{terminal_of}
+use Rattle.source_core.specs.Given.{with_frame, Stands}
+use Rattle.source_core.proofs.GivenSteps.{Stands-with_frame}
 use Rattle.source_core.proofs.terminal.SourceCore.accept.Goals as goal
 
 pub returns-clause-stands : goal.returns-clause-stands
-returns-clause-stands c = ?
+returns-clause-stands c scenario cells stands =
+    let f = c.self.inside in
+    let before = subst (λ core. Stands core scenario cells) (sym c.self.view_is) stands in
+    subst (λ core. Stands (terminal_of f.lag f.size f.ticks c.push.new.self f.filler f.table f.active.items f.nibbles.items) (with_frame scenario core.ticks c.args.frame.now) cells) c.self.view_is
+    (Stands-with_frame f.lag f.size f.ticks f.queue c.push.new.self f.filler f.table f.active.items f.nibbles.items scenario cells c.args.frame.now
+    (λ stream place written. c.push.ensures.stands f.filler stream place written) before)

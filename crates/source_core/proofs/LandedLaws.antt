@@ -1,0 +1,46 @@
+-- What lands later changes nothing of what was sent before.
+use Rattle.std.proofs.Common.{◌≡◌, ◌≤◌, ◌<◌, ℕ, zero, suc, ◌+◌, ◌-◌, ◌*◌, ◌&&◌, nat_le, nat_lt, true, false, Bool, if◌then◌else◌, List, [], ◌∷◌, map, filter, take, length, Option, None, slice_index_or, refl, sym, ◌∙◌, ap, subst, arith}
+use Rattle.std.proofs.lemmas.Bool.Decides.{nat_tests}
+use Rattle.session_model.specs.Scenario.{Scenario, Order, Offer, orders_at, frames_at, lands_at, comes_at, steps_in}
+use Rattle.session_model.specs.Table.{Told}
+use Rattle.session_model.specs.Source.{cell_at}
+use Rattle.session_law.specs.Session.{AgreeBefore}
+use Rattle.session_law.proofs.SessionLaws.{Agree-first}
+use Rattle.source_core.specs.Given.{has_come, ComesAlike}
+use Rattle.source_core.proofs.AlikeLaws.{Alike}
+
+filter-filter : {X : Type 0} (fine all : X → Bool) (xs : List X) → ((x : X) → fine x ≡ true → all x ≡ true) → filter fine (filter all xs) ≡ filter fine xs
+filter-filter fine all [] within = refl
+filter-filter fine all (x ∷ xs) within =
+    elim (all x) as (λ b. all x ≡ b → filter fine (if b then x ∷ filter all xs else filter all xs) ≡ filter fine (x ∷ xs)) [
+      | true ↦ λ e. ap (λ rest. if fine x then x ∷ rest else rest) (filter-filter fine all xs within)
+      | false ↦ λ e. filter-filter fine all xs within ∙ sym (ap (λ b. if b then x ∷ filter fine xs else filter fine xs) (outside (fine x) refl e))
+    ] refl where
+  outside : (b : Bool) → fine x ≡ b → all x ≡ false → fine x ≡ false
+  outside true is none = let there = within x is in cc
+  outside false is none = is
+
+same-parts : {X : Type 0} (fine all : X → Bool) (xs ys : List X) → ((x : X) → fine x ≡ true → all x ≡ true) → filter all xs ≡ filter all ys → filter fine xs ≡ filter fine ys
+same-parts fine all xs ys within same = sym (filter-filter fine all xs within) ∙ ap (filter fine) same ∙ filter-filter fine all ys within
+
+lands-within : (due j t : ℕ) → j < steps_in t → (nat_lt (16 * j) (due + 8) && nat_le due (16 * j + 8)) ≡ true → nat_lt due t ≡ true
+lands-within due j t low lands = grind (arith, nat_tests, low, lands)
+
+comes-within : (due u t : ℕ) → u < t → (nat_le due u && nat_le u due) ≡ true → nat_lt due t ≡ true
+comes-within due u t low comes = grind (arith, nat_tests, low, comes)
+
+cells-same : (one other : Scenario) (a b : List (Option Told)) (n : ℕ) → one.lag ≡ other.lag → AgreeBefore (n - one.lag) a b → (j : ℕ) → j < n → cell_at one a j ≡ cell_at other b j
+cells-same one other a b n lag agree j low =
+    Agree-first one a b n agree j low ∙ ap (λ lag. if nat_le lag j then slice_index_or b (j - lag) None else None) lag
+
+pub alike-landed : (one other : Scenario) (a b : List (Option Told)) (t : ℕ) → ComesAlike one other t → AgreeBefore (steps_in t - one.lag) a b → Alike one a other b t
+alike-landed one other a b t comes agree = record {
+  lines = comes.lines;
+  lag = comes.lag;
+  size = comes.size;
+  orders = λ j low. ap (map (λ (order : Order). order.command))
+  (same-parts (lands_at j) (λ (order : Order). has_come t order.due) one.orders other.orders (λ order lands. lands-within order.due j t low lands) comes.orders);
+  cells = λ j low. cells-same one other a b (steps_in t) comes.lag agree j low;
+  offers = λ u low. ap (map (λ (offer : Offer). offer.frame))
+  (same-parts (comes_at u) (λ (offer : Offer). has_come t offer.due) one.offers other.offers (λ offer here. comes-within offer.due u t low here) comes.offers);
+}
