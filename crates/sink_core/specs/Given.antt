@@ -1,14 +1,15 @@
 -- What a sink takes, gives and says, by the cells of its lines alone (G.707, G.7041, G.7042).
-use Rattle.std.specs.Prelude.{◌≡◌, ℕ, ◌-◌, ◌/◌, ◌%◌, ◌==◌, ◌&&◌, nat_lt, if◌then◌else◌, List, [], map, length, drop, Option, Some, None}
+use Rattle.std.specs.Prelude.{◌≡◌, ℕ, ◌-◌, ◌/◌, ◌%◌, ◌==◌, ◌&&◌, ◌<◌, nat_lt, if◌then◌else◌, List, [], map, length, drop, Option, Some, None}
 use Rattle.std.specs.List.{range_with_len}
 use Rattle.vc_cell.specs.declared.Cell.{Cell}
 use Rattle.session_model.specs.declared.packet.Packet.{Packet}
 use Rattle.session_model.specs.ReturnPacket.{Row}
 use Rattle.session_model.specs.Rows.{read_packets, row_at, first_open, return_at}
 use Rattle.session_model.specs.Segment.{StreamRow, deliver}
+use Rattle.realign_core.specs.Gather.{Gather, line_count, IsOpenAt, AreDecided}
 use Rattle.loss_law.specs.Added.{whole_row, lost_row}
-use Rattle.sink_core.specs.declared.core.TakeAnswer.{TakeAnswer}
-use Rattle.sink_core.specs.declared.core.TakeAnswer.TheVariants.{Taken, Waiting}
+use Rattle.sink_core.specs.declared.sink.TakeAnswer.{TakeAnswer}
+use Rattle.sink_core.specs.declared.sink.TakeAnswer.TheVariants.{Taken, Waiting}
 
 -- ---- rows and frames
 -- a row, where it is whole with these octets. What was sent in a row that isn't whole is not known
@@ -57,3 +58,8 @@ rows_taken (Waiting line) = 0
 
 abbrev pub IsWaiting : TakeAnswer → Type 0
 IsWaiting answer = (line : ℕ) × (answer ≡ Waiting line)
+
+-- what an answer says of the rows that it was asked for: the next one was decided, or it isn't on a line
+abbrev pub Allows : Gather → TakeAnswer → Type 0
+Allows rows (Taken back) = AreDecided rows
+Allows rows (Waiting line) = (line < line_count rows) × IsOpenAt rows line

@@ -5,15 +5,15 @@
 #![tactic(auto)]
 
 mod active;
-mod core;
 mod frames;
 mod laws;
 mod members;
 mod row;
+mod sink;
 
-pub use core::{SinkCore, TakeAnswer};
 pub use frames::{FrameOut, KeptFrames};
 pub use laws::{session_sink_law, sink_law};
+pub use sink::{SinkCore, TakeAnswer};
 
 #[cfg(test)]
 mod tests;

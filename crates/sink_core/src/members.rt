@@ -1,8 +1,8 @@
 //! The octets of the members of a row, given to a receiver, and the frames that they complete.
 
-ghost use Rattle.std.specs.Prelude.{◌≡◌, ℕ, ◌+◌, ◌*◌, ◌<◌, ◌≤◌, length};
+ghost use Rattle.std.specs.Prelude.{◌≡◌, ℕ, ◌+◌, ◌*◌, ◌<◌, ◌≤◌, length, take};
 ghost use Rattle.session_model.specs.Interleave.{octets_from};
-ghost use Rattle.vcat_interleave.specs.Members.{payloads_of, AreLines};
+ghost use Rattle.vcat_interleave.specs.Members.{payload_at, payloads_of, AreLines};
 ghost use Rattle.sink_core.specs.Start.{Start};
 ghost use Rattle.sink_core.specs.Receives.{IsKnown, Grows, Gives};
 
@@ -17,6 +17,23 @@ pub(crate) const BLOCK: usize = 4096;
 /// A number of places that gathering likes.
 const SIDE: usize = 16;
 
+/// Gives octets to a receiver, up to the first that completes a frame, and that frame to `out`. The answer is their number.
+fn take_some<F: FrameOut>(delineator: &mut Delineator, piece: &[u8], out: &mut F) -> usize
+    requires { IsKnown delineator.old }
+    ensures within { result ≤ length piece.now }
+    ensures some { 0 < length piece.now → 0 < result }
+    ensures grows { Grows delineator.old delineator.new (take result piece.now) }
+    ensures gives { (start : Start) →
+        Gives (λ o. F.stands_for o start) delineator.old (take result piece.now) out.old out.new }
+{
+    let (taken, step) = delineator.feed(piece);
+    match step {
+        Step::Frame => out.frame(delineator.frame()),
+        Step::Nothing | Step::Dropped(_) => {}
+    }
+    taken
+}
+
 /// Gives octets to a receiver, and the frames that they complete to `out`.
 fn take_piece<F: FrameOut>(delineator: &mut Delineator, piece: &[u8], out: &mut F)
     requires { IsKnown delineator.old }
@@ -26,11 +43,7 @@ fn take_piece<F: FrameOut>(delineator: &mut Delineator, piece: &[u8], out: &mut 
 {
     let mut at = 0;
     while at < piece.len() {
-        let (taken, step) = delineator.feed(&piece[at..]);
-        if step == Step::Frame {
-            out.frame(delineator.frame());
-        }
-        at += taken;
+        at += take_some(delineator, &piece[at..], out);
     }
 }
 
@@ -44,7 +57,17 @@ fn places_of(x: usize) -> usize
     BLOCK / x / SIDE * SIDE
 }
 
-/// Gives the octets of a row to a receiver, block by block. `active` has the lines that carry payload, by rank, and `containers` has
+/// The octets of a row that one line carries alone.
+fn only_payload(containers: &[Container], line: u8, size: usize) -> &[u8]
+    requires line { line < length containers.now }
+    requires size { size ≤ 2340 }
+    ensures size { length result.now ≡ size }
+    ensures octets { result.now ≡ take size (payload_at containers.now line) }
+{
+    &containers[usize::from(line)].payload[..size]
+}
+
+/// Gives the octets of a row to a receiver, block by block, or as they lie where one line carries them alone. `active` has the lines that carry payload, by rank, and `containers` has
 /// the container of each line.
 pub(crate) fn take_members<F: FrameOut>(
     delineator: &mut Delineator,
@@ -65,6 +88,10 @@ pub(crate) fn take_members<F: FrameOut>(
         (octets_from 0 size (payloads_of containers.now active.now)) out.old out.new }
 {
     if active.is_empty() {
+        return;
+    }
+    if let [line] = active {
+        take_piece(delineator, only_payload(containers, *line, size), out);
         return;
     }
     let most = places_of(active.len());

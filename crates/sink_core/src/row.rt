@@ -53,8 +53,9 @@ pub(crate) fn is_whole(rows: &RowGather, active: &mut Vec<u8>) -> bool
     ensures few { length active.new.items ≤ 128 }
     ensures room { 128 ≤ vec_capacity active.new }
 {
-    find_active(rows.packets(), active);
-    match leading_act(rows.packets()) {
+    let packets = rows.packets();
+    find_active(packets, active);
+    match leading_act(packets) {
         Some(act) => active.len() == usize::from(act) && are_whole(rows, active),
         None => false,
     }

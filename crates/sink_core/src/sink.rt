@@ -6,7 +6,7 @@ ghost use Rattle.realign_core.specs.Gather.{Stands as Gathers, line_count};
 ghost use Rattle.sink_core.specs.Start.{Start};
 ghost use Rattle.session_model.specs.Rows.{governing};
 ghost use Rattle.lcas_sink.specs.Stands.{Stands as HasTold};
-ghost use Rattle.sink_core.specs.Given.{answer_at, added_frames, back_at, read_rows, packet_rows, rows_taken, IsWaiting};
+ghost use Rattle.sink_core.specs.Given.{answer_at, added_frames, back_at, read_rows, packet_rows, rows_taken, IsWaiting, Allows};
 ghost use Rattle.sink_core.specs.Core.{Stands};
 
 use crate::frames::FrameOut;
@@ -111,6 +111,7 @@ impl SinkCore {
             (start : Start) (frames : List (List ℕ)) → F.stands_for out.old start frames →
             F.stands_for out.new start
             (frames ++ added_frames self.old.size cells self.old.taken self.new.taken) }
+        ensures allows { Allows rows.old result }
         ensures waits { IsWaiting result →
             (self.new ≡ self.old) × (rows.new ≡ rows.old) × (out.new ≡ out.old) }
     {
