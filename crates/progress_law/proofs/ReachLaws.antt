@@ -25,7 +25,7 @@ run-none plan s = refl
 abbrev pub Leads : Plan → Counts → Counts → Type 0
 Leads plan s next = (events : List Event) × (next ≡ run plan s events)
 
-Leads-then : (plan : Plan) (s next last : Counts) → Leads plan s next → Leads plan next last → Leads plan s last
+pub Leads-then : (plan : Plan) (s next last : Counts) → Leads plan s next → Leads plan next last → Leads plan s last
 Leads-then plan s next last one other = (
   one.0 ++ other.0,
   other.1 ∙ ap (λ c. run plan c other.0) one.1 ∙ sym (run-append plan s one.0 other.0),
@@ -34,7 +34,7 @@ Leads-then plan s next last one other = (
 Leads-same : (plan : Plan) (s : Counts) → Leads plan s s
 Leads-same plan s = ([], sym (run-none plan s))
 
-Leads-drain : (k : ℕ) (plan : Plan) (s : Counts) → Leads plan s (drain k plan s)
+pub Leads-drain : (k : ℕ) (plan : Plan) (s : Counts) → Leads plan s (drain k plan s)
 unfolding drain
 Leads-drain zero plan s = Leads-same plan s
 Leads-drain (suc k) plan s =

@@ -1,0 +1,110 @@
+-- What the source of a walk was told is the session's.
+use Rattle.std.proofs.Common.{◌≡◌, ℕ, suc, ◌+◌, ◌-◌, ◌*◌, ◌/◌, ◌<◌, ◌≤◌, List, [], ◌∷◌, map, filter, fold, take, length, Option, Some, None, option_map, refl, sym, ◌∙◌, ap, subst, arith}
+use Rattle.session_model.specs.declared.script.Item.{Item}
+use Rattle.session_model.specs.declared.script.ItemKind.{ItemKind}
+use Rattle.session_model.specs.declared.script.ItemKind.TheVariants.{Frame, Add, Remove}
+use Rattle.session_model.specs.declared.script.Script.{Script}
+use Rattle.session_model.specs.declared.table.Command.TheVariants.{Add as add, Remove as remove}
+use Rattle.session_model.specs.Scenario.{Scenario, Order, Offer, order_of, offer_of, orders_of, offers_of, scenario_of, steps_in, packets, lands_at, comes_at, orders_at, frames_at}
+use Rattle.session_model.specs.Table.{Told}
+use Rattle.session_model.specs.Source.{Source, asked_all, refusal, after, source_at}
+use Rattle.session_model.specs.Client.{Stream, frame_refusal, offered, stream_before}
+use Rattle.session_model.specs.Back.{session_cells}
+use Rattle.session_model.specs.Sent.{frame_of}
+use Rattle.session_model.specs.Counts.{Counts, used_in}
+use Rattle.report_text.specs.declared.report.Refusal.{Refusal}
+use Rattle.report_text.specs.declared.report.Refusal.TheVariants.{Frame as frame_fault, Command as command_fault}
+use Rattle.session_law.proofs.SessionLaws.{Agree-first}
+use Rattle.terminal_law.proofs.CourseLaws.{session-agree}
+use Rattle.walk_law.specs.Walk.{CanWalk, IsWalked}
+use Rattle.walk_law.specs.Landed.{Numbered, landed_scenario, told_before, IsOfferAt, IsOrderAt, stream_met, source_met, kind_refusal, refusal_at}
+use Rattle.walk_law.proofs.WalkLaws.{fits}
+use Rattle.walk_law.proofs.LandLaws.{frame-waits, command-waits, frames-landed, orders-landed, offer-at, order-at}
+use Rattle.walk_law.proofs.AlikeLaws.{Alike, Alike-sooner, alike-after, alike-stream, alike-frame}
+
+few-used : (rows ticks backs used : ℕ) → rows ≤ ticks → backs ≤ (rows - 8) / 16 → used ≤ backs → used ≤ (ticks - 8) / 16
+few-used rows ticks backs used low most taken = omega arith
+
+-- ---- why an offer is refused, or an order
+same-first : {X : Type 0} (x y : X) → x ∷ [] ≡ y ∷ [] → x ≡ y
+same-first x y e = cc
+
+offer-refusal : (scenario : Scenario) (cells : List (Option Told)) (due : ℕ) (earlier : List Item) (kind : ItemKind) (offer : Offer) → offer_of due kind ≡ offer ∷ [] →
+    kind_refusal scenario cells due earlier kind ≡ option_map frame_fault (frame_refusal offer.frame (stream_met scenario cells offer.due (offers_of earlier)))
+offer-refusal scenario cells due earlier (Frame octets) offer is =
+    ap (λ (o : Offer). option_map frame_fault (frame_refusal o.frame (stream_met scenario cells o.due (offers_of earlier))))
+    (same-first (record { due = due; frame = octets }) offer is)
+offer-refusal scenario cells due earlier (Add line) offer is = absurd cc
+offer-refusal scenario cells due earlier (Remove line) offer is = absurd cc
+
+order-refusal : (scenario : Scenario) (cells : List (Option Told)) (due : ℕ) (earlier : List Item) (kind : ItemKind) (order : Order) → order_of due kind ≡ order ∷ [] →
+    kind_refusal scenario cells due earlier kind
+    ≡ option_map command_fault (refusal (length scenario.windows) order.command (source_met scenario cells order.due (orders_of earlier)))
+order-refusal scenario cells due earlier (Frame octets) order is = absurd cc
+order-refusal scenario cells due earlier (Add line) order is =
+    ap (λ (o : Order). option_map command_fault (refusal (length scenario.windows) o.command (source_met scenario cells o.due (orders_of earlier))))
+    (same-first (record { due = due; command = add line }) order is)
+order-refusal scenario cells due earlier (Remove line) order is =
+    ap (λ (o : Order). option_map command_fault (refusal (length scenario.windows) o.command (source_met scenario cells o.due (orders_of earlier))))
+    (same-first (record { due = due; command = remove line }) order is)
+
+module _ (script : Script) (s : Counts) (can : CanWalk script) (walked : IsWalked script s) where
+  abbrev session : List (Option Told)
+  session = session_cells (scenario_of script)
+
+  few : used_in script.config.lag s.ticks ≤ packets (scenario_of script)
+  few =
+      let f = fits script s can walked in
+      few-used s.rows script.config.ticks s.backs (used_in script.config.lag s.ticks) f.rows f.backs f.used
+
+  told-alike : Alike (landed_scenario script s) (told_before script s.ticks) (scenario_of script) session s.ticks
+  told-alike = record {
+    lines = refl;
+    lag = refl;
+    size = refl;
+    orders = λ j low. orders-landed script s j walked (omega arith);
+    cells = Agree-first (scenario_of script) (told_before script s.ticks) session (steps_in s.ticks)
+        (session-agree (scenario_of script) (used_in script.config.lag s.ticks) (used_in script.config.lag s.ticks) few (omega arith));
+    offers = λ u low. frames-landed script s u walked low;
+  }
+
+  pub told-tables : (j : ℕ) → j ≤ steps_in s.ticks → after (landed_scenario script s) (told_before script s.ticks) j ≡ after (scenario_of script) session j
+  told-tables j low = alike-after (landed_scenario script s) (told_before script s.ticks) (scenario_of script) session s.ticks j told-alike low
+
+  pub told-streams : (t : ℕ) → t ≤ s.ticks → stream_before (landed_scenario script s) (told_before script s.ticks) t ≡ stream_before (scenario_of script) session t
+  told-streams t low =
+      alike-stream (landed_scenario script s) (told_before script s.ticks) (scenario_of script) session t
+      (Alike-sooner (landed_scenario script s) (told_before script s.ticks) (scenario_of script) session t s.ticks low told-alike)
+
+  pub told-frames : (t : ℕ) → t < s.ticks → frame_of (landed_scenario script s) (told_before script s.ticks) t ≡ frame_of (scenario_of script) session t
+  told-frames t low =
+      alike-frame (landed_scenario script s) (told_before script s.ticks) (scenario_of script) session t
+      (Alike-sooner (landed_scenario script s) (told_before script s.ticks) (scenario_of script) session (suc t) s.ticks (omega arith) told-alike)
+
+  -- ---- the next item
+  pub meets-stream : (item : Numbered) (offer : Offer) → IsOfferAt script.items s.frames item offer → offer.due ≤ s.ticks →
+      refusal_at script item
+      ≡ option_map frame_fault (frame_refusal offer.frame (fold offered (stream_before (landed_scenario script s) (told_before script s.ticks) s.ticks) (frames_at (landed_scenario script s) s.ticks)))
+  meets-stream item offer at due =
+      let (there, earlier) = offer-at script.items s.frames item offer at in
+      let late = frame-waits script s s.frames offer walked (omega arith) there in
+      let now : offer.due ≡ s.ticks = omega arith in
+      let answer = λ (stream : Stream). option_map frame_fault (frame_refusal offer.frame stream) in
+      offer-refusal (scenario_of script) session item.item.due (take item.number script.items) item.item.kind offer at.is
+      ∙ ap (λ (offers : List Offer). answer (stream_met (scenario_of script) session offer.due offers)) earlier
+      ∙ ap (λ t. answer (stream_met (scenario_of script) session t (take s.frames (offers_of script.items)))) now
+      ∙ ap (λ (stream : Stream). answer (fold offered stream (frames_at (landed_scenario script s) s.ticks))) (sym (told-streams s.ticks (omega arith)))
+
+  pub meets-source : (item : Numbered) (order : Order) → IsOrderAt script.items s.commands item order → order.due ≤ s.ticks →
+      refusal_at script item
+      ≡ option_map command_fault (refusal (length script.config.windows) order.command (source_at (landed_scenario script s) (told_before script s.ticks) (steps_in s.ticks)))
+  meets-source item order at due =
+      let (there, earlier) = order-at script.items s.commands item order at in
+      let late = command-waits script s s.commands order walked (omega arith) there in
+      let now : order.due ≡ s.ticks = omega arith in
+      let answer = λ (source : Source). option_map command_fault (refusal (length script.config.windows) order.command source) in
+      order-refusal (scenario_of script) session item.item.due (take item.number script.items) item.item.kind order at.is
+      ∙ ap (λ (orders : List Order). answer (source_met (scenario_of script) session order.due orders)) earlier
+      ∙ ap (λ t. answer (source_met (scenario_of script) session t (take s.commands (orders_of script.items)))) now
+      ∙ ap (λ (source : Source). answer (asked_all (length script.config.windows) (orders_at (landed_scenario script s) (steps_in s.ticks)) source))
+      (sym (told-tables (steps_in s.ticks) (omega arith)))

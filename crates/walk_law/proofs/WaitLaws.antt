@@ -1,0 +1,134 @@
+-- For which line a Take waits.
+use Rattle.std.specs.Prelude.{IsSome, ◌↔◌, cond}
+use Rattle.std.proofs.Common.{◌≡◌, ℕ, zero, suc, ◌+◌, ◌<◌, ◌≤◌, nat_le, Bool, true, false, inl, inr, List, [], ◌∷◌, map, take, length, slice_get, slice_index_or, Option, Some, None, is_none, refl, sym, ◌∙◌, ap, ap₂, subst, arith}
+use Rattle.std.specs.List.{range_with_len, position_from}
+use Rattle.std.proofs.lemmas.Bool.{leb-true, leb-false, cases_Bool}
+use Rattle.std.proofs.lemmas.Option.{slice_get_within}
+use Rattle.vc_cell.specs.declared.Container.{Container}
+use Rattle.vc_cell.specs.declared.Cell.{Cell}
+use Rattle.session_model.specs.declared.window.Window.{Window}
+use Rattle.session_model.specs.declared.script.Script.{Script}
+use Rattle.session_model.specs.Number.{verdict}
+use Rattle.session_model.specs.Scenario.{scenario_of, carried_by}
+use Rattle.session_model.specs.Back.{session_cells}
+use Rattle.session_model.specs.Rows.{first_open}
+use Rattle.session_model.specs.Counts.{LinePath, LineCounts, popped_line, pop_lines}
+use Rattle.session_model.specs.Plan.{paths_of}
+use Rattle.progress_law.proofs.LineLaws.{is_decided}
+use Rattle.terminal_law.proofs.SentLaws.{containers-size}
+use Rattle.walk_law.specs.Walk.{sent_on, walk_plan, CanWalk, counts_at, popped_on, popped_cells}
+use Rattle.walk_law.specs.Rings.{delay_on, path_on, line_cells}
+use Rattle.walk_law.proofs.PlanLaws.{has-paths, line-path}
+
+pub popped-decides : (script : Script) (line y t : ℕ) → t < script.config.ticks →
+    IsSome (verdict (take y (line_cells script line)) t) ↔ (t < (path_on script line).decided y)
+popped-decides script line y t low =
+    let size = containers-size (scenario_of script) (session_cells (scenario_of script)) line script.config.ticks in
+    is_decided (carried_by (scenario_of script) line) (sent_on (scenario_of script) line) (delay_on script line) y t (omega arith)
+
+-- ---- line by line
+unfoldable cells_from : (ℕ → List Cell) → ℕ → List LineCounts → List (List Cell)
+cells_from all m [] = []
+cells_from all m (line ∷ lines) = take line.popped (all m) ∷ cells_from all (suc m) lines
+
+abbrev no_counts : LineCounts
+no_counts = record { carried = 0; popped = 0 }
+
+map-from : (f all : ℕ → List Cell) (from : ℕ) (lines : List LineCounts) →
+    ((k : ℕ) → k < length lines → f (from + k) ≡ take (slice_index_or lines k no_counts).popped (all (from + k))) →
+    map f (range_with_len from (length lines)) ≡ cells_from all from lines
+unfolding cells_from
+map-from f all from [] same = refl
+map-from f all from (line ∷ lines) same =
+    let here : from + 0 ≡ from = omega arith in
+    let next : from + 1 ≡ suc from = omega arith in
+    ap₂ (λ own rest. own ∷ rest) (subst (λ m. f m ≡ take line.popped (all m)) here (same 0 (omega arith)))
+    (ap (λ m. map f (range_with_len m (length lines))) next
+        ∙ map-from f all (suc from) lines
+        (λ k low. subst (λ m. f m ≡ take (slice_index_or lines k no_counts).popped (all m)) (let e : from + suc k ≡ suc from + k = omega arith in e) (same (suc k) (omega arith))))
+
+popped-list : (script : Script) (lines : List LineCounts) → length lines ≡ length script.config.windows →
+    popped_cells script lines ≡ cells_from (line_cells script) 0 lines
+popped-list script lines size =
+    ap (λ n. map (popped_on script lines) (range_with_len 0 n)) (sym size)
+    ∙ map-from (popped_on script lines) (line_cells script) 0 lines
+    (λ k low. let e : 0 + k ≡ k = omega arith in subst (λ m. popped_on script lines m ≡ take (slice_index_or lines k no_counts).popped (line_cells script m)) (sym e) refl)
+
+-- the paths from one on say which numbers the cells decide
+unfoldable Decide : ℕ → (ℕ → List Cell) → ℕ → List LinePath → Type 0
+Decide t all m [] = Unit {0}
+Decide t all m (path ∷ paths) = ((y : ℕ) → IsSome (verdict (take y (all m)) t) ↔ (t < path.decided y)) × Decide t all (suc m) paths
+
+is-open : (v : Option (Option Container)) → (IsSome v → ⊥) → is_none v ≡ true
+is-open None h = refl
+is-open (Some told) h = absurd (h refl)
+
+is-told : (v : Option (Option Container)) → IsSome v → is_none v ≡ false
+is-told (Some told) h = refl
+is-told None h = absurd (let e : false ≡ true = h in cc)
+
+abbrev is_open : ℕ → List Cell → Bool
+is_open t own = is_none (verdict own t)
+
+first-waits : (t : ℕ) (all : ℕ → List Cell) (m : ℕ) (paths : List LinePath) (lines : List LineCounts) → length lines ≡ length paths → Decide t all m paths →
+    position_from (is_open t) m (cells_from all m (pop_lines t m paths lines).lines) ≡ (pop_lines t m paths lines).waiting
+unfolding Decide cells_from pop_lines
+first-waits t all m [] [] size decide = refl
+first-waits t all m [] (line ∷ lines) size decide = absurd (omega arith)
+first-waits t all m (path ∷ paths) [] size decide = absurd (omega arith)
+first-waits t all m (path ∷ paths) (line ∷ lines) size decide =
+    let y : ℕ = (popped_line path t line).popped in
+    let next : m + 1 ≡ suc m = omega arith in
+    elim (cases_Bool (nat_le (path.decided (popped_line path t line).popped) t)) [
+      | inl e ↦
+          let low : path.decided y ≤ t = leb-true (path.decided y) t e in
+          let none : is_none (verdict (take (popped_line path t line).popped (all m)) t) ≡ true =
+          is-open (verdict (take y (all m)) t) (λ some. let past = (decide.0 y).0 some in omega arith) in
+          rw (e, none) refl
+      | inr e ↦
+          let past : t < path.decided y = leb-false (path.decided y) t e in
+          let told : is_none (verdict (take (popped_line path t line).popped (all m)) t) ≡ false =
+          is-told (verdict (take y (all m)) t) ((decide.0 y).1 past) in
+          rw (e, told) (ap (λ k. position_from (is_open t) k (cells_from all (suc m) (pop_lines t (suc m) paths lines).lines)) next
+              ∙ first-waits t all (suc m) paths lines (omega arith) decide.1)
+    ]
+
+decide-from : (t : ℕ) (all : ℕ → List Cell) (m : ℕ) (paths : List LinePath) →
+    ((k : ℕ) (path : LinePath) → slice_get paths k ≡ Some path → (y : ℕ) → IsSome (verdict (take y (all (m + k))) t) ↔ (t < path.decided y)) →
+    Decide t all m paths
+unfolding Decide
+decide-from t all m [] each = tt
+decide-from t all m (path ∷ paths) each =
+    let here : m + 0 ≡ m = omega arith in (
+      λ y. subst (λ i. IsSome (verdict (take y (all i)) t) ↔ (t < path.decided y)) here (each 0 path refl y),
+      decide-from t all (suc m) paths
+          (λ k other there y. let e : m + suc k ≡ suc m + k = omega arith in subst (λ i. IsSome (verdict (take y (all i)) t) ↔ (t < other.decided y)) e (each (suc k) other there y)),
+    )
+
+pop-size : (t m : ℕ) (paths : List LinePath) (lines : List LineCounts) → length lines ≡ length paths → length (pop_lines t m paths lines).lines ≡ length lines
+unfolding pop_lines
+pop-size t m [] lines size = refl
+pop-size t m (path ∷ paths) [] size = refl
+pop-size t m (path ∷ paths) (line ∷ lines) size =
+    elim (cases_Bool (nat_le (path.decided (popped_line path t line).popped) t)) [
+      | inl e ↦ rw e refl
+      | inr e ↦ rw e (ap suc (pop-size t (suc m) paths lines (omega arith)))
+    ]
+
+some-same : (a b : LinePath) → Some a ≡ Some b → a ≡ b
+some-same a b e = cc
+
+pub take-waits : (script : Script) (lines : List LineCounts) (t : ℕ) → CanWalk script → length lines ≡ length script.config.windows → t < script.config.ticks →
+    first_open (popped_cells script (pop_lines t 0 (walk_plan script).paths lines).lines) t ≡ (pop_lines t 0 (walk_plan script).paths lines).waiting
+take-waits script lines t can size low =
+    let paths : List LinePath = (walk_plan script).paths in
+    let count = has-paths script can in
+    let after : List LineCounts = (pop_lines t 0 (walk_plan script).paths lines).lines in
+    ap (λ cells. first_open cells t) (popped-list script after (pop-size t 0 paths lines (size ∙ sym count) ∙ size))
+    ∙ first-waits t (line_cells script) 0 paths lines (size ∙ sym count)
+    (decide-from t (line_cells script) 0 paths (λ k path there y.
+        let inside = slice_get_within paths k path there in
+        let same : path_on script k ≡ path = some-same (path_on script k) path (sym (line-path script can k (omega arith)) ∙ there) in
+        let e : 0 + k ≡ k = omega arith in
+        subst (λ i. IsSome (verdict (take y (line_cells script i)) t) ↔ (t < path.decided y)) (sym e)
+        (subst (λ p. IsSome (verdict (take y (line_cells script k)) t) ↔ (t < p.decided y)) same (popped-decides script k y t low))))

@@ -1,0 +1,198 @@
+-- What the counts of a walk say of the cells that were popped.
+use Rattle.std.specs.Prelude.{IsSome}
+use Rattle.std.proofs.Common.{◌≡◌, ℕ, zero, suc, ◌+◌, ◌-◌, ◌*◌, ◌/◌, ◌<◌, ◌≤◌, if◌then◌else◌, List, [], ◌∷◌, ◌++◌, map, take, drop, length, slice_get, slice_index_or, Option, Some, None, option_map, refl, sym, ◌∙◌, ap, subst, arith}
+use Rattle.std.specs.List.{range_with_len}
+use Rattle.std.proofs.lemmas.List.{take-append-drop, take-append-le}
+use Rattle.std.proofs.lemmas.List.FromFn.{length-map-range_with_len, map-range_with_len_more}
+use Rattle.std.proofs.lemmas.Option.{slice_get-map, slice_get_within}
+use Rattle.vc_cell.specs.declared.Container.{Container}
+use Rattle.vc_cell.specs.declared.Cell.{Cell}
+use Rattle.session_model.specs.declared.window.Carried.{Carried}
+use Rattle.session_model.specs.declared.script.Script.{Script}
+use Rattle.session_model.specs.declared.walk.Event.{Event}
+use Rattle.session_model.specs.Path.{cells}
+use Rattle.session_model.specs.Number.{verdict}
+use Rattle.session_model.specs.Scenario.{Scenario, scenario_of, carried_by, packets_in}
+use Rattle.session_model.specs.Table.{Told}
+use Rattle.session_model.specs.Told.{told_in}
+use Rattle.session_model.specs.Back.{cells_before, session_cells}
+use Rattle.session_model.specs.Payload.{payload_of}
+use Rattle.session_model.specs.Rows.{row_at}
+use Rattle.session_model.specs.SessionRows.{is_whole_row}
+use Rattle.session_model.specs.Sent.{frame_of}
+use Rattle.session_model.specs.Counts.{LinePath, LineCounts, Counts, step, run, begin, drain}
+use Rattle.session_model.specs.Plan.{all_cells, path_of}
+use Rattle.line_law.specs.StableRows.{AreDecidedAt}
+use Rattle.line_law.proofs.StableLaws.{cells-part}
+use Rattle.progress_law.specs.Progress.{Each, LineFits, Fits}
+use Rattle.progress_law.proofs.LineLaws.{is_decided}
+use Rattle.progress_law.proofs.MoveLaws.{reached-fits}
+use Rattle.progress_law.proofs.ReachLaws.{run-none, Leads-then, Leads-drain}
+use Rattle.terminal_law.specs.Lines.{given, ComesOf, ComeOf}
+use Rattle.terminal_law.specs.Course.{back_of, told_of, IsCourse}
+use Rattle.terminal_law.proofs.SentLaws.{range-at, containers-size}
+use Rattle.terminal_law.proofs.CellLaws.{given-whole}
+use Rattle.terminal_law.proofs.RowLaws.{row-told}
+use Rattle.terminal_law.proofs.CourseLaws.{session-agree, come-same}
+use Rattle.terminal_law.proofs.LoopLaws.{frame-same, next-cell}
+use Rattle.walk_law.specs.Walk.{sent_on, walk_plan, CanWalk, IsWalked, counts_at, popped_on, popped_cells}
+use Rattle.walk_law.proofs.PlanLaws.{has-lines, has-plan, line-path}
+
+each-there : (P : LinePath → LineCounts → Type 0) (paths : List LinePath) (lines : List LineCounts) (m : ℕ) (path : LinePath) (d : LineCounts) → Each P paths lines →
+    slice_get paths m ≡ Some path → P path (slice_index_or lines m d)
+unfolding Each
+each-there P [] [] m path d all here = absurd cc
+each-there P [] (line ∷ lines) m path d all here = absurd all
+each-there P (first ∷ paths) [] m path d all here = absurd all
+each-there P (first ∷ paths) (line ∷ lines) zero path d all here = let e : first ≡ path = cc in subst (λ path. P path line) e all.0
+each-there P (first ∷ paths) (line ∷ lines) (suc m) path d all here = each-there P paths lines m path d all.1 here
+
+-- the first cells that all carries give are those of some carries, where these give as many
+first-given : (carries : ℕ → Carried) (delay : ℕ) (containers : List Container) (x y : ℕ) → x ≤ length containers + delay + 1 →
+    y ≤ length (cells carries delay (length containers) containers x) →
+    take y (all_cells carries delay containers) ≡ take y (cells carries delay (length containers) containers x)
+first-given carries delay containers x y low fits =
+    let (more, e) = cells-part carries delay containers x (length containers + delay + 1) low in
+    ap (take y) e ∙ take-append-le y (cells carries delay (length containers) containers x) more fits
+
+module _ (script : Script) (s : Counts) (can : CanWalk script) (walked : IsWalked script s) where
+  abbrev scenario : Scenario
+  scenario = scenario_of script
+
+  abbrev session : List (Option Told)
+  session = session_cells (scenario_of script)
+
+  pub fits : Fits (walk_plan script) s
+  fits = reached-fits (walk_plan script) s (has-plan script can) walked
+
+  abbrev delay_of : ℕ → ℕ
+  delay_of line = slice_index_or script.config.delays line 0
+
+  pub line-fits : (line : ℕ) → line < length script.config.windows →
+      LineFits script.config.ticks script.config.ring s.ticks s.rows (path_of (carried_by scenario line) (delay_of line) (sent_on scenario line)) (counts_at s.lines line)
+  line-fits line inside =
+      each-there (LineFits script.config.ticks script.config.ring s.ticks s.rows) (walk_plan script).paths s.lines line
+      (path_of (carried_by scenario line) (delay_of line) (sent_on scenario line)) (record { carried = 0; popped = 0 }) fits.lines (line-path script can line inside)
+
+  popped-comes : (line : ℕ) → line < length script.config.windows → ComesOf scenario session line s.ticks (popped_on script s.lines line)
+  popped-comes line inside =
+      let is = line-fits line inside in
+      let ticks = fits.ticks in
+      let containers : List Container = sent_on scenario line in
+      let carries = carried_by scenario line in
+      let size : length containers ≡ script.config.ticks = containers-size scenario session line scenario.ticks in
+      let x : ℕ = (counts_at s.lines line).carried in
+      let y : ℕ = (counts_at s.lines line).popped in
+      let own : List Cell = cells carries (delay_of line) (length containers) containers x in
+      let most = is.carries in
+      let taken = is.sent in
+      let now : given scenario session line s.ticks (delay_of line) x ≡ own =
+      given-whole scenario session line s.ticks (delay_of line) x ticks taken ∙ ap (λ n. cells carries (delay_of line) n containers x) (sym size) in
+      record {
+        delay = delay_of line;
+        carries = x;
+        later = drop y own;
+        taken = taken;
+        first = now ∙ sym (take-append-drop y own) ∙ ap (λ l. l ++ drop y own) (sym (first-given carries (delay_of line) containers x y (omega arith) is.pops));
+      }
+
+  popped-decided : (line t : ℕ) → line < length script.config.windows → t < s.rows → IsSome (verdict (popped_on script s.lines line) t)
+  popped-decided line t inside low =
+      let is = line-fits line inside in
+      let rows = fits.rows in
+      let decides = is.decides in
+      let size : length (sent_on scenario line) ≡ script.config.ticks = containers-size scenario session line scenario.ticks in
+      (is_decided (carried_by scenario line) (sent_on scenario line) (delay_of line) (counts_at s.lines line).popped t (omega arith)).1 (omega arith)
+
+  -- ---- all lines
+  popped-at : (line : ℕ) (own : List Cell) → slice_get (popped_cells script s.lines) line ≡ Some own → (line < length script.config.windows) × (popped_on script s.lines line ≡ own)
+  popped-at line own here =
+      let lines : ℕ = length script.config.windows in
+      let size = length-map-range_with_len (popped_on script s.lines) 0 lines in
+      let within = slice_get_within (popped_cells script s.lines) line own here in
+      let low : line < lines = omega arith in
+      let there : slice_get (popped_cells script s.lines) line ≡ Some (popped_on script s.lines line) =
+      slice_get-map (popped_on script s.lines) (range_with_len 0 lines) line
+      ∙ ap (option_map (popped_on script s.lines)) (range-at 0 lines line low ∙ ap Some (let e : 0 + line ≡ line = omega arith in e)) in
+      (low, cc)
+
+  pub cells-come : ComeOf scenario session s.ticks (popped_cells script s.lines)
+  cells-come = record {
+    made = fits.ticks;
+    lines = length-map-range_with_len (popped_on script s.lines) 0 (length script.config.windows);
+    each = λ line own here.
+        let (inside, same) = popped-at line own here in
+        subst (λ own. ComesOf scenario session line s.ticks own) same (popped-comes line inside);
+  }
+
+  pub cells-decide : (t : ℕ) → t < s.rows → AreDecidedAt (popped_cells script s.lines) t
+  cells-decide t low line own here =
+      let (inside, same) = popped-at line own here in
+      subst (λ own. IsSome (verdict own t)) same (popped-decided line t inside low)
+
+  pub rows-are : (t : ℕ) → t < s.rows →
+      row_at script.config.size (popped_cells script s.lines) t ≡ (if is_whole_row scenario session t then Some (payload_of scenario session t) else None)
+  rows-are t low =
+      let rows = fits.rows in
+      row-told scenario session s.ticks (popped_cells script s.lines) t (has-lines script can) cells-come (omega arith) (cells-decide t low)
+
+  -- ---- the return path
+  pub lag : 0 < scenario.lag
+  lag = let fits_lag = can.lag in omega arith
+
+  few-packets : (rows ticks n : ℕ) → rows ≤ ticks → n ≤ (rows - 8) / 16 → n ≤ (ticks - 8) / 16
+  few-packets rows ticks n low most = omega arith
+
+  ends : (rows n : ℕ) → n < (rows - 8) / 16 → 16 * n + 23 < rows
+  ends rows n low = omega arith
+
+  pub frames-are : (t : ℕ) → t < s.ticks → frame_of scenario (cells_before scenario s.backs) t ≡ frame_of scenario session t
+  frames-are t low =
+      let used = fits.used in
+      frame-same scenario s.backs s.ticks t (few-packets s.rows script.config.ticks s.backs fits.rows fits.backs) (omega arith) low
+
+  told-first : (n : ℕ) → n ≤ s.backs → told_of scenario (popped_cells script s.lines) n ≡ cells_before scenario n
+  unfolding cells_before
+  told-first zero low = refl
+  told-first (suc n) low =
+      let popped : List (List Cell) = popped_cells script s.lines in
+      let backs = fits.backs in
+      let f = λ (k : ℕ). told_in (back_of scenario popped k) in
+      let e : suc n ≡ n + 1 = omega arith in
+      let inside : n < packets_in s.rows = omega arith in
+      ap (λ k. map f (range_with_len 0 k)) e
+      ∙ map-range_with_len_more f 0 n n (omega arith)
+      ∙ ap (λ l. l ++ f n ∷ []) (told-first n (omega arith))
+      ∙ sym (next-cell scenario s.ticks n popped (has-lines script can) lag (few-packets s.rows script.config.ticks (suc n) fits.rows inside) cells-come
+      (cells-decide (16 * n + 23) (ends s.rows n inside)))
+
+  pub backs-are : told_of scenario (popped_cells script s.lines) s.backs ≡ cells_before scenario s.backs
+  backs-are = told-first s.backs (omega arith)
+
+  pub is-course : IsCourse scenario s.ticks s.backs (popped_cells script s.lines)
+  is-course =
+      let used = fits.used in
+      let most = few-packets s.rows script.config.ticks s.backs fits.rows fits.backs in
+      let agree = session-agree scenario s.backs s.backs most (omega arith) in
+      record {
+        most = most;
+        used = omega arith;
+        come = subst (λ returns. ComeOf scenario returns s.ticks (popped_cells script s.lines)) (sym backs-are)
+            (come-same scenario session (cells_before scenario s.backs) s.ticks s.backs (popped_cells script s.lines) (omega arith) (sym agree) cells-come);
+        decided = λ k low.
+            let backs = fits.backs in
+            cells-decide (16 * k + 23) (ends s.rows k (omega arith));
+      }
+
+-- ---- what is walked
+pub begins-walked : (script : Script) → IsWalked script (begin (walk_plan script))
+begins-walked script = ([], sym (run-none (walk_plan script) (begin (walk_plan script))))
+
+pub steps-walked : (script : Script) (s : Counts) (event : Event) → IsWalked script s → IsWalked script (step (walk_plan script) s event).counts
+unfolding run
+steps-walked script s event walked =
+    Leads-then (walk_plan script) (begin (walk_plan script)) s (step (walk_plan script) s event).counts walked (event ∷ [], refl)
+
+pub drains-walked : (script : Script) (s : Counts) (k : ℕ) → IsWalked script s → IsWalked script (drain k (walk_plan script) s)
+drains-walked script s k walked =
+    Leads-then (walk_plan script) (begin (walk_plan script)) s (drain k (walk_plan script) s) walked (Leads-drain k (walk_plan script) s)

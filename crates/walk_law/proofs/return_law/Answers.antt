@@ -1,0 +1,36 @@
+-- The return path.
+use Rattle.walk_law.proofs.ReturnLaws.{all-longer, all-decided, packet-said, cell-told, cells-next, packets-next, used-next, ring-says, ring-goes, inbox-comes, inbox-taken}
+use Rattle.walk_law.proofs.return_law.Goals as goal
+
+pub returns-clause-longer : goal.returns-clause-longer
+returns-clause-longer c = all-longer
+
+pub returns-clause-decided : goal.returns-clause-decided
+returns-clause-decided c script t can low = all-decided script can t low
+
+pub returns-clause-said : goal.returns-clause-said
+returns-clause-said c = packet-said
+
+pub returns-clause-told : goal.returns-clause-told
+returns-clause-told c script k can low = cell-told script can k low
+
+pub returns-clause-next : goal.returns-clause-next
+returns-clause-next c script k can low = cells-next script can k low
+
+pub returns-clause-ends : goal.returns-clause-ends
+returns-clause-ends c = packets-next
+
+pub returns-clause-steps : goal.returns-clause-steps
+returns-clause-steps c = used-next
+
+pub returns-clause-says : goal.returns-clause-says
+returns-clause-says c = ring-says
+
+pub returns-clause-goes : goal.returns-clause-goes
+returns-clause-goes c = ring-goes
+
+pub returns-clause-comes : goal.returns-clause-comes
+returns-clause-comes c = inbox-comes
+
+pub returns-clause-taken : goal.returns-clause-taken
+returns-clause-taken c = inbox-taken

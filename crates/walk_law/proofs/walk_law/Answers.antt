@@ -1,0 +1,35 @@
+-- A walk is a course of the session.
+use Rattle.progress_law.proofs.ReachLaws.{walked-reached}
+use Rattle.walk_law.specs.Walk.{walk_plan}
+use Rattle.walk_law.proofs.WalkLaws.{begins-walked, steps-walked, drains-walked, is-course, frames-are, cells-come, cells-decide, rows-are, backs-are}
+use Rattle.walk_law.proofs.walk_law.Goals as goal
+
+pub returns-clause-frames : goal.returns-clause-frames
+returns-clause-frames c script s t can walked = frames-are script s can walked t
+
+pub returns-clause-come : goal.returns-clause-come
+returns-clause-come c = cells-come
+
+pub returns-clause-decided : goal.returns-clause-decided
+returns-clause-decided c script s t can walked = cells-decide script s can walked t
+
+pub returns-clause-rows : goal.returns-clause-rows
+returns-clause-rows c script s t can walked = rows-are script s can walked t
+
+pub returns-clause-backs : goal.returns-clause-backs
+returns-clause-backs c = backs-are
+
+pub returns-clause-begins : goal.returns-clause-begins
+returns-clause-begins c = begins-walked
+
+pub returns-clause-steps : goal.returns-clause-steps
+returns-clause-steps c = steps-walked
+
+pub returns-clause-drains : goal.returns-clause-drains
+returns-clause-drains c = drains-walked
+
+pub returns-clause-event_lines : goal.returns-clause-event_lines
+returns-clause-event_lines c script = walked-reached (walk_plan script) script.events
+
+pub returns-clause-course : goal.returns-clause-course
+returns-clause-course c = is-course

@@ -1,0 +1,5 @@
+pub mod Walk
+pub mod Rings
+pub mod Landed
+pub mod Delivered
+pub mod Step

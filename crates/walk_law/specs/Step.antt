@@ -1,0 +1,21 @@
+-- The last decision step of a walk.
+use Rattle.std.specs.Prelude.{ℕ, ◌-◌, nat_lt, nat_le, if◌then◌else◌, Option, Some, None}
+use Rattle.vc_cell.specs.declared.BackCell.{BackCell}
+use Rattle.session_model.specs.declared.script.Script.{Script}
+use Rattle.session_model.specs.Scenario.{scenario_of, steps_in}
+use Rattle.session_model.specs.Table.{Table}
+use Rattle.session_model.specs.Source.{after}
+use Rattle.session_model.specs.Back.{session_cells}
+use Rattle.walk_law.specs.Rings.{back_cell}
+
+-- the number of the last decision step of some ticks, where one was made: that of the packet which it began
+abbrev pub last_packet : ℕ → Option ℕ
+last_packet ticks = if nat_lt 0 (steps_in ticks) then Some (steps_in ticks - 1) else None
+
+-- the return cell that decision step j took, where it took one
+abbrev pub cell_taken : Script → ℕ → Option BackCell
+cell_taken script j = if nat_le script.config.lag j then Some (back_cell script (j - script.config.lag)) else None
+
+-- the source's table after the decision steps of some ticks
+abbrev pub table_in : Script → ℕ → Table
+table_in script ticks = (after (scenario_of script) (session_cells (scenario_of script)) (steps_in ticks)).table

@@ -1,0 +1,241 @@
+//! The law that a walk of a script is a course of its session: whatever events were tried in whatever order, the cells that the sink
+//! has popped by the counts decide the rows that the counts say were taken, and these rows and the return packets that came to the
+//! source are the session's. There is no code here. Begin at `walk_law`; `ring_law` and `take_law` say what the rings hold by the
+//! counts.
+#![tactic(auto)]
+
+ghost use Rattle.std.specs.Prelude.{◌≡◌, ◌↔◌, ℕ, ◌+◌, ◌-◌, ◌*◌, ◌/◌, ◌%◌, ◌<◌, ◌≤◌, ◌==◌, ◌&&◌, nat_le, nat_lt, min, if◌then◌else◌, List, [], ◌∷◌, ◌++◌, map, fold, length, take, drop, slice_get, Option, Some, None, IsSome, option_map};
+ghost use Rattle.std.specs.List.{range_with_len};
+ghost use Rattle.vc_cell.specs.declared.Cell.{Cell};
+ghost use Rattle.session_model.specs.declared.script.Item.{Item};
+ghost use Rattle.session_model.specs.declared.script.Script.{Script};
+ghost use Rattle.report_text.specs.declared.report.Refusal.TheVariants.{Frame as frame_fault, Command as command_fault};
+ghost use Rattle.session_model.specs.Path.{cells};
+ghost use Rattle.session_model.specs.Number.{verdict};
+ghost use Rattle.session_model.specs.Valid.{IsValid};
+ghost use Rattle.session_model.specs.Scenario.{Order, Offer, orders_of, offers_of, scenario_of, carried_by, steps_in, orders_at, frames_at, packets_in};
+ghost use Rattle.session_model.specs.Source.{refusal, after, source_at};
+ghost use Rattle.session_model.specs.Client.{frame_refusal, offered, stream_before};
+ghost use Rattle.session_model.specs.Back.{return_cell, cells_before, session_cells};
+ghost use Rattle.session_model.specs.Told.{told_in};
+ghost use Rattle.session_model.specs.Segment.{StreamRow, deliver};
+ghost use Rattle.session_model.specs.declared.walk.Event.{Event};
+ghost use Rattle.session_model.specs.Payload.{payload_of};
+ghost use Rattle.session_model.specs.Rows.{row_at, first_open, return_at};
+ghost use Rattle.session_model.specs.SessionRows.{is_whole_row};
+ghost use Rattle.session_model.specs.Sent.{frame_of};
+ghost use Rattle.session_model.specs.Counts.{dues_of, frame_dues, command_dues, LineCounts, Counts, used_in, pop_lines, step, begin, drain, walked};
+ghost use Rattle.line_law.specs.StableRows.{IsLonger, AreDecidedAt};
+ghost use Rattle.progress_law.specs.Progress.{IsPlan, LineFits};
+ghost use Rattle.terminal_law.specs.Lines.{HasLines, ComeOf};
+ghost use Rattle.terminal_law.specs.Course.{told_of, IsCourse};
+ghost use Rattle.walk_law.specs.Walk.{walk_plan, CanWalk, IsWalked, counts_at, popped_cells};
+ghost use Rattle.walk_law.specs.Rings.{delay_on, path_on, line_cells, sent_at, taken_by, cells_by, send_by, receive_by, all_lines, said_packet, back_cell, return_ring, inbox};
+ghost use Rattle.walk_law.specs.Delivered.{delivered_of, IsReceived};
+ghost use Rattle.walk_law.specs.Landed.{Numbered, landed_scenario, told_before, IsOfferAt, IsOrderAt, refusal_at, refused_by, refusals_of, IsPlaced, totals_of, with_frame_told, with_command_told};
+
+/// A script whose rings fit has a plan of its walk, whose lines are what the session sends on them.
+pub fn plan_law()
+    ensures lines { (script : Script) → CanWalk script → HasLines (scenario_of script) }
+    ensures plan { (script : Script) → CanWalk script → IsPlan (walk_plan script) }
+    ensures valid { (script : Script) → IsValid script → CanWalk script }
+    ensures paths { (script : Script) → CanWalk script →
+        length (walk_plan script).paths ≡ length script.config.windows }
+    ensures path { (script : Script) (line : ℕ) → CanWalk script →
+        line < length script.config.windows →
+        slice_get (walk_plan script).paths line ≡ Some (path_on script line) }
+{}
+
+/// The rings of a line by its numbers: after any list of events these are within their bounds; and one tick, one carry or one cell
+/// that is popped changes the rings by just that.
+pub fn ring_law()
+    ensures lines { (script : Script) (s : Counts) → CanWalk script → IsWalked script s →
+        length s.lines ≡ length script.config.windows }
+    ensures bounds { (script : Script) (s : Counts) (line : ℕ) → CanWalk script →
+        IsWalked script s → line < length script.config.windows →
+        LineFits script.config.ticks script.config.ring s.ticks s.rows (path_on script line)
+        (counts_at s.lines line) }
+    ensures taken { (script : Script) (line x : ℕ) →
+        cells (carried_by (scenario_of script) line) (delay_on script line) script.config.ticks
+        (taken_by script line x) x ≡ cells_by script line x }
+    ensures sends { (script : Script) (line n x : ℕ) → n ≤ script.config.ticks →
+        length (send_by script line n x) ≡ n - min x script.config.ticks }
+    ensures receives { (script : Script) (line x y : ℕ) →
+        length (receive_by script line x y) ≡ (path_on script line).given x - y }
+    ensures made { (script : Script) (line n x : ℕ) → n < script.config.ticks →
+        min x script.config.ticks ≤ n → send_by script line (n + 1) x
+        ≡ send_by script line n x ++ sent_at script line n ∷ [] }
+    ensures next { (script : Script) (line n x : ℕ) → n ≤ script.config.ticks → x < n →
+        send_by script line n x ≡ sent_at script line x ∷ send_by script line n (x + 1) }
+    ensures takes { (script : Script) (line x : ℕ) → x < script.config.ticks →
+        taken_by script line (x + 1) ≡ taken_by script line x ++ sent_at script line x ∷ [] }
+    ensures gives { (script : Script) (line x y : ℕ) (out : List Cell) →
+        y ≤ (path_on script line).given x → cells_by script line (x + 1) ≡ cells_by script line x ++ out →
+        receive_by script line (x + 1) y ≡ receive_by script line x y ++ out }
+    ensures pops { (script : Script) (line x y : ℕ) (cell : Cell) (rest : List Cell) →
+        receive_by script line x y ≡ cell ∷ rest → receive_by script line x (y + 1) ≡ rest }
+    ensures popped { (script : Script) (line x y : ℕ) (cell : Cell) (rest : List Cell) →
+        x ≤ script.config.ticks + delay_on script line + 1 →
+        receive_by script line x y ≡ cell ∷ rest →
+        take (y + 1) (line_cells script line) ≡ take y (line_cells script line) ++ cell ∷ [] }
+    ensures first { (script : Script) (line x y : ℕ) →
+        x ≤ script.config.ticks + delay_on script line + 1 → y ≤ (path_on script line).given x →
+        take y (line_cells script line) ≡ take y (cells_by script line x) }
+{}
+
+/// What the cells that were popped decide. The numbers by which the counts go are those that have a verdict, and a Take waits for the
+/// first line whose cells don't decide the row.
+pub fn take_law()
+    ensures decided { (script : Script) (line y t : ℕ) → t < script.config.ticks →
+        IsSome (verdict (take y (line_cells script line)) t) ↔ (t < (path_on script line).decided y) }
+    ensures waiting { (script : Script) (lines : List LineCounts) (t : ℕ) → CanWalk script →
+        length lines ≡ length script.config.windows → t < script.config.ticks →
+        first_open (popped_cells script (pop_lines t 0 (walk_plan script).paths lines).lines) t
+        ≡ (pop_lines t 0 (walk_plan script).paths lines).waiting }
+{}
+
+/// Each event leads from a walk to a walk, and so do a drain and the event lines of a script. After any list of events: the frames made by the return cells that have come are the session's; the cells that were popped come of
+/// them, and decide all rows that were taken; each of these rows is whole exactly where the session's is, with its octets; and the
+/// return cells that have come are the session's first.
+pub fn walk_law()
+    ensures begins { (script : Script) → IsWalked script (begin (walk_plan script)) }
+    ensures steps { (script : Script) (s : Counts) (event : Event) → IsWalked script s →
+        IsWalked script (step (walk_plan script) s event).counts }
+    ensures drains { (script : Script) (s : Counts) (k : ℕ) → IsWalked script s →
+        IsWalked script (drain k (walk_plan script) s) }
+    ensures event_lines { (script : Script) →
+        IsWalked script (walked (walk_plan script) script.events) }
+    ensures course { (script : Script) (s : Counts) → CanWalk script → IsWalked script s →
+        IsCourse (scenario_of script) s.ticks s.backs (popped_cells script s.lines) }
+    ensures frames { (script : Script) (s : Counts) (t : ℕ) → CanWalk script → IsWalked script s →
+        t < s.ticks → frame_of (scenario_of script) (cells_before (scenario_of script) s.backs) t
+        ≡ frame_of (scenario_of script) (session_cells (scenario_of script)) t }
+    ensures come { (script : Script) (s : Counts) → CanWalk script → IsWalked script s →
+        ComeOf (scenario_of script) (session_cells (scenario_of script)) s.ticks
+        (popped_cells script s.lines) }
+    ensures decided { (script : Script) (s : Counts) (t : ℕ) → CanWalk script →
+        IsWalked script s → t < s.rows → AreDecidedAt (popped_cells script s.lines) t }
+    ensures rows { (script : Script) (s : Counts) (t : ℕ) → CanWalk script → IsWalked script s →
+        t < s.rows → row_at script.config.size (popped_cells script s.lines) t
+        ≡ (if is_whole_row (scenario_of script) (session_cells (scenario_of script)) t
+        then Some (payload_of (scenario_of script) (session_cells (scenario_of script)) t)
+        else None) }
+    ensures backs { (script : Script) (s : Counts) → CanWalk script → IsWalked script s →
+        told_of (scenario_of script) (popped_cells script s.lines) s.backs
+        ≡ cells_before (scenario_of script) s.backs }
+{}
+
+/// What has landed. No item waits whose due tick is past, since a tick is held by one; so up to the ticks made the session of the items
+/// that have landed is the script's own. An item that lands is put in its place among those that have, and so is its refusal.
+pub fn landing_law()
+    ensures frame_dues { (items : List Item) →
+        frame_dues (dues_of items) ≡ map (λ (offer : Offer). offer.due) (offers_of items) }
+    ensures command_dues { (items : List Item) →
+        command_dues (dues_of items) ≡ map (λ (order : Order). order.due) (orders_of items) }
+    ensures frame_waits { (script : Script) (s : Counts) (offer : Offer) → IsWalked script s →
+        slice_get (offers_of script.items) s.frames ≡ Some offer → s.ticks ≤ offer.due }
+    ensures command_waits { (script : Script) (s : Counts) (order : Order) → IsWalked script s →
+        slice_get (orders_of script.items) s.commands ≡ Some order → s.ticks ≤ order.due }
+    ensures frames { (script : Script) (s : Counts) (t : ℕ) → IsWalked script s → t < s.ticks →
+        frames_at (landed_scenario script s) t ≡ frames_at (scenario_of script) t }
+    ensures orders { (script : Script) (s : Counts) (j : ℕ) → IsWalked script s →
+        16 * j + 8 < s.ticks →
+        orders_at (landed_scenario script s) j ≡ orders_at (scenario_of script) j }
+    ensures offer { (items : List Item) (a : ℕ) (item : Numbered) (offer : Offer) →
+        IsOfferAt items a item offer → (slice_get (offers_of items) a ≡ Some offer)
+        × (offers_of (take item.number items) ≡ take a (offers_of items)) }
+    ensures order { (items : List Item) (b : ℕ) (item : Numbered) (order : Order) →
+        IsOrderAt items b item order → (slice_get (orders_of items) b ≡ Some order)
+        × (orders_of (take item.number items) ≡ take b (orders_of items)) }
+{}
+
+/// What the source was told. After any list of events, the items that have landed and the return cells that were taken lead to the
+/// tables, the stream and the containers of the session; and an item that lands meets what it meets in the session.
+pub fn source_law()
+    ensures tables { (script : Script) (s : Counts) (j : ℕ) → CanWalk script → IsWalked script s →
+        j ≤ steps_in s.ticks → after (landed_scenario script s) (told_before script s.ticks) j
+        ≡ after (scenario_of script) (session_cells (scenario_of script)) j }
+    ensures streams { (script : Script) (s : Counts) (t : ℕ) → CanWalk script → IsWalked script s →
+        t ≤ s.ticks → stream_before (landed_scenario script s) (told_before script s.ticks) t
+        ≡ stream_before (scenario_of script) (session_cells (scenario_of script)) t }
+    ensures frames { (script : Script) (s : Counts) (t : ℕ) → CanWalk script → IsWalked script s →
+        t < s.ticks → frame_of (landed_scenario script s) (told_before script s.ticks) t
+        ≡ frame_of (scenario_of script) (session_cells (scenario_of script)) t }
+    ensures frame { (script : Script) (s : Counts) (item : Numbered) (offer : Offer) →
+        CanWalk script → IsWalked script s → IsOfferAt script.items s.frames item offer →
+        offer.due ≤ s.ticks → refusal_at script item ≡ option_map frame_fault (frame_refusal offer.frame
+        (fold offered (stream_before (landed_scenario script s) (told_before script s.ticks) s.ticks)
+        (frames_at (landed_scenario script s) s.ticks))) }
+    ensures command { (script : Script) (s : Counts) (item : Numbered) (order : Order) →
+        CanWalk script → IsWalked script s → IsOrderAt script.items s.commands item order →
+        order.due ≤ s.ticks → refusal_at script item ≡ option_map command_fault
+        (refusal (length script.config.windows) order.command
+        (source_at (landed_scenario script s) (told_before script s.ticks) (steps_in s.ticks))) }
+{}
+
+/// What an item that lands adds to the refusals and the totals.
+pub fn report_law()
+    ensures frame { (script : Script) (s : Counts) (item : Numbered) (offer : Offer) →
+        IsOfferAt script.items s.frames item offer →
+        IsPlaced item.number (refused_by item.number (refusal_at script item)) (refusals_of script s)
+        (refusals_of script (record s { frames = s.frames + 1 })) }
+    ensures command { (script : Script) (s : Counts) (item : Numbered) (order : Order) →
+        IsOrderAt script.items s.commands item order →
+        IsPlaced item.number (refused_by item.number (refusal_at script item)) (refusals_of script s)
+        (refusals_of script (record s { commands = s.commands + 1 })) }
+    ensures frame_totals { (script : Script) (s : Counts) (item : Numbered) (offer : Offer) →
+        IsOfferAt script.items s.frames item offer →
+        totals_of script (record s { frames = s.frames + 1 })
+        ≡ with_frame_told (refusal_at script item) (totals_of script s) }
+    ensures command_totals { (script : Script) (s : Counts) (item : Numbered) (order : Order) →
+        IsOrderAt script.items s.commands item order →
+        totals_of script (record s { commands = s.commands + 1 })
+        ≡ with_command_told (refusal_at script item) (totals_of script s) }
+{}
+
+/// The return path. What the sink says by the cells that were popped is what it says by all cells, and tells the source the return
+/// cells of the session; and one row, one return packet or one decision step changes the rings by just that.
+pub fn return_law()
+    ensures longer { (script : Script) (lines : List LineCounts) →
+        IsLonger (popped_cells script lines) (all_lines script) }
+    ensures decided { (script : Script) (t : ℕ) → CanWalk script → t < script.config.ticks →
+        AreDecidedAt (all_lines script) t }
+    ensures said { (script : Script) (s : Counts) (k : ℕ) → CanWalk script → IsWalked script s →
+        16 * k + 23 < s.rows →
+        return_at (popped_cells script s.lines) k ≡ said_packet script k }
+    ensures told { (script : Script) (k : ℕ) → CanWalk script → 16 * k + 23 < script.config.ticks →
+        told_in (back_cell script k)
+        ≡ return_cell (scenario_of script) (session_cells (scenario_of script)) k }
+    ensures next { (script : Script) (k : ℕ) → CanWalk script → 16 * k + 23 < script.config.ticks →
+        cells_before (scenario_of script) (k + 1)
+        ≡ cells_before (scenario_of script) k ++ told_in (back_cell script k) ∷ [] }
+    ensures ends { (t : ℕ) → packets_in (t + 1)
+        ≡ packets_in t + (if nat_lt 22 t && t % 16 == 7 then 1 else 0) }
+    ensures steps { (lag t : ℕ) → used_in lag (t + 1)
+        ≡ used_in lag t + (if t % 16 == 8 && nat_le lag (t / 16) then 1 else 0) }
+    ensures says { (script : Script) (s : Counts) (rows : ℕ) → s.backs ≤ packets_in s.rows →
+        packets_in rows ≡ packets_in s.rows + 1 → return_ring script (record s { rows = rows })
+        ≡ return_ring script s ++ said_packet script (packets_in s.rows) ∷ [] }
+    ensures goes { (script : Script) (s : Counts) → s.backs < packets_in s.rows →
+        return_ring script s
+        ≡ said_packet script s.backs ∷ return_ring script (record s { backs = s.backs + 1 }) }
+    ensures comes { (script : Script) (s : Counts) → used_in script.config.lag s.ticks ≤ s.backs →
+        inbox script (record s { backs = s.backs + 1 })
+        ≡ inbox script s ++ back_cell script s.backs ∷ [] }
+    ensures taken { (script : Script) (s : Counts) (ticks : ℕ) →
+        used_in script.config.lag s.ticks < s.backs →
+        used_in script.config.lag ticks ≡ used_in script.config.lag s.ticks + 1 → inbox script s
+        ≡ back_cell script (used_in script.config.lag s.ticks) ∷ inbox script (record s { ticks = ticks }) }
+{}
+
+/// The frames of the rows that were taken: what a sink makes of them by the cells that were popped is what the rows of the session
+/// give, and more rows add frames and change none of those before.
+pub fn frames_law()
+    ensures received { (script : Script) (s : Counts) (receive : Option (List ℕ) → StreamRow) (n : ℕ) →
+        CanWalk script → IsWalked script s → IsReceived receive → n ≤ s.rows →
+        deliver 9600 (map (λ t. receive (row_at script.config.size (popped_cells script s.lines) t))
+        (range_with_len 0 n)) ≡ delivered_of script n }
+    ensures grows { (script : Script) (n more : ℕ) → delivered_of script (n + more)
+        ≡ delivered_of script n
+        ++ drop (length (delivered_of script n)) (delivered_of script (n + more)) }
+{}
