@@ -1,12 +1,12 @@
 -- Where the next items stand, and which of them is held.
 use Rattle.std.proofs.Common.{◌≡◌, ◌⊎◌, ℕ, zero, suc, ◌+◌, ◌-◌, ◌<◌, ◌≤◌, ◌&&◌, ◌||◌, not, nat_le, nat_lt, Bool, true, false, List, [], ◌∷◌, length, drop, slice_get, slice_index_or, Option, Some, None, refl, sym, ◌∙◌, ap, subst, arith, inl, inr, if◌then◌else◌}
 use Rattle.std.specs.List.Sorted.{IsNonDecreasing}
-use Rattle.std.proofs.lemmas.Bool.{cases_le}
+use Rattle.std.proofs.lemmas.Bool.{cases_lt}
 use Rattle.session_model.specs.declared.script.Item.{Item}
 use Rattle.session_model.specs.declared.script.ItemKind.{ItemKind}
 use Rattle.session_model.specs.declared.script.ItemKind.TheVariants.{Frame, Add, Remove}
 use Rattle.session_model.specs.Counts.{Due, frame_due, command_due, due_of, dues_of, frame_dues, command_dues, held}
-use Rattle.walk_parts.specs.Place.{is_frame, is_command, place_of, due_by}
+use Rattle.walk_parts.specs.Place.{is_frame, is_command, place_of, due_by, least_held}
 
 drop-at : {X : Type 0} (xs : List X) (i : ℕ) (x : X) → slice_get xs i ≡ Some x → drop i xs ≡ x ∷ drop (suc i) xs
 drop-at [] i x e = absurd cc
@@ -45,10 +45,6 @@ at-index (y ∷ ys) zero x h e = ap Some (sym e)
 at-index (y ∷ ys) (suc i) x h e = at-index ys i x (omega arith) e
 
 -- ---- the least item that is held
-abbrev least_held : ℕ → ℕ → ℕ → Bool → Bool → Option ℕ
-least_held i frame command client operator =
-    if client && (nat_lt frame command || not operator) then Some (i + frame) else (if operator then Some (i + command) else None)
-
 rest-in_order : (due : ℕ) (dues : List ℕ) → IsNonDecreasing (due ∷ dues) → IsNonDecreasing dues
 rest-in_order due dues order i j d low high = order (suc i) (suc j) d (omega arith) (omega arith)
 
@@ -133,10 +129,10 @@ later-frame due ticks [] order late = refl
 later-frame due ticks (item ∷ items) order late =
     elim (kind-of item item.kind refl) [
       | inl client ↦ rw (place-first is_frame item items client.frame)
-        (let above = first-least due item.due (frame_dues (dues_of items)) (subst (λ dues. IsNonDecreasing (due ∷ dues)) (frame_dues-client item items client) order) in
+          (let above = first-least due item.due (frame_dues (dues_of items)) (subst (λ dues. IsNonDecreasing (due ∷ dues)) (frame_dues-client item items client) order) in
           let e : nat_le item.due ticks ≡ false = grind (arith, above, late) in e)
       | inr operator ↦ rw (place-skip is_frame 0 item items operator.frame)
-        (later-frame due ticks items (subst (λ dues. IsNonDecreasing (due ∷ dues)) (frame_dues-operator item items operator) order) late)
+          (later-frame due ticks items (subst (λ dues. IsNonDecreasing (due ∷ dues)) (frame_dues-operator item items operator) order) late)
     ]
 
 later-command : (due ticks : ℕ) (items : List Item) → IsNonDecreasing (due ∷ command_dues (dues_of items)) → ticks < due → due_by ticks (slice_get items (place_of is_command 0 items)) ≡ false
@@ -144,9 +140,9 @@ later-command due ticks [] order late = refl
 later-command due ticks (item ∷ items) order late =
     elim (kind-of item item.kind refl) [
       | inl client ↦ rw (place-skip is_command 0 item items client.command)
-        (later-command due ticks items (subst (λ dues. IsNonDecreasing (due ∷ dues)) (command_dues-client item items client) order) late)
+          (later-command due ticks items (subst (λ dues. IsNonDecreasing (due ∷ dues)) (command_dues-client item items client) order) late)
       | inr operator ↦ rw (place-first is_command item items operator.command)
-        (let above = first-least due item.due (command_dues (dues_of items)) (subst (λ dues. IsNonDecreasing (due ∷ dues)) (command_dues-operator item items operator) order) in
+          (let above = first-least due item.due (command_dues (dues_of items)) (subst (λ dues. IsNonDecreasing (due ∷ dues)) (command_dues-operator item items operator) order) in
           let e : nat_le item.due ticks ≡ false = grind (arith, above, late) in e)
     ]
 
@@ -176,28 +172,28 @@ client-first : (ticks b i : ℕ) (item : Item) (items : List Item) → IsClient 
 client-first ticks b i item items is order rest =
     let start : held ticks zero b i (dues_of (item ∷ items)) ≡ (if nat_le item.due ticks then Some i else held ticks zero b (suc i) (dues_of items)) =
     ap (λ due. held ticks zero b i (due ∷ dues_of items)) is.due ∙ held-frame ticks b i item.due (dues_of items) in
-    start ∙ rw (place-first is_frame item items is.frame, place-skip is_command b item items is.command) (elim (cases_le item.due ticks) [
-      | inl now ↦ (let e : nat_le item.due ticks ≡ true = grind (arith, now) in let f : nat_lt 0 (suc (place_of is_command b items)) ≡ true = grind arith in
-        let g : i ≡ i + 0 = omega arith in rw (e, f) (ap Some g))
-      | inr late ↦ (let e : nat_le item.due ticks ≡ false = grind (arith, late) in
-        rw e (rest ∙ rw (later-frame item.due ticks items order late) (none-client i (place_of is_frame 0 items) (place_of is_command b items) (due_by ticks (slice_get items (place_of is_command b items))))))
+    start ∙ rw (place-first is_frame item items is.frame, place-skip is_command b item items is.command) (elim (cases_lt ticks item.due) [
+      | inr now ↦ (let e : nat_le item.due ticks ≡ true = grind (arith, now) in let f : nat_lt 0 (suc (place_of is_command b items)) ≡ true = grind arith in
+          let g : i ≡ i + 0 = omega arith in rw (e, f) (ap Some g))
+      | inl late ↦ (let e : nat_le item.due ticks ≡ false = grind (arith, late) in
+          rw e (rest ∙ rw (later-frame item.due ticks items order late) (none-client i (place_of is_frame 0 items) (place_of is_command b items) (due_by ticks (slice_get items (place_of is_command b items))))))
     ])
 
 client-landed : (ticks a b i : ℕ) (item : Item) (items : List Item) → IsClient item → HeldIs ticks a b (suc i) items → HeldIs ticks (suc a) b i (item ∷ items)
 client-landed ticks a b i item items is rest =
     ap (λ due. held ticks (suc a) b i (due ∷ dues_of items)) is.due ∙ held-frame_landed ticks a b i item.due (dues_of items) ∙ rest
     ∙ sym (rw (place-suc is_frame a item items is.frame, place-skip is_command b item items is.command)
-      (shifted i (place_of is_frame a items) (place_of is_command b items) (due_by ticks (slice_get items (place_of is_frame a items))) (due_by ticks (slice_get items (place_of is_command b items)))))
+    (shifted i (place_of is_frame a items) (place_of is_command b items) (due_by ticks (slice_get items (place_of is_frame a items))) (due_by ticks (slice_get items (place_of is_command b items)))))
 
 operator-first : (ticks a i : ℕ) (item : Item) (items : List Item) → IsOperator item → IsNonDecreasing (item.due ∷ command_dues (dues_of items)) → HeldIs ticks a zero (suc i) items → HeldIs ticks a zero i (item ∷ items)
 operator-first ticks a i item items is order rest =
     let start : held ticks a zero i (dues_of (item ∷ items)) ≡ (if nat_le item.due ticks then Some i else held ticks a zero (suc i) (dues_of items)) =
     ap (λ due. held ticks a zero i (due ∷ dues_of items)) is.due ∙ held-command ticks a i item.due (dues_of items) in
-    start ∙ rw (place-skip is_frame a item items is.frame, place-first is_command item items is.command) (elim (cases_le item.due ticks) [
-      | inl now ↦ (let e : nat_le item.due ticks ≡ true = grind (arith, now) in let f : nat_lt (suc (place_of is_frame a items)) 0 ≡ false = grind arith in
-        rw (e, f) (now-operator i (suc (place_of is_frame a items)) (due_by ticks (slice_get items (place_of is_frame a items)))))
-      | inr late ↦ (let e : nat_le item.due ticks ≡ false = grind (arith, late) in
-        rw e (rest ∙ rw (later-command item.due ticks items order late) (none-operator i (place_of is_frame a items) (place_of is_command 0 items) (due_by ticks (slice_get items (place_of is_frame a items))))))
+    start ∙ rw (place-skip is_frame a item items is.frame, place-first is_command item items is.command) (elim (cases_lt ticks item.due) [
+      | inr now ↦ (let e : nat_le item.due ticks ≡ true = grind (arith, now) in let f : nat_lt (suc (place_of is_frame a items)) 0 ≡ false = grind arith in
+          rw (e, f) (now-operator i (suc (place_of is_frame a items)) (due_by ticks (slice_get items (place_of is_frame a items)))))
+      | inl late ↦ (let e : nat_le item.due ticks ≡ false = grind (arith, late) in
+          rw e (rest ∙ rw (later-command item.due ticks items order late) (none-operator i (place_of is_frame a items) (place_of is_command 0 items) (due_by ticks (slice_get items (place_of is_frame a items))))))
     ])
   where
     now-operator : (i f : ℕ) (client : Bool) → Some i ≡ (if client && (false || not true) then Some (i + f) else Some (i + 0))
@@ -208,7 +204,7 @@ operator-landed : (ticks a b i : ℕ) (item : Item) (items : List Item) → IsOp
 operator-landed ticks a b i item items is rest =
     ap (λ due. held ticks a (suc b) i (due ∷ dues_of items)) is.due ∙ held-command_landed ticks a b i item.due (dues_of items) ∙ rest
     ∙ sym (rw (place-skip is_frame a item items is.frame, place-suc is_command b item items is.command)
-      (shifted i (place_of is_frame a items) (place_of is_command b items) (due_by ticks (slice_get items (place_of is_frame a items))) (due_by ticks (slice_get items (place_of is_command b items)))))
+    (shifted i (place_of is_frame a items) (place_of is_command b items) (due_by ticks (slice_get items (place_of is_frame a items))) (due_by ticks (slice_get items (place_of is_command b items)))))
 
 pub held-is : (items : List Item) (ticks a b i : ℕ) → IsNonDecreasing (frame_dues (dues_of items)) → IsNonDecreasing (command_dues (dues_of items)) → HeldIs ticks a b i items
 unfolding held place_of
@@ -216,13 +212,13 @@ held-is [] ticks a b i frames commands = refl
 held-is (item ∷ items) ticks a b i frames commands =
     elim (kind-of item item.kind refl) [
       | inl client ↦ (
-        let order = subst IsNonDecreasing (frame_dues-client item items client) frames in
-        let others = subst IsNonDecreasing (command_dues-client item items client) commands in
-        on-client a client order (λ k. held-is items ticks k b (suc i) (rest-in_order item.due (frame_dues (dues_of items)) order) others))
+          let order = subst IsNonDecreasing (frame_dues-client item items client) frames in
+          let others = subst IsNonDecreasing (command_dues-client item items client) commands in
+          on-client a client order (λ k. held-is items ticks k b (suc i) (rest-in_order item.due (frame_dues (dues_of items)) order) others))
       | inr operator ↦ (
-        let order = subst IsNonDecreasing (command_dues-operator item items operator) commands in
-        let others = subst IsNonDecreasing (frame_dues-operator item items operator) frames in
-        on-operator b operator order (λ k. held-is items ticks a k (suc i) others (rest-in_order item.due (command_dues (dues_of items)) order)))
+          let order = subst IsNonDecreasing (command_dues-operator item items operator) commands in
+          let others = subst IsNonDecreasing (frame_dues-operator item items operator) frames in
+          on-operator b operator order (λ k. held-is items ticks a k (suc i) others (rest-in_order item.due (command_dues (dues_of items)) order)))
     ]
   where
     on-client : (a : ℕ) → IsClient item → IsNonDecreasing (item.due ∷ frame_dues (dues_of items)) → ((k : ℕ) → HeldIs ticks k b (suc i) items) → HeldIs ticks a b i (item ∷ items)
@@ -232,3 +228,11 @@ held-is (item ∷ items) ticks a b i frames commands =
     on-operator : (b : ℕ) → IsOperator item → IsNonDecreasing (item.due ∷ command_dues (dues_of items)) → ((k : ℕ) → HeldIs ticks a k (suc i) items) → HeldIs ticks a b i (item ∷ items)
     on-operator zero operator order rest = operator-first ticks a i item items operator order (rest zero)
     on-operator (suc b) operator order rest = operator-landed ticks a b i item items operator (rest b)
+
+pub held-told : (items : List Item) (ticks a b frame command : ℕ) → IsNonDecreasing (frame_dues (dues_of items)) → IsNonDecreasing (command_dues (dues_of items)) →
+    frame ≡ place_of is_frame a items → command ≡ place_of is_command b items →
+    least_held 0 frame command (due_by ticks (slice_get items frame)) (due_by ticks (slice_get items command)) ≡ held ticks a b 0 (dues_of items)
+held-told items ticks a b frame command frames commands f c =
+    ap (λ x. least_held 0 x command (due_by ticks (slice_get items x)) (due_by ticks (slice_get items command))) f
+    ∙ ap (λ y. least_held 0 (place_of is_frame a items) y (due_by ticks (slice_get items (place_of is_frame a items))) (due_by ticks (slice_get items y))) c
+    ∙ sym (held-is items ticks a b 0 frames commands)

@@ -50,7 +50,7 @@ waits-is cells line t before own there earlier =
     let low = slice_get_within cells line before there in
     ap (λ k. is_at k (first_open (slice_set cells line own) t)) (let e : line ≡ 0 + line = omega arith in e)
     ∙ position-at (λ other. is_none (verdict other t)) (slice_set cells line own) 0 line own (slice_get-set_same cells line own low)
-      (λ k other under e. some-none (verdict other t) (earlier k other under (sym (slice_get-set_other cells line k own (λ same. absurd (omega (arith, same, under)))) ∙ e)))
+    (λ k other under e. some-none (verdict other t) (earlier k other under (sym (slice_get-set_other cells line k own (λ same. absurd (omega (arith, same, under)))) ∙ e)))
 
 pub with-set : (cells : List (List Cell)) (m : ℕ) (own : List Cell) (cell : Cell) → m < length cells → with_cell (slice_set cells m own) m cell ≡ slice_set cells m (own ++ cell ∷ [])
 with-set [] m own cell low = absurd (omega (arith, low))

@@ -25,9 +25,9 @@ mod-apart r y d some few same =
     elim (cases_lt (a + d) r) [
       | inl under ↦ (let f : (a + d) % r ≡ a + d = mod-eq_of_lt under in absurd (omega (arith, e, f, some)))
       | inr over ↦ (
-        let f : a + d ≡ (a + d - r) + r = omega (arith, over) in
-        let g : (a + d) % r ≡ a + d - r = ap (λ n. n % r) f ∙ add-mod_right (a + d - r) r ∙ mod-eq_of_lt (let h : a + d - r < r = omega (arith, low, few) in h) in
-        absurd (omega (arith, e, g, few, low, over)))
+          let f : a + d ≡ (a + d - r) + r = omega (arith, over) in
+          let g : (a + d) % r ≡ a + d - r = ap (λ n. n % r) f ∙ add-mod_right (a + d - r) r ∙ mod-eq_of_lt (let h : a + d - r < r = omega (arith, low, few) in h) in
+          absurd (omega (arith, e, g, few, low, over)))
     ]
 
 pub slot-apart : (r y given popped : ℕ) → popped ≤ y → y < given → given < popped + r → y % r ≡ given % r → ⊥
@@ -92,8 +92,8 @@ module _ (signs : List Carry) (places : List Container) (given popped : ℕ) (pa
       elim (cases_lt y given) [
         | inl before ↦ earlier carry y cell low before told
         | inr here ↦ (
-          let same : y ≡ given = omega (arith, here, under) in
-          last carry y same put ∙ e ∙ ap (λ x. x ∷ []) (told-last carry y cell one same e told))
+            let same : y ≡ given = omega (arith, here, under) in
+            last carry y same put ∙ e ∙ ap (λ x. x ∷ []) (told-last carry y cell one same e told))
       ]
 
   pub kept-holds : (carry : Carry) (y : ℕ) (cell : Cell) → popped ≤ y → y < given + count_of carry → slice_get (path ++ carry_cells carry place) y ≡ Some cell →
@@ -113,11 +113,11 @@ has-more line core calls more carry place signs places count has some beside roo
   core = stands;
   carried = (let h = has.carried in let e : line.carried + 1 ≡ carries_of more = omega (arith, h, next) in e);
   given = (let h = has.given in let f = length-carry carry place in let g = length-append (path_cells calls) (carry_cells carry place) in
-    let e : line.given + count ≡ length (path_cells calls ++ carry_cells carry place) = omega (arith, h, f, g, counts) in e ∙ sym (ap length grows));
+      let e : line.given + count ≡ length (path_cells calls ++ carry_cells carry place) = omega (arith, h, f, g, counts) in e ∙ sym (ap length grows));
   holds = λ y cell low under told.
       ap (λ s. cell_at s places y) sign ∙ ap (λ p. cell_at (with_sign carry (line.given % length line.signs) line.signs) p y) put
       ∙ kept-holds line.signs line.places line.given line.popped (path_cells calls) place some beside room has.given has.holds carry y cell low
-        (omega (arith, under, counts)) (sym (ap (λ xs. slice_get xs y) grows) ∙ told);
+      (omega (arith, under, counts)) (sym (ap (λ xs. slice_get xs y) grows) ∙ told);
 }
 
 -- no carry

@@ -1,9 +1,9 @@
 //! The items of a script in the order in which they land: frames by themselves, and commands by themselves.
 
-ghost use Rattle.std.specs.Prelude.{◌≡◌, ℕ, ◌+◌, ◌≤◌, length, drop, slice_get};
+ghost use Rattle.std.specs.Prelude.{◌≡◌, ℕ, ◌+◌, ◌<◌, ◌≤◌, true, length, drop, slice_get};
 ghost use Rattle.std.specs.List.Sorted.{IsNonDecreasing};
 ghost use Rattle.session_model.specs.Counts.{dues_of, frame_dues, command_dues, held};
-ghost use Rattle.walk_parts.specs.Place.{is_frame, is_command, place_of, due_by};
+ghost use Rattle.walk_parts.specs.Place.{is_frame, is_command, place_of, due_by, least_held};
 
 use session_model::{Item, ItemKind};
 
@@ -61,11 +61,20 @@ pub fn held_item(items: &[Item], frame: usize, command: usize, ticks: u32) -> Op
         frame ≡ place_of is_frame a items.now → command ≡ place_of is_command b items.now →
         result ≡ held ticks a b 0 (dues_of items.now) }
 {
-    let frame_due = is_due(items, frame, ticks);
-    let command_due = is_due(items, command, ticks);
-    if frame_due && (frame < command || !command_due) {
+    let client = is_due(items, frame, ticks);
+    let operator = is_due(items, command, ticks);
+    least_of(frame, command, client, operator)
+}
+
+/// The least place of those whose item is due.
+fn least_of(frame: usize, command: usize, client: bool, operator: bool) -> Option<u32>
+    requires client { client ≡ true → frame < 67108864 }
+    requires operator { operator ≡ true → command < 67108864 }
+    ensures { result ≡ least_held 0 frame command client operator }
+{
+    if client && (frame < command || !operator) {
         Some(frame as u32)
-    } else if command_due {
+    } else if operator {
         Some(command as u32)
     } else {
         None
@@ -74,7 +83,8 @@ pub fn held_item(items: &[Item], frame: usize, command: usize, ticks: u32) -> Op
 
 /// Whether there is an item at a place that is due now.
 fn is_due(items: &[Item], i: usize, ticks: u32) -> bool
-    ensures { result ≡ due_by ticks (slice_get items.now i) }
+    ensures due { result ≡ due_by ticks (slice_get items.now i) }
+    ensures there { result ≡ true → i < length items.now }
 {
     i < items.len() && items[i].due <= ticks
 }
