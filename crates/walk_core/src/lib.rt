@@ -3,10 +3,7 @@
 //! gives stand in `walk_law`.
 #![tactic(auto)]
 
-mod back;
 mod counted;
-mod items;
-mod line;
 mod moved;
 #[cfg(test)]
 mod tests;

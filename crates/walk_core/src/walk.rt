@@ -1,9 +1,20 @@
 //! A walk of a script, event by event.
 
-use crate::back::ReturnPath;
+ghost use Rattle.std.specs.Prelude.{◌≡◌, ℕ, suc, ◌+◌, ◌*◌, ◌<◌, ◌≤◌, [], ◌∷◌, ◌++◌, List, length, map, replicate, slice_get, Option, Some, None, IfOk};
+ghost use Rattle.session_model.specs.declared.walk.Event.TheVariants.{Accept, Command, Tick, Carry, Back, Take};
+ghost use Rattle.session_model.specs.Valid.{IsValid};
+ghost use Rattle.session_model.specs.Counts.{begin, step, run, round, drain, bound, carries_from};
+ghost use Rattle.session_model.specs.Scenario.{steps_in};
+ghost use Rattle.session_model.specs.Source.{source_at};
+ghost use Rattle.progress_law.specs.Progress.{HasLine};
+ghost use Rattle.walk_law.specs.Walk.{walk_plan};
+ghost use Rattle.walk_law.specs.Landed.{landed_scenario, told_before, refusals_of, totals_of};
+ghost use Rattle.walk_law.specs.Step.{last_packet};
+ghost use Rattle.sink_core.specs.Start.{Start};
+ghost use Rattle.walk_core.specs.Moved.{counts_after, moved_of, delivered_since};
+ghost use Rattle.walk_core.specs.Parts.{note_of};
+
 use crate::counted::{CountedOut, take_back};
-use crate::items::{due_at, held, next_command, next_frame};
-use crate::line::{EMPTY, WalkLine};
 use crate::moved::{Moved, StepNote};
 use lcas_packet::Packet;
 use lcas_source::SourceTable;
@@ -13,13 +24,21 @@ use session_model::{Config, Event, Item, ItemKind, Script, StallCause};
 use sink_core::{FrameOut, SinkCore, TakeAnswer};
 use source_core::SourceCore;
 use std::alloc::{AllocError, Global};
-use vc_cell::{BackCell, Container};
+use std::marker::Model;
+use vc_cell::{BackCell, Container, PAYLOAD};
+use walk_parts::{ReturnPath, WalkLine, held_item, next_command, next_frame};
 
 /// The containers that a send ring holds.
 const SENDS: usize = 32;
 
 /// The first row that ends a packet.
 const FIRST_END: u32 = 23;
+
+/// What stands in a place before the first container.
+const EMPTY: Container = Container {
+    h4: 0,
+    payload: [0; PAYLOAD],
+};
 
 /// A walk of a script.
 #[derive(Drop)]
@@ -33,7 +52,7 @@ pub struct Walk {
     sink: SinkCore,
     back: ReturnPath,
     refusals: Vec<(u32, Refusal)>,
-    /// The next frame's item, and the next command's.
+    /// The places of the next frame and of the next command.
     frame: usize,
     command: usize,
     /// How many frames and commands have landed.
@@ -42,13 +61,40 @@ pub struct Walk {
     /// How many of them were refused.
     refused_frames: u32,
     refused_commands: u32,
+    /// How many frames were delivered.
     got: u64,
+    /// The last decision step.
     last: Option<StepNote>,
+}
+
+impl Model for Walk {
+    ghost use Rattle.std.specs.Prelude.{map};
+    ghost use Rattle.std.specs.Vec.{vec_capacity};
+    ghost use Rattle.walk_core.specs.Moved.{Walked};
+    ghost use Rattle.walk_core.specs.Parts.{Parts, Landing, counts_of, IsWalk};
+
+    ghost Value = { Walked };
+
+    ghost view = { λ w. record {
+      script = w.script;
+      counts = counts_of
+        (record { source = w.source; sent = map (λ row. row.items) w.sent.items; lines = w.lines.items; rows = w.rows; sink = w.sink; back = w.back })
+        (record { refusals = w.refusals.items; room = vec_capacity w.refusals; frame = w.frame; command = w.command; frames = w.frames; commands = w.commands; refused_frames = w.refused_frames; refused_commands = w.refused_commands });
+    } };
+
+    ghost invariant = { λ w. IsWalk w.script
+        (record { source = w.source; sent = map (λ row. row.items) w.sent.items; lines = w.lines.items; rows = w.rows; sink = w.sink; back = w.back })
+        (record { refusals = w.refusals.items; room = vec_capacity w.refusals; frame = w.frame; command = w.command; frames = w.frames; commands = w.commands; refused_frames = w.refused_frames; refused_commands = w.refused_commands })
+        w.got w.last };
 }
 
 impl Walk {
     /// The walk of a script, of which no event was made.
-    pub fn new(alloc: Global, script: Script) -> Result<Walk, AllocError> {
+    pub fn new(alloc: Global, script: Script) -> Result<Walk, AllocError>
+        requires { IsValid script }
+        ensures script { IfOk result (λ walk. walk.script ≡ script) }
+        ensures counts { IfOk result (λ walk. walk.counts ≡ begin (walk_plan script)) }
+    {
         let lines = script.config.lines;
         let items = script.items.0.len();
         Ok(Walk {
@@ -72,7 +118,16 @@ impl Walk {
     }
 
     /// Makes one event. A line that it names is one of the script's.
-    pub fn step<F: FrameOut>(&mut self, e: Event, out: &mut F) -> Moved {
+    pub fn step<F: FrameOut>(&mut self, e: Event, out: &mut F) -> Moved
+        requires { HasLine (walk_plan self.old.script) e }
+        ensures script { self.new.script ≡ self.old.script }
+        ensures counts { self.new.counts
+            ≡ counts_after self.old.script self.old.counts e }
+        ensures moved { result ≡ moved_of self.old.script self.old.counts e }
+        ensures frames { (start : Start) (given : List (List ℕ)) →
+            F.stands_for out.old start given → F.stands_for out.new start
+            (given ++ delivered_since self.old.script self.old.counts.rows self.new.counts.rows) }
+    {
         match e {
             Event::Accept => self.accept(),
             Event::Command => self.command(),
@@ -85,7 +140,14 @@ impl Walk {
 
     /// Makes each event in turn: Accept until it stalls, Command until it stalls, then Tick, Carry of each line, Back and Take, one try
     /// each.
-    pub fn round<F: FrameOut>(&mut self, out: &mut F) {
+    pub fn round<F: FrameOut>(&mut self, out: &mut F)
+        ensures script { self.new.script ≡ self.old.script }
+        ensures counts { self.new.counts ≡ run (walk_plan self.old.script) self.old.counts
+            (round (walk_plan self.old.script)) }
+        ensures frames { (start : Start) (given : List (List ℕ)) →
+            F.stands_for out.old start given → F.stands_for out.new start
+            (given ++ delivered_since self.old.script self.old.counts.rows self.new.counts.rows) }
+    {
         self.accept_all();
         self.command_all();
         let _ = self.tick();
@@ -95,14 +157,24 @@ impl Walk {
     }
 
     /// Makes rounds until all rows are taken.
-    pub fn drain<F: FrameOut>(&mut self, out: &mut F) {
+    pub fn drain<F: FrameOut>(&mut self, out: &mut F)
+        ensures script { self.new.script ≡ self.old.script }
+        ensures counts { self.new.counts ≡ drain (bound (walk_plan self.old.script))
+            (walk_plan self.old.script) self.old.counts }
+        ensures all { self.new.counts.rows ≡ self.old.script.config.ticks }
+        ensures frames { (start : Start) (given : List (List ℕ)) →
+            F.stands_for out.old start given → F.stands_for out.new start
+            (given ++ delivered_since self.old.script self.old.counts.rows self.new.counts.rows) }
+    {
         while self.sink.taken() < self.script.config.ticks {
             self.round(out);
         }
     }
 
     /// What came of the session so far, in numbers.
-    pub fn totals(&self) -> Totals {
+    pub fn totals(&self) -> Totals
+        ensures { result ≡ totals_of self.now.script self.now.counts }
+    {
         Totals {
             ticks: self.source.ticks(),
             taken: self.sink.taken(),
@@ -114,22 +186,33 @@ impl Walk {
     }
 
     /// The items that were refused, in the order of the script.
-    pub fn refusals(&self) -> &[(u32, Refusal)] {
+    pub fn refusals(&self) -> &[(u32, Refusal)]
+        ensures { result.now ≡ refusals_of self.now.script self.now.counts }
+    {
         &self.refusals
     }
 
     /// The last decision step, where one was made.
-    pub fn last_step(&self) -> Option<StepNote> {
+    pub fn last_step(&self) -> Option<StepNote>
+        ensures { result ≡ note_of self.now.script (last_packet self.now.counts.ticks) }
+    {
         self.last
     }
 
     /// The table of the lines after the last decision step and the commands that were accepted since.
-    pub fn table(&self) -> &SourceTable {
+    pub fn table(&self) -> &SourceTable
+        ensures { result.now.source ≡ source_at (landed_scenario self.now.script self.now.counts)
+            (told_before self.now.script self.now.counts.ticks) (steps_in self.now.counts.ticks) }
+    {
         self.source.table()
     }
 
     /// Accepts until nothing lands.
-    fn accept_all(&mut self) {
+    fn accept_all(&mut self)
+        ensures script { self.new.script ≡ self.old.script }
+        ensures counts { self.new.counts ≡ run (walk_plan self.old.script) self.old.counts
+            (replicate (suc (length self.old.script.items)) Accept) }
+    {
         loop {
             if let Moved::Stalled(_) = self.accept() {
                 break;
@@ -138,7 +221,11 @@ impl Walk {
     }
 
     /// Lets commands land until none does.
-    fn command_all(&mut self) {
+    fn command_all(&mut self)
+        ensures script { self.new.script ≡ self.old.script }
+        ensures counts { self.new.counts ≡ run (walk_plan self.old.script) self.old.counts
+            (replicate (suc (length self.old.script.items)) Command) }
+    {
         loop {
             if let Moved::Stalled(_) = self.command() {
                 break;
@@ -147,14 +234,24 @@ impl Walk {
     }
 
     /// Tries one carry of each line.
-    fn carry_all(&mut self) {
+    fn carry_all(&mut self)
+        ensures script { self.new.script ≡ self.old.script }
+        ensures counts { run (walk_plan self.new.script) self.new.counts (Back ∷ Take ∷ [])
+            ≡ run (walk_plan self.old.script) self.old.counts
+            (carries_from 0 (walk_plan self.old.script).paths) }
+    {
         for line in 0..self.script.config.lines {
             let _ = self.carry(line);
         }
     }
 
     /// Lands the next frame.
-    fn accept(&mut self) -> Moved {
+    fn accept(&mut self) -> Moved
+        ensures script { self.new.script ≡ self.old.script }
+        ensures counts { self.new.counts
+            ≡ counts_after self.old.script self.old.counts Accept }
+        ensures moved { result ≡ moved_of self.old.script self.old.counts Accept }
+    {
         match stall_of(&self.script.items.0, self.frame, self.source.ticks()) {
             Some(cause) => Moved::Stalled(cause),
             None => self.land_frame(),
@@ -178,7 +275,12 @@ impl Walk {
     }
 
     /// Lands the next command.
-    fn command(&mut self) -> Moved {
+    fn command(&mut self) -> Moved
+        ensures script { self.new.script ≡ self.old.script }
+        ensures counts { self.new.counts
+            ≡ counts_after self.old.script self.old.counts Command }
+        ensures moved { result ≡ moved_of self.old.script self.old.counts Command }
+    {
         match stall_of(&self.script.items.0, self.command, self.source.ticks()) {
             Some(cause) => Moved::Stalled(cause),
             None => self.land_command(),
@@ -202,33 +304,31 @@ impl Walk {
     }
 
     /// Makes the next frame.
-    fn tick(&mut self) -> Moved {
+    fn tick(&mut self) -> Moved
+        ensures script { self.new.script ≡ self.old.script }
+        ensures counts { self.new.counts
+            ≡ counts_after self.old.script self.old.counts Tick }
+        ensures moved { result ≡ moved_of self.old.script self.old.counts Tick }
+    {
         if let Some(cause) = self.tick_stall() {
             return Moved::Stalled(cause);
         }
         let ticks = self.source.ticks();
-        let back = self.back.take_if(self.source.needs_back().is_some());
-        if ticks % 16 == 8 {
-            self.last = Some(StepNote {
-                packet: ticks / 16,
-                back,
-            });
-        }
-        make_frame(
-            &mut self.source,
-            back,
-            &mut self.sent[ticks as usize % SENDS],
-        );
+        let back = take_needed(&mut self.back, self.source.needs_back().is_some());
+        self.last = next_note(ticks, back, self.last);
+        make_frame(&mut self.source, back, &mut self.sent[ticks as usize % SENDS]);
         Moved::Yes
     }
 
     /// Why no frame is made.
-    fn tick_stall(&self) -> Option<StallCause> {
+    fn tick_stall(&self) -> Option<StallCause>
+        ensures { result ≡ (step (walk_plan self.now.script) self.now.counts Tick).cause }
+    {
         let ticks = self.source.ticks();
         if ticks >= self.script.config.ticks {
             return Some(StallCause::Done);
         }
-        if let Some(item) = held(&self.script.items.0, self.frame, self.command, ticks) {
+        if let Some(item) = held_item(&self.script.items.0, self.frame, self.command, ticks) {
             return Some(StallCause::Held { item });
         }
         if let Some(line) = first_full(&self.lines, self.script.config.ticks, ticks) {
@@ -241,7 +341,13 @@ impl Walk {
     }
 
     /// Makes a carry of a line.
-    fn carry(&mut self, line: u8) -> Moved {
+    fn carry(&mut self, line: u8) -> Moved
+        requires { line < self.old.script.config.lines }
+        ensures script { self.new.script ≡ self.old.script }
+        ensures counts { self.new.counts
+            ≡ counts_after self.old.script self.old.counts (Carry line) }
+        ensures moved { result ≡ moved_of self.old.script self.old.counts (Carry line) }
+    {
         let m = usize::from(line);
         match carry_stall(&self.lines[m], line, self.source.ticks()) {
             Some(cause) => Moved::Stalled(cause),
@@ -253,16 +359,29 @@ impl Walk {
     }
 
     /// Moves a return packet to the source.
-    fn back(&mut self) -> Moved {
-        if self.back.move_one(&self.script.config.lost.0) {
-            Moved::Yes
-        } else {
-            Moved::Stalled(StallCause::BackEmpty)
+    fn back(&mut self) -> Moved
+        ensures script { self.new.script ≡ self.old.script }
+        ensures counts { self.new.counts
+            ≡ counts_after self.old.script self.old.counts Back }
+        ensures moved { result ≡ moved_of self.old.script self.old.counts Back }
+    {
+        if self.back.is_empty() {
+            return Moved::Stalled(StallCause::BackEmpty);
         }
+        self.back.move_one(&self.script.config.lost.0);
+        Moved::Yes
     }
 
     /// Pops cells and takes the next row.
-    fn take<F: FrameOut>(&mut self, out: &mut F) -> Moved {
+    fn take<F: FrameOut>(&mut self, out: &mut F) -> Moved
+        ensures script { self.new.script ≡ self.old.script }
+        ensures counts { self.new.counts
+            ≡ counts_after self.old.script self.old.counts Take }
+        ensures moved { result ≡ moved_of self.old.script self.old.counts Take }
+        ensures frames { (start : Start) (given : List (List ℕ)) →
+            F.stands_for out.old start given → F.stands_for out.new start
+            (given ++ delivered_since self.old.script self.old.counts.rows self.new.counts.rows) }
+    {
         let row = self.sink.taken();
         if row >= self.script.config.ticks {
             return Moved::Stalled(StallCause::Done);
@@ -326,11 +445,14 @@ fn new_lines(alloc: Global, config: &Config) -> Result<Vec<WalkLine>, AllocError
 
 /// Why an item at a place doesn't land.
 fn stall_of(items: &[Item], i: usize, ticks: u32) -> Option<StallCause> {
-    match due_at(items, i) {
-        None => Some(StallCause::Done),
-        Some(due) if ticks < due => Some(StallCause::NotDue { due }),
-        Some(_) => None,
+    if i >= items.len() {
+        return Some(StallCause::Done);
     }
+    let due = items[i].due;
+    if ticks < due {
+        return Some(StallCause::NotDue { due });
+    }
+    None
 }
 
 /// Gives an item to the source, and answers why it is refused, where it is.
@@ -349,6 +471,23 @@ fn refuse(refusals: &mut Vec<(u32, Refusal)>, item: u32, why: Refusal) {
     while i > 0 && refusals[i].0 < refusals[i - 1].0 {
         refusals.swap(i - 1, i);
         i -= 1;
+    }
+}
+
+/// Takes the first return cell out of the inbox, where it is needed.
+fn take_needed(back: &mut ReturnPath, needed: bool) -> Option<BackCell> {
+    if needed { back.take() } else { None }
+}
+
+/// The note of the last decision step after a tick.
+fn next_note(ticks: u32, back: Option<BackCell>, last: Option<StepNote>) -> Option<StepNote> {
+    if ticks % 16 == 8 {
+        Some(StepNote {
+            packet: ticks / 16,
+            back,
+        })
+    } else {
+        last
     }
 }
 
