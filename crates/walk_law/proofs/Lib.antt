@@ -8,3 +8,6 @@ pub mod SourceLaws
 pub mod ReportLaws
 pub mod ReturnLaws
 pub mod FrameLaws
+pub mod AcceptedLaws
+pub mod PromiseLaws
+pub mod StepLaws

@@ -121,7 +121,7 @@ packet-said script s k can walked low =
     sym (returns_stay (popped_cells script s.lines) (all_lines script) k (all-longer script s.lines) (cells-decide script s can walked (16 * k + 23) low))
 
 -- ---- numbers
-not-equal : (a b : ℕ) → (a == b) ≡ false → a ≡ b → ⊥
+pub not-equal : (a b : ℕ) → (a == b) ≡ false → a ≡ b → ⊥
 not-equal a b e = grind (arith, e)
 
 pub packets-next : (t : ℕ) → packets_in (t + 1) ≡ packets_in t + (if nat_lt 22 t && t % 16 == 7 then 1 else 0)

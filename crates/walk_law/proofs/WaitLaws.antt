@@ -2,7 +2,7 @@
 use Rattle.std.specs.Prelude.{IsSome, ◌↔◌, cond}
 use Rattle.std.proofs.Common.{◌≡◌, ℕ, zero, suc, ◌+◌, ◌<◌, ◌≤◌, nat_le, Bool, true, false, inl, inr, List, [], ◌∷◌, map, take, length, slice_get, slice_index_or, Option, Some, None, is_none, refl, sym, ◌∙◌, ap, ap₂, subst, arith}
 use Rattle.std.specs.List.{range_with_len, position_from}
-use Rattle.std.proofs.lemmas.Bool.{leb-true, leb-false, cases_Bool}
+use Rattle.std.proofs.lemmas.Bool.{leb-true, leb-false, cases_Bool, cases_lt}
 use Rattle.std.proofs.lemmas.Option.{slice_get_within}
 use Rattle.vc_cell.specs.declared.Container.{Container}
 use Rattle.vc_cell.specs.declared.Cell.{Cell}
@@ -17,7 +17,7 @@ use Rattle.session_model.specs.Plan.{paths_of}
 use Rattle.progress_law.proofs.LineLaws.{is_decided}
 use Rattle.terminal_law.proofs.SentLaws.{containers-size}
 use Rattle.walk_law.specs.Walk.{sent_on, walk_plan, CanWalk, counts_at, popped_on, popped_cells}
-use Rattle.walk_law.specs.Rings.{delay_on, path_on, line_cells}
+use Rattle.walk_law.specs.Rings.{delay_on, path_on, line_cells, AreDecidedBefore}
 use Rattle.walk_law.proofs.PlanLaws.{has-paths, line-path}
 
 pub popped-decides : (script : Script) (line y t : ℕ) → t < script.config.ticks →
@@ -132,3 +132,83 @@ take-waits script lines t can size low =
         let e : 0 + k ≡ k = omega arith in
         subst (λ i. IsSome (verdict (take y (line_cells script i)) t) ↔ (t < path.decided y)) (sym e)
         (subst (λ p. IsSome (verdict (take y (line_cells script k)) t) ↔ (t < p.decided y)) same (popped-decides script k y t low))))
+
+-- ---- the first line whose cells don't decide a row, where those before it do
+told-line : (script : Script) (lines : List LineCounts) (i t : ℕ) → t < script.config.ticks → t < (path_on script i).decided (counts_at lines i).popped →
+    is_none (verdict (popped_on script lines i) t) ≡ false
+told-line script lines i t low past = is-told (verdict (popped_on script lines i) t) ((popped-decides script i (counts_at lines i).popped t low).1 past)
+
+position-at : (test : List Cell → Bool) (f : ℕ → List Cell) (from n m : ℕ) → m < n → ((i : ℕ) → i < m → test (f (from + i)) ≡ false) → test (f (from + m)) ≡ true →
+    position_from test from (map f (range_with_len from n)) ≡ Some (from + m)
+position-at test f from zero m inside before here = absurd (omega arith)
+position-at test f from (suc n) zero inside before here =
+    let e : from + 0 ≡ from = omega arith in rw (e, subst (λ i. test (f i) ≡ true) e here) refl
+position-at test f from (suc n) (suc m) inside before here =
+    let e : from + 0 ≡ from = omega arith in
+    let first : test (f from) ≡ false = subst (λ i. test (f i) ≡ false) e (before 0 (omega arith)) in
+    rw first (position-at test f (from + 1) n m (omega arith)
+        (λ i low. subst (λ k. test (f k) ≡ false) (let g : from + suc i ≡ from + 1 + i = omega arith in g) (before (suc i) (omega arith)))
+        (subst (λ k. test (f k) ≡ true) (let g : from + suc m ≡ from + 1 + m = omega arith in g) here)
+        ∙ ap Some (let g : from + 1 + m ≡ from + suc m = omega arith in g))
+
+position-none : (test : List Cell → Bool) (f : ℕ → List Cell) (from n : ℕ) → ((i : ℕ) → i < n → test (f (from + i)) ≡ false) →
+    position_from test from (map f (range_with_len from n)) ≡ None
+position-none test f from zero before = refl
+position-none test f from (suc n) before =
+    let e : from + 0 ≡ from = omega arith in
+    let first : test (f from) ≡ false = subst (λ i. test (f i) ≡ false) e (before 0 (omega arith)) in
+    rw first (position-none test f (from + 1) n
+        (λ i low. subst (λ k. test (f k) ≡ false) (let g : from + suc i ≡ from + 1 + i = omega arith in g) (before (suc i) (omega arith))))
+
+position-least : (test : List Cell → Bool) (f : ℕ → List Cell) (from n k : ℕ) → position_from test from (map f (range_with_len from n)) ≡ Some k → from ≤ k
+position-least test f from zero k is = absurd cc
+position-least test f from (suc n) k is =
+    elim (cases_Bool (test (f from))) [
+      | inl e ↦ let same : Some from ≡ Some k = rw e at is in let g : from ≡ k = cc in omega arith
+      | inr e ↦ let rest = position-least test f (from + 1) n k (rw e at is) in omega arith
+    ]
+
+-- a position beyond those at which the test fails isn't among them
+position-past : (test : List Cell → Bool) (f : ℕ → List Cell) (from n m k : ℕ) → m < n → ((i : ℕ) → i ≤ m → test (f (from + i)) ≡ false) →
+    position_from test from (map f (range_with_len from n)) ≡ Some k → from + m < k
+position-past test f from zero m k inside before is = absurd (omega arith)
+position-past test f from (suc n) zero k inside before is =
+    let e : from + 0 ≡ from = omega arith in
+    let first : test (f from) ≡ false = subst (λ i. test (f i) ≡ false) e (before 0 (omega arith)) in
+    let low = position-least test f (from + 1) n k (rw first at is) in
+    omega arith
+position-past test f from (suc n) (suc m) k inside before is =
+    let e : from + 0 ≡ from = omega arith in
+    let first : test (f from) ≡ false = subst (λ i. test (f i) ≡ false) e (before 0 (omega arith)) in
+    let rest = position-past test f (from + 1) n m k (omega arith)
+        (λ i low. subst (λ k. test (f k) ≡ false) (let g : from + suc i ≡ from + 1 + i = omega arith in g) (before (suc i) (omega arith))) (rw first at is) in
+    omega arith
+
+pub first-open : (script : Script) (lines : List LineCounts) (m t : ℕ) → length lines ≡ length script.config.windows → m < length lines → t < script.config.ticks →
+    AreDecidedBefore script lines m t → (first_open (popped_cells script lines) t ≡ Some m) ↔ ((path_on script m).decided (counts_at lines m).popped ≤ t)
+first-open script lines m t size inside low before =
+    let n : ℕ = length script.config.windows in
+    let y : ℕ = (counts_at lines m).popped in
+    let told = λ (i : ℕ) (under : i < m). told-line script lines i t low (before i under) in (
+      λ is. elim (cases_lt t ((path_on script m).decided y)) [
+        | inr late ↦ late
+        | inl past ↦
+            let beyond = position-past (is_open t) (popped_on script lines) 0 n m m (omega arith)
+            (λ i under. elim (cases_lt i m) [
+              | inl less ↦ subst (λ k. is_open t (popped_on script lines k) ≡ false) (let g : i ≡ 0 + i = omega arith in g) (told i less)
+              | inr more ↦ subst (λ k. is_open t (popped_on script lines k) ≡ false) (let g : m ≡ 0 + i = omega arith in g) (told-line script lines m t low past)
+            ]) is in
+            absurd (omega arith)
+      ],
+      λ late. position-at (is_open t) (popped_on script lines) 0 n m (omega arith)
+          (λ i under. subst (λ k. is_open t (popped_on script lines k) ≡ false) (let g : i ≡ 0 + i = omega arith in g) (told i under))
+          (subst (λ k. is_open t (popped_on script lines k) ≡ true) (let g : m ≡ 0 + m = omega arith in g)
+              (is-open (verdict (popped_on script lines m) t) (λ some. let past = (popped-decides script m y t low).0 some in omega arith)))
+          ∙ ap Some (let g : 0 + m ≡ m = omega arith in g),
+    )
+
+pub none-open : (script : Script) (lines : List LineCounts) (t : ℕ) → length lines ≡ length script.config.windows → t < script.config.ticks →
+    AreDecidedBefore script lines (length lines) t → first_open (popped_cells script lines) t ≡ None
+none-open script lines t size low before =
+    position-none (is_open t) (popped_on script lines) 0 (length script.config.windows)
+    (λ i under. subst (λ k. is_open t (popped_on script lines k) ≡ false) (let g : i ≡ 0 + i = omega arith in g) (told-line script lines i t low (before i (omega arith))))

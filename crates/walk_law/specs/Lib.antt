@@ -3,3 +3,4 @@ pub mod Rings
 pub mod Landed
 pub mod Delivered
 pub mod Step
+pub mod Promise

@@ -1,5 +1,5 @@
 -- What the rings of a walk hold, by its counts.
-use Rattle.std.specs.Prelude.{ℕ, min, ◌-◌, List, map, take, drop, length, slice_index_or}
+use Rattle.std.specs.Prelude.{ℕ, min, ◌-◌, ◌<◌, List, map, take, drop, length, slice_index_or}
 use Rattle.std.specs.List.{range_with_len}
 use Rattle.vc_cell.specs.declared.Container.{Container}
 use Rattle.vc_cell.specs.declared.Cell.{Cell}
@@ -11,7 +11,7 @@ use Rattle.session_model.specs.Scenario.{scenario_of, carried_by}
 use Rattle.session_model.specs.Back.{session_cells}
 use Rattle.session_model.specs.Sent.{container_of}
 use Rattle.session_model.specs.Rows.{return_at}
-use Rattle.session_model.specs.Counts.{LinePath, Counts, in_return, used_in, in_inbox}
+use Rattle.session_model.specs.Counts.{LinePath, LineCounts, Counts, in_return, used_in, in_inbox}
 use Rattle.session_model.specs.Plan.{path_of}
 use Rattle.terminal_law.specs.Course.{back_of}
 use Rattle.walk_law.specs.Walk.{sent_on, walk_plan, counts_at, cells_on}
@@ -26,6 +26,10 @@ path_on script line = path_of (carried_by (scenario_of script) line) (delay_on s
 
 abbrev pub line_cells : Script → ℕ → List Cell
 line_cells script line = cells_on (scenario_of script) (delay_on script line) line
+
+-- the cells that were popped of each line before line m decide row t
+abbrev pub AreDecidedBefore : Script → List LineCounts → ℕ → ℕ → Type 0
+AreDecidedBefore script lines m t = (i : ℕ) → i < m → t < (path_on script i).decided (counts_at lines i).popped
 
 -- the container that it is sent in frame t
 abbrev pub sent_at : Script → ℕ → ℕ → Container

@@ -4,7 +4,7 @@
 //! counts.
 #![tactic(auto)]
 
-ghost use Rattle.std.specs.Prelude.{◌≡◌, ◌↔◌, ℕ, ◌+◌, ◌-◌, ◌*◌, ◌/◌, ◌%◌, ◌<◌, ◌≤◌, ◌==◌, ◌&&◌, nat_le, nat_lt, min, if◌then◌else◌, List, [], ◌∷◌, ◌++◌, map, fold, length, take, drop, slice_get, Option, Some, None, IsSome, option_map};
+ghost use Rattle.std.specs.Prelude.{◌≡◌, ◌↔◌, ℕ, Bool, true, ◌+◌, ◌-◌, ◌*◌, ◌/◌, ◌%◌, ◌<◌, ◌≤◌, ◌==◌, ◌&&◌, nat_le, nat_lt, min, if◌then◌else◌, List, [], ◌∷◌, ◌++◌, map, fold, length, take, drop, slice_get, Option, Some, None, IsSome, option_map};
 ghost use Rattle.std.specs.List.{range_with_len};
 ghost use Rattle.vc_cell.specs.declared.Cell.{Cell};
 ghost use Rattle.session_model.specs.declared.script.Item.{Item};
@@ -14,24 +14,31 @@ ghost use Rattle.session_model.specs.Path.{cells};
 ghost use Rattle.session_model.specs.Number.{verdict};
 ghost use Rattle.session_model.specs.Valid.{IsValid};
 ghost use Rattle.session_model.specs.Scenario.{Order, Offer, orders_of, offers_of, scenario_of, carried_by, steps_in, orders_at, frames_at, packets_in};
-ghost use Rattle.session_model.specs.Source.{refusal, after, source_at};
+ghost use Rattle.session_model.specs.Source.{refusal, after, source_at, told_at};
 ghost use Rattle.session_model.specs.Client.{frame_refusal, offered, stream_before};
 ghost use Rattle.session_model.specs.Back.{return_cell, cells_before, session_cells};
 ghost use Rattle.session_model.specs.Told.{told_in};
-ghost use Rattle.session_model.specs.Segment.{StreamRow, deliver};
+ghost use Rattle.session_model.specs.Piece.{frames_by};
+ghost use Rattle.session_model.specs.Segment.{StreamRow, segments, deliver};
+ghost use Rattle.session_model.specs.Loss.{Extent, Lost, is_frame_lost, frames_kept};
+ghost use Rattle.session_model.specs.Table.{Told, kept_of};
 ghost use Rattle.session_model.specs.declared.walk.Event.{Event};
 ghost use Rattle.session_model.specs.Payload.{payload_of};
 ghost use Rattle.session_model.specs.Rows.{row_at, first_open, return_at};
 ghost use Rattle.session_model.specs.SessionRows.{is_whole_row};
 ghost use Rattle.session_model.specs.Sent.{frame_of};
-ghost use Rattle.session_model.specs.Counts.{dues_of, frame_dues, command_dues, LineCounts, Counts, used_in, pop_lines, step, begin, drain, walked};
+ghost use Rattle.session_model.specs.Counts.{dues_of, frame_dues, command_dues, LineCounts, Counts, in_inbox, used_in, pop_lines, step, begin, drain, walked};
 ghost use Rattle.line_law.specs.StableRows.{IsLonger, AreDecidedAt};
-ghost use Rattle.progress_law.specs.Progress.{IsPlan, LineFits};
+ghost use Rattle.progress_law.specs.Progress.{IsPlan, LineFits, SomeProgress};
+ghost use Rattle.session_law.specs.Feedback.{Takes, Acknowledges, TellsOf, SameLines, WasSaid};
+ghost use Rattle.session_law.specs.Use.{AddsUndamaged, AddsAmongSilent};
 ghost use Rattle.terminal_law.specs.Lines.{HasLines, ComeOf};
 ghost use Rattle.terminal_law.specs.Course.{told_of, IsCourse};
 ghost use Rattle.walk_law.specs.Walk.{walk_plan, CanWalk, IsWalked, counts_at, popped_cells};
-ghost use Rattle.walk_law.specs.Rings.{delay_on, path_on, line_cells, sent_at, taken_by, cells_by, send_by, receive_by, all_lines, said_packet, back_cell, return_ring, inbox};
-ghost use Rattle.walk_law.specs.Delivered.{delivered_of, IsReceived};
+ghost use Rattle.walk_law.specs.Rings.{delay_on, path_on, line_cells, AreDecidedBefore, sent_at, taken_by, cells_by, send_by, receive_by, all_lines, said_packet, back_cell, return_ring, inbox};
+ghost use Rattle.walk_law.specs.Delivered.{session_rows, delivered_of, IsReceived};
+ghost use Rattle.walk_law.specs.Step.{last_packet, table_in};
+ghost use Rattle.walk_law.specs.Promise.{accepted_frames, session_pieces, session_extents, session_waiting, place_after, HasOctets, HasNoFailure, ConfirmsTrue, drained, InUseBy};
 ghost use Rattle.walk_law.specs.Landed.{Numbered, landed_scenario, told_before, IsOfferAt, IsOrderAt, refusal_at, refused_by, refusals_of, IsPlaced, totals_of, with_frame_told, with_command_told};
 
 /// A script whose rings fit has a plan of its walk, whose lines are what the session sends on them.
@@ -88,6 +95,14 @@ pub fn ring_law()
 pub fn take_law()
     ensures decided { (script : Script) (line y t : ℕ) → t < script.config.ticks →
         IsSome (verdict (take y (line_cells script line)) t) ↔ (t < (path_on script line).decided y) }
+    ensures open { (script : Script) (lines : List LineCounts) (m t : ℕ) → CanWalk script →
+        length lines ≡ length script.config.windows → m < length lines → t < script.config.ticks →
+        AreDecidedBefore script lines m t → (first_open (popped_cells script lines) t ≡ Some m)
+        ↔ ((path_on script m).decided (counts_at lines m).popped ≤ t) }
+    ensures all { (script : Script) (lines : List LineCounts) (t : ℕ) → CanWalk script →
+        length lines ≡ length script.config.windows → t < script.config.ticks →
+        AreDecidedBefore script lines (length lines) t →
+        first_open (popped_cells script lines) t ≡ None }
     ensures waiting { (script : Script) (lines : List LineCounts) (t : ℕ) → CanWalk script →
         length lines ≡ length script.config.windows → t < script.config.ticks →
         first_open (popped_cells script (pop_lines t 0 (walk_plan script).paths lines).lines) t
@@ -173,6 +188,19 @@ pub fn source_law()
         (source_at (landed_scenario script s) (told_before script s.ticks) (steps_in s.ticks))) }
 {}
 
+/// The last decision step: which it is, which return cell it took, and the table after it.
+pub fn step_law()
+    ensures last { (t : ℕ) →
+        last_packet (t + 1) ≡ (if t % 16 == 8 then Some (t / 16) else last_packet t) }
+    ensures needs { (lag t : ℕ) → t % 16 ≡ 8 → lag ≤ t / 16 → used_in lag t ≡ t / 16 - lag }
+    ensures number { (t : ℕ) → 22 < t → t % 16 ≡ 7 → (t - 23) / 16 ≡ packets_in t }
+    ensures told { (script : Script) (s : Counts) (k : ℕ) → CanWalk script → IsWalked script s →
+        k < s.backs → 16 * k + 23 < s.rows }
+    ensures table { (script : Script) (s : Counts) → CanWalk script → IsWalked script s →
+        (source_at (landed_scenario script s) (told_before script s.ticks) (steps_in s.ticks)).table
+        ≡ table_in script s.ticks }
+{}
+
 /// What an item that lands adds to the refusals and the totals.
 pub fn report_law()
     ensures frame { (script : Script) (s : Counts) (item : Numbered) (offer : Offer) →
@@ -238,4 +266,72 @@ pub fn frames_law()
     ensures grows { (script : Script) (n more : ℕ) → delivered_of script (n + more)
         ≡ delivered_of script n
         ++ drop (length (delivered_of script n)) (delivered_of script (n + more)) }
+{}
+
+/// Without a failure no frame is lost, whatever lines are added and removed and whatever events are tried in whatever order: the frames
+/// delivered are the accepted ones whose piece ends in the rows that were taken, the first ones in item order; and after a drain all
+/// that the ticks carry.
+pub fn delivery_law()
+    ensures carried { (script : Script) (rows : ℕ) → CanWalk script → HasOctets script →
+        HasNoFailure script → rows ≤ script.config.ticks →
+        delivered_of script rows ≡ frames_by (place_after script rows) (session_pieces script) }
+    ensures first { (script : Script) (rows : ℕ) → IsValid script → HasOctets script →
+        HasNoFailure script → rows ≤ script.config.ticks →
+        delivered_of script rows ≡ take (length (delivered_of script rows)) (accepted_frames script) }
+    ensures drained { (script : Script) (s : Counts) → CanWalk script → HasOctets script →
+        HasNoFailure script → IsWalked script s → delivered_of script (drained script s).rows
+        ≡ frames_by (place_after script script.config.ticks) (session_pieces script) }
+{}
+
+/// With failures: where each place that is confirmed first after a break is that of a piece, the frames delivered are those of the
+/// pieces that the taken rows carry whole and that aren't lost, in order and each once; a frame is lost in the four ways alone. The
+/// frames of the pieces, and then those that still wait, are the accepted frames of the script in item order.
+pub fn failure_law()
+    ensures kept { (script : Script) (rows : ℕ) → HasOctets script → rows ≤ script.config.ticks →
+        ConfirmsTrue script rows →
+        delivered_of script rows ≡ frames_kept (session_pieces script) (session_rows script rows) }
+    ensures accepted { (script : Script) → IsValid script →
+        map (λ (extent : Extent). extent.frame) (session_extents script) ++ session_waiting script
+        ≡ accepted_frames script }
+    ensures ways { (script : Script) (rows : ℕ) (frame : Extent) → frame.from < frame.to →
+        (is_frame_lost (segments (session_rows script rows)) (session_extents script) frame ≡ true)
+        ↔ Lost (segments (session_rows script rows)) (session_extents script) frame }
+{}
+
+/// A walk is never stuck: where rows are left, some event moves or a Take pops a cell; the inbox never holds more return cells than the
+/// lag; and rounds end with all rows taken, within a bound.
+pub fn drain_law()
+    ensures moves { (script : Script) (s : Counts) → CanWalk script → IsWalked script s →
+        s.rows < script.config.ticks → SomeProgress (walk_plan script) s }
+    ensures inbox { (script : Script) (s : Counts) → CanWalk script → IsWalked script s →
+        in_inbox (walk_plan script) s ≤ script.config.lag }
+    ensures drained { (script : Script) (s : Counts) → CanWalk script → IsWalked script s →
+        (drained script s).rows ≡ script.config.ticks }
+{}
+
+/// How soon a line that is added carries payload: fifteen packets and the lag later, where each line in ADD can be read meanwhile; and
+/// at most as long again later, where no other line in ADD can.
+pub fn member_law()
+    ensures undamaged { (script : Script) (first line : ℕ) →
+        AddsUndamaged (scenario_of script) first line →
+        InUseBy script line first (first + 15 + script.config.lag) }
+    ensures others_silent { (script : Script) (first line : ℕ) →
+        AddsAmongSilent (scenario_of script) first line →
+        InUseBy script line first (first + 30 + 2 * script.config.lag) }
+{}
+
+/// A return packet that a decision step takes answers the very change that is out, by its one bit exactly as by the whole count of
+/// changes; then each line still has the SQ that it had in the packet that was read; and each status acted on was said of that line.
+pub fn answer_law()
+    ensures whole_count { (script : Script) (j k : ℕ) (told : Told) →
+        Takes (scenario_of script) (session_cells (scenario_of script)) j k told →
+        Acknowledges (scenario_of script) (session_cells (scenario_of script)) j told
+        ↔ TellsOf (scenario_of script) (session_cells (scenario_of script)) j k }
+    ensures same_lines { (script : Script) (j k : ℕ) (told : Told) →
+        Takes (scenario_of script) (session_cells (scenario_of script)) j k told →
+        TellsOf (scenario_of script) (session_cells (scenario_of script)) j k →
+        SameLines (scenario_of script) (session_cells (scenario_of script)) j k }
+    ensures statuses { (script : Script) (j sq : ℕ) (ok : Bool) → CanWalk script →
+        kept_of (told_at (scenario_of script) (session_cells (scenario_of script)) j) sq ≡ Some ok →
+        WasSaid (scenario_of script) (session_cells (scenario_of script)) j sq ok }
 {}

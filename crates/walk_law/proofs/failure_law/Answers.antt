@@ -1,0 +1,20 @@
+-- With failures.
+use Rattle.session_model.specs.Segment.{segments}
+use Rattle.loss_law.proofs.CutLaws.{Stands-all}
+use Rattle.loss_law.proofs.WayLaws.{way_of, lost_of}
+use Rattle.walk_law.specs.Delivered.{session_rows}
+use Rattle.walk_law.specs.Promise.{session_extents}
+use Rattle.walk_law.proofs.PromiseLaws.{frames-kept, frames-known}
+use Rattle.walk_law.proofs.failure_law.Goals as goal
+
+pub returns-clause-kept : goal.returns-clause-kept
+returns-clause-kept c = frames-kept
+
+pub returns-clause-accepted : goal.returns-clause-accepted
+returns-clause-accepted c = frames-known
+
+pub returns-clause-ways : goal.returns-clause-ways
+returns-clause-ways c script rows frame long = (
+  way_of (session_extents script) frame (segments (session_rows script rows)),
+  lost_of (session_extents script) frame (segments (session_rows script rows)) long (Stands-all (session_rows script rows)).order,
+)

@@ -1,0 +1,83 @@
+-- What is promised of a script, in the words of whoever wrote it.
+use Rattle.std.specs.Prelude.{◌≡◌, ℕ, suc, ◌+◌, ◌*◌, ◌≤◌, List, [], ◌∷◌, All, Option, Some, None}
+use Rattle.std.specs.List.{flat_map}
+use Rattle.session_model.specs.declared.script.Item.{Item}
+use Rattle.session_model.specs.declared.script.ItemKind.{ItemKind}
+use Rattle.session_model.specs.declared.script.ItemKind.TheVariants.{Frame, Add, Remove}
+use Rattle.session_model.specs.declared.script.Script.{Script}
+use Rattle.session_model.specs.Piece.{Piece}
+use Rattle.session_model.specs.Scenario.{scenario_of}
+use Rattle.session_model.specs.Table.{Told}
+use Rattle.session_model.specs.Back.{session_cells}
+use Rattle.session_model.specs.Client.{place_of, stream_before}
+use Rattle.session_model.specs.Counts.{Counts, bound, drain}
+use Rattle.session_model.specs.Loss.{Extent, extents, TrueStarts}
+use Rattle.session_law.specs.Use.{IsInUse}
+use Rattle.loss_law.specs.Carried.{AreOctets}
+use Rattle.report_text.specs.declared.report.Refusal.{Refusal}
+use Rattle.walk_law.specs.Walk.{walk_plan}
+use Rattle.walk_law.specs.Delivered.{session_rows}
+use Rattle.walk_law.specs.Landed.{Numbered, refusal_at}
+use Rattle.walk_law.specs.Step.{table_in}
+
+-- ---- the frames that are accepted
+-- items with their numbers, from a number on
+unfoldable pub numbered : ℕ → List Item → List Numbered
+numbered i [] = []
+numbered i (item ∷ items) = record { number = i; item = item } ∷ numbered (suc i) items
+
+-- the frame that an item is, where it is one and isn't refused
+abbrev pub frame_by : Option Refusal → ItemKind → List (List ℕ)
+frame_by None (Frame octets) = octets ∷ []
+frame_by None (Add line) = []
+frame_by None (Remove line) = []
+frame_by (Some why) kind = []
+
+-- those of a script, in item order
+abbrev pub accepted_frames : Script → List (List ℕ)
+accepted_frames script = flat_map (λ item. frame_by (refusal_at script item) item.item.kind) (numbered 0 script.items)
+
+-- ---- what of them is carried
+-- the stream of the session in pieces
+abbrev pub session_pieces : Script → List Piece
+session_pieces script =
+    (stream_before (scenario_of script) (session_cells (scenario_of script)) script.config.ticks).pieces
+
+-- its client frames, with the places at which their pieces begin and end
+abbrev pub session_extents : Script → List Extent
+session_extents script = extents 0 (session_pieces script)
+
+-- the frames that still wait when all ticks are made
+abbrev pub session_waiting : Script → List (List ℕ)
+session_waiting script =
+    (stream_before (scenario_of script) (session_cells (scenario_of script)) script.config.ticks).waiting
+
+-- the place of the stream at which some rows end
+abbrev pub place_after : Script → ℕ → ℕ
+place_after script rows = place_of (scenario_of script) (session_cells (scenario_of script)) rows
+
+-- ---- premises
+-- frames are octets
+abbrev pub HasOctets : Script → Type 0
+HasOctets script = AreOctets (scenario_of script)
+
+-- no line has a window of failure
+abbrev pub HasNoFailure : Script → Type 0
+HasNoFailure script = All (λ windows. windows ≡ []) script.config.windows
+
+-- what is confirmed first after each break in some rows is the place of a piece
+abbrev pub ConfirmsTrue : Script → ℕ → Type 0
+ConfirmsTrue script rows = TrueStarts (session_pieces script) (session_rows script rows)
+
+-- ---- conclusions
+-- the counts after rounds until all rows are taken
+abbrev pub drained : Script → Counts → Counts
+drained script s = drain (bound (walk_plan script)) (walk_plan script) s
+
+-- a line carries payload by the table that some packet from one number up to another says: the table of a walk that has made that
+-- packet's decision step, in frame 16 k + 8, and not the next one's
+pub record InUseBy (script : Script) (line first last : ℕ) : Type 0 where
+  pub packet : ℕ
+  pub from : first ≤ packet
+  pub until : packet ≤ last
+  pub in_use : IsInUse (table_in script (16 * packet + 9)) line
