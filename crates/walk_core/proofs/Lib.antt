@@ -1,0 +1,3 @@
+pub mod EventLaws
+pub mod BackLaws
+pub mod RoundLaws

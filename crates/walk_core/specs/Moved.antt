@@ -36,13 +36,13 @@ refusal_in_event script s Back = None
 refusal_in_event script s Take = None
 
 -- the answer, where the event stalls for a cause, or moves and maybe lands an item that is refused
-abbrev pub moved_by : Option StallCause → Option Refusal → Moved
-moved_by (Some cause) why = Stalled cause
-moved_by None (Some why) = Refused why
-moved_by None None = Yes
+abbrev pub answer_by : Option StallCause → Option Refusal → Moved
+answer_by (Some cause) why = Stalled cause
+answer_by None (Some why) = Refused why
+answer_by None None = Yes
 
 abbrev pub moved_of : Script → Counts → Event → Moved
-moved_of script s event = moved_by (step (walk_plan script) s event).cause (refusal_in_event script s event)
+moved_of script s event = answer_by (step (walk_plan script) s event).cause (refusal_in_event script s event)
 
 -- the counts after an event
 abbrev pub counts_after : Script → Counts → Event → Counts

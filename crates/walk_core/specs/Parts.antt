@@ -93,7 +93,7 @@ pub record HasLines (script : Script) (lines : List Ringed) : Type 0 where
 pub record HasSink (script : Script) (s : Counts) (rows : Gather) (sink : Core) : Type 0 where
   pub gathers : Gathers rows (popped_cells script s.lines)
   pub taken : HasTaken sink (popped_cells script s.lines)
-  pub rows : rows.rows ≡ sink.taken
+  pub passed : rows.rows ≡ sink.taken
   pub lines : line_count rows ≡ sink.lines
   pub all : sink.lines ≡ script.config.lines
   pub size : sink.size ≡ script.config.size
@@ -127,5 +127,5 @@ pub record IsWalk (script : Script) (parts : Parts) (landing : Landing) (got : �
   pub sink : HasSink script (counts_of parts landing) parts.rows parts.sink
   pub back : HasBack script (counts_of parts landing) parts.back
   pub landed : HasLanded script (counts_of parts landing) landing
-  pub got : got ≡ min (length (delivered_of script parts.sink.taken)) 18446744073709551615
-  pub last : last ≡ note_of script (last_packet parts.source.ticks)
+  pub counted : got ≡ min (length (delivered_of script parts.sink.taken)) 18446744073709551615
+  pub noted : last ≡ note_of script (last_packet parts.source.ticks)

@@ -90,13 +90,14 @@ impl Model for Walk {
 
 impl Walk {
     /// The walk of a script, of which no event was made.
+    #[tactic(none)]
     pub fn new(alloc: Global, script: Script) -> Result<Walk, AllocError>
         requires { IsValid script }
         ensures script { IfOk result (λ walk. walk.script ≡ script) }
         ensures counts { IfOk result (λ walk. walk.counts ≡ begin (walk_plan script)) }
     {
         let lines = script.config.lines;
-        let items = script.items.0.len();
+        let items = items_of(&script).len();
         Ok(Walk {
             source: SourceCore::new(alloc, lines, script.config.lag, script.config.size)?,
             sent: new_sent(alloc, lines)?,
@@ -105,8 +106,8 @@ impl Walk {
             sink: SinkCore::new(alloc, lines, script.config.size)?,
             back: ReturnPath::new(alloc, script.config.lag)?,
             refusals: Vec::with_capacity(alloc, items)?,
-            frame: next_frame(&script.items.0, 0),
-            command: next_command(&script.items.0, 0),
+            frame: next_frame(items_of(&script), 0),
+            command: next_command(items_of(&script), 0),
             frames: 0,
             commands: 0,
             refused_frames: 0,
@@ -118,6 +119,7 @@ impl Walk {
     }
 
     /// Makes one event. A line that it names is one of the script's.
+    #[tactic(none)]
     pub fn step<F: FrameOut>(&mut self, e: Event, out: &mut F) -> Moved
         requires { HasLine (walk_plan self.old.script) e }
         ensures script { self.new.script ≡ self.old.script }
@@ -172,6 +174,7 @@ impl Walk {
     }
 
     /// What came of the session so far, in numbers.
+    #[tactic(none)]
     pub fn totals(&self) -> Totals
         ensures { result ≡ totals_of self.now.script self.now.counts }
     {
@@ -211,11 +214,13 @@ impl Walk {
     fn accept_all(&mut self)
         ensures script { self.new.script ≡ self.old.script }
         ensures counts { self.new.counts ≡ run (walk_plan self.old.script) self.old.counts
-            (replicate (suc (length self.old.script.items)) Accept) }
+            (replicate (suc (length (walk_plan self.old.script).items)) Accept) }
+        ensures rows { self.new.counts.rows ≡ self.old.counts.rows }
     {
         loop {
-            if let Moved::Stalled(_) = self.accept() {
-                break;
+            match self.accept() {
+                Moved::Yes | Moved::Refused(_) => {}
+                Moved::Stalled(_) => break,
             }
         }
     }
@@ -224,11 +229,13 @@ impl Walk {
     fn command_all(&mut self)
         ensures script { self.new.script ≡ self.old.script }
         ensures counts { self.new.counts ≡ run (walk_plan self.old.script) self.old.counts
-            (replicate (suc (length self.old.script.items)) Command) }
+            (replicate (suc (length (walk_plan self.old.script).items)) Command) }
+        ensures rows { self.new.counts.rows ≡ self.old.counts.rows }
     {
         loop {
-            if let Moved::Stalled(_) = self.command() {
-                break;
+            match self.command() {
+                Moved::Yes | Moved::Refused(_) => {}
+                Moved::Stalled(_) => break,
             }
         }
     }
@@ -239,6 +246,7 @@ impl Walk {
         ensures counts { run (walk_plan self.new.script) self.new.counts (Back ∷ Take ∷ [])
             ≡ run (walk_plan self.old.script) self.old.counts
             (carries_from 0 (walk_plan self.old.script).paths) }
+        ensures rows { self.new.counts.rows ≡ self.old.counts.rows }
     {
         for line in 0..self.script.config.lines {
             let _ = self.carry(line);
@@ -246,24 +254,26 @@ impl Walk {
     }
 
     /// Lands the next frame.
+    #[tactic(none)]
     fn accept(&mut self) -> Moved
         ensures script { self.new.script ≡ self.old.script }
         ensures counts { self.new.counts
             ≡ counts_after self.old.script self.old.counts Accept }
         ensures moved { result ≡ moved_of self.old.script self.old.counts Accept }
     {
-        match stall_of(&self.script.items.0, self.frame, self.source.ticks()) {
+        match stall_of(items_of(&self.script), self.frame, self.source.ticks()) {
             Some(cause) => Moved::Stalled(cause),
             None => self.land_frame(),
         }
     }
 
     /// Lands the frame that is next and due.
+    #[tactic(none)]
     fn land_frame(&mut self) -> Moved {
         let i = self.frame;
-        let why = refusal_of(&mut self.source, &self.script.items.0[i].kind);
+        let why = refusal_of(&mut self.source, &items_of(&self.script)[i].kind);
         self.frames += 1;
-        self.frame = next_frame(&self.script.items.0, i + 1);
+        self.frame = next_frame(items_of(&self.script), i + 1);
         match why {
             Some(why) => {
                 self.refused_frames += 1;
@@ -275,24 +285,26 @@ impl Walk {
     }
 
     /// Lands the next command.
+    #[tactic(none)]
     fn command(&mut self) -> Moved
         ensures script { self.new.script ≡ self.old.script }
         ensures counts { self.new.counts
             ≡ counts_after self.old.script self.old.counts Command }
         ensures moved { result ≡ moved_of self.old.script self.old.counts Command }
     {
-        match stall_of(&self.script.items.0, self.command, self.source.ticks()) {
+        match stall_of(items_of(&self.script), self.command, self.source.ticks()) {
             Some(cause) => Moved::Stalled(cause),
             None => self.land_command(),
         }
     }
 
     /// Lands the command that is next and due.
+    #[tactic(none)]
     fn land_command(&mut self) -> Moved {
         let i = self.command;
-        let why = refusal_of(&mut self.source, &self.script.items.0[i].kind);
+        let why = refusal_of(&mut self.source, &items_of(&self.script)[i].kind);
         self.commands += 1;
-        self.command = next_command(&self.script.items.0, i + 1);
+        self.command = next_command(items_of(&self.script), i + 1);
         match why {
             Some(why) => {
                 self.refused_commands += 1;
@@ -304,6 +316,7 @@ impl Walk {
     }
 
     /// Makes the next frame.
+    #[tactic(none)]
     fn tick(&mut self) -> Moved
         ensures script { self.new.script ≡ self.old.script }
         ensures counts { self.new.counts
@@ -321,6 +334,7 @@ impl Walk {
     }
 
     /// Why no frame is made.
+    #[tactic(none)]
     fn tick_stall(&self) -> Option<StallCause>
         ensures { result ≡ (step (walk_plan self.now.script) self.now.counts Tick).cause }
     {
@@ -328,7 +342,7 @@ impl Walk {
         if ticks >= self.script.config.ticks {
             return Some(StallCause::Done);
         }
-        if let Some(item) = held_item(&self.script.items.0, self.frame, self.command, ticks) {
+        if let Some(item) = held_item(items_of(&self.script), self.frame, self.command, ticks) {
             return Some(StallCause::Held { item });
         }
         if let Some(line) = first_full(&self.lines, self.script.config.ticks, ticks) {
@@ -341,6 +355,7 @@ impl Walk {
     }
 
     /// Makes a carry of a line.
+    #[tactic(none)]
     fn carry(&mut self, line: u8) -> Moved
         requires { line < self.old.script.config.lines }
         ensures script { self.new.script ≡ self.old.script }
@@ -368,11 +383,12 @@ impl Walk {
         if self.back.is_empty() {
             return Moved::Stalled(StallCause::BackEmpty);
         }
-        self.back.move_one(&self.script.config.lost.0);
+        self.back.move_one(lost_of(&self.script));
         Moved::Yes
     }
 
     /// Pops cells and takes the next row.
+    #[tactic(none)]
     fn take<F: FrameOut>(&mut self, out: &mut F) -> Moved
         ensures script { self.new.script ≡ self.old.script }
         ensures counts { self.new.counts
@@ -401,6 +417,7 @@ impl Walk {
 
 /// Takes the next row, which is decided on each line. Answers its return packet, where one ends with it, and how many frames were
 /// counted, after `got` before.
+#[tactic(none)]
 fn take_row<F: FrameOut>(
     sink: &mut SinkCore,
     rows: &mut RowGather,
@@ -415,6 +432,20 @@ fn take_row<F: FrameOut>(
         TakeAnswer::Taken { back } => (back, got),
         TakeAnswer::Waiting { .. } => (None, got),
     }
+}
+
+/// The items of a script.
+fn items_of(script: &Script) -> &[Item]
+    ensures { result.now ≡ script.now.items }
+{
+    &script.items.0
+}
+
+/// The return windows of a script.
+fn lost_of(script: &Script) -> &[(u32, u32)]
+    ensures { result.now ≡ script.now.config.lost }
+{
+    &script.config.lost.0
 }
 
 /// Whether a row ends a packet.
@@ -432,6 +463,7 @@ fn new_sent(alloc: Global, lines: u8) -> Result<Vec<Vec<Container>>, AllocError>
 }
 
 /// The lines of a configuration, none of which has carried.
+#[tactic(none)]
 fn new_lines(alloc: Global, config: &Config) -> Result<Vec<WalkLine>, AllocError> {
     let count = usize::from(config.lines);
     let mut lines = Vec::with_capacity(alloc, count)?;
@@ -465,6 +497,7 @@ fn refusal_of(source: &mut SourceCore, kind: &ItemKind) -> Option<Refusal> {
 }
 
 /// Puts a refusal at its place among those of other items.
+#[tactic(none)]
 fn refuse(refusals: &mut Vec<(u32, Refusal)>, item: u32, why: Refusal) {
     refusals.push_reserved((item, why));
     let mut i = refusals.len() - 1;
@@ -492,11 +525,13 @@ fn next_note(ticks: u32, back: Option<BackCell>, last: Option<StepNote>) -> Opti
 }
 
 /// Makes the next frame, a container for each line.
+#[tactic(none)]
 fn make_frame(source: &mut SourceCore, back: Option<BackCell>, frame: &mut Vec<Container>) {
     source.tick(back, frame);
 }
 
 /// The first line whose send ring holds as many containers as it may.
+#[tactic(none)]
 fn first_full(lines: &[WalkLine], total: u32, ticks: u32) -> Option<u8> {
     for (m, line) in lines.iter().enumerate() {
         if (ticks - line.carried().min(total)) as usize >= SENDS {
@@ -520,6 +555,7 @@ fn carry_stall(own: &WalkLine, line: u8, ticks: u32) -> Option<StallCause> {
 }
 
 /// Makes a carry of line `m`.
+#[tactic(none)]
 fn carry_on(own: &mut WalkLine, m: usize, sent: &[Vec<Container>]) {
     if own.all_pushed() {
         own.flush();
@@ -529,6 +565,7 @@ fn carry_on(own: &mut WalkLine, m: usize, sent: &[Vec<Container>]) {
 }
 
 /// Pops cells line by line until each decides the next row, or up to the first line that doesn't.
+#[tactic(none)]
 fn pop_lines(lines: &mut Vec<WalkLine>, rows: &mut RowGather) -> Option<u8> {
     for m in 0..lines.len() {
         if !lines[m].pop_into(rows, m as u8) {

@@ -92,7 +92,8 @@ impl WalkLine {
 
     /// Whether all containers were pushed.
     pub fn all_pushed(&self) -> bool
-        ensures { IsTrue result ↔ (self.now.core.pushed ≡ self.now.core.total) }
+        ensures all { IsTrue result ↔ (self.now.core.pushed ≡ self.now.core.total) }
+        ensures within { self.now.core.pushed ≤ self.now.core.total }
     {
         self.core.all_pushed()
     }

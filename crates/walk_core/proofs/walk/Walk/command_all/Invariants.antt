@@ -1,0 +1,13 @@
+-- So many have landed.
+use Rattle.std.proofs.Common.{◌≡◌, ◌-◌, length}
+use Rattle.session_model.specs.declared.walk.Event.TheVariants.{Command}
+use Rattle.walk_law.specs.Walk.{walk_plan}
+use Rattle.walk_core.proofs.RoundLaws.{Landed}
+use Rattle.walk_core.proofs.walk.Walk.command_all.Given as goal
+
+abbrev pub invariant-loop : goal.invariant-loop
+invariant-loop l = (l.self.script ≡ l.fn.self.script) × Landed (walk_plan l.fn.self.script) l.fn.self.counts l.self.counts Command (λ s. s.commands)
+    × (l.self.counts.rows ≡ l.fn.self.counts.rows)
+
+abbrev pub decreases-loop : goal.decreases-loop
+decreases-loop l = length (walk_plan l.self.script).items - l.self.counts.commands
