@@ -1,13 +1,14 @@
 -- Rounds of a walk: items land until they stall, each line is tried once, and so for the rest.
-use Rattle.std.proofs.Common.{◌≡◌, ℕ, zero, suc, ◌+◌, ◌-◌, ◌<◌, ◌≤◌, nat_lt, true, false, inl, inr, List, [], ◌∷◌, ◌++◌, length, replicate, drop, map, slice_get, Option, Some, None, refl, sym, ◌∙◌, ap, subst, arith, if◌then◌else◌}
+use Rattle.std.proofs.Common.{◌≡◌, ℕ, zero, suc, ◌+◌, ◌-◌, ◌<◌, ◌≤◌, ◌&&◌, ◌⊎◌, nat_le, nat_lt, true, false, inl, inr, List, [], ◌∷◌, ◌++◌, length, replicate, drop, map, slice_get, Option, Some, None, refl, sym, ◌∙◌, ap, subst, arith, append_assoc, if◌then◌else◌}
 use Rattle.std.proofs.lemmas.Option.{slice_get_within}
 use Rattle.std.proofs.lemmas.Bool.{cases_Bool}
+use Rattle.std.proofs.lemmas.List.{append-nil}
 use Rattle.session_model.specs.declared.script.Script.{Script}
 use Rattle.session_model.specs.declared.walk.Event.{Event}
 use Rattle.session_model.specs.declared.walk.Event.TheVariants.{Accept, Command, Tick, Carry, Back, Take}
 use Rattle.session_model.specs.declared.walk.StallCause.{StallCause}
 use Rattle.session_model.specs.declared.walk.StallCause.TheVariants.{NotDue, Done}
-use Rattle.session_model.specs.Counts.{Due, frame_due, command_due, LinePath, Plan, Counts, Step, land_due, frame_dues, command_dues, step, run, carries_from, round, drain, bound}
+use Rattle.session_model.specs.Counts.{Due, frame_due, command_due, LinePath, LineCounts, Plan, Counts, Step, in_send, in_receive, in_return, held, full, is_missing, tick_full, tick_held, carry_at, pop_lines, take_popped, is_back_full, back, tick, take_row, land_due, frame_dues, command_dues, step, run, carries_from, round, drain, bound}
 use Rattle.session_model.specs.Valid.{IsValid}
 use Rattle.progress_law.specs.Progress.{IsPlan, Fits, made}
 use Rattle.progress_law.proofs.MeasureLaws.{round-less, drain-round, drain-stop}
@@ -15,7 +16,9 @@ use Rattle.progress_law.proofs.ReachLaws.{run-append}
 use Rattle.report_text.specs.declared.report.Refusal.{Refusal}
 use Rattle.walk_law.specs.Walk.{walk_plan, CanWalk, IsWalked}
 use Rattle.walk_law.proofs.PlanLaws.{has-plan, valid-walks}
-use Rattle.walk_core.specs.Moved.{answer_by, moved_of, counts_after, refusal_in_event}
+use Rattle.walk_law.specs.Delivered.{delivered_of}
+use Rattle.walk_law.proofs.FrameLaws.{frames-grow}
+use Rattle.walk_core.specs.Moved.{delivered_since, answer_by, moved_of, counts_after, refusal_in_event}
 use Rattle.walk_core.specs.declared.moved.Moved.{Moved}
 use Rattle.walk_core.specs.declared.moved.Moved.TheVariants.{Yes, Stalled, Refused}
 use Rattle.walk_core.proofs.EventLaws.{walk-fits}
@@ -100,9 +103,6 @@ abbrev pub IsMoving : Moved → Type 0
 IsMoving moved = (cause : StallCause) → moved ≡ Stalled cause → ⊥
 
 module _ (script : Script) (start : Counts) where
-  plan : Plan
-  plan = walk_plan script
-
   pub frame-turn : (s next : Counts) (moved : Moved) → Landed (walk_plan script) start s Accept (λ s. s.frames) → next ≡ counts_after script s Accept → moved ≡ moved_of script s Accept → IsMoving moved →
       Landed (walk_plan script) start next Accept (λ s. s.frames) × (length (walk_plan script).items - next.frames < length (walk_plan script).items - s.frames)
   frame-turn s next moved (k, is, sum, few) after said moving =
@@ -185,3 +185,82 @@ frame-rows script s = land-rows s.ticks (slice_get (frame_dues (walk_plan script
 
 pub command-rows : (script : Script) (s : Counts) → (counts_after script s Command).rows ≡ s.rows
 command-rows script s = land-rows s.ticks (slice_get (command_dues (walk_plan script).items) s.commands) s (record s { commands = s.commands + 1 }) refl
+
+back-rows : (s : Counts) → (back s).counts.rows ≡ s.rows
+back-rows s = elim (cases_Bool (nat_le (in_return s) 0)) [ inl h ↦ rw h refl | inr h ↦ rw h refl ]
+
+full-rows : (line : Option ℕ) (plan : Plan) (s : Counts) → (tick_full line plan s).counts.rows ≡ s.rows
+full-rows (Some line) plan s = refl
+full-rows None plan s = elim (cases_Bool (is_missing plan s)) [ inl h ↦ rw h refl | inr h ↦ rw h refl ]
+
+held-rows : (item : Option ℕ) (plan : Plan) (s : Counts) → (tick_held item plan s).counts.rows ≡ s.rows
+held-rows (Some item) plan s = refl
+held-rows None plan s = full-rows (full plan.ticks s.ticks 0 s.lines) plan s
+
+tick-rows : (plan : Plan) (s : Counts) → (tick plan s).counts.rows ≡ s.rows
+tick-rows plan s =
+    elim (cases_Bool (nat_le plan.ticks s.ticks)) [
+      | inl h ↦ rw h refl
+      | inr h ↦ rw h (held-rows (held s.ticks s.frames s.commands 0 plan.items) plan s)
+    ]
+
+carried-rows : (plan : Plan) (s : Counts) (m : ℕ) (path : Option LinePath) (line : Option LineCounts) → (carry_at plan s m path line).counts.rows ≡ s.rows
+carried-rows plan s m None line = refl
+carried-rows plan s m (Some path) None = refl
+carried-rows plan s m (Some path) (Some line) =
+    elim (cases_Bool (nat_lt (plan.ticks + path.delay) line.carried)) [
+      | inl a ↦ rw a refl
+      | inr a ↦ rw a (elim (cases_Bool (nat_lt line.carried plan.ticks && nat_le (in_send plan.ticks s.ticks line) 0)) [
+        | inl b ↦ rw b refl
+        | inr b ↦ rw b (elim (cases_Bool (nat_le plan.ring (in_receive path line))) [ inl d ↦ rw d refl | inr d ↦ rw d refl ])
+      ])
+    ]
+
+pub carry-rows : (script : Script) (s : Counts) (m : ℕ) → (counts_after script s (Carry m)).rows ≡ s.rows
+carry-rows script s m = carried-rows (walk_plan script) s m (slice_get (walk_plan script).paths m) (slice_get s.lines m)
+
+popped-rise : (s : Counts) (lines : List LineCounts) (waiting : Option ℕ) → s.rows ≤ (take_popped s lines waiting).counts.rows
+popped-rise s lines (Some line) = omega arith
+popped-rise s lines None = omega arith
+
+take-rises : (plan : Plan) (s : Counts) → s.rows ≤ (take_row plan s).counts.rows
+take-rises plan s =
+    elim (cases_Bool (nat_le plan.ticks s.rows)) [
+      | inl a ↦ rw a (omega arith)
+      | inr a ↦ rw a (elim (cases_Bool (is_back_full s)) [
+        | inl b ↦ rw b (omega arith)
+        | inr b ↦ rw b (popped-rise s (pop_lines s.rows 0 plan.paths s.lines).lines (pop_lines s.rows 0 plan.paths s.lines).waiting)
+      ])
+    ]
+
+-- a walk goes on after an answer that isn't a stall
+pub is-moving : (moved : Moved) → (moved ≡ Yes) ⊎ ((why : Refusal) × (moved ≡ Refused why)) → IsMoving moved
+is-moving moved (inl h) cause e = absurd (let f : Yes ≡ Stalled cause = sym h ∙ e in cc)
+is-moving moved (inr h) cause e = absurd (let f : Refused h.0 ≡ Stalled cause = sym h.1 ∙ e in cc)
+
+-- ---- the frames of more rows
+drop-append : {X : Type 0} (xs ys : List X) → drop (length xs) (xs ++ ys) ≡ ys
+drop-append [] ys = refl
+drop-append (x ∷ xs) ys = drop-append xs ys
+
+since : (script : Script) (n more : ℕ) → n ≤ more → delivered_of script more ≡ delivered_of script n ++ delivered_since script n more
+since script n more low =
+    let e : n + (more - n) ≡ more = omega (arith, low) in
+    ap (delivered_of script) (sym e) ∙ frames-grow script n (more - n) ∙ ap (λ k. delivered_of script n ++ delivered_since script n k) e
+
+pub since-then : (script : Script) (a b d : ℕ) → a ≤ b → b ≤ d → delivered_since script a d ≡ delivered_since script a b ++ delivered_since script b d
+since-then script a b d low high =
+    ap (drop (length (delivered_of script a))) (since script b d high ∙ ap (λ xs. xs ++ delivered_since script b d) (since script a b low)
+      ∙ append_assoc (delivered_of script a) (delivered_since script a b) (delivered_since script b d))
+    ∙ drop-append (delivered_of script a) (delivered_since script a b ++ delivered_since script b d)
+
+pub since-none : (script : Script) (a : ℕ) → delivered_since script a a ≡ []
+since-none script a = ap (drop (length (delivered_of script a))) (sym (append-nil (delivered_of script a))) ∙ drop-append (delivered_of script a) []
+
+-- ---- the rows and the scripts of a round
+pub round-rows : (script : Script) (a b t m r e s : Counts) → a.rows ≡ s.rows → b.rows ≡ a.rows → t ≡ counts_after script b Tick → m.rows ≡ t.rows → r ≡ counts_after script m Back → r.rows ≡ s.rows
+round-rows script a b t m r e s is_a is_b is_t is_m is_r =
+    ap (λ (x : Counts). x.rows) is_r ∙ back-rows m ∙ is_m ∙ ap (λ (x : Counts). x.rows) is_t ∙ tick-rows (walk_plan script) b ∙ is_b ∙ is_a
+
+pub take-more : (script : Script) (r e s : Counts) → r.rows ≡ s.rows → e ≡ counts_after script r Take → s.rows ≤ e.rows
+take-more script r e s same is = let low = take-rises (walk_plan script) r in let next = ap (λ (x : Counts). x.rows) is in omega (arith, low, next, same)

@@ -146,6 +146,7 @@ impl Walk {
         ensures script { self.new.script ≡ self.old.script }
         ensures counts { self.new.counts ≡ run (walk_plan self.old.script) self.old.counts
             (round (walk_plan self.old.script)) }
+        ensures rows { self.old.counts.rows ≤ self.new.counts.rows }
         ensures frames { (start : Start) (given : List (List ℕ)) →
             F.stands_for out.old start given → F.stands_for out.new start
             (given ++ delivered_since self.old.script self.old.counts.rows self.new.counts.rows) }

@@ -6,8 +6,11 @@ use Rattle.walk_core.proofs.RoundLaws.{Landed}
 use Rattle.walk_core.proofs.walk.Walk.accept_all.Given as goal
 
 abbrev pub invariant-loop : goal.invariant-loop
-invariant-loop l = (l.self.script ≡ l.fn.self.script) × Landed (walk_plan l.fn.self.script) l.fn.self.counts l.self.counts Accept (λ s. s.frames)
-    × (l.self.counts.rows ≡ l.fn.self.counts.rows)
+invariant-loop l = record {
+  script : l.self.script ≡ l.fn.self.script;
+  landed : Landed (walk_plan l.fn.self.script) l.fn.self.counts l.self.counts Accept (λ s. s.frames);
+  rows : l.self.counts.rows ≡ l.fn.self.counts.rows;
+}
 
 abbrev pub decreases-loop : goal.decreases-loop
 decreases-loop l = length (walk_plan l.self.script).items - l.self.counts.frames
