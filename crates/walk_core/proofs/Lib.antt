@@ -1,3 +1,4 @@
 pub mod EventLaws
 pub mod BackLaws
 pub mod RoundLaws
+pub mod CarryLaws

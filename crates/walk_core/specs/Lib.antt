@@ -1,3 +1,4 @@
 pub mod Counted
 pub mod Moved
 pub mod Parts
+pub mod Carry
