@@ -1,6 +1,6 @@
 //! A walk of a script, event by event.
 
-ghost use Rattle.std.specs.Prelude.{◌≡◌, ℕ, suc, ◌+◌, ◌*◌, ◌<◌, ◌≤◌, [], ◌∷◌, ◌++◌, List, length, map, replicate, slice_get, Option, Some, None, IfOk};
+ghost use Rattle.std.specs.Prelude.{◌≡◌, ℕ, true, false, suc, ◌+◌, ◌*◌, ◌<◌, ◌≤◌, [], ◌∷◌, ◌++◌, List, length, map, replicate, slice_get, Option, Some, None, IfOk};
 ghost use Rattle.session_model.specs.declared.walk.Event.TheVariants.{Accept, Command, Tick, Carry, Back, Take};
 ghost use Rattle.session_model.specs.Valid.{IsValid};
 ghost use Rattle.session_model.specs.Counts.{begin, step, run, round, drain, bound, carries_from};
@@ -12,7 +12,13 @@ ghost use Rattle.walk_law.specs.Landed.{landed_scenario, told_before, refusals_o
 ghost use Rattle.walk_law.specs.Step.{last_packet};
 ghost use Rattle.sink_core.specs.Start.{Start};
 ghost use Rattle.walk_core.specs.Moved.{counts_after, moved_of, delivered_since};
-ghost use Rattle.walk_core.specs.Parts.{note_of};
+ghost use Rattle.std.specs.Global.{Vec};
+ghost use Rattle.vc_cell.specs.declared.Container.{Container};
+ghost use Rattle.session_model.specs.declared.script.Script.{Script};
+ghost use Rattle.walk_law.specs.Rings.{path_on};
+ghost use Rattle.walk_parts.specs.Ringed.{ring_of};
+ghost use Rattle.walk_core.specs.Carry.{carry_cause, CanCarry, IsSentOn, HasRoom};
+ghost use Rattle.walk_core.specs.Parts.{note_of, line_counts, HasLine as HasLineOn};
 
 use crate::counted::{CountedOut, take_back};
 use crate::moved::{Moved, StepNote};
@@ -542,11 +548,26 @@ fn first_full(lines: &[WalkLine], total: u32, ticks: u32) -> Option<u8> {
     None
 }
 
+/// Whether a line waits for a container.
+fn is_dry(own: &WalkLine, ticks: u32) -> bool
+    ensures dry { result ≡ true →
+        (own.now.core.pushed < own.now.core.total) × (ticks ≤ own.now.carried) }
+    ensures wet { result ≡ false →
+        own.now.core.pushed < own.now.core.total → own.now.carried < ticks }
+{
+    !own.all_pushed() && own.carried() >= ticks
+}
+
 /// Why a line carries nothing.
-fn carry_stall(own: &WalkLine, line: u8, ticks: u32) -> Option<StallCause> {
+fn carry_stall(own: &WalkLine, line: u8, ticks: u32) -> Option<StallCause>
+    ensures cause { (script : Script) → HasLineOn script line own.now → HasRoom script line own.now →
+        result ≡ carry_cause script.config.ticks script.config.ring ticks line
+        (path_on script line) (line_counts own.now) }
+    ensures can { result ≡ None → CanCarry own.now ticks }
+{
     if own.ended() {
         Some(StallCause::Done)
-    } else if !own.all_pushed() && own.carried() >= ticks {
+    } else if is_dry(own, ticks) {
         Some(StallCause::Empty { line })
     } else if own.is_full() {
         Some(StallCause::RxFull { line })
@@ -556,8 +577,17 @@ fn carry_stall(own: &WalkLine, line: u8, ticks: u32) -> Option<StallCause> {
 }
 
 /// Makes a carry of line `m`.
-#[tactic(none)]
-fn carry_on(own: &mut WalkLine, m: usize, sent: &[Vec<Container>]) {
+fn carry_on(own: &mut WalkLine, m: usize, sent: &[Vec<Container>])
+    requires runs { own.old.core.flushed ≤ own.old.core.delay }
+    requires room { own.old.given < own.old.popped + ring_of own.old }
+    requires places { length sent.now ≡ 32 }
+    requires lines { (k : ℕ) (frame : Vec Container) → slice_get sent.now k ≡ Some frame →
+        m < length frame.items }
+    ensures has { (script : Script) → HasLineOn script m own.old →
+        IsSentOn script m own.old.carried sent.now → HasLineOn script m own.new }
+    ensures carried { own.new.carried ≡ own.old.carried + 1 }
+    ensures popped { own.new.popped ≡ own.old.popped }
+{
     if own.all_pushed() {
         own.flush();
     } else {

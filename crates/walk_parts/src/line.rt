@@ -107,7 +107,8 @@ impl WalkLine {
 
     /// Whether the receive ring holds as many cells as it may.
     pub fn is_full(&self) -> bool
-        ensures { IsTrue result ↔ (self.now.given ≡ self.now.popped + ring_of self.now) }
+        ensures full { IsTrue result ↔ (self.now.given ≡ self.now.popped + ring_of self.now) }
+        ensures within { self.now.given ≤ self.now.popped + ring_of self.now }
     {
         (self.given - self.popped) as usize == self.signs.len()
     }
@@ -119,6 +120,7 @@ impl WalkLine {
         ensures has { (calls : Calls) → Has self.old calls →
             Has self.new (and_push calls container.now) }
         ensures ring { ring_of self.new ≡ ring_of self.old }
+        ensures carried { self.new.carried ≡ self.old.carried + 1 }
         ensures popped { self.new.popped ≡ self.old.popped }
     {
         let slot = self.given as usize % self.signs.len();
@@ -134,6 +136,7 @@ impl WalkLine {
         requires room { self.old.given < self.old.popped + ring_of self.old }
         ensures has { (calls : Calls) → Has self.old calls → Has self.new (and_flush calls) }
         ensures ring { ring_of self.new ≡ ring_of self.old }
+        ensures carried { self.new.carried ≡ self.old.carried + 1 }
         ensures popped { self.new.popped ≡ self.old.popped }
     {
         let slot = self.given as usize % self.signs.len();
