@@ -36,6 +36,12 @@ carries script m x =
 le-no : (n : ℕ) → 0 < n → nat_le n 0 ≡ false
 le-no n some = grind (arith, some)
 
+pub same-some : {X : Type 0} (x y : X) → Some x ≡ Some y → x ≡ y
+same-some x y e = cc
+
+pub below : (a b : ℕ) → a ≤ b → (a ≡ b → ⊥) → a < b
+below a b within apart = elim (cases_lt a b) [ inl low ↦ low | inr high ↦ absurd (apart (let e : a ≡ b = omega (arith, within, high) in e)) ]
+
 lt-yes : (a b : ℕ) → a < b → nat_lt a b ≡ true
 lt-yes a b low = grind (arith, low)
 
