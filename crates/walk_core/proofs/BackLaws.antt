@@ -69,8 +69,8 @@ back-has script s back valid walked has some same =
     let next : Counts = record s { backs = s.backs + 1 } in
     ap (moved_by script.config.lost back) (has.ring ∙ return_laws.ring-goes script s more)
     ∙ ap (λ (cells : List BackCell). record { ring = return_ring script next; inbox = cells; room = back.room; backs = back.backs + 1 })
-      (ap (λ k. back.inbox ++ come (is_lost_in script.config.lost k) (said_packet script s.backs) ∷ []) same
-        ∙ ap (λ cell. back.inbox ++ cell ∷ []) (come-is script s.backs) ∙ ap (λ cells. cells ++ back_cell script s.backs ∷ []) has.inbox ∙ sym (return_laws.inbox-comes script s fits.used))
+    (ap (λ k. back.inbox ++ come (is_lost_in script.config.lost k) (said_packet script s.backs) ∷ []) same
+    ∙ ap (λ cell. back.inbox ++ cell ∷ []) (come-is script s.backs) ∙ ap (λ cells. cells ++ back_cell script s.backs ∷ []) has.inbox ∙ sym (return_laws.inbox-comes script s fits.used))
     ∙ ap (λ room. record { ring = return_ring script next; inbox = inbox script next; room = room; backs = back.backs + 1 }) has.room
     ∙ ap (λ k. record { ring = return_ring script next; inbox = inbox script next; room = script.config.lag + 1; backs = k + 1 }) same
 

@@ -69,7 +69,7 @@ numbers script m line has = record {
   total = has.has.core.total;
   delay = has.has.core.delay;
   pushed = has.has.core.pushed ∙ (let e = length-take (min line.carried script.config.ticks) (sent_on (scenario_of script) m) in
-    let all = containers-size (scenario_of script) (session_cells (scenario_of script)) m script.config.ticks in omega (arith, e, all));
+      let all = containers-size (scenario_of script) (session_cells (scenario_of script)) m script.config.ticks in omega (arith, e, all));
   flushed = has.has.core.flushed;
   given = has.has.given ∙ ap (λ k. length (cells (carried_by (scenario_of script) m) (delay_on script m) script.config.ticks (taken_by script m line.carried) k)) (carries script m line.carried)
       ∙ ap length (taken-cells script m line.carried) ∙ receive-size script m line.carried 0 ∙ (let e : (path_on script m).given line.carried - 0 ≡ (path_on script m).given line.carried = omega arith in e);
@@ -141,13 +141,13 @@ module _ (script : Script) (m ticks : ℕ) (line : Ringed) (has : HasLine script
 -- ---- one carry more
 pub calls-push : (script : Script) (m : ℕ) (line : Ringed) → line.carried < script.config.ticks → and_push (calls_on script m line.carried) (sent_at script m line.carried) ≡ calls_on script m (line.carried + 1)
 calls-push script m line low =
-      ap (λ (containers : List Container). record (calls_on script m line.carried) { containers = containers }) (sym (taken-next script m line.carried low))
-      ∙ ap (λ n. record (calls_on script m (line.carried + 1)) { flushes = n }) (let e : line.carried - script.config.ticks ≡ line.carried + 1 - script.config.ticks = omega (arith, low) in e)
+    ap (λ (containers : List Container). record (calls_on script m line.carried) { containers = containers }) (sym (taken-next script m line.carried low))
+    ∙ ap (λ n. record (calls_on script m (line.carried + 1)) { flushes = n }) (let e : line.carried - script.config.ticks ≡ line.carried + 1 - script.config.ticks = omega (arith, low) in e)
 
 pub calls-flush : (script : Script) (m : ℕ) (line : Ringed) → script.config.ticks ≤ line.carried → and_flush (calls_on script m line.carried) ≡ calls_on script m (line.carried + 1)
 calls-flush script m line past =
-      ap (λ n. record (calls_on script m line.carried) { containers = take n (sent_on (scenario_of script) m); flushes = suc (line.carried - script.config.ticks) }) (let e : min line.carried script.config.ticks ≡ min (line.carried + 1) script.config.ticks = omega (arith, past) in e)
-      ∙ ap (λ n. record (calls_on script m (line.carried + 1)) { flushes = n }) (let e : suc (line.carried - script.config.ticks) ≡ line.carried + 1 - script.config.ticks = omega (arith, past) in e)
+    ap (λ n. record (calls_on script m line.carried) { containers = take n (sent_on (scenario_of script) m); flushes = suc (line.carried - script.config.ticks) }) (let e : min line.carried script.config.ticks ≡ min (line.carried + 1) script.config.ticks = omega (arith, past) in e)
+    ∙ ap (λ n. record (calls_on script m (line.carried + 1)) { flushes = n }) (let e : suc (line.carried - script.config.ticks) ≡ line.carried + 1 - script.config.ticks = omega (arith, past) in e)
 
 -- ---- the step
 stalls : (plan : Plan) (s : Counts) (m : ℕ) (path : LinePath) (line : LineCounts) (cause : StallCause) → Some cause ≡ carry_cause plan.ticks plan.ring s.ticks m path line →

@@ -2,3 +2,4 @@ pub mod EventLaws
 pub mod BackLaws
 pub mod RoundLaws
 pub mod CarryLaws
+pub mod TickLaws

@@ -107,7 +107,7 @@ module _ (script : Script) (start : Counts) where
       Landed (walk_plan script) start next Accept (λ s. s.frames) × (length (walk_plan script).items - next.frames < length (walk_plan script).items - s.frames)
   frame-turn s next moved (k, is, sum, few) after said moving =
       let (then_, d, here) = moves-on s.ticks (slice_get (frame_dues (walk_plan script).items) s.frames) s (record s { frames = s.frames + 1 }) (refusal_in_event script s Accept)
-        (λ cause e. moving cause (said ∙ sym e)) in
+      (λ cause e. moving cause (said ∙ sym e)) in
       let inside = slice_get_within (frame_dues (walk_plan script).items) s.frames d here in
       let most = frames-few (walk_plan script).items in
       let count : next.frames ≡ s.frames + 1 = ap (λ (s : Counts). s.frames) (after ∙ then_) in
@@ -117,13 +117,13 @@ module _ (script : Script) (start : Counts) where
       next ≡ run (walk_plan script) start (replicate (suc (length (walk_plan script).items)) Accept)
   frame-end s next cause (k, is, sum, few) after stalls =
       after ∙ stalled-all (walk_plan script) start s Accept k (length (walk_plan script).items) is few
-        (stalls-same s.ticks (slice_get (frame_dues (walk_plan script).items) s.frames) s (record s { frames = s.frames + 1 }) (refusal_in_event script s Accept) cause stalls)
+      (stalls-same s.ticks (slice_get (frame_dues (walk_plan script).items) s.frames) s (record s { frames = s.frames + 1 }) (refusal_in_event script s Accept) cause stalls)
 
   pub command-turn : (s next : Counts) (moved : Moved) → Landed (walk_plan script) start s Command (λ s. s.commands) → next ≡ counts_after script s Command → moved ≡ moved_of script s Command → IsMoving moved →
       Landed (walk_plan script) start next Command (λ s. s.commands) × (length (walk_plan script).items - next.commands < length (walk_plan script).items - s.commands)
   command-turn s next moved (k, is, sum, few) after said moving =
       let (then_, d, here) = moves-on s.ticks (slice_get (command_dues (walk_plan script).items) s.commands) s (record s { commands = s.commands + 1 }) (refusal_in_event script s Command)
-        (λ cause e. moving cause (said ∙ sym e)) in
+      (λ cause e. moving cause (said ∙ sym e)) in
       let inside = slice_get_within (command_dues (walk_plan script).items) s.commands d here in
       let most = commands-few (walk_plan script).items in
       let count : next.commands ≡ s.commands + 1 = ap (λ (s : Counts). s.commands) (after ∙ then_) in
@@ -133,7 +133,7 @@ module _ (script : Script) (start : Counts) where
       next ≡ run (walk_plan script) start (replicate (suc (length (walk_plan script).items)) Command)
   command-end s next cause (k, is, sum, few) after stalls =
       after ∙ stalled-all (walk_plan script) start s Command k (length (walk_plan script).items) is few
-        (stalls-same s.ticks (slice_get (command_dues (walk_plan script).items) s.commands) s (record s { commands = s.commands + 1 }) (refusal_in_event script s Command) cause stalls)
+      (stalls-same s.ticks (slice_get (command_dues (walk_plan script).items) s.commands) s (record s { commands = s.commands + 1 }) (refusal_in_event script s Command) cause stalls)
 
   pub carry-turn : (s next : Counts) (m : ℕ) (whole : Counts) → m < length (walk_plan script).paths →
       run (walk_plan script) s (carries_from m (drop m (walk_plan script).paths)) ≡ whole → next ≡ counts_after script s (Carry m) →
@@ -251,7 +251,7 @@ since script n more low =
 pub since-then : (script : Script) (a b d : ℕ) → a ≤ b → b ≤ d → delivered_since script a d ≡ delivered_since script a b ++ delivered_since script b d
 since-then script a b d low high =
     ap (drop (length (delivered_of script a))) (since script b d high ∙ ap (λ xs. xs ++ delivered_since script b d) (since script a b low)
-      ∙ append_assoc (delivered_of script a) (delivered_since script a b) (delivered_since script b d))
+    ∙ append_assoc (delivered_of script a) (delivered_since script a b) (delivered_since script b d))
     ∙ drop-append (delivered_of script a) (delivered_since script a b ++ delivered_since script b d)
 
 pub since-none : (script : Script) (a : ℕ) → delivered_since script a a ≡ []

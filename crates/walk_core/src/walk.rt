@@ -1,9 +1,9 @@
 //! A walk of a script, event by event.
 
-ghost use Rattle.std.specs.Prelude.{◌≡◌, ℕ, true, false, suc, ◌+◌, ◌*◌, ◌<◌, ◌≤◌, [], ◌∷◌, ◌++◌, List, length, map, replicate, slice_get, Option, Some, None, IfOk};
+ghost use Rattle.std.specs.Prelude.{◌≡◌, ℕ, true, false, suc, ◌+◌, ◌*◌, ◌<◌, ◌≤◌, [], ◌∷◌, ◌++◌, List, length, map, min, All, replicate, slice_get, Option, Some, None, IfOk};
 ghost use Rattle.session_model.specs.declared.walk.Event.TheVariants.{Accept, Command, Tick, Carry, Back, Take};
 ghost use Rattle.session_model.specs.Valid.{IsValid};
-ghost use Rattle.session_model.specs.Counts.{begin, step, run, round, drain, bound, carries_from};
+ghost use Rattle.session_model.specs.Counts.{begin, step, full, run, round, drain, bound, carries_from};
 ghost use Rattle.session_model.specs.Scenario.{steps_in};
 ghost use Rattle.session_model.specs.Source.{source_at};
 ghost use Rattle.progress_law.specs.Progress.{HasLine};
@@ -16,7 +16,7 @@ ghost use Rattle.std.specs.Global.{Vec};
 ghost use Rattle.vc_cell.specs.declared.Container.{Container};
 ghost use Rattle.session_model.specs.declared.script.Script.{Script};
 ghost use Rattle.walk_law.specs.Rings.{path_on};
-ghost use Rattle.walk_parts.specs.Ringed.{ring_of};
+ghost use Rattle.walk_parts.specs.Ringed.{Ringed, ring_of};
 ghost use Rattle.walk_core.specs.Carry.{carry_cause, CanCarry, IsSentOn, HasRoom};
 ghost use Rattle.walk_core.specs.Parts.{note_of, line_counts, HasLine as HasLineOn};
 
@@ -84,8 +84,8 @@ impl Model for Walk {
     ghost view = { λ w. record {
       script = w.script;
       counts = counts_of
-        (record { source = w.source; sent = map (λ row. row.items) w.sent.items; lines = w.lines.items; rows = w.rows; sink = w.sink; back = w.back })
-        (record { refusals = w.refusals.items; room = vec_capacity w.refusals; frame = w.frame; command = w.command; frames = w.frames; commands = w.commands; refused_frames = w.refused_frames; refused_commands = w.refused_commands });
+          (record { source = w.source; sent = map (λ row. row.items) w.sent.items; lines = w.lines.items; rows = w.rows; sink = w.sink; back = w.back })
+          (record { refusals = w.refusals.items; room = vec_capacity w.refusals; frame = w.frame; command = w.command; frames = w.frames; commands = w.commands; refused_frames = w.refused_frames; refused_commands = w.refused_commands });
     } };
 
     ghost invariant = { λ w. IsWalk w.script
@@ -125,7 +125,6 @@ impl Walk {
     }
 
     /// Makes one event. A line that it names is one of the script's.
-    #[tactic(none)]
     pub fn step<F: FrameOut>(&mut self, e: Event, out: &mut F) -> Moved
         requires { HasLine (walk_plan self.old.script) e }
         ensures script { self.new.script ≡ self.old.script }
@@ -336,7 +335,11 @@ impl Walk {
         let ticks = self.source.ticks();
         let back = take_needed(&mut self.back, self.source.needs_back().is_some());
         self.last = next_note(ticks, back, self.last);
-        make_frame(&mut self.source, back, &mut self.sent[ticks as usize % SENDS]);
+        make_frame(
+            &mut self.source,
+            back,
+            &mut self.sent[ticks as usize % SENDS],
+        );
         Moved::Yes
     }
 
@@ -362,7 +365,6 @@ impl Walk {
     }
 
     /// Makes a carry of a line.
-    #[tactic(none)]
     fn carry(&mut self, line: u8) -> Moved
         requires { line < self.old.script.config.lines }
         ensures script { self.new.script ≡ self.old.script }
@@ -538,8 +540,11 @@ fn make_frame(source: &mut SourceCore, back: Option<BackCell>, frame: &mut Vec<C
 }
 
 /// The first line whose send ring holds as many containers as it may.
-#[tactic(none)]
-fn first_full(lines: &[WalkLine], total: u32, ticks: u32) -> Option<u8> {
+fn first_full(lines: &[WalkLine], total: u32, ticks: u32) -> Option<u8>
+    requires few { length lines.now ≤ 128 }
+    requires made { All (λ (line : Ringed). min line.carried total ≤ ticks) lines.now }
+    ensures { result ≡ full total ticks 0 (map line_counts lines.now) }
+{
     for (m, line) in lines.iter().enumerate() {
         if (ticks - line.carried().min(total)) as usize >= SENDS {
             return Some(m as u8);

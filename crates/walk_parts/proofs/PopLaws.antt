@@ -1,15 +1,15 @@
 -- What comes of popping cells of a line until it decides a row.
-use Rattle.std.proofs.Common.{◌≡◌, ◌≢◌, ℕ, zero, suc, ◌+◌, ◌-◌, ◌<◌, ◌≤◌, ◌==◌, Bool, true, false, List, [], ◌∷◌, ◌++◌, length, take, slice_get, slice_set, Option, Some, None, refl, sym, ◌∙◌, ap, subst, arith, inl, inr}
+use Rattle.std.proofs.Common.{◌≡◌, ℕ, zero, suc, ◌+◌, ◌-◌, ◌<◌, ◌≤◌, ◌==◌, Bool, true, false, List, [], ◌∷◌, ◌++◌, length, take, slice_get, slice_set, Option, Some, None, refl, sym, ◌∙◌, ap, arith, inl, inr}
 use Rattle.std.specs.Prelude.{is_none, is_some, IsSome, not}
 use Rattle.std.proofs.lemmas.Option.{slice_get_within}
 use Rattle.circular_buffer.proofs.Places.{slice_get-set_same, slice_get-set_other}
 use Rattle.std.specs.List.{position_from}
-use Rattle.std.proofs.lemmas.Bool.{cases_Bool, cases_lt}
+use Rattle.std.proofs.lemmas.Bool.{cases_Bool}
 use Rattle.vc_cell.specs.declared.Cell.{Cell}
 use Rattle.session_model.specs.Number.{verdict}
 use Rattle.session_model.specs.Rows.{first_open}
 use Rattle.realign_core.specs.Gather.{with_cell}
-use Rattle.walk_parts.specs.Ringed.{popped_until, leaves_open, is_at}
+use Rattle.walk_parts.specs.Ringed.{popped_until, is_at}
 
 -- ---- the first place at which a test passes
 position-low : {X : Type 0} (test : X → Bool) (xs : List X) (i k : ℕ) → k < i → is_at k (position_from test i xs) ≡ false

@@ -13,7 +13,7 @@ returns-then-all_pushed-clause-has c script has sent =
     let all = all-carried script c.args.m c.args.own.now has (search (rules, c.if-all_pushed.ensures)) in
     record {
       has = subst (λ calls. Has c.flush.new.self calls)
-        (calls-flush script c.args.m c.args.own.now all ∙ ap (calls_on script c.args.m) (sym c.flush.ensures.carried)) (c.flush.ensures.has (calls_on script c.args.m c.args.own.now.carried) has.has);
+          (calls-flush script c.args.m c.args.own.now all ∙ ap (calls_on script c.args.m) (sym c.flush.ensures.carried)) (c.flush.ensures.has (calls_on script c.args.m c.args.own.now.carried) has.has);
       ring = c.flush.ensures.ring ∙ has.ring;
     }
 
@@ -30,7 +30,7 @@ returns-else-all_pushed-clause-has c script has sent =
     let is = same-some c.index.result.now (sent_at script c.args.m c.args.own.now.carried) (sym read ∙ told) in
     record {
       has = subst (λ calls. Has c.push.new.self calls)
-        (ap (and_push (calls_on script c.args.m c.args.own.now.carried)) is ∙ calls-push script c.args.m c.args.own.now left ∙ ap (calls_on script c.args.m) (sym c.push.ensures.carried))
-        (c.push.ensures.has (calls_on script c.args.m c.args.own.now.carried) has.has);
+          (ap (and_push (calls_on script c.args.m c.args.own.now.carried)) is ∙ calls-push script c.args.m c.args.own.now left ∙ ap (calls_on script c.args.m) (sym c.push.ensures.carried))
+          (c.push.ensures.has (calls_on script c.args.m c.args.own.now.carried) has.has);
       ring = c.push.ensures.ring ∙ has.ring;
     }

@@ -2,4 +2,3 @@
 use Rattle.std.proofs.Common.{rules, ◌≡◌, ◌<◌, ◌≤◌, true, false, sym, ◌∙◌}
 use Rattle.walk_core.proofs.CarryLaws.{cause-done, cause-empty, cause-full, cause-none}
 use Rattle.walk_core.proofs.walk.carry_stall.Goals as goal
-

@@ -1,5 +1,5 @@
 -- The least item that is held is the next frame or the next command.
-use Rattle.std.proofs.Common.{◌≡◌, slice_get, ap, sym, ◌∙◌}
+use Rattle.std.proofs.Common.{slice_get, ap, ◌∙◌}
 use Rattle.walk_parts.specs.Place.{due_by, least_held}
 use Rattle.walk_parts.proofs.ItemLaws.{held-told}
 use Rattle.walk_parts.proofs.items.held_item.Goals as goal

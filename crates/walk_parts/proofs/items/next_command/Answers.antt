@@ -1,6 +1,5 @@
 -- The item here is of the kind, or is passed.
-use Rattle.std.proofs.Common.{◌≡◌, ◌+◌, length, slice_get, refl, sym, ◌∙◌, ap, arith}
-use Rattle.std.proofs.lemmas.Option.{slice_get-get_or}
+use Rattle.std.proofs.Common.{◌≡◌, length, sym, ◌∙◌, arith}
 use Rattle.walk_parts.specs.Place.{is_command}
 use Rattle.walk_parts.proofs.ItemLaws.{place-here, place-passed, place-none, at-index}
 use Rattle.walk_parts.proofs.items.next_command.Goals as goal

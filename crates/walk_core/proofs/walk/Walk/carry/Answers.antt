@@ -112,8 +112,8 @@ invariant_of-self c =
     let one = same-some c.index_mut.result.now c.index.result.now (sym there_ ∙ there) in
     let has = c.carry_on.ensures.has c.self.inside.script (subst (λ k. HasLine c.self.inside.script k c.index_mut.result.now) (sym c.from-m.ensures) (line-has _ _ _ _ _ c.self.invariant c.args.line low c.index_mut.result.now there_))
     (subst (λ k. IsSentOn c.self.inside.script k c.index_mut.result.now.carried c.deref.result.now) (sym c.from-m.ensures)
-      (subst (IsSentOn c.self.inside.script c.args.line c.index_mut.result.now.carried) (sym c.deref.ensures.value)
-        (line-sent _ _ _ _ _ c.self.invariant c.args.line low c.index_mut.result.now there_ c.self.inside.sent.items refl (subst (λ l. CanCarry l c.self.inside.source.ticks) (sym one) (subst (CanCarry c.index.result.now) c.ticks.ensures (c.carry_stall.ensures.can c.in-None.is)))))) in
+    (subst (IsSentOn c.self.inside.script c.args.line c.index_mut.result.now.carried) (sym c.deref.ensures.value)
+    (line-sent _ _ _ _ _ c.self.invariant c.args.line low c.index_mut.result.now there_ c.self.inside.sent.items refl (subst (λ l. CanCarry l c.self.inside.source.ticks) (sym one) (subst (CanCarry c.index.result.now) c.ticks.ensures (c.carry_stall.ensures.can c.in-None.is)))))) in
     let own = subst (λ k. HasLine c.self.inside.script k c.carry_on.new.own) c.from-m.ensures has in
     let carried = c.carry_on.ensures.carried ∙ ap (λ (l : Ringed). l.carried + 1) one in
     let popped = c.carry_on.ensures.popped ∙ ap (λ (l : Ringed). l.popped) one in
@@ -136,8 +136,8 @@ returns-in-None-clause-counts c =
     let one = same-some c.index_mut.result.now c.index.result.now (sym there_ ∙ there) in
     let has = c.carry_on.ensures.has c.self.inside.script (subst (λ k. HasLine c.self.inside.script k c.index_mut.result.now) (sym c.from-m.ensures) (line-has _ _ _ _ _ c.self.invariant c.args.line low c.index_mut.result.now there_))
     (subst (λ k. IsSentOn c.self.inside.script k c.index_mut.result.now.carried c.deref.result.now) (sym c.from-m.ensures)
-      (subst (IsSentOn c.self.inside.script c.args.line c.index_mut.result.now.carried) (sym c.deref.ensures.value)
-        (line-sent _ _ _ _ _ c.self.invariant c.args.line low c.index_mut.result.now there_ c.self.inside.sent.items refl (subst (λ l. CanCarry l c.self.inside.source.ticks) (sym one) (subst (CanCarry c.index.result.now) c.ticks.ensures (c.carry_stall.ensures.can c.in-None.is)))))) in
+    (subst (IsSentOn c.self.inside.script c.args.line c.index_mut.result.now.carried) (sym c.deref.ensures.value)
+    (line-sent _ _ _ _ _ c.self.invariant c.args.line low c.index_mut.result.now there_ c.self.inside.sent.items refl (subst (λ l. CanCarry l c.self.inside.source.ticks) (sym one) (subst (CanCarry c.index.result.now) c.ticks.ensures (c.carry_stall.ensures.can c.in-None.is)))))) in
     let own = subst (λ k. HasLine c.self.inside.script k c.carry_on.new.own) c.from-m.ensures has in
     let carried = c.carry_on.ensures.carried ∙ ap (λ (l : Ringed). l.carried + 1) one in
     let popped = c.carry_on.ensures.popped ∙ ap (λ (l : Ringed). l.popped) one in
@@ -158,8 +158,8 @@ returns-in-None-clause-moved c =
     let one = same-some c.index_mut.result.now c.index.result.now (sym there_ ∙ there) in
     let has = c.carry_on.ensures.has c.self.inside.script (subst (λ k. HasLine c.self.inside.script k c.index_mut.result.now) (sym c.from-m.ensures) (line-has _ _ _ _ _ c.self.invariant c.args.line low c.index_mut.result.now there_))
     (subst (λ k. IsSentOn c.self.inside.script k c.index_mut.result.now.carried c.deref.result.now) (sym c.from-m.ensures)
-      (subst (IsSentOn c.self.inside.script c.args.line c.index_mut.result.now.carried) (sym c.deref.ensures.value)
-        (line-sent _ _ _ _ _ c.self.invariant c.args.line low c.index_mut.result.now there_ c.self.inside.sent.items refl (subst (λ l. CanCarry l c.self.inside.source.ticks) (sym one) (subst (CanCarry c.index.result.now) c.ticks.ensures (c.carry_stall.ensures.can c.in-None.is)))))) in
+    (subst (IsSentOn c.self.inside.script c.args.line c.index_mut.result.now.carried) (sym c.deref.ensures.value)
+    (line-sent _ _ _ _ _ c.self.invariant c.args.line low c.index_mut.result.now there_ c.self.inside.sent.items refl (subst (λ l. CanCarry l c.self.inside.source.ticks) (sym one) (subst (CanCarry c.index.result.now) c.ticks.ensures (c.carry_stall.ensures.can c.in-None.is)))))) in
     let own = subst (λ k. HasLine c.self.inside.script k c.carry_on.new.own) c.from-m.ensures has in
     let carried = c.carry_on.ensures.carried ∙ ap (λ (l : Ringed). l.carried + 1) one in
     let popped = c.carry_on.ensures.popped ∙ ap (λ (l : Ringed). l.popped) one in

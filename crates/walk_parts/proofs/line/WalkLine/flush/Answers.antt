@@ -1,6 +1,6 @@
 -- The ring holds what the carry gave.
-use Rattle.std.proofs.Common.{rules, ◌≡◌, ◌+◌, ◌%◌, ◌∙◌, length, slice_set, ap, subst, sym, refl, arith}
-use Rattle.line_core.specs.Line.{Calls, and_flush, carries_of}
+use Rattle.std.proofs.Common.{rules, ◌≡◌, ◌%◌, ◌∙◌, length, slice_set, ap, subst, sym, arith}
+use Rattle.line_core.specs.Line.{and_flush}
 use Rattle.walk_parts.specs.Ringed.{Ringed, Has, with_sign}
 use Rattle.walk_parts.proofs.RingLaws.{has-more}
 use Rattle.walk_parts.proofs.line.WalkLine.flush.Goals as goal

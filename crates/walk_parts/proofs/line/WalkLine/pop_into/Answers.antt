@@ -1,16 +1,15 @@
 -- Each cell leaves the line open, up to the last one.
-use Rattle.std.proofs.Common.{rules, ◌≡◌, ℕ, ◌+◌, ◌-◌, ◌%◌, ◌<◌, ◌≤◌, true, false, List, [], ◌∷◌, ◌++◌, length, take, slice_get, slice_set, Some, refl, sym, ◌∙◌, ap, subst, arith}
+use Rattle.std.proofs.Common.{rules, ◌≡◌, ℕ, ◌-◌, true, false, List, length, take, slice_set, refl, sym, ◌∙◌, ap, subst, arith}
 use Rattle.std.specs.Prelude.{is_none}
 use Rattle.std.proofs.lemmas.Option.{slice_get_within}
 use Rattle.circular_buffer.proofs.Places.{slice_get-some}
 use Rattle.vc_cell.specs.declared.Cell.{Cell}
-use Rattle.line_core.specs.Carry.{carry_cells}
-use Rattle.line_core.specs.Line.{Calls, path_cells}
+use Rattle.line_core.specs.Line.{path_cells}
 use Rattle.session_model.specs.Number.{verdict}
 use Rattle.session_model.specs.Rows.{first_open}
 use Rattle.line_reader.specs.Told.{cell_of}
 use Rattle.realign_core.specs.Gather.{Stands as Gathers, with_cell}
-use Rattle.walk_parts.specs.Ringed.{Ringed, Has, cell_at, is_at, IsNext, popped_until, leaves_open}
+use Rattle.walk_parts.specs.Ringed.{Ringed, cell_at, is_at, popped_until, leaves_open}
 use Rattle.walk_parts.proofs.RingLaws.{cell-read}
 use Rattle.walk_parts.proofs.PopLaws.{waits-is, with-set, set-same, take-next, until-shut, until-none, until-next, none-some}
 use Rattle.walk_parts.proofs.line.WalkLine.pop_into.Goals as goal

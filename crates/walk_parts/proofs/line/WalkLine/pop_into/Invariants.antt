@@ -3,7 +3,7 @@ use Rattle.std.proofs.Common.{◌≡◌, ◌-◌, ◌≤◌, List, take, slice_s
 use Rattle.vc_cell.specs.declared.Cell.{Cell}
 use Rattle.line_core.specs.Line.{Calls, path_cells}
 use Rattle.realign_core.specs.Gather.{Stands as Gathers, line_count}
-use Rattle.walk_parts.specs.Ringed.{Ringed, IsNext, popped_until, leaves_open}
+use Rattle.walk_parts.specs.Ringed.{IsNext, popped_until, leaves_open}
 use Rattle.walk_parts.proofs.line.WalkLine.pop_into.Given as goal
 
 abbrev pub invariant-loop-self : goal.invariant-loop-self
