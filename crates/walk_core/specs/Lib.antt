@@ -1,4 +1,0 @@
-pub mod Counted
-pub mod Moved
-pub mod Parts
-pub mod Carry
