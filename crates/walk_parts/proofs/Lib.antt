@@ -1,0 +1,3 @@
+pub mod ItemLaws
+pub mod RingLaws
+pub mod PopLaws

@@ -1,0 +1,28 @@
+-- So many cells have gone into the rows, and each of them left the line open.
+use Rattle.std.proofs.Common.{◌≡◌, ◌-◌, ◌≤◌, List, take, slice_set}
+use Rattle.vc_cell.specs.declared.Cell.{Cell}
+use Rattle.line_core.specs.Line.{Calls, path_cells}
+use Rattle.realign_core.specs.Gather.{Stands as Gathers, line_count}
+use Rattle.walk_parts.specs.Ringed.{IsNext, popped_until, leaves_open}
+use Rattle.walk_parts.proofs.line.WalkLine.pop_into.Given as goal
+
+abbrev pub invariant-loop-self : goal.invariant-loop-self
+invariant-loop-self l = record {
+  core : l.self-inside.core ≡ l.fn.self.core;
+  signs : l.self-inside.signs.items ≡ l.fn.self.signs;
+  places : l.self-inside.places.items ≡ l.fn.self.places;
+  carried : l.self-inside.carried ≡ l.fn.self.carried;
+  given : l.self-inside.given ≡ l.fn.self.given;
+  more : l.fn.self.popped ≤ l.self-inside.popped;
+  pops : l.self-inside.popped ≤ l.fn.self.given;
+  lines : line_count l.rows ≡ line_count l.fn.rows;
+  rows : l.rows.rows ≡ l.fn.rows.rows;
+  gathers : (calls : Calls) (cells : List (List Cell)) → IsNext l.fn.self calls l.fn.rows cells l.line →
+      Gathers l.rows (slice_set cells l.line (take l.self-inside.popped (path_cells calls)));
+  until : (calls : Calls) (cells : List (List Cell)) → IsNext l.fn.self calls l.fn.rows cells l.line →
+      popped_until (l.fn.self.given - l.self-inside.popped) (λ y. leaves_open (path_cells calls) l.fn.rows.rows y) l.self-inside.popped
+      ≡ popped_until (l.fn.self.given - l.fn.self.popped) (λ y. leaves_open (path_cells calls) l.fn.rows.rows y) l.fn.self.popped;
+}
+
+abbrev pub decreases-loop-self : goal.decreases-loop-self
+decreases-loop-self l = l.self-inside.given - l.self-inside.popped

@@ -1,0 +1,213 @@
+//! A line of a walk with its receive ring.
+
+ghost use Rattle.std.specs.Prelude.{◌≡◌, ℕ, ◌+◌, ◌-◌, ◌<◌, ◌≤◌, ◌↔◌, [], ◌∷◌, true, List, length, slice_set, IfOk, IsTrue, is_some};
+ghost use Rattle.vc_cell.specs.declared.Cell.{Cell};
+ghost use Rattle.line_core.specs.Carry.{carry_cells};
+ghost use Rattle.line_core.specs.Line.{Calls, opened, and_push, and_flush, path_cells, IsEnded};
+ghost use Rattle.line_reader.specs.Told.{cell_of};
+ghost use Rattle.session_model.specs.Damage.{AreWindows};
+ghost use Rattle.session_model.specs.Number.{verdict};
+ghost use Rattle.realign_core.specs.Gather.{Stands as Gathers, line_count, IsOpenAt};
+ghost use Rattle.session_model.specs.Rows.{first_open};
+ghost use Rattle.walk_parts.specs.Ringed.{Ringed, ring_of, Has, popped_cells, IsNext, popped_until, leaves_open, with_sign, count_of, is_at};
+
+use failure_window::{Window, Windows};
+use line_core::{Carry, LineCore};
+use line_reader::CellRef;
+use realign_core::{RowAnswer, RowGather};
+use std::alloc::{AllocError, Global};
+use std::marker::Model;
+use vc_cell::{Container, PAYLOAD};
+
+/// What stands in a place before the first container.
+const EMPTY: Container = Container {
+    h4: 0,
+    payload: [0; PAYLOAD],
+};
+
+/// A line with its receive ring: the cells that it gave and that weren't popped. Only its making takes memory, and a container is
+/// copied once on its way into the ring and once out of it.
+#[derive(Drop)]
+pub struct WalkLine {
+    core: LineCore,
+    /// What carries gave: that of cell `y` at place `y` modulo the size of the ring.
+    signs: Vec<Carry>,
+    /// The containers of those that are good.
+    places: Vec<Container>,
+    /// How many carries were made.
+    carried: u32,
+    /// How many cells came out.
+    given: u32,
+    /// How many of them were popped.
+    popped: u32,
+}
+
+impl Model for WalkLine {
+    ghost use Rattle.walk_parts.specs.Ringed.{Ringed, IsRinged};
+
+    ghost Value = { Ringed };
+
+    ghost view = { λ line. record { core = line.core; signs = line.signs.items; places = line.places.items; carried = line.carried; given = line.given; popped = line.popped } };
+
+    ghost invariant = { λ line. IsRinged (record { core = line.core; signs = line.signs.items; places = line.places.items; carried = line.carried; given = line.given; popped = line.popped }) };
+}
+
+impl WalkLine {
+    /// A line with a delay in containers, its windows, and the number of containers that it will carry, whose ring holds `ring` cells.
+    pub fn new(
+        alloc: Global,
+        delay: u16,
+        windows: &[Window],
+        total: u32,
+        ring: u16,
+    ) -> Result<WalkLine, AllocError>
+        requires delay { delay ≤ 2047 }
+        requires few { length windows.now ≤ 256 }
+        requires apart { AreWindows 0 windows.now }
+        requires total { total ≤ 1000000 }
+        requires ring { 1 ≤ ring }
+        ensures has { IfOk result (λ line. Has line (opened delay windows.now total)) }
+        ensures ring { IfOk result (λ line. ring_of line ≡ ring) }
+        ensures popped { IfOk result (λ line. line.popped ≡ 0) }
+    {
+        let Ok(windows) = Windows::new(alloc, windows) else {
+            return Err(AllocError);
+        };
+        Ok(WalkLine {
+            core: LineCore::new(alloc, delay, windows, total)?,
+            signs: vec![in alloc; Carry::Nothing; usize::from(ring)]?,
+            places: vec![in alloc; EMPTY; usize::from(ring)]?,
+            carried: 0,
+            given: 0,
+            popped: 0,
+        })
+    }
+
+    /// How many carries were made.
+    pub fn carried(&self) -> u32
+        ensures { result ≡ self.now.carried }
+    {
+        self.carried
+    }
+
+    /// Whether all containers were pushed.
+    pub fn all_pushed(&self) -> bool
+        ensures all { IsTrue result ↔ (self.now.core.pushed ≡ self.now.core.total) }
+        ensures within { self.now.core.pushed ≤ self.now.core.total }
+    {
+        self.core.all_pushed()
+    }
+
+    /// Whether the end was given.
+    pub fn ended(&self) -> bool
+        ensures { IsTrue result ↔ IsEnded self.now.core }
+    {
+        self.core.ended()
+    }
+
+    /// Whether the receive ring holds as many cells as it may.
+    pub fn is_full(&self) -> bool
+        ensures full { IsTrue result ↔ (self.now.given ≡ self.now.popped + ring_of self.now) }
+        ensures within { self.now.given ≤ self.now.popped + ring_of self.now }
+    {
+        (self.given - self.popped) as usize == self.signs.len()
+    }
+
+    /// Carries a container on, and keeps the cell that comes out, if any.
+    pub fn push(&mut self, container: &Container)
+        requires left { self.old.core.pushed < self.old.core.total }
+        requires room { self.old.given < self.old.popped + ring_of self.old }
+        ensures has { (calls : Calls) → Has self.old calls →
+            Has self.new (and_push calls container.now) }
+        ensures ring { ring_of self.new ≡ ring_of self.old }
+        ensures carried { self.new.carried ≡ self.old.carried + 1 }
+        ensures popped { self.new.popped ≡ self.old.popped }
+    {
+        let slot = self.given as usize % self.signs.len();
+        let carry = self.core.push_from(container, &mut self.places[slot]);
+        self.carried += 1;
+        self.given += keep(&mut self.signs, slot, carry);
+    }
+
+    /// Makes a carry after the last container, and keeps the cell that comes out, if any.
+    pub fn flush(&mut self)
+        requires pushed { self.old.core.pushed ≡ self.old.core.total }
+        requires runs { self.old.core.flushed ≤ self.old.core.delay }
+        requires room { self.old.given < self.old.popped + ring_of self.old }
+        ensures has { (calls : Calls) → Has self.old calls → Has self.new (and_flush calls) }
+        ensures ring { ring_of self.new ≡ ring_of self.old }
+        ensures carried { self.new.carried ≡ self.old.carried + 1 }
+        ensures popped { self.new.popped ≡ self.old.popped }
+    {
+        let slot = self.given as usize % self.signs.len();
+        let carry = self.core.flush_to(&mut self.places[slot]);
+        self.carried += 1;
+        self.given += keep(&mut self.signs, slot, carry);
+    }
+
+    /// Pops cells of line number `line` into `rows` until it decides the next row, or its ring is empty. Answers whether it does.
+    pub fn pop_into(&mut self, rows: &mut RowGather, line: u8) -> bool
+        ensures popped { (calls : Calls) (cells : List (List Cell)) →
+            IsNext self.old calls rows.old cells line →
+            self.new.popped ≡ popped_until (self.old.given - self.old.popped)
+            (λ y. leaves_open (path_cells calls) rows.old.rows y) self.old.popped }
+        ensures decides { (calls : Calls) (cells : List (List Cell)) →
+            IsNext self.old calls rows.old cells line →
+            result ≡ is_some (verdict (popped_cells self.new calls) rows.old.rows) }
+        ensures has { (calls : Calls) → Has self.old calls → Has self.new calls }
+        ensures gathers { (calls : Calls) (cells : List (List Cell)) →
+            IsNext self.old calls rows.old cells line →
+            Gathers rows.new (slice_set cells line (popped_cells self.new calls)) }
+        ensures others { self.new ≡ record self.old { popped = self.new.popped } }
+        ensures lines { line_count rows.new ≡ line_count rows.old }
+        ensures rows { rows.new.rows ≡ rows.old.rows }
+    {
+        while self.popped < self.given {
+            if !waits_for(rows, line) {
+                return true;
+            }
+            let slot = self.popped as usize % self.signs.len();
+            rows.offer_from(line, cell_ref(self.signs[slot], &self.places[slot]));
+            self.popped += 1;
+        }
+        !waits_for(rows, line)
+    }
+}
+
+/// Puts what a carry gave at its place, where it gave a cell. Answers how many cells it gave.
+fn keep(signs: &mut Vec<Carry>, slot: usize, carry: Carry) -> u32
+    requires { slot < length signs.old.items }
+    ensures signs { signs.new.items ≡ with_sign carry slot signs.old.items }
+    ensures count { result ≡ count_of carry }
+{
+    match carry {
+        Carry::Nothing => 0,
+        Carry::Good | Carry::Fail | Carry::End => {
+            signs[slot] = carry;
+            1
+        }
+    }
+}
+
+/// Whether a line is the first one that doesn't decide the next row.
+fn waits_for(rows: &RowGather, line: u8) -> bool
+    ensures waits { (cells : List (List Cell)) → Gathers rows.now cells →
+        result ≡ is_at line (first_open cells rows.now.rows) }
+    ensures allows { result ≡ true → (line < line_count rows.now) × IsOpenAt rows.now line }
+{
+    match rows.row() {
+        RowAnswer::Row => false,
+        RowAnswer::Waiting { line: least } => least == line,
+    }
+}
+
+/// The cell of a carry that gave one.
+fn cell_ref(sign: Carry, place: &Container) -> CellRef<'_>
+    ensures { (cell : Cell) → carry_cells sign place.now ≡ cell ∷ [] → cell_of result ≡ cell }
+{
+    match sign {
+        Carry::Good => CellRef::Good(place),
+        Carry::End => CellRef::End,
+        Carry::Fail | Carry::Nothing => CellRef::Fail,
+    }
+}
