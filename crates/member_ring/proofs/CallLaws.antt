@@ -1,9 +1,8 @@
 -- The calls on the line of a worker, at first and after one more carry.
-use Rattle.std.proofs.Common.{◌≡◌, ℕ, ◌-◌, List, [], ◌∷◌, ◌++◌, refl, sym, ◌∙◌, ap, arith, nat_lt, false}
+use Rattle.std.proofs.Common.{◌≡◌, ℕ, ◌-◌, List, [], ◌∷◌, ◌++◌, refl, arith, nat_lt, false}
 use Rattle.std.proofs.lemmas.Bool.{le-ltb}
 use Rattle.vc_cell.specs.declared.Container.{Container}
 use Rattle.session_model.specs.declared.window.Window.{Window}
-use Rattle.session_model.specs.Damage.{carried}
 use Rattle.session_model.specs.Path.{path}
 use Rattle.line_core.specs.Line.{Line, opened, and_push, and_flush, path_cells, Stands}
 use Rattle.member_ring.specs.Calls.{calls_on, IsOpened}

@@ -1,5 +1,5 @@
 -- The calls on the line of a worker.
-use Rattle.std.specs.Prelude.{ℕ, List}
+use Rattle.std.specs.Prelude.{List}
 use Rattle.vc_cell.specs.declared.Container.{Container}
 use Rattle.line_core.specs.Line.{Line, Calls, opened, Stands}
 

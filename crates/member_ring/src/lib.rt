@@ -6,6 +6,8 @@
 mod ends;
 mod gate;
 mod rings;
+#[cfg(test)]
+mod tests;
 mod worker;
 
 pub use ends::{RingIn, RingOut};

@@ -1,5 +1,5 @@
 -- The end was pushed exactly where the line has given it.
-use Rattle.std.proofs.Common.{◌≡◌, refl, sym, ◌∙◌, subst, true, false}
+use Rattle.std.proofs.Common.{refl, sym, subst}
 use Rattle.std.specs.Prelude.{Contains, IsTrue, ◌↔◌}
 use Rattle.vc_cell.specs.declared.Cell.TheVariants.{End}
 use Rattle.member_ring.specs.Ends.{in_passed, out_passed}

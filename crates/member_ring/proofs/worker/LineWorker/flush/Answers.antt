@@ -1,5 +1,5 @@
 -- A carry after the last container.
-use Rattle.std.proofs.Common.{◌≡◌, [], ◌∷◌, ◌++◌, refl, sym, ◌∙◌, ap, subst, arith}
+use Rattle.std.proofs.Common.{◌≡◌, [], ◌++◌, refl, sym, ◌∙◌, ap, subst, arith}
 use Rattle.std.proofs.lemmas.List.{append-nil}
 use Rattle.line_core.specs.Line.{Stands, and_flush, path_cells}
 use Rattle.line_core.specs.Carry.{carry_cells}

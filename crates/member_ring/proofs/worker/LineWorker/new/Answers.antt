@@ -1,5 +1,5 @@
 -- Nothing was received, and the path has no cell yet.
-use Rattle.std.proofs.Common.{◌≡◌, [], sym, ◌∙◌, ap, subst}
+use Rattle.std.proofs.Common.{◌≡◌, sym, ◌∙◌, ap, subst}
 use Rattle.line_core.specs.Line.{Stands, opened, path_cells}
 use Rattle.member_ring.specs.Ends.{in_passed}
 use Rattle.member_ring.specs.Calls.{calls_on}
