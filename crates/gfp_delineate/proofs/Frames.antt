@@ -22,7 +22,7 @@ frames_held None = refl
 frames_held (Some frame) = refl
 
 -- they are those among its outcomes
-frames_told : (receiver : Receiver) (step : Step) → flat_map frame_in (told_outcomes receiver step) ≡ told receiver step
+pub frames_told : (receiver : Receiver) (step : Step) → flat_map frame_in (told_outcomes receiver step) ≡ told receiver step
 frames_told receiver Nothing = refl
 frames_told receiver Frame = frames_held (frame_of receiver)
 frames_told receiver (Dropped why) = refl

@@ -48,7 +48,7 @@ are_read windows containers delay i k line inside decided =
     ap packet_in (are_readable windows containers delay i k line inside (λ t low high. earlier (line_cells windows containers delay i) t (16 * k + 23) (omega arith) decided))
     ∙ packet-if (is_readable (carried windows) k) (sent_nibbles containers k)
 
-read-stays : (cells longer : List (List Cell)) (k : ℕ) → IsLonger cells longer → AreDecidedAt cells (16 * k + 23) → read_packets longer k ≡ read_packets cells k
+pub read-stays : (cells longer : List (List Cell)) (k : ℕ) → IsLonger cells longer → AreDecidedAt cells (16 * k + 23) → read_packets longer k ≡ read_packets cells k
 read-stays [] [] k are decided = refl
 read-stays [] (x ∷ longer) k are decided = absurd (let size = are.size in omega arith)
 read-stays (own ∷ cells) [] k are decided = absurd (let size = are.size in omega arith)
@@ -110,7 +110,7 @@ rows_stay size cells longer t are decided =
     ]
 
 -- ---- return packets
-map-same : {X : Type 0} (f g : ℕ → X) (from count : ℕ) → ((j : ℕ) → j < from + count → f j ≡ g j) → map f (range_with_len from count) ≡ map g (range_with_len from count)
+pub map-same : {X : Type 0} (f g : ℕ → X) (from count : ℕ) → ((j : ℕ) → j < from + count → f j ≡ g j) → map f (range_with_len from count) ≡ map g (range_with_len from count)
 map-same f g from zero same = refl
 map-same f g from (suc count) same =
     ap₂ (λ x xs. x ∷ xs) (same from (omega arith)) (map-same f g (from + 1) count (λ j low. same j (omega arith)))

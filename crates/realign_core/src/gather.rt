@@ -153,7 +153,8 @@ impl RowGather {
     /// The packets that govern the next row, by line: those read with the last packet row that was passed, and none before the first.
     /// A line has none where it has no packet that can be read.
     pub fn packets(&self) -> &[Option<Packet>]
-        ensures { (cells : List (List Cell)) → Stands self.now cells →
+        ensures lines { length result.now ≡ line_count self.now }
+        ensures governing { (cells : List (List Cell)) → Stands self.now cells →
             result.now ≡ governing cells self.now.rows }
     {
         &self.packets

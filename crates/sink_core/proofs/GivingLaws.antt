@@ -1,0 +1,72 @@
+-- Octets that a receiver gets one after the other, and the frames that they add.
+use Rattle.std.proofs.Common.{◌≡◌, ℕ, zero, suc, inl, inr, slice_index, ◌≤◌, ◌∷◌, ◌+◌, ◌-◌, arith, take-add, take_all, length-drop, Bool, List, [], ◌++◌, length, take, drop, refl, sym, ◌∙◌, ap, subst, append_assoc}
+use Rattle.std.specs.List.{flat_map}
+use Rattle.std.proofs.lemmas.Bool.{cases_lt}
+use Rattle.std.proofs.lemmas.List.{append-nil, drop_at, drop_more}
+use Rattle.session_model.specs.Interleave.{octets_from}
+use Rattle.std.proofs.lemmas.List.Concat.{flat_map-append}
+use Rattle.session_model.specs.Outcome.{outcomes}
+use Rattle.session_model.specs.Delivery.{frame_in}
+use Rattle.gfp_delineate.specs.declared.Step.{Step}
+use Rattle.gfp_delineate.specs.Receiver.{Receiver, StandsIn, told_outcomes}
+use Rattle.gfp_delineate.proofs.Frames.{told, frames_told}
+use Rattle.loss_law.specs.Added.{frames_in, next_frames}
+use Rattle.loss_law.proofs.SegmentLaws.{next-none, next-more}
+use Rattle.loss_law.proofs.GrowLaws.{adds}
+use Rattle.sink_core.specs.Receives.{IsKnown, Grows, Gives}
+
+pub known-grows : (was now : Receiver) (more : List ℕ) → IsKnown was → Grows was now more → IsKnown now
+known-grows was now more (first, octets, stands) grows = (first, octets ++ more, grows first octets stands)
+
+pub grows-none : (was : Receiver) → Grows was was []
+grows-none was first octets stands = subst (StandsIn was 9600 first) (sym (append-nil octets)) stands
+
+pub grows-more : (was then' now : Receiver) (a b : List ℕ) → Grows was then' a → Grows then' now b → Grows was now (a ++ b)
+grows-more was then' now a b one two first octets stands =
+    subst (StandsIn now 9600 first) (append_assoc octets a b) (two first (octets ++ a) (one first octets stands))
+
+pub gives-none : {A : Type 0} (stands : A → List (List ℕ) → Type 0) (was : Receiver) (out : A) → Gives stands was [] out out
+gives-none stands was out first octets has frames before =
+    subst (stands out) (sym (append-nil frames) ∙ ap (λ l. frames ++ l) (sym (next-none 9600 first octets))) before
+
+pub gives-more : {A : Type 0} (stands : A → List (List ℕ) → Type 0) (was then' : Receiver) (a b : List ℕ) (before middle after : A) → Grows was then' a →
+    Gives stands was a before middle → Gives stands then' b middle after → Gives stands was (a ++ b) before after
+gives-more stands was then' a b before middle after grows one two first octets has frames given =
+    let front : List (List ℕ) = next_frames 9600 first octets a in
+    let back : List (List ℕ) = next_frames 9600 first (octets ++ a) b in
+    subst (stands after)
+    (append_assoc frames front back ∙ ap (λ l. frames ++ l) (sym (next-more 9600 first octets a b (adds 9600 first octets a) (adds 9600 first (octets ++ a) b))))
+    (two first (octets ++ a) (grows first octets has) (frames ++ front) (one first octets has frames given))
+
+-- the frames that octets add are those that the answer tells
+pub next-told : (receiver : Receiver) (step : Step) (first : Bool) (octets more : List ℕ) →
+    outcomes 9600 first (octets ++ more) ≡ outcomes 9600 first octets ++ told_outcomes receiver step → next_frames 9600 first octets more ≡ told receiver step
+next-told receiver step first octets more outcome =
+    let before : List (List ℕ) = frames_in 9600 first octets in
+    ap (drop (length before))
+    (ap (flat_map frame_in) outcome
+    ∙ flat_map-append frame_in (outcomes 9600 first octets) (told_outcomes receiver step)
+    ∙ ap (λ l. before ++ l) (frames_told receiver step))
+    ∙ drop_at before (told receiver step) (length before) refl
+
+-- octets that follow a first part, of what is left after it
+pub take-next : (at n : ℕ) (piece : List ℕ) → take (at + n) piece ≡ take at piece ++ take n (take (length piece - at) (drop at piece))
+take-next at n piece =
+    take-add at n piece
+    ∙ ap (λ l. take at piece ++ take n l) (sym (take_all (length piece - at) (drop at piece) (let size = length-drop at piece in omega arith)))
+
+-- ---- the octets of one member
+pub octets_from-single : (place n : ℕ) (payload : List ℕ) → place + n ≤ length payload → octets_from place n (payload ∷ []) ≡ take n (drop place payload)
+unfolding octets_from
+octets_from-single place zero payload fits = refl
+octets_from-single place (suc n) payload fits =
+    let next = drop_more payload place 0 (omega arith) in
+    ap (λ l. slice_index payload place ∷ l) (octets_from-single (suc place) n payload (omega arith) ∙ ap (λ k. take n (drop k payload)) (let e : suc place ≡ place + 1 = omega arith in e))
+    ∙ sym (ap (take (suc n)) next)
+
+pub long-enough : (size : ℕ) (payload : List ℕ) → length (take size payload) ≡ size → size ≤ length payload
+long-enough size payload long =
+    elim (cases_lt (length payload) size) [
+      | inl few ↦ absurd (let e = ap length (take_all size payload (omega arith)) in omega arith)
+      | inr room ↦ room
+    ]

@@ -1,0 +1,7 @@
+pub mod ActiveLaws
+pub mod GivingLaws
+pub mod WholeLaws
+pub mod ReceivedLaws
+pub mod GivenLaws
+pub mod LaterLaws
+pub mod SessionLaws

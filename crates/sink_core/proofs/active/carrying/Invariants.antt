@@ -1,0 +1,9 @@
+use Rattle.std.proofs.Common.{◌≡◌, ◌+◌, ◌≤◌, drop}
+use Rattle.sink_core.specs.Active.{carrying}
+use Rattle.sink_core.proofs.active.carrying.Given as goal
+
+abbrev pub invariant-loop-packet : goal.invariant-loop-packet
+invariant-loop-packet l = record {
+  count : l.count + carrying (drop l.packet-index l.packets) ≡ carrying l.packets;
+  within : l.count ≤ l.packet-index;
+}

@@ -1,0 +1,10 @@
+use Rattle.std.proofs.Common.{◌≡◌, ◌≤◌}
+use Rattle.std.specs.Vec.{vec_capacity}
+use Rattle.session_model.specs.Rows.{active_from}
+use Rattle.sink_core.proofs.active.find_active.Given as goal
+
+abbrev pub invariant-loop-sq : goal.invariant-loop-sq
+invariant-loop-sq l = record {
+  lines : l.active.items ≡ active_from 0 l.sq l.packets;
+  room : 128 ≤ vec_capacity l.active;
+}

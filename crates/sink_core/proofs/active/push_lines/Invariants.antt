@@ -1,0 +1,10 @@
+use Rattle.std.proofs.Common.{◌≡◌, ◌++◌, drop}
+use Rattle.std.specs.Vec.{vec_capacity}
+use Rattle.session_model.specs.Rows.{lines_at}
+use Rattle.sink_core.proofs.active.push_lines.Given as goal
+
+abbrev pub invariant-loop-line : goal.invariant-loop-line
+invariant-loop-line l = record {
+  lines : l.active.items ++ lines_at l.sq l.line (drop l.line l.packets) ≡ l.fn.active.items ++ lines_at l.sq 0 l.packets;
+  room : vec_capacity l.active ≡ vec_capacity l.fn.active;
+}

@@ -1,0 +1,9 @@
+-- The frames of a session.
+use Rattle.sink_core.proofs.SessionLaws.{session-frames, session-rows}
+use Rattle.sink_core.proofs.laws.session_sink_law.Goals as goal
+
+pub returns-clause-frames : goal.returns-clause-frames
+returns-clause-frames c = session-frames
+
+pub returns-clause-rows : goal.returns-clause-rows
+returns-clause-rows c = session-rows

@@ -1,0 +1,97 @@
+-- The octets of some places more.
+use Rattle.std.proofs.Common.{◌≡◌, ℕ, List, ◌<◌, ◌≤◌, ◌+◌, ◌*◌, [], ◌∷◌, ◌++◌, length, take, get_or, sym, ◌∙◌, ap, subst, arith}
+use Rattle.std.proofs.lemmas.Bool.Decides.{nat_tests}
+use Rattle.std.proofs.lemmas.List.{nil_from_length}
+use Rattle.session_model.specs.Interleave.{octets_from}
+use Rattle.vcat_interleave.specs.Members.{payloads_of}
+use Rattle.vcat_interleave.proofs.RowLaws.{length-octets_from, octets_from-add, octets_from-none}
+use Rattle.vcat_interleave.proofs.MemberLaws.{length-payloads}
+use Rattle.sink_core.specs.Receives.{Grows, Gives}
+use Rattle.std.proofs.lemmas.List.{take_all}
+use Rattle.vc_cell.specs.declared.Container.{Container}
+use Rattle.vcat_interleave.specs.Members.{payload_at}
+use Rattle.gfp_delineate.proofs.ListLaws.{take_one}
+use Rattle.sink_core.proofs.GivingLaws.{octets_from-single, long-enough, known-grows, grows-none, grows-more, gives-none, gives-more}
+use Rattle.sink_core.proofs.members.take_members.Goals as goal
+
+pub returns-then-is_empty : goal.returns-then-is_empty
+returns-then-is_empty g c =
+    let active = c.args.active.now in
+    let parts = payloads_of c.args.containers.now active in
+    let zero : length active ≡ 0 = grind (arith, nat_tests, c.if-is_empty.ensures) in
+    let many : length parts ≡ 0 = length-payloads c.args.containers.now active ∙ zero in
+    let none : octets_from 0 c.args.size parts ≡ [] =
+    nil_from_length (octets_from 0 c.args.size parts) (length-octets_from 0 c.args.size parts ∙ ap (λ n. c.args.size * n) many ∙ (let e : c.args.size * 0 ≡ 0 = omega arith in e)) in
+    let was = c.args.delineator.now in
+    record {
+      grows = subst (Grows was was) (sym none) (grows-none was);
+      gives = λ start. subst (λ l. Gives (λ o. g.F.FrameOut.stands_for o start) was l c.args.out.now c.args.out.now) (sym none) (gives-none (λ o. g.F.FrameOut.stands_for o start) was c.args.out.now);
+    }
+
+pub loop-place-init : goal.loop-place-init
+loop-place-init g c =
+    let parts = payloads_of c.args.containers.now c.args.active.now in
+    let none : octets_from 0 0 parts ≡ [] = octets_from-none 0 parts in
+    let was = c.args.delineator.now in
+    record {
+      within = omega arith;
+      known = c.requires.known;
+      grows = subst (Grows was was) (sym none) (grows-none was);
+      gives = λ start. subst (λ l. Gives (λ o. g.F.FrameOut.stands_for o start) was l c.args.out.now c.args.out.now) (sym none) (gives-none (λ o. g.F.FrameOut.stands_for o start) was c.args.out.now);
+    }
+
+pub loop-place-preserved : goal.loop-place-preserved
+loop-place-preserved g c =
+    let place = c.loop-place.place in
+    let n = c.min-places.result in
+    let parts = payloads_of c.args.containers.now c.args.active.now in
+    let was = c.args.delineator.now in
+    let then' = c.loop-place.delineator in
+    let now = c.take_piece-in-loop-place.new.delineator in
+    let front = octets_from 0 place parts in
+    let back = c.gather_places.new.out in
+    let inv = c.loop-place.invariant in
+    let at : place ≡ 0 + place = omega arith in
+    let next : front ++ back ≡ octets_from 0 (place + n) parts =
+    ap (λ l. front ++ l) (c.gather_places.ensures ∙ ap (λ p. octets_from p n parts) at) ∙ sym (octets_from-add 0 place n parts) in
+    record {
+      within = omega (arith, c.min-places.ensures, inv.within);
+      known = known-grows then' now back inv.known c.take_piece-in-loop-place.ensures.grows;
+      grows = subst (Grows was now) next (grows-more was then' now front back inv.grows c.take_piece-in-loop-place.ensures.grows);
+      gives = λ start.
+          subst (λ l. Gives (λ o. g.F.FrameOut.stands_for o start) was l c.args.out.now c.take_piece-in-loop-place.new.out) next
+          (gives-more (λ o. g.F.FrameOut.stands_for o start) was then' front back c.args.out.now c.loop-place.out c.take_piece-in-loop-place.new.out
+          inv.grows (inv.gives start) (c.take_piece-in-loop-place.ensures.gives start));
+    }
+
+pub returns : goal.returns
+returns g c =
+    let place = c.loop-place.place in
+    let parts = payloads_of c.args.containers.now c.args.active.now in
+    let all : octets_from 0 place parts ≡ octets_from 0 c.args.size parts =
+    ap (λ n. octets_from 0 n parts) (let e : place ≡ c.args.size = omega (arith, c.loop-place-test.false, c.loop-place.invariant.within) in e) in
+    record {
+      grows = subst (Grows c.args.delineator.now c.loop-place.delineator) all c.loop-place.invariant.grows;
+      gives = λ start. subst (λ l. Gives (λ o. g.F.FrameOut.stands_for o start) c.args.delineator.now l c.args.out.now c.loop-place.out) all (c.loop-place.invariant.gives start);
+    }
+
+-- what one line carries alone
+only : (containers : List Container) (active : List ℕ) (size : ℕ) (octets : List ℕ) → 0 < length active → length active < 2 → length octets ≡ size → octets ≡ take size (payload_at containers (get_or active 0 0)) →
+    octets ≡ octets_from 0 size (payloads_of containers active)
+only containers active size octets some few long is =
+    let one : active ≡ get_or active 0 0 ∷ [] = sym (take_all 1 active (omega arith)) ∙ take_one active some in
+    let payload = payload_at containers (get_or active 0 0) in
+    let room : size ≤ length payload = long-enough size payload (sym (ap length is) ∙ long) in
+    is ∙ sym (octets_from-single 0 size payload (omega arith)) ∙ ap (λ active. octets_from 0 size (payloads_of containers active)) (sym one)
+
+pub returns-in-len1-clause-grows : goal.returns-in-len1-clause-grows
+returns-in-len1-clause-grows g c =
+    subst (Grows c.args.delineator.now c.take_piece.new.delineator)
+    (only c.args.containers.now c.args.active.now c.args.size c.only_payload.result.now c.in-len1.len_at_least c.in-len1.len_below c.only_payload.ensures.size c.only_payload.ensures.octets)
+    c.take_piece.ensures.grows
+
+pub returns-in-len1-clause-gives : goal.returns-in-len1-clause-gives
+returns-in-len1-clause-gives g c start =
+    subst (λ l. Gives (λ o. g.F.FrameOut.stands_for o start) c.args.delineator.now l c.args.out.now c.take_piece.new.out)
+    (only c.args.containers.now c.args.active.now c.args.size c.only_payload.result.now c.in-len1.len_at_least c.in-len1.len_below c.only_payload.ensures.size c.only_payload.ensures.octets)
+    (c.take_piece.ensures.gives start)

@@ -1,0 +1,17 @@
+use Rattle.std.proofs.Common.{◌≤◌, ◌-◌}
+use Rattle.session_model.specs.Interleave.{octets_from}
+use Rattle.vcat_interleave.specs.Members.{payloads_of}
+use Rattle.sink_core.specs.Start.{Start}
+use Rattle.sink_core.specs.Receives.{IsKnown, Grows, Gives}
+use Rattle.sink_core.proofs.members.take_members.Given as goal
+
+abbrev pub invariant-loop-place : goal.invariant-loop-place
+invariant-loop-place g l = record {
+  within : l.place ≤ l.size;
+  known : IsKnown l.delineator;
+  grows : Grows l.fn.delineator l.delineator (octets_from 0 l.place (payloads_of l.containers l.active));
+  gives : (start : Start) → Gives (λ o. g.F.FrameOut.stands_for o start) l.fn.delineator (octets_from 0 l.place (payloads_of l.containers l.active)) l.fn.out l.out;
+}
+
+abbrev pub decreases-loop-place : goal.decreases-loop-place
+decreases-loop-place g l = l.size - l.place

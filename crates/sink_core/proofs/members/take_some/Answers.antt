@@ -1,0 +1,34 @@
+-- The frame that octets complete is given.
+use Rattle.std.proofs.Common.{◌≡◌, ◌≤◌, [], ◌++◌, length, take, sym, ◌∙◌, ap, subst, inl, inr}
+use Rattle.std.specs.Prelude.{IfSome}
+use Rattle.std.specs.Option.{option_to_list}
+use Rattle.std.proofs.lemmas.List.{append-nil}
+use Rattle.gfp_delineate.proofs.Frames.{told}
+use Rattle.sink_core.proofs.GivingLaws.{next-told}
+use Rattle.sink_core.proofs.members.take_some.Goals as goal
+
+pub frame-requires-in-Frame : goal.frame-requires-in-Frame
+frame-requires-in-Frame g c =
+    let (first, octets, stands) = c.requires in
+    subst (λ found. IfSome found (λ frame. length frame ≤ 9600)) c.frame.ensures (c.feed-taken.ensures.short 9600 first octets stands)
+
+pub returns-in-Frame-clause-grows : goal.returns-in-Frame-clause-grows
+returns-in-Frame-clause-grows g c first octets stands = c.feed-taken.ensures.stands_in 9600 first octets stands
+
+pub returns-in-Frame-clause-gives : goal.returns-in-Frame-clause-gives
+returns-in-Frame-clause-gives g c start first octets stands frames before =
+    let piece = take c.feed-taken.result.0 c.args.piece.now in
+    let told' = next-told c.feed-taken.new.self c.feed-taken.result.1 first octets piece (c.feed-taken.ensures.outcome 9600 first octets stands) in
+    subst (g.F.FrameOut.stands_for c.frame-in-Frame.new.self start)
+    (ap (λ l. frames ++ l) (sym (told' ∙ ap (told c.feed-taken.new.self) c.in-Frame.is ∙ ap option_to_list c.frame.ensures)))
+    (c.frame-in-Frame.ensures start frames before)
+
+pub returns-in-Nothing-clause-grows : goal.returns-in-Nothing-clause-grows
+returns-in-Nothing-clause-grows g c first octets stands = c.feed-taken.ensures.stands_in 9600 first octets stands
+
+pub returns-in-Nothing-clause-gives : goal.returns-in-Nothing-clause-gives
+returns-in-Nothing-clause-gives g c start first octets stands frames before =
+    let piece = take c.feed-taken.result.0 c.args.piece.now in
+    let told' = next-told c.feed-taken.new.self c.feed-taken.result.1 first octets piece (c.feed-taken.ensures.outcome 9600 first octets stands) in
+    let none : told c.feed-taken.new.self c.feed-taken.result.1 ≡ [] = elim c.in-Nothing.is [ inl e ↦ ap (told c.feed-taken.new.self) e | inr d ↦ ap (told c.feed-taken.new.self) d.1 ] in
+    subst (g.F.FrameOut.stands_for c.args.out.now start) (sym (append-nil frames) ∙ ap (λ l. frames ++ l) (sym (told' ∙ none))) before

@@ -1,0 +1,26 @@
+-- A packet ends with the row.
+use Rattle.std.proofs.Common.{◌≤◌, [], ◌∷◌, ◌++◌, Some, sym, ◌∙◌, ap, ap₂, subst}
+use Rattle.session_model.specs.ReturnPacket.{return_of}
+use Rattle.lcas_sink.specs.Stands.{Stands as HasTold}
+use Rattle.sink_core.specs.Given.{read_rows, packet_rows}
+use Rattle.sink_core.proofs.GivenLaws.{read-more, length-read, packet_rows-more, governing-back, back-here}
+use Rattle.sink_core.proofs.sink.pass_row.Goals as goal
+
+pub returns-then-t-eq7-clause-stands : goal.returns-then-t-eq7-clause-stands
+returns-then-t-eq7-clause-stands c cells governs told =
+    let t = c.args.t in
+    let late : 23 ≤ t = c.if-t.true in
+    let last = c.if-t-eq7.true in
+    let rows = read_rows cells (packet_rows t) in
+    subst (HasTold c.packet_row.new.self)
+    (ap (λ row. rows ++ row ∷ []) (governs ∙ governing-back cells t late last) ∙ sym (read-more cells (packet_rows t)) ∙ ap (read_rows cells) (sym (packet_rows-more t late last)))
+    (c.packet_row.ensures.stands rows told)
+
+pub returns-then-t-eq7-clause-back : goal.returns-then-t-eq7-clause-back
+returns-then-t-eq7-clause-back c cells governs told =
+    let t = c.args.t in
+    let late : 23 ≤ t = c.if-t.true in
+    let last = c.if-t-eq7.true in
+    let rows = read_rows cells (packet_rows t) in
+    ap Some (c.packet_row.ensures.packet rows told ∙ ap₂ (λ row n. return_of (rows ++ row ∷ []) n) (governs ∙ governing-back cells t late last) (length-read cells (packet_rows t)))
+    ∙ sym (back-here cells t late last)

@@ -1,0 +1,24 @@
+-- What a sink knows of the cells of its lines.
+use Rattle.std.specs.Prelude.{◌≡◌, ℕ, ◌<◌, List, length}
+use Rattle.vc_cell.specs.declared.Cell.{Cell}
+use Rattle.line_law.specs.StableRows.{AreDecidedAt}
+use Rattle.gfp_delineate.specs.Receiver.{Receiver}
+use Rattle.lcas_sink.specs.Stands.{Sink}
+use Rattle.lcas_sink.specs.Stands as sink_table
+use Rattle.sink_core.specs.Given.{received_rows, read_rows, packet_rows}
+use Rattle.sink_core.specs.Receives.{Receives}
+
+-- how many lines there are, how many payload octets a container has, how many rows were taken, its receiver, and its table
+pub record Core : Type 0 where
+  pub lines : ℕ
+  pub size : ℕ
+  pub taken : ℕ
+  pub receiver : Receiver
+  pub table : Sink
+
+-- the rows that were taken were those of these cells, which may be more than were there then
+pub record Stands (core : Core) (cells : List (List Cell)) : Type 0 where
+  pub lines : length cells ≡ core.lines
+  pub receives : Receives core.receiver (received_rows core.size cells core.taken)
+  pub table : sink_table.Stands core.table (read_rows cells (packet_rows core.taken))
+  pub decided : (t : ℕ) → t < core.taken → AreDecidedAt cells t

@@ -1,0 +1,40 @@
+//! What more cells and more rows change of what a sink gives, and what it gives in a session.
+
+ghost use Rattle.std.specs.Prelude.{◌≡◌, ℕ, ◌<◌, ◌≤◌, List, ◌++◌, length, Option};
+ghost use Rattle.vc_cell.specs.declared.Cell.{Cell};
+ghost use Rattle.session_model.specs.Scenario.{Scenario};
+ghost use Rattle.session_model.specs.Table.{Told};
+ghost use Rattle.session_model.specs.Segment.{deliver};
+ghost use Rattle.session_model.specs.SessionStream.{rows_of};
+ghost use Rattle.line_law.specs.StableRows.{IsLonger, AreDecidedAt};
+ghost use Rattle.realign_core.specs.Gather.{with_cell};
+ghost use Rattle.sink_core.specs.Given.{given_frames, added_frames, back_at};
+ghost use Rattle.sink_core.specs.Core.{Core, Stands};
+ghost use Rattle.sink_core.specs.Session.{AreSessionRows, TellRows};
+
+/// What was taken stays taken where more cells come, and more rows give more frames and change none of those before.
+pub fn sink_law()
+    ensures stands { (core : Core) (cells longer : List (List Cell)) → IsLonger cells longer →
+        Stands core cells → Stands core longer }
+    ensures frames { (size taken : ℕ) (cells longer : List (List Cell)) → IsLonger cells longer →
+        ((t : ℕ) → t < taken → AreDecidedAt cells t) →
+        given_frames size longer taken ≡ given_frames size cells taken }
+    ensures back { (t : ℕ) (cells longer : List (List Cell)) → IsLonger cells longer →
+        AreDecidedAt cells t → back_at longer t ≡ back_at cells t }
+    ensures added { (size before taken : ℕ) (cells : List (List Cell)) → before ≤ taken →
+        given_frames size cells taken
+        ≡ given_frames size cells before ++ added_frames size cells before taken }
+    ensures cell { (cells : List (List Cell)) (line : ℕ) (cell : Cell) →
+        IsLonger cells (with_cell cells line cell) }
+{}
+
+/// Where the first rows that the cells give are those of a session, the frames given are those that it delivers in these rows. They are
+/// where the cells tell the packets that could be read and the containers that are good, and these were dealt the octets of the stream.
+pub fn session_sink_law()
+    ensures frames { (scenario : Scenario) (returns : List (Option Told)) (cells : List (List Cell))
+        (n : ℕ) → AreSessionRows scenario returns cells n →
+        given_frames scenario.size cells n ≡ deliver 9600 (rows_of scenario returns n) }
+    ensures rows { (scenario : Scenario) (returns : List (Option Told)) (cells : List (List Cell))
+        (n : ℕ) → length scenario.windows ≤ 128 → TellRows scenario returns cells n →
+        AreSessionRows scenario returns cells n }
+{}

@@ -1,0 +1,106 @@
+//! A row, whole or not.
+
+ghost use Rattle.std.specs.Prelude.{◌≡◌, ℕ, ◌≤◌, List, [], ◌∷◌, ◌++◌, length, is_some};
+ghost use Rattle.std.specs.Vec.{vec_capacity};
+ghost use Rattle.vc_cell.specs.declared.Cell.{Cell};
+ghost use Rattle.vc_cell.specs.declared.Container.{Container};
+ghost use Rattle.session_model.specs.Rows.{governing, containers_at, row_under, row_at};
+ghost use Rattle.session_model.specs.Segment.{StreamRow};
+ghost use Rattle.loss_law.specs.Added.{added};
+ghost use Rattle.vcat_interleave.specs.Members.{AreLines};
+ghost use Rattle.realign_core.specs.Gather.{Stands, line_count, AreDecided};
+ghost use Rattle.sink_core.specs.Members.{Hold, octets_if};
+ghost use Rattle.sink_core.specs.Start.{Start};
+ghost use Rattle.sink_core.specs.Given.{row_in};
+ghost use Rattle.sink_core.specs.Receives.{IsKnown, Receives};
+
+use crate::active::{find_active, leading_act};
+use crate::frames::FrameOut;
+use crate::members::take_members;
+use gfp_delineate::Delineator;
+use line_reader::Verdict;
+use realign_core::RowGather;
+
+/// The first row that a packet governs.
+pub(crate) const FIRST_ROW: u32 = 24;
+
+/// Whether the next row is whole on each of these lines.
+fn are_whole(rows: &RowGather, active: &[u8]) -> bool
+    requires lines { AreLines (line_count rows.now) active.now }
+    requires decided { AreDecided rows.now }
+    ensures { (cells : List (List Cell)) → Stands rows.now cells →
+        result ≡ is_some (containers_at cells rows.now.rows active.now) }
+{
+    for line in active {
+        match rows.verdict(*line) {
+            Verdict::Whole(_) => {}
+            Verdict::Bad => return false,
+        }
+    }
+    true
+}
+
+/// Whether the next row is whole by the packets that govern it. `active` gets the lines that carry payload by them.
+pub(crate) fn is_whole(rows: &RowGather, active: &mut Vec<u8>) -> bool
+    requires lines { line_count rows.now ≤ 128 }
+    requires decided { AreDecided rows.now }
+    requires room { 128 ≤ vec_capacity active.old }
+    ensures row { (size : ℕ) (cells : List (List Cell)) (places : List Container) →
+        Stands rows.now cells → Hold places cells rows.now.rows →
+        row_under (governing cells rows.now.rows) size cells rows.now.rows
+        ≡ octets_if result size places active.new.items }
+    ensures lines { AreLines (line_count rows.now) active.new.items }
+    ensures few { length active.new.items ≤ 128 }
+    ensures room { 128 ≤ vec_capacity active.new }
+{
+    let packets = rows.packets();
+    find_active(packets, active);
+    match leading_act(packets) {
+        Some(act) => active.len() == usize::from(act) && are_whole(rows, active),
+        None => false,
+    }
+}
+
+/// Takes row `t`, which is the next one: its octets, where it is whole, or the break of the stream.
+pub(crate) fn take_row<F: FrameOut>(
+    delineator: &mut Delineator,
+    active: &mut Vec<u8>,
+    block: &mut [u8],
+    size: u16,
+    rows: &RowGather,
+    t: u32,
+    out: &mut F,
+)
+    requires known { IsKnown delineator.old }
+    requires room { 128 ≤ vec_capacity active.old }
+    requires block { length block.old ≡ 4096 }
+    requires size { size ≤ 2340 }
+    requires lines { line_count rows.now ≤ 128 }
+    requires decided { AreDecided rows.now }
+    requires row { rows.now.rows ≡ t }
+    ensures known { IsKnown delineator.new }
+    ensures room { 128 ≤ vec_capacity active.new }
+    ensures receives { (cells : List (List Cell)) (come : List StreamRow) → Stands rows.now cells →
+        Receives delineator.old come →
+        Receives delineator.new (come ++ row_in (row_at size cells t) ∷ []) }
+    ensures gives { (cells : List (List Cell)) (come : List StreamRow) → Stands rows.now cells →
+        Receives delineator.old come → (start : Start) (frames : List (List ℕ)) →
+        F.stands_for out.old start frames →
+        F.stands_for out.new start (frames ++ added 9600 come (row_in (row_at size cells t))) }
+{
+    if t < FIRST_ROW {
+        return;
+    }
+    if is_whole(rows, active) {
+        take_members(
+            delineator,
+            block,
+            rows.containers(),
+            active,
+            usize::from(size),
+            out,
+        );
+    } else {
+        delineator.broken();
+    }
+}

@@ -1,0 +1,163 @@
+//! The sink.
+
+ghost use Rattle.std.specs.Prelude.{◌≡◌, ℕ, ◌+◌, ◌<◌, ◌≤◌, ◌⊎◌, List, ◌++◌, length, IfOk};
+ghost use Rattle.vc_cell.specs.declared.Cell.{Cell};
+ghost use Rattle.realign_core.specs.Gather.{Stands as Gathers, line_count};
+ghost use Rattle.sink_core.specs.Start.{Start};
+ghost use Rattle.session_model.specs.Rows.{governing};
+ghost use Rattle.lcas_sink.specs.Stands.{Stands as HasTold};
+ghost use Rattle.sink_core.specs.Given.{answer_at, added_frames, back_at, read_rows, packet_rows, rows_taken, IsWaiting, Allows};
+ghost use Rattle.sink_core.specs.Core.{Stands};
+
+use crate::frames::FrameOut;
+use crate::members::BLOCK;
+use crate::row::{FIRST_ROW, take_row};
+use gfp_delineate::Delineator;
+use lcas_packet::Packet;
+use lcas_sink::SinkTable;
+use realign_core::{RowAnswer, RowGather};
+use std::alloc::{AllocError, Global};
+use std::marker::Model;
+
+/// The greatest frame that is given, in octets.
+const LONGEST: u16 = 9600;
+
+/// The most lines of a group.
+const LINES: usize = 128;
+
+/// Whether a row was taken.
+#[derive(Clone, Copy, Debug, PartialEq, Eq)]
+pub enum TakeAnswer {
+    /// It was.
+    Taken {
+        /// The return packet that it makes, at rows 16 k + 23.
+        back: Option<Packet>,
+    },
+    /// The next row isn't decided on some line.
+    Waiting {
+        /// The least such line.
+        line: u8,
+    },
+}
+
+/// Takes the rows of a group.
+#[derive(Drop)]
+pub struct SinkCore {
+    lines: u8,
+    size: u16,
+    taken: u32,
+    delineator: Delineator,
+    table: SinkTable,
+    /// The lines that carry payload in the last row, by rank.
+    active: Vec<u8>,
+    /// Octets of some places of a row, joined.
+    block: Vec<u8>,
+}
+
+impl Model for SinkCore {
+    ghost use Rattle.std.specs.Prelude.{◌≡◌, ◌≤◌, length};
+    ghost use Rattle.std.specs.Vec.{vec_capacity};
+    ghost use Rattle.sink_core.specs.Receives.{IsKnown};
+    ghost use Rattle.sink_core.specs.Given.{packet_rows};
+    ghost use Rattle.sink_core.specs.Core.{Core};
+
+    ghost Value = { Core };
+
+    ghost view = { λ core. record { lines = core.lines; size = core.size; taken = core.taken; receiver = core.delineator; table = core.table } };
+
+    ghost invariant = { λ core. IsKnown core.delineator × (core.lines ≤ 128) × (core.size ≤ 2340) × (core.table.lines ≡ core.lines)
+        × (core.table.taken ≡ packet_rows core.taken) × (128 ≤ vec_capacity core.active) × (length core.block.items ≡ 4096) };
+}
+
+impl SinkCore {
+    /// The sink of a group of `lines` lines whose containers have `size` payload octets. No row was taken.
+    pub fn new(alloc: Global, lines: u8, size: u16) -> Result<SinkCore, AllocError>
+        requires least { 1 ≤ lines }
+        requires most { lines ≤ 128 }
+        requires size { (size ≡ 756) ⊎ (size ≡ 2340) }
+        ensures lines { IfOk result (λ core. core.lines ≡ lines) }
+        ensures size { IfOk result (λ core. core.size ≡ size) }
+        ensures taken { IfOk result (λ core. core.taken ≡ 0) }
+        ensures stands { IfOk result (λ core. (cells : List (List Cell)) → length cells ≡ lines →
+            Stands core cells) }
+    {
+        Ok(SinkCore {
+            lines,
+            size,
+            taken: 0,
+            delineator: Delineator::new(alloc, LONGEST)?,
+            table: SinkTable::new(lines),
+            active: Vec::with_capacity(alloc, LINES)?,
+            block: vec![in alloc; 0; BLOCK]?,
+        })
+    }
+
+    /// Takes the next row, where it is decided on each line: the frames that it completes are given to `out`, and at rows 16 k + 23 the
+    /// answer has return packet k. Else nothing changes.
+    pub fn take<F: FrameOut>(&mut self, rows: &mut RowGather, out: &mut F) -> TakeAnswer
+        requires lines { line_count rows.old ≡ self.old.lines }
+        requires rows { rows.old.rows ≡ self.old.taken }
+        requires few { self.old.taken < 4294967295 }
+        ensures answer { (cells : List (List Cell)) → Gathers rows.old cells → Stands self.old cells →
+            result ≡ answer_at cells self.old.taken }
+        ensures taken { self.new.taken ≡ self.old.taken + rows_taken result }
+        ensures rows { rows.new.rows ≡ self.new.taken }
+        ensures lines { line_count rows.new ≡ line_count rows.old }
+        ensures same { (self.new.lines ≡ self.old.lines) × (self.new.size ≡ self.old.size) }
+        ensures gathers { (cells : List (List Cell)) → Gathers rows.old cells → Gathers rows.new cells }
+        ensures stands { (cells : List (List Cell)) → Gathers rows.old cells → Stands self.old cells →
+            Stands self.new cells }
+        ensures gives { (cells : List (List Cell)) → Gathers rows.old cells → Stands self.old cells →
+            (start : Start) (frames : List (List ℕ)) → F.stands_for out.old start frames →
+            F.stands_for out.new start
+            (frames ++ added_frames self.old.size cells self.old.taken self.new.taken) }
+        ensures allows { Allows rows.old result }
+        ensures waits { IsWaiting result →
+            (self.new ≡ self.old) × (rows.new ≡ rows.old) × (out.new ≡ out.old) }
+    {
+        match rows.row() {
+            RowAnswer::Waiting { line } => TakeAnswer::Waiting { line },
+            RowAnswer::Row => {
+                take_row(
+                    &mut self.delineator,
+                    &mut self.active,
+                    &mut self.block,
+                    self.size,
+                    rows,
+                    self.taken,
+                    out,
+                );
+                rows.advance();
+                let back = pass_row(&mut self.table, self.taken, rows.packets());
+                self.taken += 1;
+                TakeAnswer::Taken { back }
+            }
+        }
+    }
+
+    /// How many rows were taken.
+    pub fn taken(&self) -> u32
+        ensures { result ≡ self.now.taken }
+    {
+        self.taken
+    }
+}
+
+/// Counts row `t`, which was passed, and gives the return packet where a packet ends with it. `packets` govern the row after it.
+fn pass_row(table: &mut SinkTable, t: u32, packets: &[Option<Packet>]) -> Option<Packet>
+    requires lines { length packets.now ≡ table.old.lines }
+    requires few { t < 4294967295 }
+    requires taken { table.old.taken ≡ packet_rows t }
+    ensures lines { table.new.lines ≡ table.old.lines }
+    ensures taken { table.new.taken ≡ packet_rows (t + 1) }
+    ensures stands { (cells : List (List Cell)) → packets.now ≡ governing cells (t + 1) →
+        HasTold table.old (read_rows cells (packet_rows t)) → HasTold table.new (read_rows cells (packet_rows (t + 1))) }
+    ensures back { (cells : List (List Cell)) → packets.now ≡ governing cells (t + 1) →
+        HasTold table.old (read_rows cells (packet_rows t)) → result ≡ back_at cells t }
+{
+    if t >= FIRST_ROW - 1 && t % 16 == 7 {
+        Some(table.packet_row(packets))
+    } else {
+        None
+    }
+}
