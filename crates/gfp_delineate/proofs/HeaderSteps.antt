@@ -17,7 +17,7 @@ use Rattle.gfp_delineate.proofs.StandingLaws.{Becomes-refused, Becomes-confirmed
 use Rattle.gfp_delineate.proofs.OutcomeLaws.{run_outcomes-none, outcomes_of-push}
 use Rattle.gfp_delineate.proofs.Known.{outcomes_of, outcomes_with, outcomes-presync, outcomes-header, length-shifted, window-few, window-none}
 use Rattle.gfp_delineate.proofs.Taking.{Takes, Taken, Takes-in, Takes-none, Takes-then}
-use Rattle.gfp_delineate.proofs.IdleLaws.{idle_header, idles, core_header-idle, idles-suc}
+use Rattle.session_model.proofs.IdleLaws.{idle_header, idles, core_header-idle, idles-suc}
 use Rattle.gfp_delineate.proofs.SearchSteps.{in_phase, shifted, to-hunt}
 use Rattle.gfp_delineate.proofs.RunSteps.{followed, Knows, followed-idle, followed-unknown, followed-long, followed-kept, Takes-follow-part}
 

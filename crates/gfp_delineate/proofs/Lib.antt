@@ -4,7 +4,6 @@ pub mod StandingLaws
 pub mod OutcomeLaws
 pub mod Taking
 pub mod Known
-pub mod IdleLaws
 pub mod ListLaws
 pub mod SettleLaws
 pub mod SearchSteps

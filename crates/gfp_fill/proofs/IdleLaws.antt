@@ -1,50 +1,30 @@
 -- Idle frames, one after another, and what stands after them.
-use Rattle.std.proofs.Common.{◌≡◌, ℕ, zero, suc, ◌+◌, ◌*◌, ◌<◌, List, [], ◌∷◌, ◌++◌, length, take, drop, replicate, refl, sym, ◌∙◌, ap, arith, append_assoc, length-append, inl, inr}
-use Rattle.std.specs.List.{flat_map}
+use Rattle.std.proofs.Common.{◌≡◌, ℕ, zero, suc, ◌+◌, ◌*◌, ◌<◌, List, [], ◌∷◌, ◌++◌, length, take, drop, refl, sym, ◌∙◌, ap, arith, length-append, inl, inr}
 use Rattle.std.proofs.lemmas.Bool.{cases_lt}
 use Rattle.std.proofs.lemmas.List.{append-nil, take_at, drop_at, take-append-drop, take-append-le, drop-append-le, take_all, drop_all, length-drop}
-use Rattle.remainder.specs.Bits.{bits, number_behind, octets_of, xors}
-use Rattle.remainder.specs.Remainder.{add_front, divide}
+use Rattle.remainder.specs.Bits.{octets_of}
 use Rattle.session_model.specs.Scramble.{scrambled_octets}
 use Rattle.session_model.specs.Core.{core_header}
-use Rattle.session_model.specs.Piece.{with_header, stream_of, idle, cut}
+use Rattle.session_model.specs.Piece.{stream_of, idle, cut}
 use Rattle.session_model.specs.Client.{Stream, reached}
 use Rattle.session_model.proofs.CoreLaws.{length-core_header}
+use Rattle.session_model.proofs.IdleLaws.{idle_header, core_header-idle, idles}
 use Rattle.gfp_fill.specs.Queue.{Held}
 use Rattle.gfp_fill.specs.Stream.{Sender, head_of, Stands, HasWritten}
 use Rattle.gfp_fill.proofs.StreamSteps.{idle_written, written-both}
 
--- the core header of an idle frame, as it is sent
-abbrev pub idle_header : List ℕ
-idle_header = 0xb6 ∷ 0xab ∷ 0x31 ∷ 0xe0 ∷ []
-
-core_header-idle : core_header 0 ≡ idle_header
-unfolding core_header octets_of xors bits divide add_front number_behind
-core_header-idle = refl
-
--- a number of idle frames
-abbrev pub idles : ℕ → List ℕ
-idles n = flat_map with_header (replicate n [])
-
--- one more in front, and one more at the end
-idles-suc : (n : ℕ) → idles (suc n) ≡ core_header 0 ++ idles n
-idles-suc n = ap (λ l. l ++ idles n) (append-nil (core_header 0))
-
-pub idles-more : (n : ℕ) → idles (n + 1) ≡ idles n ++ idle_header
-idles-more zero = idles-suc 0 ∙ append-nil (core_header 0) ∙ core_header-idle
-idles-more (suc n) =
-    let e : suc n + 1 ≡ suc (n + 1) = omega arith in
-    ap idles e ∙ idles-suc (n + 1) ∙ ap (λ l. core_header 0 ++ l) (idles-more n)
-    ∙ sym (append_assoc (core_header 0) (idles n) idle_header) ∙ ap (λ l. l ++ idle_header) (sym (idles-suc n))
+-- one more in front
+idles-front : (n : ℕ) → idles (suc n) ≡ core_header 0 ++ idles n
+idles-front n = ap (λ l. l ++ idles n) (append-nil (core_header 0))
 
 length-idles : (n : ℕ) → length (idles n) ≡ 4 * n
 length-idles zero = refl
-length-idles (suc n) = omega (arith, ap length (idles-suc n), length-append (core_header 0) (idles n), length-core_header 0, length-idles n)
+length-idles (suc n) = omega (arith, ap length (idles-front n), length-append (core_header 0) (idles n), length-core_header 0, length-idles n)
 
 -- the two idles at the start, and no octets of areas
 pub two_idles : stream_of (idle ∷ idle ∷ []) ≡ (idle_header ++ idle_header) ++ scrambled_octets []
 unfolding cut octets_of
-two_idles = idles-suc 1 ∙ ap (λ l. core_header 0 ++ l) (idles-suc 0 ∙ append-nil (core_header 0)) ∙ ap (λ l. l ++ l) core_header-idle
+two_idles = idles-front 1 ∙ ap (λ l. core_header 0 ++ l) (idles-front 0 ∙ append-nil (core_header 0)) ∙ ap (λ l. l ++ l) core_header-idle
 
 -- octets of idles are written, where no frame waits; of the last idle fewer than four octets are left
 pub idles_written : (n : ℕ) (s t : Sender) (queue : Held) (stream : Stream) (place : ℕ) (octets head : List ℕ) → Stands s queue stream place
@@ -54,7 +34,7 @@ idles_written zero s t queue stream place octets head stands done begun waits ar
 idles_written (suc n) s t queue stream place octets head stands done begun waits are left few some scrambler =
     let core = core_header 0 in
     let four = length-core_header 0 in
-    let split : core ++ idles n ≡ octets ++ head = sym (idles-suc n) ∙ are in
+    let split : core ++ idles n ≡ octets ++ head = sym (idles-front n) ∙ are in
     let sizes : 4 + 4 * n ≡ length octets + length head = omega (arith, ap length split, length-append core (idles n), length-append octets head, four, length-idles n) in
     elim (cases_lt 4 (length octets)) [
       | inl more ↦
@@ -75,4 +55,4 @@ idles_written (suc n) s t queue stream place octets head stands done begun waits
 
 -- octets of one idle, and those of it that are left
 pub first_of_idle : (n : ℕ) → idles 1 ≡ take n idle_header ++ drop n idle_header
-first_of_idle n = idles-suc 0 ∙ append-nil (core_header 0) ∙ core_header-idle ∙ sym (take-append-drop n idle_header)
+first_of_idle n = idles-front 0 ∙ append-nil (core_header 0) ∙ core_header-idle ∙ sym (take-append-drop n idle_header)

@@ -1,7 +1,12 @@
 -- A pair of digits, and one that holds another character.
-use Rattle.std.proofs.Common.{◌≡◌, ◌≢◌, ℕ, ◌+◌, ◌-◌, ◌*◌, ◌<◌, ◌≤◌, ◌&&◌, Bool, true, false, List, [], ◌++◌, length, take, drop, slice_index, Some, Ok, refl, ap, ap₂, ◌∙◌, arith}
-use Rattle.std.proofs.lemmas.List.{append-nil, length-append, length-drop, take_at, drop_all}
-use Rattle.hex.specs.Hex.{decode_of, pair_value, hex_digit_value, is_hex_digit}
+use Rattle.std.proofs.Common.{◌≡◌, ◌≢◌, ℕ, ◌+◌, ◌-◌, ◌*◌, ◌<◌, ◌≤◌, ◌&&◌, Bool, true, false, List, [], ◌∷◌, ◌++◌, length, map, take, drop, get_or, slice_index, slice_set, Some, Ok, refl, sym, ap, ap₂, ◌∙◌, arith}
+use Rattle.std.specs.List.{range_with_len}
+use Rattle.std.proofs.Math.Seq.{take-add}
+use Rattle.std.proofs.lemmas.Bool.{and_parts}
+use Rattle.std.proofs.lemmas.List.{append-nil, length-append, length-drop, take_at, drop_all, drop-drop, get_or-take, get_or-drop}
+use Rattle.std.proofs.lemmas.List.FromFn.{get_or-map-range_with_len}
+use Rattle.hex.specs.Hex.{decode_of, decode_pairs, pair_value, hex_digit_value, is_hex_digit}
+use Rattle.hex.proofs.Pairs.{prepend, decode_start, decode_step}
 use Rattle.hex.proofs.HexLemmas.{decode_of-ok}
 
 -- the octet of two digits
@@ -39,3 +44,47 @@ written_after start len old more xs ys end before is size all =
     ap₂ (λ l m. l ++ (ys ++ m)) front none ∙ ap (λ l. old ++ l) (append-nil ys) in
     ap (λ l. take len (l ++ end)) joined
     ∙ take_at (old ++ ys) end len (omega (arith, length-append old ys, ap length is, length-append old more))
+
+-- the octets of the pairs below a place are written, if all were digits; else one wasn't
+pub record IsDecoded (text octets : List ℕ) (i : ℕ) (right : Bool) : Type 0 where
+  pub yes : right ≡ true → decode_pairs 0 text ≡ prepend (take i octets) (decode_pairs (2 * i) (drop (2 * i) text))
+  pub no : right ≡ false → HasOther text (2 * i)
+
+pub none_decoded : (text octets : List ℕ) → IsDecoded text octets 0 true
+none_decoded text octets = record { yes = λ _. decode_start text octets; no = λ e. absurd cc }
+
+-- one more pair, whose characters are these
+pub pair_decoded : (text octets : List ℕ) (i upper lower v w : ℕ) (right a b : Bool) → 2 * i + 1 < length text → i < length octets
+    → upper ≡ slice_index text (2 * i) → lower ≡ slice_index text (2 * i + 1) → a ≡ is_hex_digit upper → b ≡ is_hex_digit lower
+    → (is_hex_digit upper ≡ true → hex_digit_value upper ≡ Some v) → (is_hex_digit lower ≡ true → hex_digit_value lower ≡ Some w)
+    → IsDecoded text octets i right → IsDecoded text (slice_set octets i (v * 16 + w)) (i + 1) (right && a && b)
+pair_decoded text octets i upper lower v w right a b fits room first second high low is_v is_w so_far =
+    let one : a ≡ is_hex_digit (slice_index text (2 * i)) = high ∙ ap is_hex_digit first in
+    let two : b ≡ is_hex_digit (slice_index text (2 * i + 1)) = low ∙ ap is_hex_digit second in
+    record {
+      yes = λ all.
+          let both = and_parts (right && a) b all in
+          let front = and_parts right a both.0 in
+          let value_v : hex_digit_value (slice_index text (2 * i)) ≡ Some v = ap (λ (c : ℕ). hex_digit_value c) (sym first) ∙ is_v (sym high ∙ front.1) in
+          let value_w : hex_digit_value (slice_index text (2 * i + 1)) ≡ Some w = ap (λ (c : ℕ). hex_digit_value c) (sym second) ∙ is_w (sym low ∙ both.1) in
+          decode_step text octets i (v * 16 + w) fits room
+          (pair_value-digits (slice_index text (2 * i)) (slice_index text (2 * i + 1)) (2 * i) v w value_v value_w)
+          (so_far.yes front.0);
+      no = other_more text i right a b so_far.no one two;
+    }
+
+-- ---- characters in columns
+sixteen_in_turn : (text : List ℕ) (at k : ℕ) → k < 32 → get_or (take 16 (drop at text) ++ take 16 (drop (at + 16) text)) k 0 ≡ slice_index text (at + k)
+sixteen_in_turn text at k below =
+    ap (λ (l : List ℕ). get_or l k 0) (ap (λ (l : List ℕ). take 16 (drop at text) ++ take 16 l) (sym (drop-drop 16 at text)) ∙ sym (take-add 16 16 (drop at text)))
+    ∙ get_or-take 32 (drop at text) k 0 below ∙ get_or-drop at text k 0
+
+pub first_column : (text : List ℕ) (at n : ℕ) → n < 16 → get_or (map (λ k. get_or (take 16 (drop at text) ++ take 16 (drop (at + 16) text)) (2 * k) 0) (range_with_len 0 16)) n 0 ≡ slice_index text (at + 2 * n)
+first_column text at n below =
+    get_or-map-range_with_len (λ k. get_or (take 16 (drop at text) ++ take 16 (drop (at + 16) text)) (2 * k) 0) 0 16 n n 0 below (omega arith)
+    ∙ sixteen_in_turn text at (2 * n) (omega arith)
+
+pub second_column : (text : List ℕ) (at n : ℕ) → n < 16 → get_or (map (λ k. get_or (take 16 (drop at text) ++ take 16 (drop (at + 16) text)) (2 * k + 1) 0) (range_with_len 0 16)) n 0 ≡ slice_index text (at + 2 * n + 1)
+second_column text at n below =
+    get_or-map-range_with_len (λ k. get_or (take 16 (drop at text) ++ take 16 (drop (at + 16) text)) (2 * k + 1) 0) 0 16 n n 0 below (omega arith)
+    ∙ sixteen_in_turn text at (2 * n + 1) (omega arith) ∙ ap (λ (m : ℕ). slice_index text m) (let e : at + (2 * n + 1) ≡ at + 2 * n + 1 = omega arith in e)

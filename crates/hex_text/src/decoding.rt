@@ -1,10 +1,14 @@
 //! Text to octets.
 
-ghost use Rattle.std.specs.Prelude.{◌≡◌, ◌≢◌, ℕ, ◌+◌, ◌*◌, ◌/◌, ◌≤◌, List, ◌++◌, length, Bool, true, false, Result, Ok, OnOk, OnErr, vec_len};
+ghost use Rattle.std.specs.Prelude.{◌≡◌, ◌≢◌, ℕ, ◌+◌, ◌*◌, ◌/◌, ◌<◌, ◌≤◌, List, ◌++◌, length, Bool, true, false, Result, Ok, OnOk, OnErr, vec_len, slice_index};
 ghost use Rattle.std.specs.Vec.{vec_capacity};
 ghost use Rattle.hex.specs.Hex.{decode_of};
 
 use crate::digits::{is_digit, value};
+use std::simd::prelude::*;
+
+// How many pairs are read at once.
+const PAIRS: usize = 16;
 
 /// A text that isn't pairs of hexadecimal digits.
 #[derive(Clone, Copy, Debug, PartialEq, Eq)]
@@ -44,11 +48,33 @@ fn decode(text: &[u8], octets: &mut [u8]) -> bool
     ensures no { result ≡ false → (bytes : List ℕ) → decode_of text.now ≢ Ok bytes }
 {
     let mut right = true;
-    for i in 0..octets.len() {
+    let mut done = 0;
+    while done + PAIRS <= octets.len() {
+        let (upper, lower) = columns(text, 2 * done);
+        for j in 0..PAIRS {
+            right = right & is_digit(upper[j]) & is_digit(lower[j]);
+            octets[done + j] = value(upper[j]) * 16 + value(lower[j]);
+        }
+        done += PAIRS;
+    }
+    for i in done..octets.len() {
         let upper = text[2 * i];
         let lower = text[2 * i + 1];
         right = right & is_digit(upper) & is_digit(lower);
         octets[i] = value(upper) * 16 + value(lower);
     }
     right
+}
+
+// The first digits of sixteen pairs, and the second ones.
+#[inline]
+fn columns(text: &[u8], at: usize) -> ([u8; PAIRS], [u8; PAIRS])
+    requires { at + 32 ≤ length text.now }
+    ensures upper { (n : ℕ) → n < 16 → slice_index result.0 n ≡ slice_index text.now (at + 2 * n) }
+    ensures lower { (n : ℕ) → n < 16 → slice_index result.1 n ≡ slice_index text.now (at + 2 * n + 1) }
+{
+    let front = u8x16::from_slice(&text[at..]);
+    let back = u8x16::from_slice(&text[at + PAIRS..]);
+    let (upper, lower) = front.deinterleave(back);
+    (upper.to_array(), lower.to_array())
 }

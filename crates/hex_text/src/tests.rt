@@ -55,3 +55,25 @@ fn characters_that_are_no_digits(rt: HostRuntime) -> Result<(), Fail> {
     }
     Ok(())
 }
+
+/// The octets 0 to 34.
+const THIRTY_FIVE: &[u8; 70] =
+    b"000102030405060708090a0b0c0d0e0f101112131415161718191A1B1C1D1E1F202122";
+
+#[test]
+fn long_texts(rt: HostRuntime) -> Result<(), Fail> {
+    let mut found = Vec::with_capacity(rt.alloc(), 35)?;
+    assert_eq!(rt; decode_into(THIRTY_FIVE, &mut found), Ok(()));
+    assert_eq!(rt; found.len(), 35);
+    for (i, octet) in found.iter().enumerate() {
+        assert_eq!(rt; usize::from(*octet), i);
+    }
+    for at in [0, 1, 30, 31, 32, 63, 64, 69] {
+        let mut wrong = *THIRTY_FIVE;
+        wrong[at] = b'g';
+        found.clear();
+        assert_eq!(rt; decode_into(&wrong, &mut found), Err(NotHex), "{at}");
+        assert_eq!(rt; found.len(), 0);
+    }
+    Ok(())
+}

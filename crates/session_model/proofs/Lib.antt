@@ -8,3 +8,4 @@ pub mod StreamLaws
 pub mod OctetsOfHeader
 pub mod ReachLaws
 pub mod PathLaws
+pub mod IdleLaws

@@ -6,8 +6,9 @@ use Rattle.std.proofs.lemmas.List.Concat.{flat_map-append}
 use Rattle.std.proofs.lemmas.List.Elements.{All-nil, All-cons, All-head, All-tail, All-append, All-take, All-drop}
 use Rattle.session_model.specs.Scramble.{scrambled_octets}
 use Rattle.session_model.specs.Core.{core_header}
-use Rattle.session_model.specs.Piece.{Piece, area_of, cut, joined, with_header, stream_of, size_of}
+use Rattle.session_model.specs.Piece.{Piece, area_of, cut, joined, scrambled_areas, with_header, stream_of, size_of}
 use Rattle.session_model.proofs.CoreLaws.{length-core_header, core_header_below}
+use Rattle.session_model.proofs.ScrambledOctets.{scrambled_octets_below}
 use Rattle.session_model.proofs.CutLaws.{sum-cons}
 use Rattle.session_model.proofs.AreaLaws.{scrambled_behind, map-length-scrambled_behind, length-scrambled_behind, scrambled_behind-append, length-scrambled_single, scrambled_behind-single}
 
@@ -85,3 +86,8 @@ headed_below (area ∷ areas) h =
     All-append (λ o. o < 256) (with_header area) (flat_map with_header areas)
     (All-append (λ o. o < 256) (core_header (length area)) area (core_header_below (length area)) (All-head (All (λ o. o < 256)) area areas h))
     (headed_below areas (All-tail (All (λ o. o < 256)) area areas h))
+
+pub stream_of_below : (pieces : List Piece) → All (λ o. o < 256) (stream_of pieces)
+stream_of_below pieces =
+    let areas : List (List ℕ) = map area_of pieces in
+    headed_below (scrambled_areas areas) (cut_below (map length areas) (scrambled_octets (joined areas)) (scrambled_octets_below (joined areas)))

@@ -56,7 +56,7 @@ given-whole scenario returns line frames delay carries made taken =
     ]
 
 module _ (scenario : Scenario) (returns : List (Option Told)) (lines : HasLines scenario) (line : ℕ) (inside : line < length scenario.windows) where
-  is-line : IsLine (windows_of scenario line) (containers_of scenario returns line scenario.ticks)
+  pub is-line : IsLine (windows_of scenario line) (containers_of scenario returns line scenario.ticks)
   is-line = record {
     apart = lines.apart line [] inside;
     slip = lines.slip line [] inside;

@@ -1,8 +1,8 @@
 -- Return cells that the sink made of what came, told to the source which made what came, are those of the session.
-use Rattle.std.proofs.Common.{◌≡◌, ℕ, zero, suc, ◌+◌, ◌-◌, ◌*◌, ◌/◌, ◌<◌, ◌≤◌, List, [], ◌∷◌, ◌++◌, map, take, length, slice_get, Option, Some, option_map, refl, sym, ◌∙◌, ap, arith}
+use Rattle.std.proofs.Common.{◌≡◌, ℕ, zero, suc, ◌+◌, ◌-◌, ◌*◌, ◌/◌, ◌<◌, ◌≤◌, List, [], ◌∷◌, ◌++◌, take, length, slice_get, Option, Some, option_map, refl, sym, ◌∙◌, ap, arith}
 use Rattle.std.specs.List.{range_with_len}
-use Rattle.std.proofs.lemmas.List.FromFn.{length-map-range_with_len, get_or-map-range_with_len, fill_by_all}
-use Rattle.std.proofs.lemmas.List.{take_all}
+use Rattle.std.proofs.lemmas.List.FromFn.{length-map-range_with_len}
+use Rattle.std.proofs.lemmas.List.{take_all, take-take}
 use Rattle.std.proofs.lemmas.Option.{slice_get-map}
 use Rattle.vc_cell.specs.declared.Cell.{Cell}
 use Rattle.session_model.specs.Path.{cells}
@@ -16,25 +16,13 @@ use Rattle.session_law.specs.Session.{AgreeBefore}
 use Rattle.session_law.proofs.SessionLaws.{return_cell-agree, Agree-take, cells_before-prefix}
 use Rattle.terminal_law.specs.Lines.{HasLines, ComesOf, ComeOf}
 use Rattle.terminal_law.specs.Course.{back_of, told_of, IsCourse}
-use Rattle.terminal_law.proofs.SentLaws.{range-at}
+use Rattle.terminal_law.proofs.ListLaws.{range-at, same-range}
 use Rattle.terminal_law.proofs.DealtLaws.{container-same}
 use Rattle.terminal_law.proofs.RowLaws.{back-told}
 
--- ---- lists
-take-sooner : {X : Type 0} (m n : ℕ) (xs : List X) → m ≤ n → take m (take n xs) ≡ take m xs
-take-sooner zero n xs sooner = refl
-take-sooner (suc m) zero xs sooner = absurd (omega arith)
-take-sooner (suc m) (suc n) [] sooner = refl
-take-sooner (suc m) (suc n) (x ∷ xs) sooner = ap (λ l. x ∷ l) (take-sooner m n xs (omega arith))
-
-pub same-range : {X : Type 0} (f g : ℕ → X) (n : ℕ) → ((k : ℕ) → k < n → f k ≡ g k) → map f (range_with_len 0 n) ≡ map g (range_with_len 0 n)
-same-range f g n same =
-    fill_by_all g (map f (range_with_len 0 n)) n (f 0) (length-map-range_with_len f 0 n)
-    (λ k low. get_or-map-range_with_len f 0 n k k (f 0) low (omega arith) ∙ same k low)
-
 -- lists of which the first cells are the same agree on fewer of them
 pub agree-sooner : (m n : ℕ) (a b : List (Option Told)) → m ≤ n → AgreeBefore n a b → AgreeBefore m a b
-agree-sooner m n a b sooner same = sym (take-sooner m n a sooner) ∙ ap (take m) same ∙ take-sooner m n b sooner
+agree-sooner m n a b sooner same = sym (take-take m n a sooner) ∙ ap (take m) same ∙ take-take m n b sooner
 
 -- ---- return cells each of which is what the session says by those before it
 module _ (scenario : Scenario) (lag : 0 < scenario.lag) (returns : List (Option Told)) (n : ℕ)
@@ -46,7 +34,7 @@ module _ (scenario : Scenario) (lag : 0 < scenario.lag) (returns : List (Option 
       let before = first-cells k (omega arith) in
       let cell = return_cell scenario returns k in
       let m : ℕ = k + 1 - scenario.lag in
-      let agree : take m returns ≡ take m (cells_before scenario k) = sym (take-sooner m k returns (omega arith)) ∙ ap (take m) before in
+      let agree : take m returns ≡ take m (cells_before scenario k) = sym (take-take m k returns (omega arith)) ∙ ap (take m) before in
       let same = return_cell-agree scenario returns (cells_before scenario k) k (Agree-take scenario returns (cells_before scenario k) k agree) in
       take-next returns k cell (each k (omega arith))
       ∙ ap (λ l. l ++ cell ∷ []) before
@@ -79,7 +67,7 @@ session-agree scenario n m most sooner =
     let all : ℕ = packets scenario in
     let e : n + (all - n) ≡ all = omega arith in
     let first : take n (session_cells scenario) ≡ cells_before scenario n = ap (λ k. take n (cells_before scenario k)) (sym e) ∙ cells_before-prefix scenario n (all - n) in
-    ap (take m) (sym first) ∙ take-sooner m n (session_cells scenario) sooner
+    ap (take m) (sym first) ∙ take-take m n (session_cells scenario) sooner
 
 needs : (lag frames n t : ℕ) → (frames + 7) / 16 ≤ n + lag → t < frames → (t + 8) / 16 - lag ≤ n
 needs lag frames n t used low = omega arith

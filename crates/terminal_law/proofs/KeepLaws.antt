@@ -22,7 +22,8 @@ use Rattle.session_law.specs.Session.{AgreeBefore}
 use Rattle.terminal_law.specs.Lines.{given, ComesOf, ComeOf}
 use Rattle.terminal_law.specs.Course.{back_of, told_of, IsCourse}
 use Rattle.terminal_law.proofs.CellLaws.{given-whole}
-use Rattle.terminal_law.proofs.CourseLaws.{same-range, come-same}
+use Rattle.terminal_law.proofs.ListLaws.{same-range}
+use Rattle.terminal_law.proofs.CourseLaws.{come-same}
 
 -- ---- the start
 none-given : (scenario : Scenario) (returns : List (Option Told)) (line : ℕ) → given scenario returns line 0 0 0 ≡ []

@@ -1,5 +1,7 @@
+pub mod ListLaws
 pub mod SentLaws
 pub mod DealtLaws
+pub mod OctetLaws
 pub mod CellLaws
 pub mod RowLaws
 pub mod CourseLaws

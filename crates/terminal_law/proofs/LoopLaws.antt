@@ -3,18 +3,22 @@ use Rattle.std.proofs.Common.{◌≡◌, ℕ, suc, ◌+◌, ◌-◌, ◌*◌, �
 use Rattle.vc_cell.specs.declared.Cell.{Cell}
 use Rattle.session_model.specs.Scenario.{Scenario, packets, steps_in}
 use Rattle.session_model.specs.Told.{told_in}
+use Rattle.session_model.specs.Source.{after}
+use Rattle.session_model.specs.Client.{stream_before}
 use Rattle.session_model.specs.Back.{return_cell, cells_before, session_cells}
 use Rattle.session_model.specs.Payload.{payload_of}
-use Rattle.session_model.specs.Rows.{row_at}
+use Rattle.session_model.specs.Rows.{row_at, return_at}
 use Rattle.session_model.specs.SessionRows.{is_whole_row}
 use Rattle.session_model.specs.Sent.{container_of, frame_of}
 use Rattle.line_law.specs.StableRows.{AreDecidedAt}
 use Rattle.session_law.specs.Session.{AgreeBefore}
-use Rattle.session_law.proofs.SessionLaws.{return_cell-agree, Agree-take}
+use Rattle.session_law.proofs.SessionLaws.{Agree, Agree-first, after-agree, return_cell-agree, Agree-take}
+use Rattle.session_law.proofs.ClientLaws.{stream_before-agree}
 use Rattle.terminal_law.specs.Lines.{HasLines, ComeOf}
-use Rattle.terminal_law.specs.Course.{back_of, told_of, IsCourse}
-use Rattle.terminal_law.proofs.RowLaws.{row-told, back-told}
-use Rattle.terminal_law.proofs.CourseLaws.{same-range, course-returns, session-agree, frames-same, come-same}
+use Rattle.terminal_law.specs.Course.{back_of, packet_by, told_of, IsCourse}
+use Rattle.terminal_law.proofs.RowLaws.{row-told, back-told, packet-told}
+use Rattle.terminal_law.proofs.ListLaws.{same-range}
+use Rattle.terminal_law.proofs.CourseLaws.{course-returns, session-agree, frames-same, come-same}
 
 module _ (scenario : Scenario) (frames n : ℕ) (cells : List (List Cell)) (lines : HasLines scenario) (lag : 0 < scenario.lag) (course : IsCourse scenario frames n cells) where
   course-agree : AgreeBefore n (told_of scenario cells n) (session_cells scenario)
@@ -37,6 +41,10 @@ module _ (scenario : Scenario) (frames n : ℕ) (cells : List (List Cell)) (line
       told_in (back_of scenario cells k) ≡ return_cell scenario (session_cells scenario) k
   course-cell k low decided = back-told scenario (session_cells scenario) frames cells k lines course-come low decided
 
+  pub course-packet : (k : ℕ) → 16 * k + 23 < scenario.ticks → AreDecidedAt cells (16 * k + 23) →
+      return_at cells k ≡ packet_by scenario (session_cells scenario) k
+  course-packet k low decided = packet-told scenario (session_cells scenario) frames cells k lines course-come low decided
+
 -- ---- the frames by the return cells that had come
 pub frame-same : (scenario : Scenario) (n frames t : ℕ) → n ≤ packets scenario → steps_in frames ≤ n + scenario.lag → t < frames →
     frame_of scenario (cells_before scenario n) t ≡ frame_of scenario (session_cells scenario) t
@@ -44,6 +52,21 @@ frame-same scenario n frames t most used low =
     let agree = session-agree scenario n n most (omega arith) in
     same-range (λ line. container_of scenario (cells_before scenario n) line t) (λ line. container_of scenario (session_cells scenario) line t) (length scenario.windows)
     (λ line inside. frames-same scenario (cells_before scenario n) (session_cells scenario) frames n used agree line t low)
+
+-- ---- the source by the return cells that had come
+steps-agree : (scenario : Scenario) (n j : ℕ) → n ≤ packets scenario → j ≤ n + scenario.lag → Agree scenario (cells_before scenario n) (session_cells scenario) j
+steps-agree scenario n j most used =
+    Agree-first scenario (cells_before scenario n) (session_cells scenario) j (session-agree scenario n (j - scenario.lag) most (omega arith))
+
+pub source-same : (scenario : Scenario) (n frames j : ℕ) → n ≤ packets scenario → steps_in frames ≤ n + scenario.lag → j ≤ steps_in frames →
+    after scenario (cells_before scenario n) j ≡ after scenario (session_cells scenario) j
+source-same scenario n frames j most used low =
+    after-agree scenario (cells_before scenario n) (session_cells scenario) j (steps-agree scenario n j most (omega arith))
+
+pub stream-same : (scenario : Scenario) (n frames t : ℕ) → n ≤ packets scenario → steps_in frames ≤ n + scenario.lag → t ≤ frames →
+    stream_before scenario (cells_before scenario n) t ≡ stream_before scenario (session_cells scenario) t
+stream-same scenario n frames t most used low =
+    stream_before-agree scenario (cells_before scenario n) (session_cells scenario) t (steps-agree scenario n ((t - 8) / 16) most (omega arith))
 
 -- ---- the next return cell
 lasts : (ticks k : ℕ) → k < (ticks - 8) / 16 → 16 * k + 23 < ticks

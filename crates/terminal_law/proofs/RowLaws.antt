@@ -1,5 +1,5 @@
 -- The rows and return packets that a sink makes of what has come, by the session.
-use Rattle.std.proofs.Common.{◌≡◌, ℕ, ◌+◌, ◌*◌, ◌<◌, Bool, true, false, if◌then◌else◌, List, Option, Some, None, refl, ◌∙◌, ap}
+use Rattle.std.proofs.Common.{◌≡◌, ℕ, ◌+◌, ◌*◌, ◌<◌, Bool, true, false, if◌then◌else◌, List, Option, Some, None, refl, ◌∙◌, ap, arith}
 use Rattle.vc_cell.specs.declared.Cell.{Cell}
 use Rattle.vc_cell.specs.declared.BackCell.TheVariants.{Packet as Nibbles, Lost}
 use Rattle.session_model.specs.Packet.{packet_nibbles}
@@ -8,15 +8,17 @@ use Rattle.session_model.specs.Told.{told_in}
 use Rattle.session_model.specs.Back.{return_packet, return_cell}
 use Rattle.session_model.specs.Table.{Told}
 use Rattle.session_model.specs.Payload.{payload_of}
-use Rattle.session_model.specs.Rows.{row_at, return_at}
-use Rattle.session_model.specs.SessionRows.{is_whole_row}
+use Rattle.session_model.specs.ReturnPacket.{return_of}
+use Rattle.session_model.specs.Rows.{read_packets, row_at, return_at}
+use Rattle.session_model.specs.SessionRows.{packets_of, is_whole_row}
 use Rattle.session_model.specs.Sent.{container_of}
 use Rattle.line_law.specs.StableRows.{AreDecidedAt}
 use Rattle.row_law.proofs.WholeLaws.{row-whole}
 use Rattle.row_law.proofs.DealtLaws.{row-payload}
 use Rattle.row_law.proofs.ReturnLaws.{said-nibbles}
 use Rattle.terminal_law.specs.Lines.{HasLines, ComeOf}
-use Rattle.terminal_law.specs.Course.{back_of}
+use Rattle.terminal_law.specs.Course.{back_of, packet_by}
+use Rattle.terminal_law.proofs.ListLaws.{same-range}
 use Rattle.terminal_law.proofs.DealtLaws.{dealt-row}
 use Rattle.terminal_law.proofs.CellLaws.{has-packets, tells-row}
 
@@ -39,3 +41,10 @@ pub back-told : (scenario : Scenario) (returns : List (Option Told)) (frames : �
 back-told scenario returns frames cells k lines come low decided =
     lost-or (is_lost scenario k) (packet_nibbles (return_at cells k)) (return_packet scenario returns k)
     (said-nibbles scenario returns cells k (has-packets scenario returns lines frames cells come k low decided))
+
+pub packet-told : (scenario : Scenario) (returns : List (Option Told)) (frames : ℕ) (cells : List (List Cell)) (k : ℕ) → HasLines scenario →
+    ComeOf scenario returns frames cells → 16 * k + 23 < scenario.ticks → AreDecidedAt cells (16 * k + 23) →
+    return_at cells k ≡ packet_by scenario returns k
+packet-told scenario returns frames cells k lines come low decided =
+    let read = has-packets scenario returns lines frames cells come k low decided in
+    ap (λ rows. return_of rows k) (same-range (read_packets cells) (packets_of scenario returns) (k + 1) (λ j below. read j (omega arith)))

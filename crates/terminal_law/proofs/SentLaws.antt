@@ -1,9 +1,9 @@
 -- The containers that the source makes: their H4 octets say their numbers and its packets.
-use Rattle.std.proofs.Common.{◌≡◌, ℕ, zero, suc, ◌+◌, ◌-◌, ◌*◌, ◌/◌, ◌%◌, ◌<◌, ◌≤◌, ◌==◌, nat_lt, true, false, if◌then◌else◌, inl, inr, List, [], ◌∷◌, map, filter, take, drop, length, slice_get, slice_index, Option, Some, option_map, refl, sym, ◌∙◌, ap, subst, arith, lit<}
+use Rattle.std.proofs.Common.{◌≡◌, ℕ, suc, ◌+◌, ◌-◌, ◌*◌, ◌/◌, ◌%◌, ◌<◌, ◌≤◌, ◌==◌, nat_lt, true, false, if◌then◌else◌, inl, inr, List, [], ◌∷◌, map, filter, take, drop, length, slice_get, slice_index, Option, Some, option_map, refl, sym, ◌∙◌, ap, subst, arith, lit<}
 use Rattle.std.specs.List.{range_with_len, list_any}
 use Rattle.std.proofs.lemmas.Bool.{cases_Bool, ltb-true, ltb-false}
-use Rattle.std.proofs.lemmas.List.{length-map}
-use Rattle.std.proofs.lemmas.List.FromFn.{fill_by_all}
+use Rattle.std.proofs.lemmas.List.{length-map, drop-map}
+use Rattle.std.proofs.lemmas.List.FromFn.{length-range_with_len, take-map-range_with_len, fill_by_all}
 use Rattle.std.proofs.lemmas.Option.{slice_get-map, slice_get_within}
 use Rattle.vc_cell.specs.declared.Container.{Container}
 use Rattle.session_model.specs.declared.table.Member.{Member}
@@ -16,6 +16,7 @@ use Rattle.session_model.specs.Forward.{ctrl_by, place_in, forward_packet}
 use Rattle.session_model.specs.Line.{HasPlace, AreSent, sent_nibbles}
 use Rattle.session_model.specs.Sent.{nibble_in, nibble_at, container_of, containers_of}
 use Rattle.session_law.proofs.PlanLaws.{order-length}
+use Rattle.terminal_law.proofs.ListLaws.{range-at, drop-range, map-part}
 
 -- ---- a packet that goes forward is one of octets
 place-sq : (order : List Member) (sq line : ℕ) → sq + length order ≤ 256 → (place_in order sq line).sq < 256
@@ -102,15 +103,6 @@ module _ (scenario : Scenario) (returns : List (Option Told)) (limit : length sc
       }
 
 -- ---- the list of them
-pub range-at : (a n k : ℕ) → k < n → slice_get (range_with_len a n) k ≡ Some (a + k)
-range-at a zero k low = absurd (omega arith)
-range-at a (suc n) zero low = ap Some (let e : a ≡ a + 0 = omega arith in e)
-range-at a (suc n) (suc k) low = range-at (a + 1) n k (omega arith) ∙ ap Some (let e : a + 1 + k ≡ a + suc k = omega arith in e)
-
-range-size : (a n : ℕ) → length (range_with_len a n) ≡ n
-range-size a zero = refl
-range-size a (suc n) = ap suc (range-size (a + 1) n)
-
 pub container-at : (scenario : Scenario) (returns : List (Option Told)) (line frames t : ℕ) → t < frames →
     slice_get (containers_of scenario returns line frames) t ≡ Some (container_of scenario returns line t)
 container-at scenario returns line frames t low =
@@ -118,7 +110,7 @@ container-at scenario returns line frames t low =
     ∙ ap (option_map (container_of scenario returns line)) (range-at 0 frames t low ∙ ap Some (let e : 0 + t ≡ t = omega arith in e))
 
 pub containers-size : (scenario : Scenario) (returns : List (Option Told)) (line frames : ℕ) → length (containers_of scenario returns line frames) ≡ frames
-containers-size scenario returns line frames = length-map (range_with_len 0 frames) (container_of scenario returns line) ∙ range-size 0 frames
+containers-size scenario returns line frames = length-map (range_with_len 0 frames) (container_of scenario returns line) ∙ length-range_with_len 0 frames
 
 pub are-sent : (scenario : Scenario) (returns : List (Option Told)) (line frames : ℕ) → length scenario.windows ≤ 128 →
     AreSent (containers_of scenario returns line frames)
@@ -130,46 +122,14 @@ are-sent scenario returns line frames limit n container here =
     subst (λ (c : Container). HasPlace n c.h4) same (place-of scenario returns limit line n)
 
 -- ---- the nibbles of a packet
-take-range : (a m n : ℕ) → m ≤ n → take m (range_with_len a n) ≡ range_with_len a m
-take-range a zero n fits = refl
-take-range a (suc m) zero fits = absurd (omega arith)
-take-range a (suc m) (suc n) fits = ap (λ l. a ∷ l) (take-range (a + 1) m n (omega arith))
-
-drop-range : (a m n : ℕ) → drop m (range_with_len a n) ≡ range_with_len (a + m) (n - m)
-drop-range a zero n = (let e : a ≡ a + 0 = omega arith in ap (λ b. range_with_len b n) e) ∙ (let e : n ≡ n - 0 = omega arith in ap (range_with_len (a + 0)) e)
-drop-range a (suc m) zero = let e : 0 ≡ 0 - suc m = omega arith in ap (range_with_len (a + suc m)) e
-drop-range a (suc m) (suc n) =
-    drop-range (a + 1) m n
-    ∙ (let e : a + 1 + m ≡ a + suc m = omega arith in ap (λ b. range_with_len b (n - m)) e)
-    ∙ (let e : n - m ≡ suc n - suc m = omega arith in ap (range_with_len (a + suc m)) e)
-
-drop-map : {X Y : Type 0} (f : X → Y) (n : ℕ) (xs : List X) → drop n (map f xs) ≡ map f (drop n xs)
-drop-map f zero xs = refl
-drop-map f (suc n) [] = refl
-drop-map f (suc n) (x ∷ xs) = drop-map f n xs
-
-take-map : {X Y : Type 0} (f : X → Y) (n : ℕ) (xs : List X) → take n (map f xs) ≡ map f (take n xs)
-take-map f zero xs = refl
-take-map f (suc n) [] = refl
-take-map f (suc n) (x ∷ xs) = ap (λ l. f x ∷ l) (take-map f n xs)
-
 -- a part of the containers
-pub containers-part : (scenario : Scenario) (returns : List (Option Told)) (line frames from count : ℕ) → from + count ≤ frames →
+containers-part : (scenario : Scenario) (returns : List (Option Told)) (line frames from count : ℕ) → from + count ≤ frames →
     take count (drop from (containers_of scenario returns line frames)) ≡ map (container_of scenario returns line) (range_with_len from count)
 containers-part scenario returns line frames from count fits =
     let f = container_of scenario returns line in
-    ap (take count) (drop-map f from (range_with_len 0 frames) ∙ ap (map f) (drop-range 0 from frames))
-    ∙ take-map f count (range_with_len (0 + from) (frames - from))
-    ∙ ap (map f) (take-range (0 + from) count (frames - from) (omega arith) ∙ (let e : 0 + from ≡ from = omega arith in ap (λ b. range_with_len b count) e))
-
-map-part : {X : Type 0} (f : ℕ → Container) (g : Container → X) (h : ℕ → X) (a b n : ℕ) → ((i : ℕ) → i < n → g (f (a + i)) ≡ h (b + i)) →
-    map g (map f (range_with_len a n)) ≡ map h (range_with_len b n)
-map-part f g h a b zero same = refl
-map-part f g h a b (suc n) same =
-    let here : g (f a) ≡ h b = (let e : a ≡ a + 0 = omega arith in ap (λ i. g (f i)) e) ∙ same 0 (omega arith) ∙ (let e : b + 0 ≡ b = omega arith in ap h e) in
-    ap (λ x. x ∷ map g (map f (range_with_len (a + 1) n))) here
-    ∙ ap (λ l. h b ∷ l) (map-part f g h (a + 1) (b + 1) n (λ i low.
-    (let e : a + 1 + i ≡ a + suc i = omega arith in ap (λ i. g (f i)) e) ∙ same (suc i) (omega arith) ∙ (let e : b + suc i ≡ b + 1 + i = omega arith in ap h e)))
+    let e : 0 + from ≡ from = omega arith in
+    ap (take count) (drop-map f from (range_with_len 0 frames) ∙ ap (map f) (drop-range 0 from frames ∙ ap (λ b. range_with_len b (frames - from)) e))
+    ∙ take-map-range_with_len f from (frames - from) count (omega arith)
 
 pub packet-nibbles : (scenario : Scenario) (returns : List (Option Told)) (line frames k : ℕ) → length scenario.windows ≤ 128 → 16 * k + 23 < frames →
     sent_nibbles (containers_of scenario returns line frames) k ≡ packet_nibbles (forward_packet (table_of scenario returns k) line k)

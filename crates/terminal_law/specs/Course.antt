@@ -4,17 +4,24 @@ use Rattle.std.specs.List.{range_with_len}
 use Rattle.vc_cell.specs.declared.Cell.{Cell}
 use Rattle.vc_cell.specs.declared.BackCell.{BackCell}
 use Rattle.vc_cell.specs.declared.BackCell.TheVariants.{Packet as Nibbles, Lost}
+use Rattle.session_model.specs.declared.packet.Packet.{Packet}
 use Rattle.session_model.specs.Packet.{packet_nibbles}
 use Rattle.session_model.specs.Scenario.{Scenario, is_lost, packets, steps_in}
 use Rattle.session_model.specs.Table.{Told}
 use Rattle.session_model.specs.Told.{told_in}
+use Rattle.session_model.specs.ReturnPacket.{return_of}
 use Rattle.session_model.specs.Rows.{return_at}
+use Rattle.session_model.specs.SessionRows.{packets_of}
 use Rattle.line_law.specs.StableRows.{AreDecidedAt}
 use Rattle.terminal_law.specs.Lines.{ComeOf}
 
 -- what comes of return packet k, which a sink says by these cells
 abbrev pub back_of : Scenario → List (List Cell) → ℕ → BackCell
 back_of scenario cells k = if is_lost scenario k then Lost else Nibbles (packet_nibbles (return_at cells k))
+
+-- the return packet that the session makes, where the source was told these return cells: of the packets that can be read
+abbrev pub packet_by : Scenario → List (Option Told) → ℕ → Packet
+packet_by scenario returns k = return_of (map (packets_of scenario returns) (range_with_len 0 (k + 1))) k
 
 -- what the first return cells tell the source
 abbrev pub told_of : Scenario → List (List Cell) → ℕ → List (Option Told)

@@ -4,28 +4,30 @@
 //! `cells_law` and `rows_law` are what it stands on, each for any return cells.
 #![tactic(auto)]
 
-ghost use Rattle.std.specs.Prelude.{◌≡◌, ℕ, suc, ◌+◌, ◌-◌, ◌*◌, ◌/◌, ◌<◌, ◌≤◌, min, if◌then◌else◌, [], ◌∷◌, ◌++◌, List, length, take, replicate, Option, Some, None};
+ghost use Rattle.std.specs.Prelude.{◌≡◌, ℕ, suc, ◌+◌, ◌-◌, ◌*◌, ◌/◌, ◌<◌, ◌≤◌, min, if◌then◌else◌, All, [], ◌∷◌, ◌++◌, List, length, take, replicate, Option, Some, None};
 ghost use Rattle.vc_cell.specs.declared.Cell.{Cell};
 ghost use Rattle.session_model.specs.Scenario.{Scenario, packets, steps_in};
 ghost use Rattle.session_model.specs.Table.{Told};
 ghost use Rattle.session_model.specs.Told.{told_in};
-ghost use Rattle.session_model.specs.Source.{table_of};
+ghost use Rattle.session_model.specs.Source.{after, table_of};
 ghost use Rattle.session_model.specs.Back.{return_cell, cells_before, session_cells};
 ghost use Rattle.session_model.specs.Packet.{IsPacket, packet_nibbles};
+ghost use Rattle.session_model.specs.Client.{stream_before};
 ghost use Rattle.session_model.specs.Payload.{payload_of};
 ghost use Rattle.session_model.specs.Forward.{forward_packet};
 ghost use Rattle.session_model.specs.Line.{AreSent, sent_nibbles};
-ghost use Rattle.session_model.specs.Rows.{row_at};
+ghost use Rattle.session_model.specs.Rows.{row_at, return_at};
 ghost use Rattle.session_model.specs.SessionRows.{is_whole_row};
 ghost use Rattle.session_model.specs.Sent.{container_of, containers_of, frame_of};
 ghost use Rattle.line_law.specs.StableRows.{IsLonger, AreDecidedAt};
 ghost use Rattle.session_law.specs.Session.{AgreeBefore};
 ghost use Rattle.row_law.specs.Received.{HasPackets, TellsRow, IsDealtRow};
 ghost use Rattle.terminal_law.specs.Lines.{HasLines, given, ComesOf, ComeOf};
-ghost use Rattle.terminal_law.specs.Course.{back_of, told_of, IsCourse};
+ghost use Rattle.terminal_law.specs.Course.{back_of, packet_by, told_of, IsCourse};
+ghost use Rattle.terminal_law.specs.Worked.{two_lines, h4_from, no_packet, first_added, first_in_use, second_added, first_told, first_cells, dealt};
 
 /// The containers that the source makes, whatever it was told. Their H4 octets say their numbers, and the nibbles of each packet
-/// stand in them in their order; their payload is that of a VC-4 in length, and the lines that carry payload are dealt the octets of
+/// stand in them in their order; their payload is that of a VC-4 in length, in octets, and the lines that carry payload are dealt the octets of
 /// the client's stream. Return cells change no container of a frame before the decision steps that take them.
 pub fn sent_law()
     ensures places { (scenario : Scenario) (returns : List (Option Told)) (line frames : ℕ) →
@@ -39,6 +41,8 @@ pub fn sent_law()
         ≡ packet_nibbles (forward_packet (table_of scenario returns k) line k) }
     ensures payload { (scenario : Scenario) (returns : List (Option Told)) (line t : ℕ) →
         scenario.size ≤ 2340 → length (container_of scenario returns line t).payload ≡ 2340 }
+    ensures octets { (scenario : Scenario) (returns : List (Option Told)) (line t : ℕ) →
+        All (λ o. o < 256) (container_of scenario returns line t).payload }
     ensures dealt { (scenario : Scenario) (returns : List (Option Told)) (t : ℕ) →
         IsDealtRow scenario returns (λ line. container_of scenario returns line t) t }
     ensures cells { (scenario : Scenario) (a b : List (Option Told)) (line t : ℕ) →
@@ -46,9 +50,15 @@ pub fn sent_law()
         container_of scenario a line t ≡ container_of scenario b line t }
 {}
 
-/// What has come of the lines, whatever the source was told: any first cells that they give of the containers made so far. A number
-/// that is decided on each line tells its containers where they are good, and the packets that can be read are those that were sent.
+/// What has come of the lines, whatever the source was told: any first cells that they give of the containers made so far, which are
+/// those that they give of all containers. A number that is decided on each line tells its containers where they are good, and the
+/// packets that can be read are those that were sent.
 pub fn cells_law()
+    ensures made { (scenario : Scenario) (returns : List (Option Told))
+        (line frames delay carries : ℕ) → frames ≤ scenario.ticks →
+        min carries scenario.ticks ≤ frames →
+        given scenario returns line frames delay carries
+        ≡ given scenario returns line scenario.ticks delay carries }
     ensures first { (scenario : Scenario) (returns : List (Option Told))
         (line frames delay carries popped : ℕ) → min carries scenario.ticks ≤ frames →
         ComesOf scenario returns line frames
@@ -76,6 +86,10 @@ pub fn rows_law()
         (cells : List (List Cell)) → HasLines scenario → ComeOf scenario returns frames cells →
         16 * k + 23 < scenario.ticks → AreDecidedAt cells (16 * k + 23) →
         told_in (back_of scenario cells k) ≡ return_cell scenario returns k }
+    ensures packets { (scenario : Scenario) (returns : List (Option Told)) (frames k : ℕ)
+        (cells : List (List Cell)) → HasLines scenario → ComeOf scenario returns frames cells →
+        16 * k + 23 < scenario.ticks → AreDecidedAt cells (16 * k + 23) →
+        return_at cells k ≡ packet_by scenario returns k }
 {}
 
 /// Packets give tables, tables give rows, and rows give packets: where the source was told just what the sink says by the cells that
@@ -101,6 +115,10 @@ pub fn course_law()
         HasLines scenario → 0 < scenario.lag → IsCourse scenario frames n cells →
         16 * k + 23 < scenario.ticks → AreDecidedAt cells (16 * k + 23) →
         told_in (back_of scenario cells k) ≡ return_cell scenario (session_cells scenario) k }
+    ensures packets { (scenario : Scenario) (frames n k : ℕ) (cells : List (List Cell)) →
+        HasLines scenario → 0 < scenario.lag → IsCourse scenario frames n cells →
+        16 * k + 23 < scenario.ticks → AreDecidedAt cells (16 * k + 23) →
+        return_at cells k ≡ packet_by scenario (session_cells scenario) k }
 {}
 
 /// A course begins with nothing, and each event keeps it: a frame is made, for whose decision step the return cell has come; more
@@ -119,16 +137,36 @@ pub fn keep_law()
         IsCourse scenario frames n cells → IsCourse scenario frames (suc n) cells }
 {}
 
-/// The same by the session's own return cells, event by event: a frame that is made by those that have come is the session's, and
-/// what the sink says next is the session's next return cell.
+/// By the session's own return cells, event by event: a frame that is made by those that have come is the session's, and so are the
+/// source's table and the client's stream; and what the sink says next is the session's next return cell.
 pub fn loop_law()
     ensures frames { (scenario : Scenario) (n frames t : ℕ) → n ≤ packets scenario →
         steps_in frames ≤ n + scenario.lag → t < frames →
         frame_of scenario (cells_before scenario n) t
         ≡ frame_of scenario (session_cells scenario) t }
+    ensures sources { (scenario : Scenario) (n frames j : ℕ) → n ≤ packets scenario →
+        steps_in frames ≤ n + scenario.lag → j ≤ steps_in frames →
+        after scenario (cells_before scenario n) j ≡ after scenario (session_cells scenario) j }
+    ensures streams { (scenario : Scenario) (n frames t : ℕ) → n ≤ packets scenario →
+        steps_in frames ≤ n + scenario.lag → t ≤ frames →
+        stream_before scenario (cells_before scenario n) t
+        ≡ stream_before scenario (session_cells scenario) t }
     ensures next { (scenario : Scenario) (frames k : ℕ) (cells : List (List Cell)) →
         HasLines scenario → 0 < scenario.lag → k < packets scenario →
         ComeOf scenario (session_cells scenario) frames cells → AreDecidedAt cells (16 * k + 23) →
         cells_before scenario (suc k)
         ≡ cells_before scenario k ++ told_in (back_of scenario cells k) ∷ [] }
+{}
+
+/// A worked session that meets what is asked, computed: H4 octets, what the sink tells of the first cells, and a row that is dealt.
+pub fn worked_law()
+    ensures met { HasLines two_lines }
+    ensures zeros { h4_from 0 0 8 ≡ no_packet }
+    ensures add { h4_from 0 8 16 ≡ first_added }
+    ensures eos { h4_from 0 40 16 ≡ first_in_use }
+    ensures add_second { h4_from 1 40 16 ≡ second_added }
+    ensures told { told_of two_lines first_cells 1 ≡ first_told }
+    ensures cells { take 1 (session_cells two_lines) ≡ first_told }
+    ensures first { dealt 1 ≡ 10 ∷ 12 ∷ 0 ∷ 0 ∷ [] }
+    ensures second { dealt 0 ≡ 11 ∷ 13 ∷ 0 ∷ 0 ∷ [] }
 {}

@@ -2,6 +2,7 @@ pub mod HexText
 pub mod LineLaws
 pub mod FormLaws
 pub mod WordLaws
+pub mod BlockLaws
 pub mod TakeLaws
 pub mod PlaceLaws
 pub mod CarryLaws

@@ -7,7 +7,8 @@ use Rattle.std.proofs.lemmas.List.{drop_all}
 use Rattle.std.proofs.lemmas.List.Elements.{filter-append}
 use Rattle.session_model.specs.Piece.{Piece, idle, client, cut, size_of, stream_of, frame_ends, frames_by, opening}
 use Rattle.gfp_fill.specs.Stream.{next_pieces}
-use Rattle.gfp_fill.proofs.StreamLaws.{length-stream_of-cons, next_pieces-add, opening-next_pieces, next_pieces-nil}
+use Rattle.session_model.proofs.StreamLaws.{length-stream_of-cons}
+use Rattle.gfp_fill.proofs.StreamLaws.{next_pieces-add, opening-next_pieces, next_pieces-nil}
 
 -- the ends that lie by a place
 abbrev ends_by : ℕ → List (ℕ × List ℕ) → List (ℕ × List ℕ)

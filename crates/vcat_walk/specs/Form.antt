@@ -1,5 +1,5 @@
 -- The script of one line: a number of ticks, one addition at the start, and frames that are all due at the start.
-use Rattle.std.specs.Prelude.{◌≡◌, ◌≢◌, ℕ, ◌≤◌, ◌<◌, List, ◌++◌, length, All, codes, decimal}
+use Rattle.std.specs.Prelude.{◌≡◌, ◌≢◌, ℕ, ◌≤◌, ◌<◌, ◌&&◌, nat_le, Bool, false, List, ◌++◌, length, All, codes, decimal}
 use Rattle.std.specs.List.{flat_map}
 use Rattle.hex.specs.Hex.{encode_lower}
 
@@ -42,3 +42,11 @@ pub record IsForm (text : List ℕ) (ticks : ℕ) (frames : List (List ℕ)) : T
 -- a line holds no LF
 abbrev pub IsLine : List ℕ → Type 0
 IsLine line = All (λ octet. octet ≢ 10) line
+
+-- a capital letter among hexadecimal digits: A to F
+abbrev pub is_capital : ℕ → Bool
+is_capital c = nat_le 65 c && nat_le c 70
+
+-- a text without capital letters among its digits
+abbrev pub HasNoCapital : List ℕ → Type 0
+HasNoCapital text = All (λ c. is_capital c ≡ false) text

@@ -5,7 +5,7 @@ use Rattle.outside_io.specs.Transfer.{Appends, AppendsPart}
 use Rattle.session_model.specs.Decode.{packets_in}
 use Rattle.session_model.specs.DecodeText.{found_texts}
 use Rattle.session_model.specs.Delivery.{delivered}
-use Rattle.vcat_walk.specs.Report.{got_texts}
+use Rattle.report_text.specs.Report.{got_texts}
 
 -- the lines of the packets in these octets are written, and `packets` is their number
 pub record HasLines {K : Type 0} (written : K → Option (List ℕ)) (faults : K → ℕ) (octets : List ℕ) (start now : K) (packets : ℕ) : Type 0 where
@@ -16,9 +16,15 @@ pub record HasLines {K : Type 0} (written : K → Option (List ℕ)) (faults : K
 abbrev pub HasLinesPart : {K : Type 0} → (K → Option (List ℕ)) → (K → ℕ) → List ℕ → K → K → Type 0
 HasLinesPart written faults octets start now = AppendsPart written faults start now (found_texts (packets_in octets))
 
--- the lines of the frames that are delivered of these octets are written, and `got` is their number
-pub record HasGot {K : Type 0} (written : K → Option (List ℕ)) (faults : K → ℕ) (octets : List ℕ) (start now : K) (got : ℕ) : Type 0 where
-  pub lines : Appends written faults start now (got_texts (delivered 9600 octets))
+-- of a text, a prefix is appended to the sink, and the rest waits in a block
+pub record Holds {K : Type 0} (written : K → Option (List ℕ)) (faults : K → ℕ) (start now : K) (waiting text : List ℕ) : Type 0 where
+  pub put : List ℕ
+  pub appends : Appends written faults start now put
+  pub all : put ++ waiting ≡ text
+
+-- the lines of the frames that are delivered of these octets are written or wait, and `got` is their number
+pub record HasGot {K : Type 0} (written : K → Option (List ℕ)) (faults : K → ℕ) (octets : List ℕ) (start now : K) (waiting : List ℕ) (got : ℕ) : Type 0 where
+  pub lines : Holds written faults start now waiting (got_texts (delivered 9600 octets))
   pub count : got ≡ length (delivered 9600 octets)
 
 -- a fault came in those lines

@@ -87,7 +87,10 @@ pub fn walk<S: ByteSource, K: ByteSink>(
     let Ok(mut delineator) = Delineator::new(alloc, MAX_FRAME as u16) else {
         return Err(Stop::Memory);
     };
-    let Some(ticks) = read_form(text.as_slice(), &mut queue) else {
+    let Ok(mut octets) = Vec::with_capacity(alloc, MAX_FRAME) else {
+        return Err(Stop::Memory);
+    };
+    let Some(ticks) = read_form(text.as_slice(), &mut octets, &mut queue) else {
         return Err(Stop::OtherForm);
     };
     match run(ticks, &mut queue, &mut delineator, out) {

@@ -1,10 +1,13 @@
 //! The parts of a script's lines: prefixes, lines, numbers of ticks, and frames in hexadecimal digits.
-ghost use Rattle.std.specs.Prelude.{◌≡◌, ◌≢◌, ℕ, ◌≤◌, ◌<◌, List, ◌∷◌, ◌++◌, length, take, IfSome, IfNone, decimal, All, ◌*◌};
+ghost use Rattle.std.specs.Prelude.{◌≡◌, ◌≢◌, ℕ, ◌≤◌, ◌<◌, List, ◌∷◌, ◌++◌, length, IfSome, IfNone, decimal};
+ghost use Rattle.std.specs.Vec.{vec_capacity};
 ghost use Rattle.std.specs.Bool.{OnTrue, OnFalse};
 ghost use Rattle.hex.specs.Hex.{encode_lower};
-ghost use Rattle.vcat_walk.specs.Form.{IsTicks, IsFrame, IsLine};
+ghost use Rattle.vcat_walk.specs.Form.{IsTicks, IsFrame, IsLine, HasNoCapital};
 
 use gfp_fill::{MAX_FRAME, MIN_FRAME};
+use hex_text::{NotHex, decode_into};
+use memchr::memchr;
 
 /// The most ticks that a script may have.
 const MOST_TICKS: u32 = 1_000_000;
@@ -23,7 +26,7 @@ pub fn first_line(text: &[u8]) -> Option<(&[u8], &[u8])>
     ensures some { IfSome result (λ parts. text.now ≡ parts.0.now ++ 10 ∷ parts.1.now) }
     ensures none { IfNone result ((line rest : List ℕ) → text.now ≢ line ++ 10 ∷ rest) }
 {
-    let Some(end) = text.iter().position(|octet| *octet == b'\n') else {
+    let Some(end) = memchr(b'\n', text) else {
         return None;
     };
     Some((&text[..end], &text[end + 1..]))
@@ -51,38 +54,36 @@ pub fn read_ticks(word: &[u8]) -> Option<u32>
     Some(ticks)
 }
 
-/// Decodes lower-case hexadecimal digits, and says whether they were that. `again` is room for as many digits.
-fn decode_lower(digits: &[u8], octets: &mut [u8], again: &mut [u8]) -> bool
-    requires digits { length digits.now ≡ 2 * length octets.old }
-    requires room { length again.old ≡ 2 * length octets.old }
-    ensures small { All (λ octet. octet < 256) octets.new }
-    ensures yes { OnTrue result (digits.now ≡ encode_lower octets.new) }
-    ensures no { OnFalse result ((frame : List ℕ) → All (λ octet. octet < 256) frame → digits.now ≢ encode_lower frame) }
+/// Whether some character is one of the capital letters among hexadecimal digits.
+fn has_capital(text: &[u8]) -> bool
+    ensures yes { OnTrue result (¬ HasNoCapital text.now) }
+    ensures no { OnFalse result (HasNoCapital text.now) }
 {
-    if hex::decode_to_slice(digits, octets).is_err() {
-        return false;
+    let mut found = false;
+    for c in text {
+        found = found | (b'A' <= *c) & (*c <= b'F');
     }
-    if hex::encode_to_slice(&*octets, again).is_err() {
-        return false;
-    }
-    &*again == digits
+    found
 }
 
-/// Decodes the hexadecimal digits of a frame into the front of `octets`, and says how many octets it has.
-pub fn read_hex(digits: &[u8], octets: &mut [u8; MAX_FRAME]) -> Option<usize>
-    ensures bound { IfSome result (λ n. n ≤ 9600) }
-    ensures frame { IfSome result (λ n. IsFrame (take n octets.new)) }
-    ensures some { IfSome result (λ n. digits.now ≡ encode_lower (take n octets.new)) }
-    ensures none { IfNone result ((frame : List ℕ) → IsFrame frame → digits.now ≢ encode_lower frame) }
+/// Decodes the hexadecimal digits of a frame in the place of the octets that were there, and says whether they were that.
+pub fn read_hex(digits: &[u8], octets: &mut Vec<u8>) -> bool
+    requires room { 9600 ≤ vec_capacity octets.old }
+    ensures room { 9600 ≤ vec_capacity octets.new }
+    ensures frame { OnTrue result (IsFrame octets.new.items) }
+    ensures some { OnTrue result (digits.now ≡ encode_lower octets.new.items) }
+    ensures none { OnFalse result ((frame : List ℕ) → IsFrame frame → digits.now ≢ encode_lower frame) }
 {
+    octets.clear();
     let n = digits.len() / 2;
-    if digits.len() != 2 * n || n < MIN_FRAME || MAX_FRAME < n {
-        return None;
+    if n < MIN_FRAME || MAX_FRAME < n {
+        return false;
     }
-    let mut again = [0u8; 2 * MAX_FRAME];
-    if decode_lower(digits, &mut octets[..n], &mut again[..2 * n]) {
-        Some(n)
-    } else {
-        None
+    if has_capital(digits) {
+        return false;
+    }
+    match decode_into(digits, octets) {
+        Ok(()) => true,
+        Err(NotHex) => false,
     }
 }

@@ -1,11 +1,11 @@
 //! The program `vcat_walk`: it carries frames over the lines of a group, and decodes the control packets of a line.
 #![tactic(auto)]
 
+mod block;
 mod commands;
 mod decode;
 mod form;
 mod hex_lines;
-mod line;
 mod lines;
 mod report;
 #[cfg(test)]

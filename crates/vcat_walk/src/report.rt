@@ -1,60 +1,20 @@
-//! The lines of text that the program writes, each put together in a slice with room for it. Each answers its length.
+//! The notes of the program and the lines of a decoding, each put together in a slice with room for it. Each answers its length.
 ghost use Rattle.std.specs.Prelude.{◌≡◌, ◌+◌, ◌*◌, ◌≤◌, length, take, Ok, Err};
-ghost use Rattle.vcat_walk.specs.Line.{Extends, HasRoom};
-ghost use Rattle.vcat_walk.specs.Report.{got_text, total_text};
+ghost use Rattle.report_text.specs.Line.{Extends, HasRoom};
 ghost use Rattle.vcat_walk.specs.Stop.{note_of};
 ghost use Rattle.session_model.specs.DecodeText.{found_text, end_text};
 ghost use Rattle.session_model.specs.PacketText.{ctrl_text, bit_text, nibble_text};
 
 use crate::commands::Stop;
-use crate::line::LineCursor;
-use gfp_fill::MAX_FRAME;
 use lcas_packet::{Packet, PacketFault};
+use report_text::LineCursor;
 use vc_cell::Ctrl;
-
-/// Room for the line of a delivered frame.
-pub const GOT_ROOM: usize = 2 * MAX_FRAME + 5;
-
-/// Room for the line of totals.
-pub const TOTAL_ROOM: usize = 128;
 
 /// Room for a line of a decoding.
 pub const FOUND_ROOM: usize = 128;
 
 /// Room for a note.
 pub const NOTE_ROOM: usize = 64;
-
-/// Writes the line of a delivered frame.
-pub fn got_line(frame: &[u8], out: &mut [u8]) -> usize
-    requires { 2 * length frame.now + 5 ≤ length out.old }
-    ensures within { result ≡ 2 * length frame.now + 5 }
-    ensures line { take result out.new ≡ got_text frame.now }
-{
-    let mut line = LineCursor::new(out);
-    line.text(b"got ");
-    line.hex(frame);
-    line.text(b"\n");
-    line.end()
-}
-
-/// Writes the line of totals.
-pub fn total_line(ticks: u32, frames: u16, got: u64, out: &mut [u8]) -> usize
-    requires { 128 ≤ length out.old }
-    ensures within { result ≤ 128 }
-    ensures line { take result out.new ≡ total_text ticks frames got }
-{
-    let mut line = LineCursor::new(out);
-    line.text(b"total ticks ");
-    line.decimal(ticks);
-    line.text(b" taken ");
-    line.decimal(ticks);
-    line.text(b" frames ");
-    line.decimal(frames);
-    line.text(b" commands 1 refused 0 got ");
-    line.decimal(got);
-    line.text(b"\n");
-    line.end()
-}
 
 /// Writes the note on a cause why a command stopped. Of words that are no command, and of a text that is no script, it is empty.
 pub fn note_line(stop: Stop, out: &mut [u8]) -> usize

@@ -214,13 +214,29 @@ fn words_and_faults(rt: HostRuntime) -> Result<(), Fail> {
     assert_eq!(rt; unread.out.len(), 0);
     let whole = walked(alloc, "walk", text.as_slice(), &[], &[])?;
     assert_eq!(rt; whole.status, 0);
-    // The lines of 64 and 65 octets have 133 and 135 octets.
-    let unwritten = walked(alloc, "walk", text.as_slice(), &[], &[2])?;
+    // All lines go out together, since they are short.
+    let unwritten = walked(alloc, "walk", text.as_slice(), &[], &[0])?;
     assert_eq!(rt; unwritten.status, 4);
-    assert_eq!(rt; Some(unwritten.out.as_slice()), whole.out.get(..268));
-    let total_unwritten = walked(alloc, "walk", text.as_slice(), &[], &[4])?;
-    assert_eq!(rt; total_unwritten.status, 4);
-    assert_eq!(rt; count_lines(total_unwritten.out.as_slice()), 4);
+    assert_eq!(rt; unwritten.out.len(), 0);
+    let once = walked(alloc, "walk", text.as_slice(), &[], &[1])?;
+    assert_eq!(rt; once.status, 0);
+    assert_eq!(rt; once.out.as_slice(), whole.out.as_slice());
+    Ok(())
+}
+
+#[test]
+fn writes_that_fail_between_lines(rt: HostRuntime) -> Result<(), Fail> {
+    let alloc = rt.alloc();
+    // The line of 9,600 octets has 19,205, and goes out alone.
+    let text = script(alloc, "58", &[9600, 9600, 9600, 9600])?;
+    let whole = walked(alloc, "walk", text.as_slice(), &[], &[])?;
+    assert_eq!(rt; whole.status, 0);
+    assert_eq!(rt; count_lines(whole.out.as_slice()), 5);
+    for (failing, lines) in [(0, 0), (1, 1), (2, 2), (3, 3), (4, 4)] {
+        let cut = walked(alloc, "walk", text.as_slice(), &[], &[failing])?;
+        assert_eq!(rt; cut.status, 4);
+        assert_eq!(rt; Some(cut.out.as_slice()), whole.out.get(..19_205 * lines));
+    }
     Ok(())
 }
 

@@ -1,86 +1,83 @@
 //! The stream of the frames that wait is carried row by row to a receiver, and a line is written of each frame that it delivers.
-ghost use Rattle.std.specs.Prelude.{◌≡◌, ℕ, ◌+◌, ◌*◌, ◌≤◌, List, [], ◌∷◌, ◌++◌, length, All, OnOk, OnErr, IfOk};
+ghost use Rattle.std.specs.Prelude.{◌≡◌, ℕ, ◌+◌, ◌*◌, ◌<◌, ◌≤◌, List, [], ◌++◌, length, take, All, OnOk, OnErr, IfOk};
 ghost use Rattle.session_model.specs.Piece.{opening, frames_by};
 ghost use Rattle.gfp_delineate.specs.Receiver.{Stands};
 ghost use Rattle.outside_io.specs.Transfer.{Appends, AppendsPart};
+ghost use Rattle.report_text.specs.Report.{got_texts};
 ghost use Rattle.vcat_walk.specs.Form.{IsTicks, IsFrame};
-ghost use Rattle.vcat_walk.specs.Report.{got_text, got_texts};
 ghost use Rattle.vcat_walk.specs.Walk.{row_octets, report};
-ghost use Rattle.vcat_walk.specs.Written.{HasGot, StopsIn, StopsWithin};
+ghost use Rattle.vcat_walk.specs.Written.{Holds, HasGot, StopsWithin};
 
-use crate::report::{GOT_ROOM, TOTAL_ROOM, got_line, total_line};
+use crate::block::LineBlock;
 use gfp_delineate::{Delineator, Step, delivery_law};
 use gfp_fill::{Filler, FrameQueue};
-use outside_io::{ByteSink, Failed, put_all};
+use outside_io::{ByteSink, Failed};
+use report_text::Totals;
 use vc_cell::PAYLOAD;
 
 /// The rows before the line carries any of the stream.
 const EMPTY_ROWS: u32 = 40;
 
-/// Writes the line of a delivered frame.
-fn put_frame<K: ByteSink>(
-    frame: &[u8],
-    line: &mut [u8; GOT_ROOM],
-    out: &mut K,
-) -> Result<(), Failed>
-    requires { length frame.now ≤ 9600 }
-    ensures ok { OnOk result (Appends K.written K.faults out.old out.new (got_text frame.now)) }
-    ensures err { OnErr result (AppendsPart K.written K.faults out.old out.new (got_text frame.now)) }
-{
-    let end = got_line(frame, line);
-    put_all(out, &line[..end])
-}
-
-/// Gives an octet to the receiver, and writes the line of the frame that it completes. The answer is the number of lines.
-fn take_octet<K: ByteSink>(
-    octet: u8,
+/// Gives octets to the receiver, up to the first that completes or drops a frame, and writes the line of a frame that is
+/// delivered. The answer is the number of the octets, and that of the lines.
+fn take_some<K: ByteSink>(
+    piece: &[u8],
     delineator: &mut Delineator,
-    line: &mut [u8; GOT_ROOM],
+    block: &mut LineBlock,
     out: &mut K,
-) -> Result<u64, Failed>
-    requires { (before : List ℕ) × Stands delineator.old 9600 before }
+) -> Result<(usize, u64), Failed>
+    requires some { 0 < length piece.now }
+    requires standing { (before : List ℕ) × Stands delineator.old 9600 before }
+    ensures within { IfOk result (λ taken. (0 < taken.0) × (taken.0 ≤ length piece.now)) }
     ensures stands { (before : List ℕ) → Stands delineator.old 9600 before →
-        Stands delineator.new 9600 (before ++ octet ∷ []) }
+        IfOk result (λ taken. Stands delineator.new 9600 (before ++ take taken.0 piece.now)) }
     ensures ok { (before : List ℕ) (start : K) (got : ℕ) → Stands delineator.old 9600 before →
-        HasGot K.written K.faults before start out.old got →
-        IfOk result (λ n. HasGot K.written K.faults (before ++ octet ∷ []) start out.new (got + n)) }
+        HasGot K.written K.faults before start out.old block.old got →
+        IfOk result (λ taken. let octets = before ++ take taken.0 piece.now in
+        HasGot K.written K.faults octets start out.new block.new (got + taken.1)) }
     ensures err { (before : List ℕ) (start : K) (got : ℕ) → Stands delineator.old 9600 before →
-        HasGot K.written K.faults before start out.old got →
-        OnErr result (StopsIn K.written K.faults (before ++ octet ∷ []) start out.new) }
-    ensures one { IfOk result (λ n. n ≤ 1) }
+        HasGot K.written K.faults before start out.old block.old got →
+        OnErr result (StopsWithin K.written K.faults before piece.now start out.new) }
+    ensures one { IfOk result (λ taken. taken.1 ≤ 1) }
 {
-    match delineator.byte(octet) {
-        Step::Frame => match put_frame(delineator.frame(), line, out) {
-            Ok(()) => Ok(1),
+    let (n, step) = delineator.feed(piece);
+    match step {
+        Step::Frame => match block.add_got(delineator.frame(), out) {
+            Ok(()) => Ok((n, 1)),
             Err(Failed) => Err(Failed),
         },
-        _ => Ok(0),
+        _ => Ok((n, 0)),
     }
 }
 
 /// Gives the octets of a row to the receiver, and writes the line of each frame that they complete. The answer is the number of
 /// lines.
 fn take_row<K: ByteSink>(
-    octets: &[u8],
+    row: &[u8],
     delineator: &mut Delineator,
-    line: &mut [u8; GOT_ROOM],
+    block: &mut LineBlock,
     out: &mut K,
 ) -> Result<u64, Failed>
     requires { (before : List ℕ) × Stands delineator.old 9600 before }
     ensures stands { (before : List ℕ) → Stands delineator.old 9600 before →
-        OnOk result (Stands delineator.new 9600 (before ++ octets.now)) }
+        OnOk result (Stands delineator.new 9600 (before ++ row.now)) }
     ensures ok { (before : List ℕ) (start : K) (got : ℕ) → Stands delineator.old 9600 before →
-        HasGot K.written K.faults before start out.old got →
-        IfOk result (λ n. HasGot K.written K.faults (before ++ octets.now) start out.new (got + n)) }
+        HasGot K.written K.faults before start out.old block.old got →
+        IfOk result (λ n. let octets = before ++ row.now in
+        HasGot K.written K.faults octets start out.new block.new (got + n)) }
     ensures err { (before : List ℕ) (start : K) (got : ℕ) → Stands delineator.old 9600 before →
-        HasGot K.written K.faults before start out.old got →
-        OnErr result (StopsWithin K.written K.faults before octets.now start out.new) }
-    ensures bound { IfOk result (λ n. n ≤ length octets.now) }
+        HasGot K.written K.faults before start out.old block.old got →
+        OnErr result (StopsWithin K.written K.faults before row.now start out.new) }
+    ensures bound { IfOk result (λ n. n ≤ length row.now) }
 {
+    let mut at = 0;
     let mut count = 0;
-    for octet in octets {
-        match take_octet(*octet, delineator, line, out) {
-            Ok(n) => count += n,
+    while at < row.len() {
+        match take_some(&row[at..], delineator, block, out) {
+            Ok((n, lines)) => {
+                at += n;
+                count += lines;
+            }
             Err(Failed) => return Err(Failed),
         }
     }
@@ -93,25 +90,27 @@ fn carry<K: ByteSink>(
     rows: u32,
     queue: &mut FrameQueue,
     delineator: &mut Delineator,
+    block: &mut LineBlock,
     out: &mut K,
 ) -> Result<u64, Failed>
-    requires frames { All IsFrame queue.old }
+    requires frames { All IsFrame queue.old.waiting }
+    requires unsent { queue.old.begun ≡ [] }
     requires fresh { Stands delineator.old 9600 [] }
-    ensures ok { let frames = frames_by (row_octets * rows) (opening queue.old 0) in
-        OnOk result (Appends K.written K.faults out.old out.new (got_texts frames)) }
-    ensures count { let frames = frames_by (row_octets * rows) (opening queue.old 0) in
+    requires none { block.old ≡ [] }
+    ensures ok { let frames = frames_by (row_octets * rows) (opening queue.old.waiting 0) in
+        OnOk result (Holds K.written K.faults out.old out.new block.new (got_texts frames)) }
+    ensures count { let frames = frames_by (row_octets * rows) (opening queue.old.waiting 0) in
         IfOk result (λ got. got ≡ length frames) }
-    ensures err { let frames = frames_by (row_octets * rows) (opening queue.old 0) in
+    ensures err { let frames = frames_by (row_octets * rows) (opening queue.old.waiting 0) in
         OnErr result (AppendsPart K.written K.faults out.old out.new (got_texts frames)) }
 {
     delivery_law();
     let mut filler = Filler::new();
     let mut payload = [0u8; PAYLOAD];
-    let mut line = [0u8; GOT_ROOM];
     let mut got = 0;
     for _row in 0..rows {
         filler.fill(queue, &mut payload);
-        match take_row(&payload, delineator, &mut line, out) {
+        match take_row(&payload, delineator, block, out) {
             Ok(n) => got += n,
             Err(Failed) => return Err(Failed),
         }
@@ -127,17 +126,28 @@ pub fn run<K: ByteSink>(
     out: &mut K,
 ) -> Result<(), Failed>
     requires ticks { IsTicks ticks }
-    requires frames { All IsFrame queue.old }
+    requires frames { All IsFrame queue.old.waiting }
+    requires unsent { queue.old.begun ≡ [] }
     requires fresh { Stands delineator.old 9600 [] }
-    ensures ok { OnOk result (Appends K.written K.faults out.old out.new (report ticks queue.old)) }
-    ensures err { OnErr result (AppendsPart K.written K.faults out.old out.new (report ticks queue.old)) }
+    ensures ok { let text = report ticks queue.old.waiting in
+        OnOk result (Appends K.written K.faults out.old out.new text) }
+    ensures err { let text = report ticks queue.old.waiting in
+        OnErr result (AppendsPart K.written K.faults out.old out.new text) }
 {
     let frames = queue.waiting();
-    let got = match carry(ticks.saturating_sub(EMPTY_ROWS), queue, delineator, out) {
+    let mut block = LineBlock::new();
+    let rows = ticks.saturating_sub(EMPTY_ROWS);
+    let got = match carry(rows, queue, delineator, &mut block, out) {
         Ok(got) => got,
         Err(Failed) => return Err(Failed),
     };
-    let mut line = [0u8; TOTAL_ROOM];
-    let end = total_line(ticks, frames, got, &mut line);
-    put_all(out, &line[..end])
+    let totals = Totals {
+        ticks,
+        taken: ticks,
+        frames: u32::from(frames),
+        commands: 1,
+        refused: 0,
+        got,
+    };
+    block.put_total(&totals, out)
 }

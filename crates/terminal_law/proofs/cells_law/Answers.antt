@@ -1,5 +1,5 @@
 -- What has come of the lines.
-use Rattle.terminal_law.proofs.CellLaws.{has-packets, tells-row}
+use Rattle.terminal_law.proofs.CellLaws.{given-whole, has-packets, tells-row}
 use Rattle.terminal_law.proofs.KeepLaws.{comes-first}
 use Rattle.terminal_law.proofs.cells_law.Goals as goal
 
@@ -11,3 +11,6 @@ returns-clause-packets c scenario returns frames k cells lines come = has-packet
 
 pub returns-clause-row : goal.returns-clause-row
 returns-clause-row c scenario returns frames t cells lines come = tells-row scenario returns lines frames cells come t
+
+pub returns-clause-made : goal.returns-clause-made
+returns-clause-made c = given-whole

@@ -1,6 +1,6 @@
 -- A course is the session's.
 use Rattle.terminal_law.proofs.CourseLaws.{course-returns}
-use Rattle.terminal_law.proofs.LoopLaws.{course-containers, course-come, course-rows, course-cell}
+use Rattle.terminal_law.proofs.LoopLaws.{course-containers, course-come, course-rows, course-cell, course-packet}
 use Rattle.terminal_law.proofs.course_law.Goals as goal
 
 pub returns-clause-returns : goal.returns-clause-returns
@@ -17,3 +17,6 @@ returns-clause-rows c scenario frames n t cells lines lag course = course-rows s
 
 pub returns-clause-backs : goal.returns-clause-backs
 returns-clause-backs c scenario frames n k cells lines lag course = course-cell scenario frames n cells lines lag course k
+
+pub returns-clause-packets : goal.returns-clause-packets
+returns-clause-packets c scenario frames n k cells lines lag course = course-packet scenario frames n cells lines lag course k

@@ -1,5 +1,5 @@
 -- What the sink makes of what has come.
-use Rattle.terminal_law.proofs.RowLaws.{row-told, back-told}
+use Rattle.terminal_law.proofs.RowLaws.{row-told, back-told, packet-told}
 use Rattle.terminal_law.proofs.rows_law.Goals as goal
 
 pub returns-clause-rows : goal.returns-clause-rows
@@ -7,3 +7,6 @@ returns-clause-rows c scenario returns frames t cells = row-told scenario return
 
 pub returns-clause-backs : goal.returns-clause-backs
 returns-clause-backs c scenario returns frames k cells = back-told scenario returns frames cells k
+
+pub returns-clause-packets : goal.returns-clause-packets
+returns-clause-packets c scenario returns frames k cells = packet-told scenario returns frames cells k

@@ -1,6 +1,7 @@
 -- The containers of a session.
 use Rattle.terminal_law.proofs.SentLaws.{forward-packet, are-sent, packet-nibbles}
 use Rattle.terminal_law.proofs.DealtLaws.{payload-size, dealt-row, container-same}
+use Rattle.terminal_law.proofs.OctetLaws.{payload-octets}
 use Rattle.terminal_law.proofs.sent_law.Goals as goal
 
 pub returns-clause-places : goal.returns-clause-places
@@ -20,3 +21,6 @@ returns-clause-dealt c = dealt-row
 
 pub returns-clause-cells : goal.returns-clause-cells
 returns-clause-cells c = container-same
+
+pub returns-clause-octets : goal.returns-clause-octets
+returns-clause-octets c = payload-octets

@@ -1,5 +1,5 @@
 use Rattle.std.proofs.Common.{◌≡◌, ◌+◌, ◌*◌, ◌++◌, take, sym, ap, ◌∙◌, arith}
-use Rattle.gfp_delineate.proofs.IdleLaws.{idle_header, idles, idles-more}
+use Rattle.session_model.proofs.IdleLaws.{idle_header, idles, idles-more}
 use Rattle.gfp_delineate.proofs.octets.idle_pairs.Goals as goal
 
 pub loop-i-preserved : goal.loop-i-preserved

@@ -1,5 +1,5 @@
 use Rattle.std.proofs.Common.{◌≡◌, ◌*◌, take}
-use Rattle.gfp_delineate.proofs.IdleLaws.{idles}
+use Rattle.session_model.proofs.IdleLaws.{idles}
 use Rattle.gfp_delineate.proofs.octets.idle_pairs.Given as goal
 
 abbrev pub invariant-loop-i : goal.invariant-loop-i

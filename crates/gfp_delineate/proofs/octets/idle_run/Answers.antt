@@ -1,5 +1,5 @@
 use Rattle.std.proofs.Common.{◌≡◌, ◌+◌, ◌*◌, ◌++◌, take, sym, ap, ◌∙◌, arith}
-use Rattle.gfp_delineate.proofs.IdleLaws.{idle_header, idles-more}
+use Rattle.session_model.proofs.IdleLaws.{idle_header, idles-more}
 use Rattle.gfp_delineate.proofs.octets.idle_run.Goals as goal
 
 pub returns-then-is_idle-clause-run : goal.returns-then-is_idle-clause-run

@@ -1,6 +1,6 @@
 -- One more idle.
 use Rattle.std.proofs.Common.{◌≡◌, ◌+◌, ◌*◌, ◌++◌, take, ap, sym, ◌∙◌, arith}
-use Rattle.gfp_fill.proofs.IdleLaws.{idle_header, idles-more}
+use Rattle.session_model.proofs.IdleLaws.{idle_header, idles-more}
 use Rattle.gfp_fill.proofs.filler.put_idles.Goals as goal
 
 pub loop-i-preserved : goal.loop-i-preserved

@@ -1,12 +1,19 @@
 -- The octets of the pairs so far are written, if all were digits; else one wasn't.
-use Rattle.std.proofs.Common.{◌≡◌, ◌*◌, true, false, take, drop}
-use Rattle.hex.specs.Hex.{decode_pairs}
-use Rattle.hex.proofs.Pairs.{prepend}
-use Rattle.hex_text.proofs.TextSteps.{HasOther}
+use Rattle.std.proofs.Common.{◌≡◌, ◌≤◌, ◌+◌, ◌-◌, ◌*◌, length}
+use Rattle.hex_text.proofs.TextSteps.{IsDecoded}
 use Rattle.hex_text.proofs.decoding.decode.Given as goal
 
-abbrev pub invariant-loop-i : goal.invariant-loop-i
-invariant-loop-i l = record {
-  right : l.right ≡ true → decode_pairs 0 l.text ≡ prepend (take l.i l.octets) (decode_pairs (2 * l.i) (drop (2 * l.i) l.text));
-  wrong : l.right ≡ false → HasOther l.text (2 * l.i);
+abbrev pub invariant-loop-done : goal.invariant-loop-done
+invariant-loop-done l = record {
+  within : l.done ≤ length l.octets;
+  decoded : IsDecoded l.text l.octets l.done l.right;
 }
+
+abbrev pub decreases-loop-done : goal.decreases-loop-done
+decreases-loop-done l = length l.octets - l.done
+
+abbrev pub invariant-loop-j : goal.invariant-loop-j
+invariant-loop-j l = IsDecoded l.text l.octets (l.done + l.j) l.right
+
+abbrev pub invariant-loop-i : goal.invariant-loop-i
+invariant-loop-i l = IsDecoded l.text l.octets l.i l.right

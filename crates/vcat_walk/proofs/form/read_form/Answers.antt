@@ -25,7 +25,7 @@ returns-in_default-behind-clause-none c ticks frames form =
 pub returns-then-read_frames-clause-some : goal.returns-then-read_frames-clause-some
 returns-then-read_frames-clause-some c =
     is_form c.args.text.now c.in-Some.rest.now c.in-Some-first_line.word.now c.in-Some-first_line.rest.now c.in-Some-behind.lines.now
-    c.in-Some-read_ticks.ticks c.read_frames.new.queue c.in-Some-read_ticks.ensures.some.0 c.if-read_frames.ensures.yes
+    c.in-Some-read_ticks.ticks c.read_frames.new.queue.waiting c.in-Some-read_ticks.ensures.some.0 c.if-read_frames.ensures.yes
     c.in-Some.ensures.some c.in-Some-first_line.ensures.some c.in-Some-read_ticks.ensures.some.1 c.in-Some-behind.ensures.some
 
 pub returns-else-read_frames-clause-none : goal.returns-else-read_frames-clause-none

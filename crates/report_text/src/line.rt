@@ -1,7 +1,7 @@
 //! A line of text is put together piece by piece at the front of a slice.
-ghost use Rattle.std.specs.Prelude.{◌≡◌, ◌+◌, ◌*◌, ◌≤◌, length, drop};
+ghost use Rattle.std.specs.Prelude.{◌≡◌, ◌+◌, ◌*◌, ◌≤◌, length};
 ghost use Rattle.hex.specs.Hex.{encode_lower};
-ghost use Rattle.vcat_walk.specs.Line.{Extends, HasRoom};
+ghost use Rattle.report_text.specs.Line.{Extends, HasRoom};
 
 use itoa::Integer;
 
@@ -9,13 +9,14 @@ use itoa::Integer;
 #[derive(Drop)]
 pub struct LineCursor<'a> {
     /// Where the line stands.
-    out: &'a mut [u8],
+    pub out: &'a mut [u8],
     /// How many octets the line has so far.
-    at: usize,
+    pub at: usize,
 }
 
 impl<'a> LineCursor<'a> {
     /// An empty line.
+    #[inline]
     pub fn new(out: &'a mut [u8]) -> LineCursor<'a>
         ensures empty { result.at ≡ 0 }
         ensures size { length result.out.now ≡ length out.old }
@@ -25,6 +26,7 @@ impl<'a> LineCursor<'a> {
     }
 
     /// Adds octets as they are.
+    #[inline]
     pub fn text(&mut self, piece: &[u8])
         requires { HasRoom self.old (length piece.now) }
         ensures { Extends self.old self.new piece.now }
@@ -45,17 +47,19 @@ impl<'a> LineCursor<'a> {
     }
 
     /// Adds octets in hexadecimal digits, two lower-case digits each.
+    #[inline]
     pub fn hex(&mut self, octets: &[u8])
         requires { HasRoom self.old (2 * length octets.now) }
         ensures text { Extends self.old self.new (encode_lower octets.now) }
         ensures end { self.new.at ≡ self.old.at + 2 * length octets.now }
     {
         let end = self.at + 2 * octets.len();
-        let _ = hex::encode_to_slice(octets, &mut self.out[self.at..end]);
+        hex_text::encode(octets, &mut self.out[self.at..end]);
         self.at = end;
     }
 
     /// How many octets the line has.
+    #[inline]
     pub fn end(&self) -> usize
         ensures { result ≡ self.now.at }
     {

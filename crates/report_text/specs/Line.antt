@@ -1,12 +1,12 @@
 -- A line of text that is put together at the front of a slice.
 use Rattle.std.specs.Prelude.{◌≡◌, ◌≤◌, ◌+◌, ℕ, List, ◌++◌, length, take}
-use Rattle.vcat_walk.specs.declared.line.LineCursor.{LineCursor}
+use Rattle.report_text.specs.declared.line.LineCursor.{LineCursor}
 
 -- the text so far
 abbrev pub text_of : LineCursor → List ℕ
 text_of line = take line.at line.out.now
 
--- the slice has room for n more octets
+-- the slice has room for a number of octets more
 abbrev pub HasRoom : LineCursor → ℕ → Type 0
 HasRoom line n = line.at + n ≤ length line.out.now
 

@@ -1,0 +1,102 @@
+-- The plan of a script's walk, and its lines.
+use Rattle.std.proofs.Common.{◌≡◌, ℕ, zero, suc, ◌+◌, ◌<◌, ◌≤◌, List, [], ◌∷◌, map, length, slice_get, slice_index_or, Some, refl, sym, ◌∙◌, ap, subst, arith}
+use Rattle.std.specs.List.{range_with_len}
+use Rattle.vc_cell.specs.declared.Container.{Container}
+use Rattle.session_model.specs.declared.window.Window.{Window}
+use Rattle.session_model.specs.declared.script.Script.{Script}
+use Rattle.session_model.specs.Valid.{IsValid}
+use Rattle.session_model.specs.Damage.{carried, slip_of}
+use Rattle.session_model.specs.Line.{IsLine}
+use Rattle.session_model.specs.Scenario.{Scenario, scenario_of}
+use Rattle.session_model.specs.Back.{session_cells}
+use Rattle.session_model.specs.Plan.{path_of, paths_of, greatest_slip}
+use Rattle.progress_law.specs.Progress.{IsPlan}
+use Rattle.progress_law.specs.Lines.{AreSentBy}
+use Rattle.progress_law.proofs.LineLaws.{can_run-plan}
+use Rattle.terminal_law.specs.Lines.{HasLines}
+use Rattle.terminal_law.proofs.SentLaws.{containers-size}
+use Rattle.terminal_law.proofs.CellLaws.{is-line}
+use Rattle.walk_law.specs.Walk.{sent_on, sent_of, walk_plan}
+
+-- ---- lines
+slip-least : (lists : List (List Window)) (line : ℕ) (d : List Window) → line < length lists → slip_of (slice_index_or lists line d) ≤ greatest_slip lists
+slip-least [] line d inside = absurd (omega arith)
+slip-least (windows ∷ lists) zero d inside = omega arith
+slip-least (windows ∷ lists) (suc line) d inside = let rest = slip-least lists line d (omega arith) in omega arith
+
+pub has-lines : (script : Script) → IsValid script → HasLines (scenario_of script)
+has-lines script valid =
+    let network = valid.network in
+    let lines = network.lines in
+    let each = network.windows_each in
+    let ring = network.fits_ring in
+    let room = network.ring in
+    record {
+      few = omega arith;
+      apart = λ line d inside. (network.windows line d inside).apart;
+      slip = λ line d inside. let most = slip-least script.config.windows line d inside in omega arith;
+    }
+
+delays-each : (script : Script) → IsValid script → length script.config.delays ≡ length script.config.windows
+delays-each script valid = valid.network.delay_each ∙ sym valid.network.windows_each
+
+-- ---- the plan
+sent-by : (total : ℕ) (sent : ℕ → List Container) (lists : List (List Window)) (delays : List ℕ) (from : ℕ) → length delays ≡ length lists →
+    ((m : ℕ) (own : List Window) → slice_get lists m ≡ Some own → IsLine own (sent (from + m))) → ((m : ℕ) → length (sent m) ≡ total) →
+    AreSentBy total lists delays (map sent (range_with_len from (length lists)))
+unfolding AreSentBy
+sent-by total sent [] [] from size line long = tt
+sent-by total sent [] (delay ∷ delays) from size line long = absurd (omega arith)
+sent-by total sent (windows ∷ lists) [] from size line long = absurd (omega arith)
+sent-by total sent (windows ∷ lists) (delay ∷ delays) from size line long = (
+  subst (λ m. IsLine windows (sent m)) (let e : from + 0 ≡ from = omega arith in e) (line 0 windows refl),
+  long from,
+  sent-by total sent lists delays (from + 1) (omega arith)
+      (λ m own here. subst (λ k. IsLine own (sent k)) (let e : from + suc m ≡ from + 1 + m = omega arith in e) (line (suc m) own here)) long,
+)
+
+own-at : (lists : List (List Window)) (m : ℕ) (own : List Window) → slice_get lists m ≡ Some own → (m < length lists) × (slice_index_or lists m [] ≡ own)
+own-at [] m own here = absurd cc
+own-at (windows ∷ lists) zero own here = (omega arith, cc)
+own-at (windows ∷ lists) (suc m) own here = let rest = own-at lists m own here in (let low = rest.0 in omega arith, rest.1)
+
+pub has-plan : (script : Script) → IsValid script → IsPlan (walk_plan script)
+has-plan script valid =
+    let scenario : Scenario = scenario_of script in
+    let lines = valid.network.lines in
+    let each = valid.network.delay_each in
+    can_run-plan script.config script.items (sent_of scenario) (record {
+      some_line = omega arith;
+      sent_all = sent-by script.config.ticks (sent_on scenario) script.config.windows script.config.delays 0 (delays-each script valid)
+          (λ m own here.
+          let (low, same) = own-at script.config.windows m own here in
+          let e : m ≡ 0 + m = omega arith in
+          subst (λ k. IsLine own (sent_on scenario k)) e
+          (subst (λ windows. IsLine windows (sent_on scenario m)) same (is-line scenario (session_cells scenario) (has-lines script valid) m low)))
+          (λ m. containers-size scenario (session_cells scenario) m scenario.ticks);
+      frames = valid.items.frames;
+      commands = valid.items.commands;
+      some_room = valid.network.ring.0;
+      ring = valid.network.fits_ring;
+      lag = valid.network.fits_lag;
+    })
+
+-- ---- the path of a line
+path-at : (sent : ℕ → List Container) (lists : List (List Window)) (delays : List ℕ) (from m : ℕ) → length delays ≡ length lists → m < length lists →
+    slice_get (paths_of lists delays (map sent (range_with_len from (length lists)))) m
+    ≡ Some (path_of (carried (slice_index_or lists m [])) (slice_index_or delays m 0) (sent (from + m)))
+path-at sent [] delays from m size inside = absurd (omega arith)
+path-at sent (windows ∷ lists) [] from m size inside = absurd (omega arith)
+path-at sent (windows ∷ lists) (delay ∷ delays) from zero size inside =
+    let e : from ≡ from + 0 = omega arith in ap (λ k. Some (path_of (carried windows) delay (sent k))) e
+path-at sent (windows ∷ lists) (delay ∷ delays) from (suc m) size inside =
+    path-at sent lists delays (from + 1) m (omega arith) (omega arith)
+    ∙ (let e : from + 1 + m ≡ from + suc m = omega arith in ap (λ k. Some (path_of (carried (slice_index_or lists m [])) (slice_index_or delays m 0) (sent k))) e)
+
+pub line-path : (script : Script) → IsValid script → (line : ℕ) → line < length script.config.windows →
+    slice_get (walk_plan script).paths line
+    ≡ Some (path_of (carried (slice_index_or script.config.windows line [])) (slice_index_or script.config.delays line 0) (sent_on (scenario_of script) line))
+line-path script valid line inside =
+    path-at (sent_on (scenario_of script)) script.config.windows script.config.delays 0 line (delays-each script valid) inside
+    ∙ (let e : 0 + line ≡ line = omega arith in
+    ap (λ k. Some (path_of (carried (slice_index_or script.config.windows line [])) (slice_index_or script.config.delays line 0) (sent_on (scenario_of script) k))) e)

@@ -1,0 +1,212 @@
+-- What the counts of a walk say of the cells that were popped.
+use Rattle.std.specs.Prelude.{IsSome, ◌↔◌, nat_le, is_none, false, true}
+use Rattle.std.proofs.lemmas.Bool.{cases_lt, le-leb, lt-leb}
+use Rattle.std.proofs.Common.{inl, inr, ◌≡◌, ℕ, zero, suc, ◌+◌, ◌-◌, ◌*◌, ◌/◌, ◌<◌, ◌≤◌, if◌then◌else◌, List, [], ◌∷◌, ◌++◌, map, take, drop, length, slice_get, slice_index_or, Option, Some, None, option_map, refl, sym, ◌∙◌, ap, subst, arith}
+use Rattle.std.specs.List.{range_with_len}
+use Rattle.std.proofs.lemmas.List.{take-append-drop, take-append-le}
+use Rattle.std.proofs.lemmas.List.FromFn.{length-map-range_with_len, map-range_with_len_more}
+use Rattle.std.proofs.lemmas.Option.{slice_get-map, slice_get_within}
+use Rattle.vc_cell.specs.declared.Container.{Container}
+use Rattle.vc_cell.specs.declared.Cell.{Cell}
+use Rattle.session_model.specs.declared.window.Carried.{Carried}
+use Rattle.session_model.specs.declared.script.Script.{Script}
+use Rattle.session_model.specs.Valid.{IsValid}
+use Rattle.session_model.specs.Path.{cells}
+use Rattle.session_model.specs.Number.{verdict}
+use Rattle.session_model.specs.Scenario.{Scenario, scenario_of, carried_by, packets_in, packets, steps_in}
+use Rattle.session_model.specs.Table.{Told}
+use Rattle.session_model.specs.Told.{told_in}
+use Rattle.session_model.specs.Source.{after}
+use Rattle.session_model.specs.Client.{stream_before}
+use Rattle.session_model.specs.Back.{cells_before, session_cells}
+use Rattle.session_model.specs.Payload.{payload_of}
+use Rattle.session_model.specs.Rows.{row_at}
+use Rattle.session_model.specs.SessionRows.{is_whole_row}
+use Rattle.session_model.specs.Sent.{frame_of}
+use Rattle.session_model.specs.Counts.{LinePath, LineCounts, Counts}
+use Rattle.session_model.specs.Plan.{all_cells, path_of}
+use Rattle.line_law.specs.StableRows.{AreDecidedAt}
+use Rattle.line_law.proofs.StableLaws.{cells-part}
+use Rattle.progress_law.specs.Progress.{Each, LineFits, Fits}
+use Rattle.progress_law.proofs.LineLaws.{is_decided}
+use Rattle.progress_law.proofs.MoveLaws.{reached-fits}
+use Rattle.terminal_law.specs.Lines.{given, ComesOf, ComeOf}
+use Rattle.terminal_law.specs.Course.{back_of, told_of}
+use Rattle.terminal_law.proofs.SentLaws.{containers-size}
+use Rattle.terminal_law.proofs.ListLaws.{range-at}
+use Rattle.terminal_law.proofs.CellLaws.{given-whole}
+use Rattle.terminal_law.proofs.RowLaws.{row-told}
+use Rattle.terminal_law.proofs.LoopLaws.{frame-same, source-same, stream-same, next-cell}
+use Rattle.walk_law.specs.Walk.{sent_on, walk_plan, IsWalked, counts_at, cells_on, popped_on, popped_cells, path_on}
+use Rattle.walk_law.proofs.PlanLaws.{has-lines, has-plan, line-path}
+
+each-there : (P : LinePath → LineCounts → Type 0) (paths : List LinePath) (lines : List LineCounts) (m : ℕ) (path : LinePath) (d : LineCounts) → Each P paths lines →
+    slice_get paths m ≡ Some path → P path (slice_index_or lines m d)
+unfolding Each
+each-there P [] [] m path d all here = absurd cc
+each-there P [] (line ∷ lines) m path d all here = absurd all
+each-there P (first ∷ paths) [] m path d all here = absurd all
+each-there P (first ∷ paths) (line ∷ lines) zero path d all here = let e : first ≡ path = cc in subst (λ path. P path line) e all.0
+each-there P (first ∷ paths) (line ∷ lines) (suc m) path d all here = each-there P paths lines m path d all.1 here
+
+-- the first cells that all carries give are those of some carries, where these give as many
+first-given : (carries : ℕ → Carried) (delay : ℕ) (containers : List Container) (x y : ℕ) → x ≤ length containers + delay + 1 →
+    y ≤ length (cells carries delay (length containers) containers x) →
+    take y (all_cells carries delay containers) ≡ take y (cells carries delay (length containers) containers x)
+first-given carries delay containers x y low fits =
+    let (more, e) = cells-part carries delay containers x (length containers + delay + 1) low in
+    ap (take y) e ∙ take-append-le y (cells carries delay (length containers) containers x) more fits
+
+-- ---- a line that doesn't decide a row
+open-or : (v : Option (Option Container)) (d t : ℕ) → (IsSome v ↔ (t < d)) → is_none v ≡ nat_le d t
+open-or None d t same = elim (cases_lt t d) [
+  | inl low ↦ absurd (let e : false ≡ true = same.1 low in cc)
+  | inr high ↦ sym (le-leb d t high)
+]
+open-or (Some told) d t same = let low = same.0 refl in sym (lt-leb d t low)
+
+pub line-open : (script : Script) (lines : List LineCounts) (line t : ℕ) → t < script.config.ticks →
+    is_none (verdict (popped_on script lines line) t) ≡ nat_le ((path_on script line).decided (counts_at lines line).popped) t
+line-open script lines line t low =
+    let scenario : Scenario = scenario_of script in
+    let delay : ℕ = slice_index_or script.config.delays line 0 in
+    let y : ℕ = (counts_at lines line).popped in
+    let size : length (sent_on scenario line) ≡ script.config.ticks = containers-size scenario (session_cells scenario) line scenario.ticks in
+    open-or (verdict (popped_on script lines line) t) ((path_on script line).decided y) t
+    (is_decided (carried_by scenario line) (sent_on scenario line) delay y t (omega arith))
+
+-- the first cells of a line are those that its carries give
+pub line-first : (script : Script) (line carries popped : ℕ) → carries ≤ script.config.ticks + (path_on script line).delay + 1 →
+    popped ≤ (path_on script line).given carries →
+    take popped (cells_on (scenario_of script) (path_on script line).delay line)
+    ≡ take popped (given (scenario_of script) (session_cells (scenario_of script)) line script.config.ticks (path_on script line).delay carries)
+line-first script line carries popped low fits =
+    let scenario : Scenario = scenario_of script in
+    let containers : List Container = sent_on scenario line in
+    let delay : ℕ = slice_index_or script.config.delays line 0 in
+    let size : length containers ≡ script.config.ticks = containers-size scenario (session_cells scenario) line scenario.ticks in
+    first-given (carried_by scenario line) delay containers carries popped (omega arith) fits
+    ∙ ap (λ n. take popped (cells (carried_by scenario line) delay n containers carries)) size
+
+module _ (script : Script) (s : Counts) (valid : IsValid script) (walked : IsWalked script s) where
+  abbrev scenario : Scenario
+  scenario = scenario_of script
+
+  abbrev session : List (Option Told)
+  session = session_cells (scenario_of script)
+
+  fits : Fits (walk_plan script) s
+  fits = reached-fits (walk_plan script) s (has-plan script valid) walked
+
+  abbrev delay_of : ℕ → ℕ
+  delay_of line = slice_index_or script.config.delays line 0
+
+  line-fits : (line : ℕ) → line < length script.config.windows →
+      LineFits script.config.ticks script.config.ring s.ticks s.rows (path_of (carried_by scenario line) (delay_of line) (sent_on scenario line)) (counts_at s.lines line)
+  line-fits line inside =
+      each-there (LineFits script.config.ticks script.config.ring s.ticks s.rows) (walk_plan script).paths s.lines line
+      (path_of (carried_by scenario line) (delay_of line) (sent_on scenario line)) (record { carried = 0; popped = 0 }) fits.lines (line-path script valid line inside)
+
+  popped-comes : (line : ℕ) → line < length script.config.windows → ComesOf scenario session line s.ticks (popped_on script s.lines line)
+  popped-comes line inside =
+      let is = line-fits line inside in
+      let ticks = fits.ticks in
+      let containers : List Container = sent_on scenario line in
+      let carries = carried_by scenario line in
+      let size : length containers ≡ script.config.ticks = containers-size scenario session line scenario.ticks in
+      let x : ℕ = (counts_at s.lines line).carried in
+      let y : ℕ = (counts_at s.lines line).popped in
+      let own : List Cell = cells carries (delay_of line) (length containers) containers x in
+      let most = is.carries in
+      let taken = is.sent in
+      let now : given scenario session line s.ticks (delay_of line) x ≡ own =
+      given-whole scenario session line s.ticks (delay_of line) x ticks taken ∙ ap (λ n. cells carries (delay_of line) n containers x) (sym size) in
+      record {
+        delay = delay_of line;
+        carries = x;
+        later = drop y own;
+        taken = taken;
+        first = now ∙ sym (take-append-drop y own) ∙ ap (λ l. l ++ drop y own) (sym (first-given carries (delay_of line) containers x y (omega arith) is.pops));
+      }
+
+  popped-decided : (line t : ℕ) → line < length script.config.windows → t < s.rows → IsSome (verdict (popped_on script s.lines line) t)
+  popped-decided line t inside low =
+      let is = line-fits line inside in
+      let rows = fits.rows in
+      let decides = is.decides in
+      let size : length (sent_on scenario line) ≡ script.config.ticks = containers-size scenario session line scenario.ticks in
+      (is_decided (carried_by scenario line) (sent_on scenario line) (delay_of line) (counts_at s.lines line).popped t (omega arith)).1 (omega arith)
+
+  -- ---- all lines
+  popped-at : (line : ℕ) (own : List Cell) → slice_get (popped_cells script s.lines) line ≡ Some own → (line < length script.config.windows) × (popped_on script s.lines line ≡ own)
+  popped-at line own here =
+      let lines : ℕ = length script.config.windows in
+      let size = length-map-range_with_len (popped_on script s.lines) 0 lines in
+      let within = slice_get_within (popped_cells script s.lines) line own here in
+      let low : line < lines = omega arith in
+      let there : slice_get (popped_cells script s.lines) line ≡ Some (popped_on script s.lines line) =
+      slice_get-map (popped_on script s.lines) (range_with_len 0 lines) line
+      ∙ ap (option_map (popped_on script s.lines)) (range-at 0 lines line low ∙ ap Some (let e : 0 + line ≡ line = omega arith in e)) in
+      (low, cc)
+
+  pub cells-come : ComeOf scenario session s.ticks (popped_cells script s.lines)
+  cells-come = record {
+    made = fits.ticks;
+    lines = length-map-range_with_len (popped_on script s.lines) 0 (length script.config.windows);
+    each = λ line own here.
+        let (inside, same) = popped-at line own here in
+        subst (λ own. ComesOf scenario session line s.ticks own) same (popped-comes line inside);
+  }
+
+  pub cells-decide : (t : ℕ) → t < s.rows → AreDecidedAt (popped_cells script s.lines) t
+  cells-decide t low line own here =
+      let (inside, same) = popped-at line own here in
+      subst (λ own. IsSome (verdict own t)) same (popped-decided line t inside low)
+
+  pub rows-are : (t : ℕ) → t < s.rows →
+      row_at script.config.size (popped_cells script s.lines) t ≡ (if is_whole_row scenario session t then Some (payload_of scenario session t) else None)
+  rows-are t low =
+      let rows = fits.rows in
+      row-told scenario session s.ticks (popped_cells script s.lines) t (has-lines script valid) cells-come (omega arith) (cells-decide t low)
+
+  -- ---- the return path
+  lag : 0 < scenario.lag
+  lag = let fits_lag = valid.network.lag.0 in omega arith
+
+  few-packets : (rows ticks n : ℕ) → rows ≤ ticks → n ≤ (rows - 8) / 16 → n ≤ (ticks - 8) / 16
+  few-packets rows ticks n low most = omega arith
+
+  ends : (rows n : ℕ) → n < (rows - 8) / 16 → 16 * n + 23 < rows
+  ends rows n low = omega arith
+
+  pub frames-are : (t : ℕ) → t < s.ticks → frame_of scenario (cells_before scenario s.backs) t ≡ frame_of scenario session t
+  frames-are t low =
+      let used = fits.used in
+      frame-same scenario s.backs s.ticks t (few-packets s.rows script.config.ticks s.backs fits.rows fits.backs) (omega arith) low
+
+  few : s.backs ≤ packets scenario
+  few = few-packets s.rows script.config.ticks s.backs fits.rows fits.backs
+
+  pub sources-are : (j : ℕ) → j ≤ steps_in s.ticks → after scenario (cells_before scenario s.backs) j ≡ after scenario session j
+  sources-are j low = let used = fits.used in source-same scenario s.backs s.ticks j few (omega arith) low
+
+  pub streams-are : (t : ℕ) → t ≤ s.ticks → stream_before scenario (cells_before scenario s.backs) t ≡ stream_before scenario session t
+  streams-are t low = let used = fits.used in stream-same scenario s.backs s.ticks t few (omega arith) low
+
+  told-first : (n : ℕ) → n ≤ s.backs → told_of scenario (popped_cells script s.lines) n ≡ cells_before scenario n
+  unfolding cells_before
+  told-first zero low = refl
+  told-first (suc n) low =
+      let popped : List (List Cell) = popped_cells script s.lines in
+      let backs = fits.backs in
+      let f = λ (k : ℕ). told_in (back_of scenario popped k) in
+      let e : suc n ≡ n + 1 = omega arith in
+      let inside : n < packets_in s.rows = omega arith in
+      ap (λ k. map f (range_with_len 0 k)) e
+      ∙ map-range_with_len_more f 0 n n (omega arith)
+      ∙ ap (λ l. l ++ f n ∷ []) (told-first n (omega arith))
+      ∙ sym (next-cell scenario s.ticks n popped (has-lines script valid) lag (few-packets s.rows script.config.ticks (suc n) fits.rows inside) cells-come
+      (cells-decide (16 * n + 23) (ends s.rows n inside)))
+
+  pub backs-are : told_of scenario (popped_cells script s.lines) s.backs ≡ cells_before scenario s.backs
+  backs-are = told-first s.backs (omega arith)

@@ -1,0 +1,13 @@
+-- A line of a walk in numbers.
+use Rattle.walk_law.proofs.PlanLaws.{line-path}
+use Rattle.walk_law.proofs.WalkLaws.{line-first, line-open}
+use Rattle.walk_law.proofs.line_law.Goals as goal
+
+pub returns-clause-path : goal.returns-clause-path
+returns-clause-path c script line valid = line-path script valid line
+
+pub returns-clause-open : goal.returns-clause-open
+returns-clause-open c = line-open
+
+pub returns-clause-first : goal.returns-clause-first
+returns-clause-first c = line-first

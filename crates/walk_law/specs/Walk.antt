@@ -1,0 +1,60 @@
+-- A walk of a script: its counts, and the cells that they speak of.
+use Rattle.std.specs.Prelude.{ℕ, List, map, take, length, slice_index_or, Option}
+use Rattle.std.specs.List.{range_with_len}
+use Rattle.vc_cell.specs.declared.Container.{Container}
+use Rattle.vc_cell.specs.declared.Cell.{Cell}
+use Rattle.session_model.specs.declared.script.Script.{Script}
+use Rattle.session_model.specs.Scenario.{Scenario, scenario_of, carried_by}
+use Rattle.session_model.specs.Table.{Told}
+use Rattle.session_model.specs.Back.{cells_before, session_cells}
+use Rattle.session_model.specs.Sent.{containers_of}
+use Rattle.session_model.specs.Counts.{LinePath, Plan, LineCounts, Counts}
+use Rattle.session_model.specs.Plan.{all_cells, path_of, plan_of}
+use Rattle.progress_law.specs.Progress.{IsReached}
+
+-- ---- the session of a script
+-- its return cells, and the first of them
+abbrev pub session_of : Script → List (Option Told)
+session_of script = session_cells (scenario_of script)
+
+abbrev pub told_first : Script → ℕ → List (Option Told)
+told_first script n = cells_before (scenario_of script) n
+
+-- ---- the walk in numbers
+-- the containers of a line of a session
+abbrev pub sent_on : Scenario → ℕ → List Container
+sent_on scenario line = containers_of scenario (session_cells scenario) line scenario.ticks
+
+-- those of each line
+abbrev pub sent_of : Scenario → List (List Container)
+sent_of scenario = map (sent_on scenario) (range_with_len 0 (length scenario.windows))
+
+-- the plan of a script's walk
+abbrev pub walk_plan : Script → Plan
+walk_plan script = plan_of script.config script.items (sent_of (scenario_of script))
+
+-- some list of events leads to these counts
+abbrev pub IsWalked : Script → Counts → Type 0
+IsWalked script s = IsReached (walk_plan script) s
+
+-- ---- the cells that were popped
+abbrev pub counts_at : List LineCounts → ℕ → LineCounts
+counts_at lines line = slice_index_or lines line (record { carried = 0; popped = 0 })
+
+-- all cells that a line of a session gives after a delay
+abbrev pub cells_on : Scenario → ℕ → ℕ → List Cell
+cells_on scenario delay line = all_cells (carried_by scenario line) delay (sent_on scenario line)
+
+-- those that the sink popped of it
+abbrev pub popped_on : Script → List LineCounts → ℕ → List Cell
+popped_on script lines line =
+    take (counts_at lines line).popped (cells_on (scenario_of script) (slice_index_or script.config.delays line 0) line)
+
+-- and of each line
+abbrev pub popped_cells : Script → List LineCounts → List (List Cell)
+popped_cells script lines = map (popped_on script lines) (range_with_len 0 (length script.config.windows))
+
+-- ---- a line in numbers: how many cells its carries give, and how many numbers its first cells decide
+abbrev pub path_on : Script → ℕ → LinePath
+path_on script line =
+    path_of (carried_by (scenario_of script) line) (slice_index_or script.config.delays line 0) (sent_on (scenario_of script) line)
