@@ -11,7 +11,6 @@ mod step;
 mod tests;
 mod worker;
 
-
 pub use burst::{SinkBurst, SinkIdle};
 pub use got::GotOut;
 pub use worker::SinkWorker;

@@ -11,8 +11,8 @@ ghost use Rattle.sink_worker.specs.Parts.{parts, Keeps, Later, IsFull, Does, Giv
 ghost use Rattle.sink_worker.specs.Step.{PoppedCell, TookCell, packet_in};
 
 use crate::burst::{SinkBurst, SinkIdle};
-use line_reader::cell_ref;
 use lcas_packet::Packet;
+use line_reader::cell_ref;
 use member_ring::{RingIn, RingOut};
 use realign_core::{RowAnswer, RowGather};
 use sink_core::{FrameOut, SinkCore, TakeAnswer};

@@ -87,6 +87,25 @@ fn push_all(tx: &mut RingOut<Container>, line: u8, stream: &[[u8; 2 * SIZE]; 3])
     }
 }
 
+// The worker of a line, and where containers go in and cells come out.
+fn line(
+    alloc: Global,
+    number: u8,
+    delay: u16,
+) -> Option<(LineWorker, RingOut<Container>, RingIn<Cell>)>
+    ensures { IfSome result (λ line. in_passed line.2 ≡ []) }
+{
+    let LineEnds {
+        tx,
+        tx_out,
+        rx,
+        rx_out,
+    } = line_rings(alloc, 64).ok()?;
+    let windows = Windows::new(alloc, &[]).ok()?;
+    let core = LineCore::new(alloc, delay, windows, TICKS).ok()?;
+    Some((LineWorker::new(number, tx_out, core, rx), tx, rx_out))
+}
+
 // Two fresh ends.
 fn both(alloc: Global, a: RingIn<Cell>, b: RingIn<Cell>) -> Option<Vec<RingIn<Cell>>>
     requires a { in_passed a ≡ [] }
@@ -101,7 +120,12 @@ fn both(alloc: Global, a: RingIn<Cell>, b: RingIn<Cell>) -> Option<Vec<RingIn<Ce
 }
 
 // What the sink writes of three frames, where the two lines and the sink are served in turn in this order, by number.
-fn text_by(alloc: Global, order: &[u8; 4], frames: &[[u8; 64]; 3], fail: &[u32]) -> Option<MemSink> {
+fn text_by(
+    alloc: Global,
+    order: &[u8; 4],
+    frames: &[[u8; 64]; 3],
+    fail: &[u32],
+) -> Option<MemSink> {
     let mut queue = FrameQueue::new(alloc).ok()?;
     for frame in frames {
         queue.push(frame).ok()?;
@@ -111,27 +135,11 @@ fn text_by(alloc: Global, order: &[u8; 4], frames: &[[u8; 64]; 3], fail: &[u32])
     for row in &mut stream {
         filler.fill(&mut queue, row);
     }
-    let LineEnds {
-        mut tx,
-        tx_out: a_out,
-        rx: a_in,
-        rx_out: a_cells,
-    } = line_rings(alloc, 64).ok()?;
+    let (mut a, mut tx, a_cells) = line(alloc, 0, 0)?;
     push_all(&mut tx, 0, &stream);
-    let LineEnds {
-        mut tx,
-        tx_out: b_out,
-        rx: b_in,
-        rx_out: b_cells,
-    } = line_rings(alloc, 64).ok()?;
+    let (mut b, mut tx, b_cells) = line(alloc, 1, 2)?;
     push_all(&mut tx, 1, &stream);
     let ends = both(alloc, a_cells, b_cells)?;
-    let windows = Windows::new(alloc, &[]).ok()?;
-    let core = LineCore::new(alloc, 0, windows, TICKS).ok()?;
-    let mut a = LineWorker::new(0, a_out, core, a_in);
-    let windows = Windows::new(alloc, &[]).ok()?;
-    let core = LineCore::new(alloc, 2, windows, TICKS).ok()?;
-    let mut b = LineWorker::new(1, b_out, core, b_in);
     let (back, _back_out) = back_ring(alloc).ok()?;
     let mut sink = SinkWorker::new(alloc, 2, TICKS, 756, ends, back).ok()?;
     let mut out = MemSink::new(alloc, 1000, fail).ok()?;

@@ -22,7 +22,7 @@ returns-clause-stands g c stands =
       name = c.new-got.result.out.ghost_name;
     } in
     let first = told-first g.K.ByteSink.written g.K.ByteSink.faults c.new-got.result.failed c.args.out.now c.new-got.result.out.now c.new-got.result.count
-        c.new-got.ensures.now c.new-got.ensures.fresh.0 c.new-got.ensures.fresh.1 in
+    c.new-got.ensures.now c.new-got.ensures.fresh.0 c.new-got.ensures.fresh.1 in
     let told = c.take_rows-first.ensures.gives stands.keeps start [] (refl, first) in
     record {
       keeps = c.take_rows-first.ensures.keeps stands.keeps;
@@ -43,7 +43,7 @@ returns-clause-written g c stands =
       name = c.new-got.result.out.ghost_name;
     } in
     let first = told-first g.K.ByteSink.written g.K.ByteSink.faults c.new-got.result.failed c.args.out.now c.new-got.result.out.now c.new-got.result.count
-        c.new-got.ensures.now c.new-got.ensures.fresh.0 c.new-got.ensures.fresh.1 in
+    c.new-got.ensures.now c.new-got.ensures.fresh.0 c.new-got.ensures.fresh.1 in
     let told = c.take_rows-first.ensures.gives stands.keeps start [] (refl, first) in
     let frames = added_frames now.core.size (received now.rx) was.core.taken now.core.taken in
     let all = told-last g.K.ByteSink.written g.K.ByteSink.faults c.take_rows-first.new.out.failed c.args.out.now c.take_rows-first.new.out.out.now c.take_rows-first.new.out.count frames told.1 in
