@@ -91,5 +91,8 @@ fn main(rt: HostRuntime) -> io::Result<()> {
     let Some(sum) = run(alloc, delay, rounds) else {
         return println!(rt; "no memory");
     };
-    println!(rt; "octets {} sum {sum}", u64::from(rounds).wrapping_mul(ROUND))
+    println!(rt;
+        "octets {} sum {sum}",
+        u64::from(rounds).wrapping_mul(ROUND)
+    )
 }

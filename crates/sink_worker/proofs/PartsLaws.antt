@@ -1,13 +1,11 @@
 -- What a step changes, and what several steps change.
-use Rattle.std.proofs.Common.{◌≡◌, ℕ, zero, suc, ◌+◌, ◌-◌, ◌/◌, ◌%◌, ◌<◌, ◌≤◌, ◌==◌, nat_lt, inl, inr, List, [], ◌∷◌, ◌++◌, length, map, drop, slice_get, Option, Some, None, refl, sym, ◌∙◌, ap, ap₂, subst, arith, append_assoc}
+use Rattle.std.proofs.Common.{◌≡◌, ℕ, zero, suc, ◌+◌, ◌%◌, ◌<◌, ◌≤◌, ◌==◌, nat_lt, inl, inr, List, [], ◌∷◌, ◌++◌, length, Some, refl, sym, ◌∙◌, ap, ap₂, subst, arith, append_assoc}
 use Rattle.std.proofs.lemmas.Bool.{cases_Bool}
 use Rattle.std.proofs.lemmas.Bool.Decides.{nat_tests}
 use Rattle.std.proofs.lemmas.List.{append-nil, drop_all, length-map}
 use Rattle.std.proofs.lemmas.Option.{slice_get_within}
 use Rattle.vc_cell.specs.declared.Cell.{Cell}
 use Rattle.vc_cell.specs.declared.BackCell.{BackCell}
-use Rattle.session_model.specs.declared.packet.Packet.{Packet}
-use Rattle.session_model.specs.Rows.{first_open}
 use Rattle.session_model.specs.Run.{delineate_within}
 use Rattle.session_model.specs.Hunt.{hunt_within}
 use Rattle.session_model.specs.Segment.{segments_on}
@@ -17,7 +15,7 @@ use Rattle.realign_core.specs.Gather.{Gather, line_count, with_cell}
 use Rattle.realign_core.specs.Gather.{Stands as Gathers}
 use Rattle.member_ring.specs.declared.ends.RingIn.{RingIn}
 use Rattle.member_ring.specs.declared.ends.RingOut.{RingOut}
-use Rattle.member_ring.specs.Ends.{out_passed, in_passed, SameIn}
+use Rattle.member_ring.specs.Ends.{in_passed, SameIn}
 use Rattle.member_ring.proofs.EndLaws.{in-then, out-then}
 use Rattle.sink_core.specs.Start.{Start}
 use Rattle.sink_core.specs.Given.{given_frames, added_frames, back_at}

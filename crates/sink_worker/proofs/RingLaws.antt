@@ -1,5 +1,5 @@
 -- One of the rings of the lines is touched.
-use Rattle.std.proofs.Common.{◌≡◌, ℕ, zero, suc, ◌+◌, ◌<◌, ◌≤◌, List, [], ◌∷◌, ◌++◌, length, map, get_or, slice_set, slice_get, Some, refl, sym, ◌∙◌, ap, subst, arith, length-append}
+use Rattle.std.proofs.Common.{◌≡◌, ℕ, zero, suc, ◌+◌, ◌<◌, List, [], ◌∷◌, ◌++◌, length, map, get_or, slice_set, slice_get, Some, refl, sym, ◌∙◌, ap, subst, arith, length-append}
 use Rattle.vc_cell.specs.declared.Cell.{Cell}
 use Rattle.realign_core.specs.Gather.{with_cell}
 use Rattle.sink_worker.specs.Received.{popped}

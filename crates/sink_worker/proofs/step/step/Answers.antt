@@ -1,5 +1,5 @@
 -- A cell is popped, or a look for it missed.
-use Rattle.std.proofs.Common.{◌≡◌, ◌+◌, ◌<◌, inr, length, refl, sym, ◌∙◌, ap, arith}
+use Rattle.std.proofs.Common.{inr, refl, sym, ◌∙◌, ap, arith}
 use Rattle.session_model.specs.Rows.{first_open}
 use Rattle.sink_worker.specs.Received.{received}
 use Rattle.sink_worker.proofs.PartsLaws.{popped-more, later-cell, keeps-cell}

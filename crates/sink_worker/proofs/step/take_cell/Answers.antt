@@ -1,5 +1,5 @@
 -- One line has one cell more.
-use Rattle.std.proofs.Common.{◌≡◌, ◌<◌, length, refl, sym, ◌∙◌, ap, subst, arith, slice_set}
+use Rattle.std.proofs.Common.{◌<◌, length, refl, sym, subst, arith, slice_set}
 use Rattle.member_ring.specs.Ends.{in_passed, SameIn}
 use Rattle.sink_worker.specs.Received.{Missed}
 use Rattle.sink_worker.specs.Step.{Grew, TookCell}

@@ -1,6 +1,5 @@
 -- The row that is decided is taken, and its return packet sent.
-use Rattle.std.proofs.Common.{◌≡◌, ℕ, ◌+◌, ◌%◌, ◌<◌, ◌≤◌, ◌++◌, length, true, refl, sym, ◌∙◌, ap, ap₂, subst, arith}
-use Rattle.session_model.specs.Rows.{first_open}
+use Rattle.std.proofs.Common.{◌≡◌, ◌+◌, ◌%◌, ◌<◌, ◌≤◌, ◌++◌, length, true, sym, ◌∙◌, ap, ap₂, subst}
 use Rattle.member_ring.specs.Ends.{out_free}
 use Rattle.sink_core.specs.declared.sink.TakeAnswer.TheVariants.{Taken}
 use Rattle.sink_core.specs.Given.{answer_by, back_at, rows_taken}

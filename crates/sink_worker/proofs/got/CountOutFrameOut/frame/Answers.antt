@@ -1,5 +1,4 @@
 -- One frame more is counted.
-use Rattle.std.proofs.Common.{◌≡◌}
 use Rattle.sink_worker.proofs.ToldLaws.{count-more}
 use Rattle.sink_worker.proofs.got.CountOutFrameOut.frame.Goals as goal
 

@@ -1,5 +1,4 @@
 -- One frame more is counted and told.
-use Rattle.std.proofs.Common.{◌≡◌}
 use Rattle.sink_worker.specs.Told.{seen, told_of}
 use Rattle.sink_worker.proofs.ToldLaws.{told-stopped, told-more}
 use Rattle.sink_worker.proofs.got.GotOutFrameOut.frame.Goals as goal

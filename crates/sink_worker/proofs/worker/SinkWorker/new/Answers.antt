@@ -1,5 +1,5 @@
 -- Nothing came, and no row was taken.
-use Rattle.std.proofs.Common.{◌≡◌, sym, ◌∙◌, ap, subst, arith}
+use Rattle.std.proofs.Common.{sym, ◌∙◌, subst, arith}
 use Rattle.std.proofs.lemmas.List.{length-map}
 use Rattle.realign_core.specs.Gather.{Stands as Gathers}
 use Rattle.member_ring.specs.Ends.{in_passed}

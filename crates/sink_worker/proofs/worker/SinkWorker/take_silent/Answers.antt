@@ -1,5 +1,5 @@
 -- The frames are counted.
-use Rattle.std.proofs.Common.{◌≡◌, [], refl}
+use Rattle.std.proofs.Common.{[], refl}
 use Rattle.sink_core.specs.Given.{given_frames, added_frames}
 use Rattle.sink_worker.specs.Received.{received}
 use Rattle.sink_worker.specs.Parts.{parts}
