@@ -1,0 +1,3 @@
+pub mod EndLaws
+pub mod LaterLaws
+pub mod CallLaws

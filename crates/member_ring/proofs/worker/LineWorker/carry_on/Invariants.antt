@@ -1,0 +1,11 @@
+-- Each turn makes at most one carry.
+use Rattle.std.proofs.Common.{◌+◌, ◌≤◌}
+use Rattle.member_ring.specs.Worker.{carries_of, IsLater}
+use Rattle.member_ring.proofs.worker.LineWorker.carry_on.Given as goal
+
+abbrev pub invariant-loop : goal.invariant-loop
+invariant-loop l = record {
+  least : carries_of l.fn.self ≤ carries_of l.self;
+  most : carries_of l.self + 1 ≤ carries_of l.fn.self + l.counter;
+  later : IsLater l.fn.self l.self;
+}

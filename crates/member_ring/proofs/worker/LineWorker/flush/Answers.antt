@@ -1,0 +1,40 @@
+-- A carry after the last container.
+use Rattle.std.proofs.Common.{◌≡◌, [], ◌++◌, refl, sym, ◌∙◌, ap, subst, arith}
+use Rattle.std.proofs.lemmas.List.{append-nil}
+use Rattle.line_core.specs.Line.{Stands, and_flush, path_cells}
+use Rattle.line_core.specs.Carry.{carry_cells}
+use Rattle.member_ring.specs.Ends.{in_passed}
+use Rattle.member_ring.specs.Calls.{calls_on}
+use Rattle.member_ring.proofs.CallLaws.{calls-flushed}
+use Rattle.member_ring.proofs.EndLaws.{out-then}
+use Rattle.member_ring.proofs.worker.LineWorker.flush.Goals as goal
+
+pub invariant_of-self-2 : goal.invariant_of-self-2
+invariant_of-self-2 c =
+    let old = c.args.self.now in
+    let calls = calls_on old.core (in_passed old.consumer) in
+    let stands = c.flush_to-carry.ensures.stands calls old.stands in
+    let next : and_flush calls ≡ calls_on c.flush_to-carry.new.self (in_passed old.consumer) =
+    calls-flushed old.core c.flush_to-carry.new.self (in_passed old.consumer) stands in
+    record {
+      stands = subst (Stands c.flush_to-carry.new.self) next stands;
+      sent = c.send.ensures.sent ∙ ap (λ l. l ++ carry_cells c.flush_to-carry.result c.flush_to-carry.new.out) (c.ready.ensures.passed ∙ old.sent)
+          ∙ sym (c.flush_to-carry.ensures.cells calls old.stands) ∙ ap path_cells next;
+    }
+
+pub returns-clause-later : goal.returns-clause-later
+returns-clause-later c =
+    let old = c.args.self.now in
+    let stands = c.flush_to-carry.ensures.stands (calls_on old.core (in_passed old.consumer)) old.stands in
+    record {
+      same = record {
+        number = refl;
+        delay = stands.delay;
+        windows = stands.windows;
+        total = stands.total;
+        consumer = ((refl, refl, refl, refl), refl);
+        producer = out-then old.producer c.ready.new.self c.send.new.producer c.ready.ensures.same c.send.ensures.same;
+      };
+      received = ([], append-nil _);
+      flushes = omega (arith, stands.flushed);
+    }

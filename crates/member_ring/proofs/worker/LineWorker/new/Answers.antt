@@ -1,0 +1,17 @@
+-- Nothing was received, and the path has no cell yet.
+use Rattle.std.proofs.Common.{◌≡◌, sym, ◌∙◌, ap, subst}
+use Rattle.line_core.specs.Line.{Stands, opened, path_cells}
+use Rattle.member_ring.specs.Ends.{in_passed}
+use Rattle.member_ring.specs.Calls.{calls_on}
+use Rattle.member_ring.proofs.CallLaws.{calls-opened, opened-path}
+use Rattle.member_ring.proofs.worker.LineWorker.new.Goals as goal
+
+pub invariant_of-result : goal.invariant_of-result
+invariant_of-result c =
+    let line = c.args.core in
+    let calls : opened line.delay line.windows line.total ≡ calls_on line (in_passed c.args.consumer) =
+    calls-opened line c.requires.core ∙ ap (calls_on line) (sym c.requires.consumer) in
+    record {
+      stands = subst (Stands line) calls c.requires.core;
+      sent = c.requires.producer ∙ sym (opened-path line.delay line.windows line.total) ∙ ap path_cells calls;
+    }

@@ -1,0 +1,16 @@
+//! The rings between the parts of a group, and the line of a member as a worker that runs burst by burst. The ends are a few lines
+//! over `rtrb`; no other module touches it. A worker takes no lock and waits for nobody. Threads are not started here.
+//! Begin with `RingOut` and `RingIn`, and then `LineWorker`.
+#![tactic(auto)]
+
+mod ends;
+mod gate;
+mod rings;
+#[cfg(test)]
+mod tests;
+mod worker;
+
+pub use ends::{RingIn, RingOut};
+pub use gate::{Gate, OpenGate, Who};
+pub use rings::{LineEnds, back_ring, line_rings};
+pub use worker::{Burst, IdleCause, LineWorker};

@@ -1,0 +1,203 @@
+//! A worker that carries the containers of a line from ring to ring.
+ghost use Rattle.std.specs.Prelude.{◌≡◌, ◌<◌, ◌++◌};
+ghost use Rattle.line_core.specs.Line.{Stands, path_cells};
+ghost use Rattle.line_core.specs.Carry.{carry_cells};
+ghost use Rattle.member_ring.specs.Ends.{out_passed, out_free, out_misses, in_passed, SameOut};
+ghost use Rattle.member_ring.specs.Calls.{calls_on};
+
+use crate::ends::{RingIn, RingOut};
+use crate::gate::{Gate, Who};
+use line_core::{Carry, LineCore};
+use vc_cell::{Cell, Container, PAYLOAD};
+
+/// The most carries of a burst.
+const CARRIES: u32 = 16;
+
+/// Why nothing was carried.
+#[derive(Clone, Copy, Debug, PartialEq, Eq)]
+pub enum IdleCause {
+    /// The look found no container, and not all of them were popped.
+    Empty,
+    /// The look found no slot for a cell.
+    Full,
+}
+
+/// What a burst did.
+#[derive(Clone, Copy, Debug, PartialEq, Eq)]
+pub enum Burst {
+    /// At least one carry was made.
+    Moved,
+    /// No carry was made.
+    Idle(IdleCause),
+    /// The end had been pushed before.
+    Done,
+}
+
+/// The worker of a line: it pops containers, and pushes the cells that the line gives for them.
+#[derive(Drop)]
+pub struct LineWorker {
+    line: u8,
+    /// Where it pops containers.
+    pub consumer: RingIn<Container>,
+    core: LineCore,
+    /// Where it pushes cells.
+    pub producer: RingOut<Cell>,
+    ghost stands: { Stands core (calls_on core (in_passed consumer)) },
+    ghost sent: { out_passed producer ≡ path_cells (calls_on core (in_passed consumer)) },
+}
+
+impl LineWorker {
+    ghost use Rattle.std.specs.Prelude.{◌≡◌, ◌≢◌, ◌+◌, ◌<◌, ◌≤◌, ◌↔◌, [], Contains};
+    ghost use Rattle.vc_cell.specs.declared.Cell.{Cell};
+    ghost use Rattle.session_model.specs.Damage.{carried};
+    ghost use Rattle.session_model.specs.Path.{cells};
+    ghost use Rattle.member_ring.specs.Ends.{out_passed, in_passed};
+    ghost use Rattle.member_ring.specs.Calls.{IsOpened};
+    ghost use Rattle.member_ring.specs.Worker.{number_of, delay_of, windows_of, total_of, flushes_of, carries_of, IsLater, WasEmpty, WasFull};
+
+    /// The worker of line number `line`, over fresh rings and a line into which nothing was pushed.
+    pub fn new(
+        line: u8,
+        consumer: RingIn<Container>,
+        core: LineCore,
+        producer: RingOut<Cell>,
+    ) -> LineWorker
+        requires consumer { in_passed consumer ≡ [] }
+        requires producer { out_passed producer ≡ [] }
+        requires core { IsOpened core }
+        ensures line { number_of result ≡ line }
+        ensures delay { delay_of result ≡ core.delay }
+        ensures windows { windows_of result ≡ core.windows }
+        ensures total { total_of result ≡ core.total }
+        ensures flushes { flushes_of result ≡ 0 }
+        ensures ends { (result.consumer ≡ consumer) × (result.producer ≡ producer) }
+    {
+        LineWorker {
+            line,
+            consumer,
+            core,
+            producer,
+        }
+    }
+
+    /// Passes the gate, and then makes up to 16 carries. What was sent since the worker was made is, whatever the bursts were, the
+    /// cells of the path of its line for the containers that were received.
+    pub fn burst<G: Gate>(&mut self, gate: &G) -> Burst
+        ensures sent { out_passed self.new.producer
+            ≡ cells (carried (windows_of self.new)) (delay_of self.new) (total_of self.new)
+            (in_passed self.new.consumer) (carries_of self.new) }
+        ensures moved { (result ≡ Burst.Moved) ↔ (carries_of self.old < carries_of self.new) }
+        ensures most { carries_of self.new ≤ carries_of self.old + 16 }
+        ensures done { (result ≡ Burst.Done) ↔ Contains (out_passed self.old.producer) Cell.End }
+        ensures still { result ≡ Burst.Done → self.new ≡ self.old }
+        ensures empty { result ≡ Burst.Idle IdleCause.Empty → WasEmpty self.old self.new }
+        ensures full { result ≡ Burst.Idle IdleCause.Full → WasFull self.old self.new }
+        ensures later { IsLater self.old self.new }
+    {
+        gate.pass(Who::Line(self.line));
+        let mut place = blank();
+        let first = self.carry(&mut place);
+        if first == Burst::Moved {
+            self.carry_on(&mut place);
+            gate.moved(Who::Line(self.line));
+        }
+        first
+    }
+
+    /// Makes carries up to the sixteenth of a burst, after the first.
+    fn carry_on(&mut self, place: &mut Container)
+        ensures least { carries_of self.old ≤ carries_of self.new }
+        ensures most { carries_of self.new ≤ carries_of self.old + 15 }
+        ensures later { IsLater self.old self.new }
+    {
+        for _ in 1..CARRIES {
+            if self.carry(place) != Burst::Moved {
+                return;
+            }
+        }
+    }
+
+    /// Makes a carry if it can. A good cell's container goes by `place`.
+    fn carry(&mut self, place: &mut Container) -> Burst
+        ensures moved { result ≡ Burst.Moved → carries_of self.new ≡ carries_of self.old + 1 }
+        ensures stays { result ≢ Burst.Moved → carries_of self.new ≡ carries_of self.old }
+        ensures done { (result ≡ Burst.Done) ↔ Contains (out_passed self.old.producer) Cell.End }
+        ensures still { result ≡ Burst.Done → self.new ≡ self.old }
+        ensures empty { result ≡ Burst.Idle IdleCause.Empty → WasEmpty self.old self.new }
+        ensures full { result ≡ Burst.Idle IdleCause.Full → WasFull self.old self.new }
+        ensures later { IsLater self.old self.new }
+    {
+        if self.core.ended() {
+            return Burst::Done;
+        }
+        if self.core.all_pushed() {
+            return self.flush(place);
+        }
+        self.pass(place)
+    }
+
+    /// Carries the next container, where it is there and there is a slot for its cell.
+    fn pass(&mut self, place: &mut Container) -> Burst
+        requires { self.old.core.pushed < self.old.core.total }
+        ensures moved { result ≡ Burst.Moved → carries_of self.new ≡ carries_of self.old + 1 }
+        ensures stays { result ≢ Burst.Moved → carries_of self.new ≡ carries_of self.old }
+        ensures never { result ≢ Burst.Done }
+        ensures empty { result ≡ Burst.Idle IdleCause.Empty → WasEmpty self.old self.new }
+        ensures full { result ≡ Burst.Idle IdleCause.Full → WasFull self.old self.new }
+        ensures later { IsLater self.old self.new }
+    {
+        if !self.consumer.ready() {
+            return Burst::Idle(IdleCause::Empty);
+        }
+        if !self.producer.ready() {
+            return Burst::Idle(IdleCause::Full);
+        }
+        let container = self.consumer.pop();
+        let carry = self.core.push_from(&container, place);
+        send(&mut self.producer, carry, place);
+        Burst::Moved
+    }
+
+    /// Makes a carry after the last container, where there is a slot for its cell.
+    fn flush(&mut self, place: &mut Container) -> Burst
+        requires pushed { self.old.core.pushed ≡ self.old.core.total }
+        requires runs { self.old.core.flushed ≤ self.old.core.delay }
+        ensures moved { result ≡ Burst.Moved → carries_of self.new ≡ carries_of self.old + 1 }
+        ensures stays { result ≢ Burst.Moved → carries_of self.new ≡ carries_of self.old }
+        ensures never { result ≢ Burst.Done }
+        ensures other { result ≢ Burst.Idle IdleCause.Empty }
+        ensures full { result ≡ Burst.Idle IdleCause.Full → WasFull self.old self.new }
+        ensures later { IsLater self.old self.new }
+    {
+        if !self.producer.ready() {
+            return Burst::Idle(IdleCause::Full);
+        }
+        let carry = self.core.flush_to(place);
+        send(&mut self.producer, carry, place);
+        Burst::Moved
+    }
+}
+
+/// Pushes the cell of a carry, if it gave one. The container of a good cell lies in `place`.
+fn send(producer: &mut RingOut<Cell>, carry: Carry, place: &Container)
+    requires { 0 < out_free producer.old }
+    ensures sent { out_passed producer.new
+        ≡ out_passed producer.old ++ carry_cells carry place.now }
+    ensures same { SameOut producer.old producer.new }
+    ensures quiet { out_misses producer.new ≡ out_misses producer.old }
+{
+    match carry {
+        Carry::Nothing => {}
+        Carry::Good => producer.push(Cell::Good(*place)),
+        Carry::Fail => producer.push(Cell::Fail),
+        Carry::End => producer.push(Cell::End),
+    }
+}
+
+// A place for a container.
+fn blank() -> Container {
+    Container {
+        h4: 0,
+        payload: [0; PAYLOAD],
+    }
+}

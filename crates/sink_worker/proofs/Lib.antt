@@ -1,0 +1,3 @@
+pub mod ToldLaws
+pub mod RingLaws
+pub mod PartsLaws

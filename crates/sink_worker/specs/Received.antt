@@ -1,0 +1,44 @@
+-- What a sink has received by the rings of its lines, and the return cells that it sends.
+use Rattle.std.specs.Prelude.{◌≡◌, ℕ, zero, suc, ◌+◌, List, [], ◌∷◌, ◌++◌, length, map, slice_get, Option, Some, None}
+use Rattle.outside_io.specs.Faults.{one_more}
+use Rattle.vc_cell.specs.declared.Cell.{Cell}
+use Rattle.vc_cell.specs.declared.BackCell.{BackCell}
+use Rattle.vc_cell.specs.declared.BackCell.TheVariants.{Packet as PacketCell}
+use Rattle.session_model.specs.declared.packet.Packet.{Packet}
+use Rattle.session_model.specs.Packet.{packet_nibbles}
+use Rattle.member_ring.specs.declared.ends.RingIn.{RingIn}
+use Rattle.member_ring.specs.Ends.{in_passed, in_items, in_misses, SameIn}
+use Rattle.sink_core.specs.Given.{back_at}
+
+-- the cells of each line that were popped
+abbrev pub received : List (RingIn Cell) → List (List Cell)
+received ends = map in_passed ends
+
+-- how many they are in all
+unfoldable pub popped : List (List Cell) → ℕ
+popped [] = 0
+popped (own ∷ cells) = length own + popped cells
+
+-- the return cell of a return packet
+abbrev pub back_cells : Option Packet → List BackCell
+back_cells None = []
+back_cells (Some packet) = PacketCell (packet_nibbles packet) ∷ []
+
+-- the return cells of the first rows
+unfoldable pub backs : List (List Cell) → ℕ → List BackCell
+backs cells zero = []
+backs cells (suc t) = backs cells t ++ back_cells (back_at cells t)
+
+-- the same ends of the same rings, at another moment
+pub record AreSameIns (a b : List (RingIn Cell)) : Type 0 where
+  pub count : length b ≡ length a
+  pub each : (m : ℕ) (old new : RingIn Cell) → slice_get a m ≡ Some old → slice_get b m ≡ Some new → SameIn old new
+
+-- no cell of a line was known to be there, and a look at its ring missed
+pub record Missed (a b : List (RingIn Cell)) (line : ℕ) : Type 0 where
+  pub before : RingIn Cell
+  pub after : RingIn Cell
+  pub was : slice_get a line ≡ Some before
+  pub is : slice_get b line ≡ Some after
+  pub none : in_items before ≡ []
+  pub counted : in_misses after ≡ one_more (in_misses before)
