@@ -24,8 +24,8 @@ returns-clause-keeps g c none keeps =
     record {
       gathers = c.take-answer.ensures.gathers cells keeps.gathers;
       stands = c.take-answer.ensures.stands cells keeps.gathers keeps.stands;
-      lines = c.take-answer.ensures.lines ∙ keeps.lines ∙ sym c.take-answer.ensures.same.0;
-      rings = keeps.rings ∙ sym c.take-answer.ensures.same.0;
+      lines = c.take-answer.ensures.lines ∙ keeps.lines ∙ sym c.take-answer.ensures.own_lines;
+      rings = keeps.rings ∙ sym c.take-answer.ensures.own_lines;
       rows = c.take-answer.ensures.rows;
       sent = c.send_back.ensures.sent room ∙ ap₂ (λ l p. l ++ back_cells p) (c.has_room.ensures.passed ∙ keeps.sent) packet
           ∙ sym (backs-more cells t c.take-answer.new.self.taken taken);
