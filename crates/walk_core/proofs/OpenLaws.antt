@@ -1,0 +1,266 @@
+-- A walk of which no event was made.
+use Rattle.std.proofs.Common.{◌≡◌, ◌⊎◌, ℕ, zero, suc, ◌+◌, ◌-◌, ◌<◌, ◌≤◌, min, List, [], ◌∷◌, ◌++◌, All, length, take, drop, map, filter, replicate, slice_get, slice_index_or, Some, None, refl, sym, ◌∙◌, ap, subst, arith, inl, inr}
+use Rattle.std.specs.List.{range_with_len, flat_map}
+use Rattle.std.specs.Global.{Vec}
+use Rattle.std.proofs.lemmas.Bool.{cases_Bool}
+use Rattle.std.proofs.lemmas.List.{length-map}
+use Rattle.std.proofs.lemmas.List.FromFn.{length-range_with_len}
+use Rattle.vc_cell.specs.declared.Container.{Container}
+use Rattle.vc_cell.specs.declared.Cell.{Cell}
+use Rattle.session_model.specs.declared.window.Window.{Window}
+use Rattle.session_model.specs.declared.script.Config.{Config}
+use Rattle.session_model.specs.declared.script.Item.{Item}
+use Rattle.session_model.specs.declared.script.Script.{Script}
+use Rattle.session_model.specs.Scenario.{Scenario, scenario_of, offers_of, orders_of}
+use Rattle.session_model.specs.Segment.{segments_on}
+use Rattle.session_model.specs.SessionStream.{rows_of}
+use Rattle.session_model.specs.Run.{delineate_within}
+use Rattle.session_model.specs.Hunt.{hunt_within}
+use Rattle.report_text.specs.declared.report.Refusal.{Refusal}
+use Rattle.session_model.specs.Back.{cells_before}
+use Rattle.session_model.specs.Valid.{IsSize, IsValid}
+use Rattle.session_model.specs.Counts.{LineCounts, Counts, begin, used_in, in_return, in_inbox}
+use Rattle.line_core.specs.Line.{opened}
+use Rattle.realign_core.specs.Gather.{Gather, Stands as Gathers, line_count}
+use Rattle.source_core.specs.Terminal.{Terminal}
+use Rattle.source_core.specs.Given.{IsFresh, Stands as HasMade}
+use Rattle.sink_core.specs.Core.{Core, Stands as HasTaken}
+use Rattle.walk_law.specs.Walk.{walk_plan, IsWalked, sent_on, counts_at, cells_on, popped_on, popped_cells}
+use Rattle.walk_law.specs.Rings.{delay_on, back_cell, said_packet}
+use Rattle.walk_law.specs.Landed.{Numbered, landed_from, is_client, landed_scenario, told_before, refused_by, refusal_at, is_accepted_frame, is_accepted_command}
+use Rattle.walk_law.specs.Delivered.{delivered_of}
+use Rattle.walk_law.specs.Step.{last_packet}
+use Rattle.walk_law.proofs.PlanLaws.{has-paths, valid-walks}
+use Rattle.walk_law.proofs.WalkLaws.{begins-walked}
+use Rattle.walk_parts.specs.Place.{is_frame, is_command, place_of}
+use Rattle.walk_parts.specs.Return.{Return, empty_return}
+use Rattle.walk_parts.specs.Ringed.{Ringed, ring_of, Has}
+use Rattle.walk_core.specs.Opened.{IsOpened, AreOpened}
+use Rattle.walk_core.specs.Parts.{HasSource, HasSent, HasLines, HasBack, counts_of, line_counts, calls_on, note_of, IsWalk}
+
+-- ---- the lines
+get-last : {X : Type 0} (xs : List X) (x : X) (m : ℕ) (y : X) → slice_get (xs ++ x ∷ []) m ≡ Some y → (slice_get xs m ≡ Some y) ⊎ ((m ≡ length xs) × (y ≡ x))
+get-last [] x zero y e = inr (refl, let h : y ≡ x = cc in h)
+get-last [] x (suc m) y e = absurd cc
+get-last (z ∷ xs) x zero y e = inl e
+get-last (z ∷ xs) x (suc m) y e = elim (get-last xs x m y e) [
+  | inl there ↦ inl there
+  | inr last ↦ inr (ap suc last.0, last.1)
+]
+
+size-more : {X : Type 0} (xs : List X) (x : X) → length (xs ++ x ∷ []) ≡ length xs + 1
+size-more [] x = refl
+size-more (y ∷ xs) x = let e = size-more xs x in omega (arith, e)
+
+pub none-opened : (config : Config) → AreOpened config 0 []
+none-opened config = record { size = refl; each = λ m line e. absurd cc }
+
+pub opened-more : (config : Config) (n : ℕ) (lines : List Ringed) (line : Ringed) → AreOpened config n lines → IsOpened config n line → AreOpened config (n + 1) (lines ++ line ∷ [])
+opened-more config n lines line are is = record {
+  size = size-more lines line ∙ ap (λ k. k + 1) are.size;
+  each = λ m other e. elim (get-last lines line m other e) [
+    | inl there ↦ are.each m other there
+    | inr last ↦ subst (IsOpened config m) (sym last.1) (subst (λ k. IsOpened config k line) (sym (last.0 ∙ are.size)) is)
+  ];
+}
+
+calls-opened : (script : Script) (m : ℕ) (line : Ringed) → IsOpened script.config m line → calls_on script m line.carried ≡ opened (delay_on script m) (slice_index_or script.config.windows m []) script.config.ticks
+calls-opened script m line is =
+    let none : line.carried ≡ 0 = is.has.carried in
+    ap (λ x. calls_on script m x) none
+    ∙ ap (λ n. record (calls_on script m 0) { containers = take n (sent_on (scenario_of script) m) }) (let e : min 0 script.config.ticks ≡ 0 = omega arith in e)
+    ∙ ap (λ n. record (opened (delay_on script m) (slice_index_or script.config.windows m []) script.config.ticks) { flushes = n }) (let e : 0 - script.config.ticks ≡ 0 = omega arith in e)
+
+opened-lines : (script : Script) (lines : List Ringed) → AreOpened script.config script.config.lines lines → HasLines script lines
+opened-lines script lines are = record {
+  size = are.size;
+  each = λ m line there. let is = are.each m line there in
+      record { has = subst (Has line) (sym (calls-opened script m line is)) is.has; ring = is.ring };
+}
+
+abbrev no_counts : LineCounts
+no_counts = record { carried = 0; popped = 0 }
+
+counts-none : (lines : List Ringed) → ((m : ℕ) (line : Ringed) → slice_get lines m ≡ Some line → line_counts line ≡ no_counts) → map line_counts lines ≡ replicate (length lines) no_counts
+counts-none [] each = refl
+counts-none (line ∷ lines) each =
+    ap (λ x. x ∷ map line_counts lines) (each 0 line refl) ∙ ap (λ rest. no_counts ∷ rest) (counts-none lines (λ m other e. each (suc m) other e))
+
+opened-counts : (config : Config) (n : ℕ) (lines : List Ringed) → AreOpened config n lines → map line_counts lines ≡ replicate n no_counts
+opened-counts config n lines are =
+    counts-none lines (λ m line e. let is = are.each m line e in
+    ap (λ x. record { carried = x; popped = line.popped }) is.has.carried ∙ ap (λ y. record { carried = 0; popped = y }) is.popped)
+    ∙ ap (λ k. replicate k no_counts) are.size
+
+-- ---- no cell was popped
+none-popped : (n m : ℕ) → (counts_at (replicate n no_counts) m).popped ≡ 0
+none-popped zero m = refl
+none-popped (suc n) zero = refl
+none-popped (suc n) (suc m) = none-popped n m
+
+map-none : (f : ℕ → List Cell) → ((k : ℕ) → f k ≡ []) → (ks : List ℕ) → map f ks ≡ replicate (length ks) []
+map-none f none [] = refl
+map-none f none (k ∷ ks) = ap (λ x. x ∷ map f ks) (none k) ∙ ap (λ rest. [] ∷ rest) (map-none f none ks)
+
+cells-none : (script : Script) (n : ℕ) → popped_cells script (replicate n no_counts) ≡ replicate (length script.config.windows) []
+cells-none script n =
+    map-none (popped_on script (replicate n no_counts))
+    (λ m. ap (λ k. take k (cells_on (scenario_of script) (delay_on script m) m)) (none-popped n m)) (range_with_len 0 (length script.config.windows))
+    ∙ ap (λ k. replicate k []) (length-range_with_len 0 (length script.config.windows))
+
+-- ---- nothing has landed
+none-landed : (items : List Item) (i : ℕ) → landed_from 0 0 i items ≡ []
+unfolding landed_from
+none-landed [] i = refl
+none-landed (item ∷ items) i =
+    elim (cases_Bool (is_client item.kind)) [
+      | inl client ↦ rw client (none-landed items (suc i))
+      | inr operator ↦ rw operator (none-landed items (suc i))
+    ]
+
+-- ---- the send rings
+sent-long : (sent : List (Vec Container)) (n : ℕ) → All (λ (row : Vec Container). length row.items ≡ n) sent → (k : ℕ) (frame : List Container) →
+    slice_get (map (λ (row : Vec Container). row.items) sent) k ≡ Some frame → length frame ≡ n
+sent-long [] n all k frame e = absurd cc
+sent-long (row ∷ rows) n all zero frame e = ap length (let h : frame ≡ row.items = cc in h) ∙ all 0 row (omega arith)
+sent-long (row ∷ rows) n all (suc k) frame e = sent-long rows n (λ i d low. all (suc i) d (omega (arith, low))) k frame e
+
+pub sent-opened : (script : Script) (sent : List (Vec Container)) → length sent ≡ 32 → All (λ (row : Vec Container). length row.items ≡ script.config.lines) sent →
+    HasSent script 0 (map (λ (row : Vec Container). row.items) sent)
+sent-opened script sent places long = record {
+  places = length-map sent (λ (row : Vec Container). row.items) ∙ places;
+  lines = sent-long sent script.config.lines long;
+  frames = λ t low high. absurd (omega (arith, low));
+}
+
+-- ---- nothing was told, nothing is on its way, and nothing was delivered
+none-told : (script : Script) → told_before script 0 ≡ []
+unfolding cells_before
+none-told script = ap (cells_before (scenario_of script)) (let e : used_in script.config.lag 0 ≡ 0 = omega arith in e)
+
+none-delivered : (script : Script) → delivered_of script 0 ≡ []
+unfolding rows_of segments_on delineate_within hunt_within
+none-delivered script = refl
+
+take-none : {X : Type 0} (xs : List X) → take 0 xs ≡ []
+take-none [] = refl
+take-none (x ∷ xs) = refl
+
+drop-none : {X : Type 0} (xs : List X) → drop 0 xs ≡ xs
+drop-none [] = refl
+drop-none (x ∷ xs) = refl
+
+range-none : {X : Type 0} (f : ℕ → X) (z n : ℕ) → n ≡ 0 → map f (range_with_len z n) ≡ []
+range-none f z n none = ap (λ k. map f (range_with_len z k)) none
+
+pub size-few : (size : ℕ) → IsSize size → size ≤ 2340
+size-few size (inl small) = omega (arith, small)
+size-few size (inr large) = omega (arith, large)
+
+refused-none : (script : Script) (items : List Numbered) → items ≡ [] → flat_map (λ item. refused_by item.number (refusal_at script item)) items ≡ []
+refused-none script items none = ap (flat_map (λ item. refused_by item.number (refusal_at script item))) none
+
+-- ---- the walk
+abbrev counts_from : ℕ → List LineCounts → ℕ → ℕ → Counts
+counts_from ticks lines rows backs = record { ticks = ticks; frames = 0; commands = 0; lines = lines; rows = rows; backs = backs }
+
+-- what is made of a script before any event
+pub record IsNew (script : Script) (source : Terminal) (sent : List (Vec Container)) (lines : List Ringed) (rows : Gather) (sink : Core) (back : Return) : Type 0 where
+  pub stands : (scenario : Scenario) → IsFresh scenario script.config.lines script.config.lag script.config.size → HasMade source scenario []
+  pub lines_of : source.lines ≡ script.config.lines
+  pub lag_of : source.lag ≡ script.config.lag
+  pub size_of : source.size ≡ script.config.size
+  pub no_ticks : source.ticks ≡ 0
+  pub places : length sent ≡ 32
+  pub long : All (λ (row : Vec Container). length row.items ≡ script.config.lines) sent
+  pub are : AreOpened script.config script.config.lines lines
+  pub gathers : Gathers rows (replicate script.config.lines [])
+  pub row_lines : line_count rows ≡ script.config.lines
+  pub no_rows : rows.rows ≡ 0
+  pub sink_lines : sink.lines ≡ script.config.lines
+  pub sink_size : sink.size ≡ script.config.size
+  pub no_taken : sink.taken ≡ 0
+  pub taken : (cells : List (List Cell)) → length cells ≡ script.config.lines → HasTaken sink cells
+  pub no_back : back ≡ empty_return script.config.lag
+
+module _ (script : Script) (source : Terminal) (sent : List (Vec Container)) (lines : List Ringed) (rows : Gather) (sink : Core) (back : Return) (is : IsNew script source sent lines rows sink back) (valid : IsValid script)
+    (refusals : List (ℕ × Refusal)) (room frame command : ℕ) (none : refusals ≡ []) (wide : length script.items ≤ room)
+    (frame_at : frame ≡ 0 + place_of is_frame 0 (drop 0 script.items)) (command_at : command ≡ 0 + place_of is_command 0 (drop 0 script.items)) where
+  paths-size : length (walk_plan script).paths ≡ script.config.lines
+  paths-size = has-paths script (valid-walks script valid) ∙ valid.network.windows_each
+
+  begin-counts : counts_from source.ticks (map line_counts lines) sink.taken back.backs ≡ begin (walk_plan script)
+  begin-counts =
+      ap (λ n. counts_from n (map line_counts lines) sink.taken back.backs) is.no_ticks
+      ∙ ap (λ ls. counts_from 0 ls sink.taken back.backs) (opened-counts script.config script.config.lines lines is.are ∙ ap (λ k. replicate k no_counts) (sym paths-size))
+      ∙ ap (λ n. counts_from 0 (replicate (length (walk_plan script).paths) no_counts) n back.backs) is.no_taken
+      ∙ ap (λ (b : Return). counts_from 0 (replicate (length (walk_plan script).paths) no_counts) 0 b.backs) is.no_back
+
+  pub new-counts : counts_of (record { source = source; sent = map (λ (row : Vec Container). row.items) sent; lines = lines; rows = rows; sink = sink; back = back })
+      (record { refusals = refusals; room = room; frame = frame; command = command; frames = 0; commands = 0; refused_frames = 0; refused_commands = 0 }) ≡ begin (walk_plan script)
+  new-counts = begin-counts
+
+  cells-are : popped_cells script (map line_counts lines) ≡ replicate script.config.lines []
+  cells-are =
+      ap (popped_cells script) (opened-counts script.config script.config.lines lines is.are) ∙ cells-none script script.config.lines
+      ∙ ap (λ k. replicate k []) valid.network.windows_each
+
+  cells-size : length (popped_cells script (map line_counts lines)) ≡ script.config.lines
+  cells-size =
+      length-map (range_with_len 0 (length script.config.windows)) (popped_on script (map line_counts lines)) ∙ length-range_with_len 0 (length script.config.windows)
+      ∙ valid.network.windows_each
+
+  pub new-walk : IsWalk script (record { source = source; sent = map (λ (row : Vec Container). row.items) sent; lines = lines; rows = rows; sink = sink; back = back })
+      (record { refusals = refusals; room = room; frame = frame; command = command; frames = 0; commands = 0; refused_frames = 0; refused_commands = 0 }) 0 None
+  new-walk = record {
+    valid = valid;
+    walked = subst (IsWalked script) (sym begin-counts) (begins-walked script);
+    source = subst (λ s. HasSource script s source) (sym begin-counts) (record {
+      made = subst (HasMade source (landed_scenario script (begin (walk_plan script)))) (sym (none-told script))
+          (is.stands (landed_scenario script (begin (walk_plan script)))
+          (record { of_lines = valid.network.windows_each; of_lag = refl; of_size = refl; no_offers = take-none (offers_of script.items); no_orders = take-none (orders_of script.items) }));
+      lines = is.lines_of;
+      lag = is.lag_of;
+      size = is.size_of;
+    });
+    sent = subst (λ n. HasSent script n (map (λ (row : Vec Container). row.items) sent)) (sym is.no_ticks) (sent-opened script sent is.places is.long);
+    lines = opened-lines script lines is.are;
+    sink = record {
+      gathers = subst (Gathers rows) (sym cells-are) is.gathers;
+      taken = is.taken (popped_cells script (map line_counts lines)) cells-size;
+      passed = is.no_rows ∙ sym is.no_taken;
+      lines = is.row_lines ∙ sym is.sink_lines;
+      all = is.sink_lines;
+      size = is.sink_size;
+    };
+    back = subst (λ s. HasBack script s back) (sym begin-counts) (subst (HasBack script (begin (walk_plan script))) (sym is.no_back) (record {
+      ring = sym (range-none (said_packet script) 0 (in_return (begin (walk_plan script))) (let e : in_return (begin (walk_plan script)) ≡ 0 = refl in e));
+      inbox = sym (range-none (back_cell script) (used_in script.config.lag 0) (in_inbox (walk_plan script) (begin (walk_plan script))) (let e : 0 - used_in script.config.lag 0 ≡ 0 = omega arith in e));
+      room = refl;
+    }));
+    landed = record {
+      frame = frame_at ∙ ap (λ xs. 0 + place_of is_frame 0 xs) (drop-none script.items) ∙ (let e : 0 + place_of is_frame 0 script.items ≡ place_of is_frame 0 script.items = omega arith in e);
+      command = command_at ∙ ap (λ xs. 0 + place_of is_command 0 xs) (drop-none script.items) ∙ (let e : 0 + place_of is_command 0 script.items ≡ place_of is_command 0 script.items = omega arith in e);
+      refusals = none ∙ sym (refused-none script (landed_from 0 0 0 script.items) (none-landed script.items 0));
+      room = wide;
+      frames = sym (ap (λ xs. length (filter (is_accepted_frame script) xs) + 0) (none-landed script.items 0));
+      commands = sym (ap (λ xs. length (filter (is_accepted_command script) xs) + 0) (none-landed script.items 0));
+      refused = ap length (refused-none script (landed_from 0 0 0 script.items) (none-landed script.items 0));
+    };
+    counted = sym (ap (λ n. min (length (delivered_of script n)) 18446744073709551615) is.no_taken ∙ ap (λ xs. min (length xs) 18446744073709551615) (none-delivered script));
+    noted = subst (λ n. None ≡ note_of script (last_packet n)) (sym is.no_ticks) refl;
+  }
+
+-- a line that was opened with the numbers of its place
+pub opened-at : (config : Config) (m : ℕ) (line : Ringed) (delay : ℕ) (windows : List Window) (total : ℕ) → delay ≡ slice_index_or config.delays m 0 → windows ≡ slice_index_or config.windows m [] →
+    total ≡ config.ticks → Has line (opened delay windows total) → ring_of line ≡ config.ring → line.popped ≡ 0 → IsOpened config m line
+opened-at config m line delay windows total a b d has size popped = record {
+  has = subst (Has line) (ap (λ x. opened x windows total) a ∙ ap (λ x. opened (slice_index_or config.delays m 0) x total) b ∙ ap (opened (slice_index_or config.delays m 0) (slice_index_or config.windows m [])) d) has;
+  ring = size;
+  popped = popped;
+}
+
+pub index-is : {X : Type 0} (xs : List X) (m : ℕ) (x d : X) → m < length xs → x ≡ slice_index_or xs m x → x ≡ slice_index_or xs m d
+index-is [] m x d low e = absurd (omega (arith, low))
+index-is (y ∷ xs) zero x d low e = e
+index-is (y ∷ xs) (suc m) x d low e = index-is xs m x d (omega (arith, low)) e

@@ -1,0 +1,1 @@
+-- The first cause of a stall, by the line's numbers.

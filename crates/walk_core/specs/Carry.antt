@@ -1,0 +1,34 @@
+-- Why a line carries nothing.
+use Rattle.std.specs.Prelude.{◌≡◌, ◌≢◌, ◌<◌, ◌≤◌, ◌%◌, List, slice_get, ℕ, ◌+◌, nat_le, nat_lt, ◌&&◌, if◌then◌else◌, Option, Some, None}
+use Rattle.std.specs.Global.{Vec}
+use Rattle.vc_cell.specs.declared.Container.{Container}
+use Rattle.session_model.specs.declared.script.Script.{Script}
+use Rattle.walk_law.specs.Rings.{sent_at}
+use Rattle.walk_law.specs.Walk.{path_on}
+use Rattle.walk_parts.specs.Ringed.{Ringed, ring_of}
+use Rattle.session_model.specs.declared.walk.StallCause.{StallCause}
+use Rattle.session_model.specs.declared.walk.StallCause.TheVariants.{Done, Empty, RxFull}
+use Rattle.session_model.specs.Counts.{LinePath, LineCounts, in_send, in_receive}
+
+-- the first cause, where there is one: of line m, whose ring holds so many cells, where the ticks are made
+abbrev pub carry_cause : ℕ → ℕ → ℕ → ℕ → LinePath → LineCounts → Option StallCause
+carry_cause total ring ticks m path line =
+    if nat_lt (total + path.delay) line.carried then Some Done
+    else (if nat_lt line.carried total && nat_le (in_send total ticks line) 0 then Some (Empty m)
+    else (if nat_le ring (in_receive path line) then Some (RxFull m) else None))
+
+-- what a carry asks of a line: its end wasn't given, a container waits where not all were carried, and its ring isn't full
+pub record CanCarry (line : Ringed) (ticks : ℕ) : Type 0 where
+  pub runs : line.core.flushed ≤ line.core.delay
+  pub wet : line.core.pushed < line.core.total → line.carried < ticks
+  pub room : line.given ≢ line.popped + ring_of line
+
+-- the cells that were popped were given, and the ring holds the others
+pub record HasRoom (script : Script) (m : ℕ) (line : Ringed) : Type 0 where
+  pub pops : line.popped ≤ (path_on script m).given line.carried
+  pub room : (path_on script m).given line.carried ≤ line.popped + script.config.ring
+
+-- the container of frame t of a line is in the send rings
+abbrev pub IsSentOn : Script → ℕ → ℕ → List (Vec Container) → Type 0
+IsSentOn script m t sent = t < script.config.ticks →
+    (frame : Vec Container) → slice_get sent (t % 32) ≡ Some frame → slice_get frame.items m ≡ Some (sent_at script m t)

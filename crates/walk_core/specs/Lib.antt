@@ -1,0 +1,7 @@
+pub mod Counted
+pub mod Moved
+pub mod Parts
+pub mod Carry
+pub mod Opened
+pub mod Landing
+pub mod Take

@@ -1,0 +1,130 @@
+-- What a walk holds, by its script and its counts.
+use Rattle.std.specs.Prelude.{◌≡◌, ℕ, ◌+◌, ◌-◌, ◌%◌, ◌<◌, ◌≤◌, min, List, [], map, length, slice_get, slice_index_or, Option, Some, None}
+use Rattle.vc_cell.specs.declared.Container.{Container}
+use Rattle.session_model.specs.declared.script.Script.{Script}
+use Rattle.session_model.specs.Valid.{IsValid}
+use Rattle.session_model.specs.Scenario.{scenario_of}
+use Rattle.session_model.specs.Back.{session_cells}
+use Rattle.session_model.specs.Sent.{frame_of}
+use Rattle.session_model.specs.Counts.{LineCounts, Counts}
+use Rattle.report_text.specs.declared.report.Refusal.{Refusal}
+use Rattle.line_core.specs.Line.{Calls}
+use Rattle.realign_core.specs.Gather.{Gather, Stands as Gathers, line_count}
+use Rattle.source_core.specs.Terminal.{Terminal}
+use Rattle.source_core.specs.Given.{Stands as HasMade}
+use Rattle.sink_core.specs.Core.{Core, Stands as HasTaken}
+use Rattle.walk_law.specs.Walk.{IsWalked, popped_cells}
+use Rattle.walk_law.specs.Rings.{delay_on, taken_by, return_ring, inbox}
+use Rattle.walk_law.specs.Landed.{landed_scenario, told_before, refusals_of, totals_of}
+use Rattle.walk_law.specs.Delivered.{delivered_of}
+use Rattle.walk_law.specs.Step.{last_packet, cell_taken}
+use Rattle.walk_parts.specs.Place.{is_frame, is_command, place_of}
+use Rattle.walk_parts.specs.Ringed.{Ringed, ring_of, Has}
+use Rattle.walk_parts.specs.Return.{Return}
+use Rattle.walk_core.specs.declared.moved.StepNote.{StepNote}
+
+-- the terminals; the frames that are in the send rings, that of number t at place t modulo 32; the lines; the gathered rows; the return
+-- path
+pub record Parts : Type 0 where
+  pub source : Terminal
+  pub sent : List (List Container)
+  pub lines : List Ringed
+  pub rows : Gather
+  pub sink : Core
+  pub back : Return
+
+-- what has landed: the refusals and the room for them, the places of the next frame and the next command, and how many of each have
+-- landed and were refused
+pub record Landing : Type 0 where
+  pub refusals : List (ℕ × Refusal)
+  pub room : ℕ
+  pub frame : ℕ
+  pub command : ℕ
+  pub frames : ℕ
+  pub commands : ℕ
+  pub refused_frames : ℕ
+  pub refused_commands : ℕ
+
+abbrev pub line_counts : Ringed → LineCounts
+line_counts line = record { carried = line.carried; popped = line.popped }
+
+-- the counts
+abbrev pub counts_of : Parts → Landing → Counts
+counts_of parts landing = record {
+  ticks = parts.source.ticks;
+  frames = landing.frames;
+  commands = landing.commands;
+  lines = map line_counts parts.lines;
+  rows = parts.sink.taken;
+  backs = parts.back.backs;
+}
+
+-- the calls that brought a line where it is, after some carries
+abbrev pub calls_on : Script → ℕ → ℕ → Calls
+calls_on script line carries = record {
+  delay = delay_on script line;
+  windows = slice_index_or script.config.windows line [];
+  total = script.config.ticks;
+  containers = taken_by script line carries;
+  flushes = carries - script.config.ticks;
+}
+
+-- ---- each part stands for what the script and the counts give
+pub record HasSource (script : Script) (s : Counts) (source : Terminal) : Type 0 where
+  pub made : HasMade source (landed_scenario script s) (told_before script s.ticks)
+  pub lines : source.lines ≡ script.config.lines
+  pub lag : source.lag ≡ script.config.lag
+  pub size : source.size ≡ script.config.size
+
+pub record HasSent (script : Script) (ticks : ℕ) (sent : List (List Container)) : Type 0 where
+  pub places : length sent ≡ 32
+  pub lines : (k : ℕ) (frame : List Container) → slice_get sent k ≡ Some frame → length frame ≡ script.config.lines
+  pub frames : (t : ℕ) → t < ticks → ticks ≤ t + 32 → slice_get sent (t % 32) ≡ Some (frame_of (scenario_of script) (session_cells (scenario_of script)) t)
+
+pub record HasLine (script : Script) (m : ℕ) (line : Ringed) : Type 0 where
+  pub has : Has line (calls_on script m line.carried)
+  pub ring : ring_of line ≡ script.config.ring
+
+pub record HasLines (script : Script) (lines : List Ringed) : Type 0 where
+  pub size : length lines ≡ script.config.lines
+  pub each : (m : ℕ) (line : Ringed) → slice_get lines m ≡ Some line → HasLine script m line
+
+pub record HasSink (script : Script) (s : Counts) (rows : Gather) (sink : Core) : Type 0 where
+  pub gathers : Gathers rows (popped_cells script s.lines)
+  pub taken : HasTaken sink (popped_cells script s.lines)
+  pub passed : rows.rows ≡ sink.taken
+  pub lines : line_count rows ≡ sink.lines
+  pub all : sink.lines ≡ script.config.lines
+  pub size : sink.size ≡ script.config.size
+
+pub record HasBack (script : Script) (s : Counts) (back : Return) : Type 0 where
+  pub ring : back.ring ≡ return_ring script s
+  pub inbox : back.inbox ≡ inbox script s
+  pub room : back.room ≡ script.config.lag + 1
+
+pub record HasLanded (script : Script) (s : Counts) (landing : Landing) : Type 0 where
+  pub frame : landing.frame ≡ place_of is_frame s.frames script.items
+  pub command : landing.command ≡ place_of is_command s.commands script.items
+  pub refusals : landing.refusals ≡ refusals_of script s
+  pub room : length script.items ≤ landing.room
+  pub frames : s.frames ≡ (totals_of script s).frames + landing.refused_frames
+  pub commands : s.commands ≡ (totals_of script s).commands + landing.refused_commands
+  pub refused : (totals_of script s).refused ≡ landing.refused_frames + landing.refused_commands
+
+-- the last decision step
+abbrev pub note_of : Script → Option ℕ → Option StepNote
+note_of script None = None
+note_of script (Some packet) = Some (record { packet = packet; back = cell_taken script packet })
+
+-- a walk of a script that can be walked, after some events
+pub record IsWalk (script : Script) (parts : Parts) (landing : Landing) (got : ℕ) (last : Option StepNote) : Type 0 where
+  pub valid : IsValid script
+  pub walked : IsWalked script (counts_of parts landing)
+  pub source : HasSource script (counts_of parts landing) parts.source
+  pub sent : HasSent script parts.source.ticks parts.sent
+  pub lines : HasLines script parts.lines
+  pub sink : HasSink script (counts_of parts landing) parts.rows parts.sink
+  pub back : HasBack script (counts_of parts landing) parts.back
+  pub landed : HasLanded script (counts_of parts landing) landing
+  pub counted : got ≡ min (length (delivered_of script parts.sink.taken)) 18446744073709551615
+  pub noted : last ≡ note_of script (last_packet parts.source.ticks)

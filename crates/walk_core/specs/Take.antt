@@ -1,0 +1,48 @@
+-- What a Take pops.
+use Rattle.std.specs.Prelude.{◌≡◌, ℕ, ◌+◌, ◌<◌, ◌≤◌, List, map, length, slice_get, Option, Some, None}
+use Rattle.vc_cell.specs.declared.Cell.{Cell}
+use Rattle.session_model.specs.declared.script.Script.{Script}
+use Rattle.session_model.specs.declared.packet.Packet.{Packet}
+use Rattle.session_model.specs.Rows.{first_open}
+use Rattle.session_model.specs.Counts.{pop_lines}
+use Rattle.realign_core.specs.Gather.{Gather, Stands as Gathers, line_count}
+use Rattle.sink_core.specs.Given.{back_at}
+use Rattle.sink_core.specs.Core.{Core, Stands as HasTaken}
+use Rattle.walk_law.specs.Walk.{walk_plan, CanWalk, popped_cells}
+use Rattle.walk_law.specs.Rings.{delay_on}
+use Rattle.walk_parts.specs.Ringed.{Ringed}
+use Rattle.walk_core.specs.Parts.{line_counts, HasLines}
+
+-- the cells that were popped of the lines were gathered, and a row is left
+pub record CanPop (script : Script) (own : List Ringed) (gather : Gather) : Type 0 where
+  pub can : CanWalk script
+  pub lines : HasLines script own
+  pub size : length own ≡ length script.config.windows
+  pub pops : (m : ℕ) (line : Ringed) → slice_get own m ≡ Some line → line.popped ≤ line.given
+  pub carries : (m : ℕ) (line : Ringed) → slice_get own m ≡ Some line → line.carried ≤ script.config.ticks + delay_on script m + 1
+  pub row : gather.rows < script.config.ticks
+  pub gathers : Gathers gather (popped_cells script (map line_counts own))
+
+-- lines were popped until each decides the next row, or up to the first that doesn't
+pub record HasPopped (script : Script) (was now : List Ringed) (gather : Gather) (waiting : Option ℕ) : Type 0 where
+  pub lines : HasLines script now
+  pub counts : map line_counts now ≡ (pop_lines gather.rows 0 (walk_plan script).paths (map line_counts was)).lines
+  pub waits : waiting ≡ (pop_lines gather.rows 0 (walk_plan script).paths (map line_counts was)).waiting
+  pub gathers : Gathers gather (popped_cells script (map line_counts now))
+
+-- each line decides the next row
+pub record CanTake (cells : List (List Cell)) (core : Core) (gather : Gather) : Type 0 where
+  pub gathers : Gathers gather cells
+  pub taken : HasTaken core cells
+  pub none : first_open cells core.taken ≡ None
+
+-- it was taken, and made a return packet, or none
+pub record HasRow (cells : List (List Cell)) (was now : Core) (gather : Gather) (back : Option Packet) : Type 0 where
+  pub gathers : Gathers gather cells
+  pub taken : HasTaken now cells
+  pub one : now.taken ≡ was.taken + 1
+  pub passed : gather.rows ≡ now.taken
+  pub lines : line_count gather ≡ was.lines
+  pub all : now.lines ≡ was.lines
+  pub size : now.size ≡ was.size
+  pub said : back ≡ back_at cells was.taken

@@ -1,0 +1,453 @@
+//! A walk of a script, event by event.
+
+ghost use Rattle.std.specs.Prelude.{◌≡◌, ◌↔◌, ℕ, true, false, suc, ◌+◌, ◌*◌, ◌/◌, ◌%◌, ◌==◌, ◌&&◌, nat_le, ◌<◌, ◌≤◌, if◌then◌else◌, [], ◌∷◌, ◌++◌, List, length, map, min, All, replicate, drop, slice_get, Option, Some, None, IsSome, IfOk};
+ghost use Rattle.session_model.specs.declared.walk.Event.TheVariants.{Accept, Command, Tick, Carry, Back, Take};
+ghost use Rattle.session_model.specs.Valid.{IsValid, IsNetwork};
+ghost use Rattle.session_model.specs.Counts.{begin, step, full, run, round, drain, bound, carries_from};
+ghost use Rattle.session_model.specs.Scenario.{Scenario, steps_in};
+ghost use Rattle.session_model.specs.Table.{Told};
+ghost use Rattle.session_model.specs.Sent.{frame_of};
+ghost use Rattle.session_model.specs.Source.{source_at};
+ghost use Rattle.progress_law.specs.Progress.{HasLine};
+ghost use Rattle.walk_law.specs.Walk.{walk_plan};
+ghost use Rattle.walk_law.specs.Landed.{landed_scenario, told_before, refusals_of, totals_of, IsPlaced};
+ghost use Rattle.walk_law.specs.Step.{last_packet, table_in};
+ghost use Rattle.sink_core.specs.Start.{Start};
+ghost use Rattle.source_core.specs.Terminal.{needed, SameKind};
+ghost use Rattle.source_core.specs.Given.{with_cell, Stands, Stands as HasMade};
+ghost use Rattle.walk_core.specs.Moved.{counts_after, moved_of, delivered_since};
+ghost use Rattle.std.specs.Global.{Vec};
+ghost use Rattle.vc_cell.specs.declared.Container.{Container};
+ghost use Rattle.session_model.specs.declared.script.Script.{Script};
+ghost use Rattle.walk_law.specs.Walk.{path_on};
+ghost use Rattle.walk_parts.specs.Ringed.{Ringed, ring_of};
+ghost use Rattle.walk_core.specs.Opened.{AreOpened};
+ghost use Rattle.walk_core.specs.Carry.{carry_cause, CanCarry, IsSentOn, HasRoom};
+ghost use Rattle.std.specs.Vec.{vec_capacity};
+ghost use Rattle.walk_core.specs.Landing.{stall_by, met_by, with_kind, IsParted};
+ghost use Rattle.walk_core.specs.Parts.{note_of, line_counts, HasLine as HasLineOn};
+ghost use Rattle.walk_core.specs.Take.{CanPop, HasPopped, CanTake, HasRow};
+ghost use Rattle.sink_core.specs.Given.{added_frames};
+ghost use Rattle.vc_cell.specs.declared.Cell.{Cell};
+ghost use Rattle.realign_core.specs.Gather.{line_count};
+
+use crate::counted::{CountedOut, take_back};
+use crate::moved::{Moved, StepNote};
+use lcas_packet::Packet;
+use lcas_source::SourceTable;
+use realign_core::RowGather;
+use report_text::{Refusal, Totals};
+use session_model::{Config, Event, Item, ItemKind, Script, StallCause};
+use sink_core::{FrameOut, SinkCore, TakeAnswer};
+use source_core::SourceCore;
+use std::alloc::{AllocError, Global};
+use std::marker::Model;
+use vc_cell::{BackCell, Container, PAYLOAD};
+use walk_parts::{ReturnPath, WalkLine, held_item, next_command, next_frame};
+
+/// The containers that a send ring holds.
+const SENDS: usize = 32;
+
+/// The first row that ends a packet.
+const FIRST_END: u32 = 23;
+
+/// What stands in a place before the first container.
+const EMPTY: Container = Container {
+    h4: 0,
+    payload: [0; PAYLOAD],
+};
+
+/// A walk of a script.
+#[derive(Drop)]
+pub struct Walk {
+    script: Script,
+    source: SourceCore,
+    /// The send rings of all lines: each place holds the containers of a frame, of a number modulo 32.
+    sent: Vec<Vec<Container>>,
+    lines: Vec<WalkLine>,
+    rows: RowGather,
+    sink: SinkCore,
+    back: ReturnPath,
+    refusals: Vec<(u32, Refusal)>,
+    /// The places of the next frame and of the next command.
+    frame: usize,
+    command: usize,
+    /// How many frames and commands have landed.
+    frames: u32,
+    commands: u32,
+    /// How many of them were refused.
+    refused_frames: u32,
+    refused_commands: u32,
+    /// How many frames were delivered.
+    got: u64,
+    /// The last decision step.
+    last: Option<StepNote>,
+}
+
+impl Model for Walk {
+    ghost use Rattle.std.specs.Prelude.{map};
+    ghost use Rattle.std.specs.Vec.{vec_capacity};
+    ghost use Rattle.walk_core.specs.Moved.{Walked};
+    ghost use Rattle.walk_core.specs.Parts.{Parts, Landing, counts_of, IsWalk};
+
+    ghost Value = { Walked };
+
+    ghost view = { λ w. record {
+      script = w.script;
+      counts = counts_of
+          (record { source = w.source; sent = map (λ row. row.items) w.sent.items; lines = w.lines.items; rows = w.rows; sink = w.sink; back = w.back })
+          (record { refusals = w.refusals.items; room = vec_capacity w.refusals; frame = w.frame; command = w.command; frames = w.frames; commands = w.commands; refused_frames = w.refused_frames; refused_commands = w.refused_commands });
+    } };
+
+    ghost invariant = { λ w. IsWalk w.script
+        (record { source = w.source; sent = map (λ row. row.items) w.sent.items; lines = w.lines.items; rows = w.rows; sink = w.sink; back = w.back })
+        (record { refusals = w.refusals.items; room = vec_capacity w.refusals; frame = w.frame; command = w.command; frames = w.frames; commands = w.commands; refused_frames = w.refused_frames; refused_commands = w.refused_commands })
+        w.got w.last };
+}
+
+impl Walk {
+    /// The items that were refused, in the order of the script.
+    pub fn refusals(&self) -> &[(u32, Refusal)]
+        ensures { result.now ≡ refusals_of self.now.script self.now.counts }
+    {
+        &self.refusals
+    }
+
+    /// The last decision step, where one was made.
+    pub fn last_step(&self) -> Option<StepNote>
+        ensures { result ≡ note_of self.now.script (last_packet self.now.counts.ticks) }
+    {
+        self.last
+    }
+
+    /// The table of the lines after the last decision step and the commands that were accepted since.
+    pub fn table(&self) -> &SourceTable
+        ensures source { result.now.source ≡ source_at (landed_scenario self.now.script self.now.counts)
+            (told_before self.now.script self.now.counts.ticks) (steps_in self.now.counts.ticks) }
+        ensures table { result.now.source.table
+            ≡ table_in self.now.script self.now.counts.ticks }
+    {
+        self.source.table()
+    }
+
+    /// Tries one carry of each line.
+    fn carry_all(&mut self)
+        ensures script { self.new.script ≡ self.old.script }
+        ensures counts { run (walk_plan self.new.script) self.new.counts (Back ∷ Take ∷ [])
+            ≡ run (walk_plan self.old.script) self.old.counts
+            (carries_from 0 (walk_plan self.old.script).paths) }
+        ensures rows { self.new.counts.rows ≡ self.old.counts.rows }
+    {
+        for line in 0..self.script.config.lines {
+            let _ = self.carry(line);
+        }
+    }
+
+    /// Makes the next frame.
+    fn tick(&mut self) -> Moved
+        ensures script { self.new.script ≡ self.old.script }
+        ensures counts { self.new.counts
+            ≡ counts_after self.old.script self.old.counts Tick }
+        ensures moved { result ≡ moved_of self.old.script self.old.counts Tick }
+    {
+        if let Some(cause) = self.tick_stall() {
+            return Moved::Stalled(cause);
+        }
+        let ticks = self.source.ticks();
+        let back = take_needed(&mut self.back, self.source.needs_back().is_some());
+        self.last = next_note(ticks, back, self.last);
+        make_frame(
+            &mut self.source,
+            back,
+            &mut self.sent[ticks as usize % SENDS],
+        );
+        Moved::Yes
+    }
+
+    /// Why no frame is made.
+    fn tick_stall(&self) -> Option<StallCause>
+        ensures { result ≡ (step (walk_plan self.now.script) self.now.counts Tick).cause }
+    {
+        let ticks = self.source.ticks();
+        if ticks >= self.script.config.ticks {
+            return Some(StallCause::Done);
+        }
+        if let Some(item) = held_item(items_of(&self.script), self.frame, self.command, ticks) {
+            return Some(StallCause::Held { item });
+        }
+        if let Some(line) = first_full(&self.lines, self.script.config.ticks, ticks) {
+            return Some(StallCause::TxFull { line });
+        }
+        match self.source.needs_back() {
+            Some(packet) if self.back.is_inbox_empty() => Some(StallCause::BackMissing { packet }),
+            _ => None,
+        }
+    }
+
+    /// Makes a carry of a line.
+    fn carry(&mut self, line: u8) -> Moved
+        requires { line < self.old.script.config.lines }
+        ensures script { self.new.script ≡ self.old.script }
+        ensures counts { self.new.counts
+            ≡ counts_after self.old.script self.old.counts (Carry line) }
+        ensures moved { result ≡ moved_of self.old.script self.old.counts (Carry line) }
+    {
+        let m = usize::from(line);
+        match carry_stall(&self.lines[m], line, self.source.ticks()) {
+            Some(cause) => Moved::Stalled(cause),
+            None => {
+                carry_on(&mut self.lines[m], m, &self.sent);
+                Moved::Yes
+            }
+        }
+    }
+
+    /// Moves a return packet to the source.
+    fn back(&mut self) -> Moved
+        ensures script { self.new.script ≡ self.old.script }
+        ensures counts { self.new.counts
+            ≡ counts_after self.old.script self.old.counts Back }
+        ensures moved { result ≡ moved_of self.old.script self.old.counts Back }
+    {
+        if self.back.is_empty() {
+            return Moved::Stalled(StallCause::BackEmpty);
+        }
+        self.back.move_one(lost_of(&self.script));
+        Moved::Yes
+    }
+}
+
+/// Takes the next row, which is decided on each line. Answers its return packet, where one ends with it, and how many frames were
+/// counted, after `got` before.
+fn take_row<F: FrameOut>(
+    sink: &mut SinkCore,
+    rows: &mut RowGather,
+    got: u64,
+    out: &mut F,
+) -> (Option<Packet>, u64)
+    requires lines { line_count rows.old ≡ sink.old.lines }
+    requires rows { rows.old.rows ≡ sink.old.taken }
+    requires few { sink.old.taken < 4294967295 }
+    ensures takes { (cells : List (List Cell)) → CanTake cells sink.old rows.old →
+        HasRow cells sink.old sink.new rows.new result.0 }
+    ensures counted { (cells : List (List Cell)) → CanTake cells sink.old rows.old → result.1
+        ≡ min (got + length (added_frames sink.old.size cells sink.old.taken sink.new.taken))
+        18446744073709551615 }
+    ensures gives { (cells : List (List Cell)) → CanTake cells sink.old rows.old →
+        (start : Start) (given : List (List ℕ)) → F.stands_for out.old start given →
+        F.stands_for out.new start
+        (given ++ added_frames sink.old.size cells sink.old.taken sink.new.taken) }
+{
+    let mut counted = CountedOut::new(out, got);
+    let answer = sink.take(rows, &mut counted);
+    let CountedOut { out: back, got } = counted;
+    take_back(back);
+    match answer {
+        TakeAnswer::Taken { back } => (back, got),
+        TakeAnswer::Waiting { .. } => (None, got),
+    }
+}
+
+/// The items of a script.
+fn items_of(script: &Script) -> &[Item]
+    ensures { result.now ≡ script.now.items }
+{
+    &script.items.0
+}
+
+/// The return windows of a script.
+fn lost_of(script: &Script) -> &[(u32, u32)]
+    ensures { result.now ≡ script.now.config.lost }
+{
+    &script.config.lost.0
+}
+
+/// Whether a row ends a packet.
+fn ends_packet(row: u32) -> bool
+    ensures { result ≡ (nat_le 23 row && row % 16 == 7) }
+{
+    row >= FIRST_END && row % 16 == 7
+}
+
+/// Send rings of a number of lines, all empty.
+fn new_sent(alloc: Global, lines: u8) -> Result<Vec<Vec<Container>>, AllocError>
+    ensures places { IfOk result (λ sent. length sent.items ≡ 32) }
+    ensures lines { IfOk result (λ sent. All (λ (frame : Vec Container). length frame.items ≡ lines) sent.items) }
+{
+    let mut sent = Vec::with_capacity(alloc, SENDS)?;
+    for _ in 0..SENDS {
+        sent.push(vec![in alloc; EMPTY; usize::from(lines)]?)?;
+    }
+    Ok(sent)
+}
+
+/// Why an item at a place doesn't land.
+fn stall_of(items: &[Item], i: usize, ticks: u32) -> Option<StallCause>
+    ensures { result ≡ stall_by ticks (slice_get items.now i) }
+{
+    if i >= items.len() {
+        return Some(StallCause::Done);
+    }
+    let due = items[i].due;
+    if ticks < due {
+        return Some(StallCause::NotDue { due });
+    }
+    None
+}
+
+/// Gives an item to the source, and answers why it is refused, where it is.
+fn refusal_of(source: &mut SourceCore, kind: &ItemKind) -> Option<Refusal>
+    ensures met { result ≡ met_by source.old kind.now }
+    ensures stands { (scenario : Scenario) (cells : List (Option Told)) →
+        HasMade source.old scenario cells →
+        HasMade source.new (with_kind scenario source.old.ticks kind.now) cells }
+    ensures ticks { source.new.ticks ≡ source.old.ticks }
+    ensures kind { SameKind source.new source.old }
+{
+    match kind {
+        ItemKind::Frame(octets) => source.accept(&octets.0).err().map(Refusal::Frame),
+        ItemKind::Add(line) => source.add(*line).err().map(Refusal::Command),
+        ItemKind::Remove(line) => source.remove(*line).err().map(Refusal::Command),
+    }
+}
+
+/// Puts a refusal at its place among those of other items.
+fn refuse(refusals: &mut Vec<(u32, Refusal)>, item: u32, why: Refusal)
+    requires room { length refusals.old.items < vec_capacity refusals.old }
+    ensures placed { (now : List (ℕ × Refusal)) →
+        IsPlaced item ((item, why) ∷ []) refusals.old.items now → refusals.new.items ≡ now }
+    ensures room { vec_capacity refusals.new ≡ vec_capacity refusals.old }
+{
+    let place = place_among(refusals, item);
+    let _room_was_reserved = refusals.insert(place, (item, why));
+}
+
+/// The place of an item's refusal among those of other items.
+fn place_among(refusals: &[(u32, Refusal)], item: u32) -> usize
+    ensures within { result ≤ length refusals.now }
+    ensures place { (front back : List (ℕ × Refusal)) → IsParted item front back refusals.now →
+        result ≡ length front }
+{
+    let mut place = refusals.len();
+    while place > 0 && item < refusals[place - 1].0 {
+        place -= 1;
+    }
+    place
+}
+
+/// Takes the first return cell out of the inbox, where it is needed.
+fn take_needed(back: &mut ReturnPath, needed: bool) -> Option<BackCell>
+    ensures cell { result ≡ (if needed then slice_get back.old.inbox 0 else None) }
+    ensures path { back.new ≡ (if needed then record back.old { inbox = drop 1 back.old.inbox }
+        else back.old) }
+{
+    if needed { back.take() } else { None }
+}
+
+/// The note of the last decision step after a tick.
+fn next_note(ticks: u32, back: Option<BackCell>, last: Option<StepNote>) -> Option<StepNote>
+    ensures { result ≡ (if ticks % 16 == 8
+        then Some (record { packet = ticks / 16; back = back }) else last) }
+{
+    if ticks % 16 == 8 {
+        Some(StepNote {
+            packet: ticks / 16,
+            back,
+        })
+    } else {
+        last
+    }
+}
+
+/// Makes the next frame, a container for each line.
+fn make_frame(source: &mut SourceCore, back: Option<BackCell>, frame: &mut Vec<Container>)
+    requires places { length frame.old.items ≡ source.old.lines }
+    requires back { IsSome back ↔ IsSome (needed source.old) }
+    requires few { source.old.ticks < 4294967295 }
+    ensures stands { (scenario : Scenario) (cells : List (Option Told)) →
+        Stands source.old scenario cells → Stands source.new scenario (with_cell cells back) }
+    ensures frame { (scenario : Scenario) (cells : List (Option Told)) →
+        Stands source.old scenario cells →
+        frame.new.items ≡ frame_of scenario (with_cell cells back) source.old.ticks }
+    ensures ticks { source.new.ticks ≡ source.old.ticks + 1 }
+    ensures kind { SameKind source.new source.old }
+{
+    source.tick(back, frame);
+}
+
+/// The first line whose send ring holds as many containers as it may.
+fn first_full(lines: &[WalkLine], total: u32, ticks: u32) -> Option<u8>
+    requires few { length lines.now ≤ 128 }
+    requires made { All (λ (line : Ringed). min line.carried total ≤ ticks) lines.now }
+    ensures { result ≡ full total ticks 0 (map line_counts lines.now) }
+{
+    for (m, line) in lines.iter().enumerate() {
+        if (ticks - line.carried().min(total)) as usize >= SENDS {
+            return Some(m as u8);
+        }
+    }
+    None
+}
+
+/// Whether a line waits for a container.
+fn is_dry(own: &WalkLine, ticks: u32) -> bool
+    ensures dry { result ≡ true →
+        (own.now.core.pushed < own.now.core.total) × (ticks ≤ own.now.carried) }
+    ensures wet { result ≡ false →
+        own.now.core.pushed < own.now.core.total → own.now.carried < ticks }
+{
+    !own.all_pushed() && own.carried() >= ticks
+}
+
+/// Why a line carries nothing.
+fn carry_stall(own: &WalkLine, line: u8, ticks: u32) -> Option<StallCause>
+    ensures cause { (script : Script) → HasLineOn script line own.now → HasRoom script line own.now →
+        result ≡ carry_cause script.config.ticks script.config.ring ticks line
+        (path_on script line) (line_counts own.now) }
+    ensures can { result ≡ None → CanCarry own.now ticks }
+{
+    if own.ended() {
+        Some(StallCause::Done)
+    } else if is_dry(own, ticks) {
+        Some(StallCause::Empty { line })
+    } else if own.is_full() {
+        Some(StallCause::RxFull { line })
+    } else {
+        None
+    }
+}
+
+/// Makes a carry of line `m`.
+fn carry_on(own: &mut WalkLine, m: usize, sent: &[Vec<Container>])
+    requires runs { own.old.core.flushed ≤ own.old.core.delay }
+    requires room { own.old.given < own.old.popped + ring_of own.old }
+    requires places { length sent.now ≡ 32 }
+    requires lines { (k : ℕ) (frame : Vec Container) → slice_get sent.now k ≡ Some frame →
+        m < length frame.items }
+    ensures has { (script : Script) → HasLineOn script m own.old →
+        IsSentOn script m own.old.carried sent.now → HasLineOn script m own.new }
+    ensures carried { own.new.carried ≡ own.old.carried + 1 }
+    ensures popped { own.new.popped ≡ own.old.popped }
+{
+    if own.all_pushed() {
+        own.flush();
+    } else {
+        own.push(&sent[own.carried() as usize % SENDS][m]);
+    }
+}
+
+/// Pops cells line by line until each decides the next row, or up to the first line that doesn't.
+fn pop_lines(lines: &mut Vec<WalkLine>, rows: &mut RowGather) -> Option<u8>
+    requires few { length lines.old.items ≤ 128 }
+    ensures pops { (script : Script) → CanPop script lines.old.items rows.old →
+        HasPopped script lines.old.items lines.new.items rows.new result }
+    ensures lines { line_count rows.new ≡ line_count rows.old }
+    ensures rows { rows.new.rows ≡ rows.old.rows }
+{
+    for m in 0..lines.len() {
+        if !lines[m].pop_into(rows, m as u8) {
+            return Some(m as u8);
+        }
+    }
+    None
+}
