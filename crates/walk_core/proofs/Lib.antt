@@ -6,3 +6,5 @@ pub mod TickLaws
 pub mod OpenLaws
 pub mod TakeLaws
 pub mod RefuseLaws
+pub mod LandLaws
+pub mod LandSteps

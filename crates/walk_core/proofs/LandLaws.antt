@@ -1,0 +1,239 @@
+-- An item lands.
+use Rattle.std.proofs.Common.{◌≡◌, ℕ, zero, suc, ◌+◌, ◌≤◌, nat_lt, Bool, true, List, [], ◌∷◌, ◌++◌, length, take, drop, slice_get, if◌then◌else◌, Option, Some, None, option_map, inl, inr, refl, sym, ◌∙◌, ap, arith}
+use Rattle.std.proofs.lemmas.Bool.{cases_Bool}
+use Rattle.session_model.specs.declared.script.Item.{Item}
+use Rattle.session_model.specs.declared.script.ItemKind.{ItemKind}
+use Rattle.session_model.specs.declared.script.ItemKind.TheVariants.{Frame, Add, Remove}
+use Rattle.session_model.specs.declared.script.Script.{Script}
+use Rattle.session_model.specs.declared.walk.Event.TheVariants.{Accept, Command}
+use Rattle.session_model.specs.declared.walk.StallCause.{StallCause}
+use Rattle.session_model.specs.declared.walk.StallCause.TheVariants.{NotDue}
+use Rattle.session_model.specs.Scenario.{Scenario, Order, Offer, order_of, offer_of, orders_of, offers_of}
+use Rattle.session_model.specs.Counts.{Counts, due_of, dues_of, frame_dues, command_dues, land_due, step}
+use Rattle.session_model.specs.declared.table.Command.TheVariants.{Add as add, Remove as remove}
+use Rattle.session_model.specs.Source.{refusal}
+use Rattle.session_model.specs.Client.{refusal_while}
+use Rattle.report_text.specs.declared.report.Refusal.TheVariants.{Frame as frame_fault, Command as command_fault}
+use Rattle.source_core.specs.Terminal.{Terminal}
+use Rattle.source_core.specs.Given.{with_frame, with_command}
+use Rattle.walk_law.specs.Walk.{walk_plan}
+use Rattle.walk_parts.specs.Place.{is_frame, is_command, place_of}
+use Rattle.report_text.specs.declared.report.Refusal.{Refusal}
+use Rattle.walk_law.specs.Landed.{refusal_at}
+use Rattle.walk_core.specs.Landing.{stall_by, met_by, with_kind}
+use Rattle.walk_core.specs.declared.moved.Moved.{Moved}
+use Rattle.walk_core.specs.declared.moved.Moved.TheVariants.{Stalled}
+use Rattle.walk_core.specs.Moved.{answer_by, refusal_of_item, refusal_in_event, moved_of, counts_after}
+use Rattle.walk_core.proofs.EventLaws.{stalled-moved}
+
+-- ---- where the next item of a kind stands
+unfoldable pub count_of : (ItemKind → Bool) → List Item → ℕ
+count_of is [] = 0
+count_of is (item ∷ items) = if is item.kind then suc (count_of is items) else count_of is items
+
+pub count-few : (is : ItemKind → Bool) (items : List Item) → count_of is items ≤ length items
+unfolding count_of
+count-few is [] = omega arith
+count-few is (item ∷ items) =
+    let rest = count-few is items in
+    elim (cases_Bool (is item.kind)) [ inl e ↦ rw e (omega (arith, rest)) | inr e ↦ rw e (omega (arith, rest)) ]
+
+-- the item at the place of number k is of the kind, and so many are before it
+pub place-found : (is : ItemKind → Bool) (items : List Item) (k : ℕ) (item : Item) → slice_get items (place_of is k items) ≡ Some item →
+    (is item.kind ≡ true) × (count_of is (take (place_of is k items) items) ≡ k)
+unfolding place_of count_of
+place-found is [] k item there = absurd cc
+place-found is (first ∷ items) zero item there =
+    elim (cases_Bool (is first.kind)) [
+      | inl e ↦ (let f : Some first ≡ Some item = rw e at there in let same : first ≡ item = cc in (ap (λ (i : Item). is i.kind) (sym same) ∙ e, rw e refl))
+      | inr e ↦ (let (a, b) = place-found is items zero item (rw e at there) in (a, rw (e, e) b))
+    ]
+place-found is (first ∷ items) (suc k) item there =
+    elim (cases_Bool (is first.kind)) [
+      | inl e ↦ (let (a, b) = place-found is items k item (rw e at there) in (a, rw (e, e) (ap suc b)))
+      | inr e ↦ (let (a, b) = place-found is items (suc k) item (rw e at there) in (a, rw (e, e) b))
+    ]
+
+-- and the next place is the first after it
+next-suc : (is : ItemKind → Bool) (items : List Item) (k : ℕ) (item : Item) → slice_get items (place_of is k items) ≡ Some item →
+    place_of is (suc k) items ≡ suc (place_of is k items) + place_of is 0 (drop (suc (place_of is k items)) items)
+unfolding place_of
+next-suc is [] k item there = absurd cc
+next-suc is (first ∷ items) zero item there =
+    elim (cases_Bool (is first.kind)) [
+      | inl e ↦ rw e (let f : suc (place_of is 0 items) ≡ 1 + place_of is 0 items = omega arith in f)
+      | inr e ↦ (let rest = next-suc is items zero item (rw e at there) in rw e (let f : suc (place_of is 1 items) ≡ suc (suc (place_of is 0 items)) + place_of is 0 (drop (suc (place_of is 0 items)) items) = omega (arith, rest) in f))
+    ]
+next-suc is (first ∷ items) (suc k) item there =
+    elim (cases_Bool (is first.kind)) [
+      | inl e ↦ (let rest = next-suc is items k item (rw e at there) in rw e (let f : suc (place_of is (suc k) items) ≡ suc (suc (place_of is k items)) + place_of is 0 (drop (suc (place_of is k items)) items) = omega (arith, rest) in f))
+      | inr e ↦ (let rest = next-suc is items (suc k) item (rw e at there) in rw e (let f : suc (place_of is (suc (suc k)) items) ≡ suc (suc (place_of is (suc k) items)) + place_of is 0 (drop (suc (place_of is (suc k) items)) items) = omega (arith, rest) in f))
+    ]
+
+pub place-next : (is : ItemKind → Bool) (items : List Item) (k i : ℕ) (item : Item) → i ≡ place_of is k items → slice_get items i ≡ Some item →
+    (i + 1) + place_of is 0 (drop (i + 1) items) ≡ place_of is (k + 1) items
+place-next is items k i item at there =
+    let rest = next-suc is items k item (sym (ap (λ n. slice_get items n) at) ∙ there) in
+    let up : i + 1 ≡ suc (place_of is k items) = omega (arith, at) in
+    ap (λ n. n + place_of is 0 (drop n items)) up ∙ sym rest ∙ ap (λ n. place_of is n items) (let e : suc k ≡ k + 1 = omega arith in e)
+
+-- ---- frames are counted as offers, and commands as orders
+offers-size_by : (due : ℕ) (kind : ItemKind) (items : List Item) → length (offers_of items) ≡ count_of is_frame items →
+    length (offer_of due kind ++ offers_of items) ≡ (if is_frame kind then suc (count_of is_frame items) else count_of is_frame items)
+unfolding count_of
+offers-size_by due (Frame octets) items rest = ap suc rest
+offers-size_by due (Add line) items rest = rest
+offers-size_by due (Remove line) items rest = rest
+
+pub offers-size : (items : List Item) → length (offers_of items) ≡ count_of is_frame items
+unfolding count_of
+offers-size [] = refl
+offers-size (item ∷ items) = offers-size_by item.due item.kind items (offers-size items)
+
+orders-size_by : (due : ℕ) (kind : ItemKind) (items : List Item) → length (orders_of items) ≡ count_of is_command items →
+    length (order_of due kind ++ orders_of items) ≡ (if is_command kind then suc (count_of is_command items) else count_of is_command items)
+unfolding count_of
+orders-size_by due (Frame octets) items rest = rest
+orders-size_by due (Add line) items rest = ap suc rest
+orders-size_by due (Remove line) items rest = ap suc rest
+
+pub orders-size : (items : List Item) → length (orders_of items) ≡ count_of is_command items
+unfolding count_of
+orders-size [] = refl
+orders-size (item ∷ items) = orders-size_by item.due item.kind items (orders-size items)
+
+-- ---- the due tick of the next item
+abbrev due_at : List Item → ℕ → Option ℕ
+due_at items i = option_map (λ (item : Item). item.due) (slice_get items i)
+
+frame-due_by : (due : ℕ) (kind : ItemKind) (items : List Item) (k : ℕ) → ((k : ℕ) → slice_get (frame_dues (dues_of items)) k ≡ due_at items (place_of is_frame k items)) →
+    slice_get (frame_dues (due_of due kind ∷ dues_of items)) k ≡ due_at (record { due = due; kind = kind } ∷ items) (place_of is_frame k (record { due = due; kind = kind } ∷ items))
+unfolding frame_dues place_of
+frame-due_by due (Frame octets) items zero rest = refl
+frame-due_by due (Frame octets) items (suc k) rest = rest k
+frame-due_by due (Add line) items zero rest = rest zero
+frame-due_by due (Add line) items (suc k) rest = rest (suc k)
+frame-due_by due (Remove line) items zero rest = rest zero
+frame-due_by due (Remove line) items (suc k) rest = rest (suc k)
+
+frame-due : (items : List Item) (k : ℕ) → slice_get (frame_dues (dues_of items)) k ≡ due_at items (place_of is_frame k items)
+unfolding frame_dues place_of
+frame-due [] k = refl
+frame-due (item ∷ items) k = frame-due_by item.due item.kind items k (frame-due items)
+
+command-due_by : (due : ℕ) (kind : ItemKind) (items : List Item) (k : ℕ) → ((k : ℕ) → slice_get (command_dues (dues_of items)) k ≡ due_at items (place_of is_command k items)) →
+    slice_get (command_dues (due_of due kind ∷ dues_of items)) k ≡ due_at (record { due = due; kind = kind } ∷ items) (place_of is_command k (record { due = due; kind = kind } ∷ items))
+unfolding command_dues place_of
+command-due_by due (Frame octets) items zero rest = rest zero
+command-due_by due (Frame octets) items (suc k) rest = rest (suc k)
+command-due_by due (Add line) items zero rest = refl
+command-due_by due (Add line) items (suc k) rest = rest k
+command-due_by due (Remove line) items zero rest = refl
+command-due_by due (Remove line) items (suc k) rest = rest k
+
+command-due : (items : List Item) (k : ℕ) → slice_get (command_dues (dues_of items)) k ≡ due_at items (place_of is_command k items)
+unfolding command_dues place_of
+command-due [] k = refl
+command-due (item ∷ items) k = command-due_by item.due item.kind items k (command-due items)
+
+-- ---- why the next item doesn't land
+stall-cause : (ticks : ℕ) (found : Option Item) (s next : Counts) → (land_due ticks (option_map (λ (item : Item). item.due) found) s next).cause ≡ stall_by ticks found
+stall-cause ticks None s next = refl
+stall-cause ticks (Some item) s next = elim (cases_Bool (nat_lt ticks item.due)) [ inl e ↦ rw e refl | inr e ↦ rw e refl ]
+
+pub frame-stall : (script : Script) (s : Counts) (i ticks : ℕ) → i ≡ place_of is_frame s.frames script.items → ticks ≡ s.ticks →
+    (step (walk_plan script) s Accept).cause ≡ stall_by ticks (slice_get script.items i)
+frame-stall script s i ticks at same =
+    ap (λ due. (land_due s.ticks due s (record s { frames = s.frames + 1 })).cause) (frame-due script.items s.frames)
+    ∙ stall-cause s.ticks (slice_get script.items (place_of is_frame s.frames script.items)) s (record s { frames = s.frames + 1 })
+    ∙ ap (λ n. stall_by s.ticks (slice_get script.items n)) (sym at)
+    ∙ ap (λ n. stall_by n (slice_get script.items i)) (sym same)
+
+pub command-stall : (script : Script) (s : Counts) (i ticks : ℕ) → i ≡ place_of is_command s.commands script.items → ticks ≡ s.ticks →
+    (step (walk_plan script) s Command).cause ≡ stall_by ticks (slice_get script.items i)
+command-stall script s i ticks at same =
+    ap (λ due. (land_due s.ticks due s (record s { commands = s.commands + 1 })).cause) (command-due script.items s.commands)
+    ∙ stall-cause s.ticks (slice_get script.items (place_of is_command s.commands script.items)) s (record s { commands = s.commands + 1 })
+    ∙ ap (λ n. stall_by s.ticks (slice_get script.items n)) (sym at)
+    ∙ ap (λ n. stall_by n (slice_get script.items i)) (sym same)
+
+pub land-stays : (ticks : ℕ) (due : Option ℕ) (s next : Counts) (cause : StallCause) → (land_due ticks due s next).cause ≡ Some cause → (land_due ticks due s next).counts ≡ s
+land-stays ticks None s next cause e = refl
+land-stays ticks (Some due) s next cause e =
+    elim (cases_Bool (nat_lt ticks due)) [ inl late ↦ rw late refl | inr now ↦ absurd (let f : None ≡ Some cause = rw now at e in cc) ]
+
+pub land-moves : (ticks : ℕ) (due : Option ℕ) (s next : Counts) → (land_due ticks due s next).cause ≡ None → (land_due ticks due s next).counts ≡ next
+land-moves ticks None s next e = absurd cc
+land-moves ticks (Some due) s next e =
+    elim (cases_Bool (nat_lt ticks due)) [ inl late ↦ absurd (let f : Some (NotDue due) ≡ None = rw late at e in cc) | inr now ↦ rw now refl ]
+
+-- an item that lands is there, and is due
+pub item-there : (ticks : ℕ) (items : List Item) (i : ℕ) → stall_by ticks (slice_get items i) ≡ None → (item : Item) × (slice_get items i ≡ Some item) × (item.due ≤ ticks)
+item-there ticks items i none = by-found (slice_get items i) none
+  where
+    by-found : (found : Option Item) → stall_by ticks found ≡ None → (item : Item) × (found ≡ Some item) × (item.due ≤ ticks)
+    by-found None e = absurd cc
+    by-found (Some item) e = elim (cases_Bool (nat_lt ticks item.due)) [
+      | inl late ↦ absurd (let f : Some (NotDue item.due) ≡ None = rw late at e in cc)
+      | inr now ↦ (item, refl, grind (arith, now))
+    ]
+
+-- ---- what the item is
+pub record IsOffer (due : ℕ) (kind : ItemKind) (offer : Offer) : Type 0 where
+  pub is : offer_of due kind ≡ offer ∷ []
+  pub time : offer.due ≡ due
+  pub met : (core : Terminal) → met_by core kind ≡ option_map frame_fault (refusal_while core.queue.waiting offer.frame)
+  pub told : (scenario : Scenario) (ticks : ℕ) → with_kind scenario ticks kind ≡ with_frame scenario ticks offer.frame
+
+pub offer-here : (due : ℕ) (kind : ItemKind) → is_frame kind ≡ true → (offer : Offer) × IsOffer due kind offer
+offer-here due (Frame octets) e = (record { due = due; frame = octets }, record { is = refl; time = refl; met = λ core. refl; told = λ scenario ticks. refl })
+offer-here due (Add line) e = absurd cc
+offer-here due (Remove line) e = absurd cc
+
+pub record IsOrder (due : ℕ) (kind : ItemKind) (order : Order) : Type 0 where
+  pub is : order_of due kind ≡ order ∷ []
+  pub time : order.due ≡ due
+  pub met : (core : Terminal) → met_by core kind ≡ option_map command_fault (refusal core.lines order.command core.table.source)
+  pub told : (scenario : Scenario) (ticks : ℕ) → with_kind scenario ticks kind ≡ with_command scenario ticks order.command
+
+pub order-here : (due : ℕ) (kind : ItemKind) → is_command kind ≡ true → (order : Order) × IsOrder due kind order
+order-here due (Frame octets) e = absurd cc
+order-here due (Add line) e = (record { due = due; command = add line }, record { is = refl; time = refl; met = λ core. refl; told = λ scenario ticks. refl })
+order-here due (Remove line) e = (record { due = due; command = remove line }, record { is = refl; time = refl; met = λ core. refl; told = λ scenario ticks. refl })
+
+-- ---- an event that stalls, or lands an item
+pub frame-stays : (script : Script) (s : Counts) (cause : StallCause) → (step (walk_plan script) s Accept).cause ≡ Some cause →
+    (s ≡ counts_after script s Accept) × (Stalled cause ≡ moved_of script s Accept)
+frame-stays script s cause e = (
+  sym (land-stays s.ticks (slice_get (frame_dues (dues_of script.items)) s.frames) s (record s { frames = s.frames + 1 }) cause e),
+  stalled-moved cause (step (walk_plan script) s Accept).cause (refusal_in_event script s Accept) e,
+)
+
+pub command-stays : (script : Script) (s : Counts) (cause : StallCause) → (step (walk_plan script) s Command).cause ≡ Some cause →
+    (s ≡ counts_after script s Command) × (Stalled cause ≡ moved_of script s Command)
+command-stays script s cause e = (
+  sym (land-stays s.ticks (slice_get (command_dues (dues_of script.items)) s.commands) s (record s { commands = s.commands + 1 }) cause e),
+  stalled-moved cause (step (walk_plan script) s Command).cause (refusal_in_event script s Command) e,
+)
+
+-- what an event answers that lands an item
+abbrev pub answer_of : Option Refusal → Moved
+answer_of why = answer_by None why
+
+pub frame-moves : (script : Script) (s : Counts) (i : ℕ) (item : Item) → i ≡ place_of is_frame s.frames script.items → slice_get script.items i ≡ Some item → (step (walk_plan script) s Accept).cause ≡ None →
+    (record s { frames = s.frames + 1 } ≡ counts_after script s Accept) × (answer_of (refusal_at script (record { number = i; item = item })) ≡ moved_of script s Accept)
+frame-moves script s i item at there e = (
+  sym (land-moves s.ticks (slice_get (frame_dues (dues_of script.items)) s.frames) s (record s { frames = s.frames + 1 }) e),
+  ap (λ found. answer_by None (refusal_of_item script i found)) (sym there)
+      ∙ ap (λ n. answer_by None (refusal_of_item script n (slice_get script.items n))) at
+      ∙ ap (λ cause. answer_by cause (refusal_in_event script s Accept)) (sym e),
+)
+
+pub command-moves : (script : Script) (s : Counts) (i : ℕ) (item : Item) → i ≡ place_of is_command s.commands script.items → slice_get script.items i ≡ Some item → (step (walk_plan script) s Command).cause ≡ None →
+    (record s { commands = s.commands + 1 } ≡ counts_after script s Command) × (answer_of (refusal_at script (record { number = i; item = item })) ≡ moved_of script s Command)
+command-moves script s i item at there e = (
+  sym (land-moves s.ticks (slice_get (command_dues (dues_of script.items)) s.commands) s (record s { commands = s.commands + 1 }) e),
+  ap (λ found. answer_by None (refusal_of_item script i found)) (sym there)
+      ∙ ap (λ n. answer_by None (refusal_of_item script n (slice_get script.items n))) at
+      ∙ ap (λ cause. answer_by cause (refusal_in_event script s Command)) (sym e),
+)
