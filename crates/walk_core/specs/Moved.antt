@@ -1,5 +1,5 @@
 -- What an event of a walk answers, and which frames it gives.
-use Rattle.std.specs.Prelude.{ℕ, List, length, drop, slice_get, Option, Some, None}
+use Rattle.std.specs.Prelude.{ℕ, List, ◌++◌, length, drop, slice_get, Option, Some, None}
 use Rattle.session_model.specs.declared.script.Item.{Item}
 use Rattle.session_model.specs.declared.script.Script.{Script}
 use Rattle.session_model.specs.declared.walk.Event.{Event}
@@ -10,6 +10,7 @@ use Rattle.report_text.specs.declared.report.Refusal.{Refusal}
 use Rattle.walk_law.specs.Walk.{walk_plan}
 use Rattle.walk_law.specs.Landed.{refusal_at}
 use Rattle.walk_law.specs.Delivered.{delivered_of}
+use Rattle.sink_core.specs.Start.{Start}
 use Rattle.walk_parts.specs.Place.{is_frame, is_command, place_of}
 use Rattle.walk_core.specs.declared.moved.Moved.{Moved}
 use Rattle.walk_core.specs.declared.moved.Moved.TheVariants.{Yes, Stalled, Refused}
@@ -51,3 +52,8 @@ counts_after script s event = (step (walk_plan script) s event).counts
 -- the frames that some rows give beside those of fewer rows
 abbrev pub delivered_since : Script → ℕ → ℕ → List (List ℕ)
 delivered_since script before rows = drop (length (delivered_of script before)) (delivered_of script rows)
+
+-- a place of frames is given those of more rows: behind each start it stands for what it stood for, followed by them
+abbrev pub GivesRows : {Out : Type 0} → (Out → Start → List (List ℕ) → Type 0) → Out → Out → Script → ℕ → ℕ → Type 0
+GivesRows stands_for was now script before rows =
+    (start : Start) (given : List (List ℕ)) → stands_for was start given → stands_for now start (given ++ delivered_since script before rows)

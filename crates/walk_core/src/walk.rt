@@ -15,7 +15,7 @@ ghost use Rattle.walk_law.specs.Step.{last_packet, table_in};
 ghost use Rattle.sink_core.specs.Start.{Start};
 ghost use Rattle.source_core.specs.Terminal.{needed, SameKind};
 ghost use Rattle.source_core.specs.Given.{with_cell, Stands, Stands as HasMade};
-ghost use Rattle.walk_core.specs.Moved.{counts_after, moved_of, delivered_since};
+ghost use Rattle.walk_core.specs.Moved.{counts_after, moved_of, delivered_since, GivesRows};
 ghost use Rattle.std.specs.Global.{Vec};
 ghost use Rattle.vc_cell.specs.declared.Container.{Container};
 ghost use Rattle.session_model.specs.declared.script.Script.{Script};
@@ -106,6 +106,107 @@ impl Model for Walk {
 }
 
 impl Walk {
+    /// Makes room for a walk of a script, before any event: for its rings, its inbox, and a refusal of each item.
+    pub fn new(alloc: Global, script: Script) -> Result<Walk, AllocError>
+        requires { IsValid script }
+        ensures script { IfOk result (λ walk. walk.script ≡ script) }
+        ensures counts { IfOk result (λ walk. walk.counts ≡ begin (walk_plan script)) }
+    {
+        let config = &script.config;
+        let source = SourceCore::new(alloc, config.lines, config.lag, config.size)?;
+        let sent = new_sent(alloc, config.lines)?;
+        let lines = new_lines(alloc, config)?;
+        let rows = RowGather::new(alloc, config.lines)?;
+        let sink = SinkCore::new(alloc, config.lines, config.size)?;
+        let back = ReturnPath::new(alloc, config.lag)?;
+        let refusals = Vec::with_capacity(alloc, script.items.0.len())?;
+        let frame = next_frame(items_of(&script), 0);
+        let command = next_command(items_of(&script), 0);
+        Ok(Walk {
+            script,
+            source,
+            sent,
+            lines,
+            rows,
+            sink,
+            back,
+            refusals,
+            frame,
+            command,
+            frames: 0,
+            commands: 0,
+            refused_frames: 0,
+            refused_commands: 0,
+            got: 0,
+            last: None,
+        })
+    }
+
+    /// Makes an event. One that stalls changes nothing, but that a Take which waits keeps the cells that it popped. Frames that a
+    /// taken row delivers are given to `out`.
+    pub fn step<F: FrameOut>(&mut self, event: Event, out: &mut F) -> Moved
+        requires { HasLine (walk_plan self.old.script) event }
+        ensures script { self.new.script ≡ self.old.script }
+        ensures counts { self.new.counts
+            ≡ counts_after self.old.script self.old.counts event }
+        ensures moved { result ≡ moved_of self.old.script self.old.counts event }
+        ensures gives { GivesRows F.stands_for out.old out.new self.old.script
+            self.old.counts.rows self.new.counts.rows }
+    {
+        match event {
+            Event::Accept => self.accept(),
+            Event::Command => self.command(),
+            Event::Tick => self.tick(),
+            Event::Carry(line) => self.carry(line),
+            Event::Back => self.back(),
+            Event::Take => self.take(out),
+        }
+    }
+
+    /// Lands frames and then commands until each kind stalls, and tries each other event once, in the order of the lines.
+    pub fn round<F: FrameOut>(&mut self, out: &mut F)
+        ensures script { self.new.script ≡ self.old.script }
+        ensures counts { self.new.counts ≡ run (walk_plan self.old.script) self.old.counts
+            (round (walk_plan self.old.script)) }
+        ensures gives { GivesRows F.stands_for out.old out.new self.old.script
+            self.old.counts.rows self.new.counts.rows }
+    {
+        self.accept_all();
+        self.command_all();
+        self.tick();
+        self.carry_all();
+        self.back();
+        self.take(out);
+    }
+
+    /// Makes rounds until all rows are taken.
+    pub fn drain<F: FrameOut>(&mut self, out: &mut F)
+        ensures script { self.new.script ≡ self.old.script }
+        ensures counts { self.new.counts ≡ drain (bound (walk_plan self.old.script))
+            (walk_plan self.old.script) self.old.counts }
+        ensures all { self.new.counts.rows ≡ self.old.script.config.ticks }
+        ensures gives { GivesRows F.stands_for out.old out.new self.old.script
+            self.old.counts.rows self.old.script.config.ticks }
+    {
+        while self.sink.taken() < self.script.config.ticks {
+            self.round(out);
+        }
+    }
+
+    /// What came of the walk so far, in numbers.
+    pub fn totals(&self) -> Totals
+        ensures { result ≡ totals_of self.now.script self.now.counts }
+    {
+        Totals {
+            ticks: self.source.ticks(),
+            taken: self.sink.taken(),
+            frames: self.frames - self.refused_frames,
+            commands: self.commands - self.refused_commands,
+            refused: self.refused_frames + self.refused_commands,
+            got: self.got,
+        }
+    }
+
     /// The items that were refused, in the order of the script.
     pub fn refusals(&self) -> &[(u32, Refusal)]
         ensures { result.now ≡ refusals_of self.now.script self.now.counts }
@@ -128,6 +229,121 @@ impl Walk {
             ≡ table_in self.now.script self.now.counts.ticks }
     {
         self.source.table()
+    }
+
+    /// Lands frames until one stalls.
+    fn accept_all(&mut self)
+        ensures script { self.new.script ≡ self.old.script }
+        ensures counts { self.new.counts ≡ run (walk_plan self.old.script) self.old.counts
+            (replicate (suc (length (walk_plan self.old.script).items)) Accept) }
+        ensures rows { self.new.counts.rows ≡ self.old.counts.rows }
+    {
+        while !matches!(self.accept(), Moved::Stalled(_)) {}
+    }
+
+    /// Lands commands until one stalls.
+    fn command_all(&mut self)
+        ensures script { self.new.script ≡ self.old.script }
+        ensures counts { self.new.counts ≡ run (walk_plan self.old.script) self.old.counts
+            (replicate (suc (length (walk_plan self.old.script).items)) Command) }
+        ensures rows { self.new.counts.rows ≡ self.old.counts.rows }
+    {
+        while !matches!(self.command(), Moved::Stalled(_)) {}
+    }
+
+    /// Lands the next frame.
+    fn accept(&mut self) -> Moved
+        ensures script { self.new.script ≡ self.old.script }
+        ensures counts { self.new.counts
+            ≡ counts_after self.old.script self.old.counts Accept }
+        ensures moved { result ≡ moved_of self.old.script self.old.counts Accept }
+    {
+        match stall_of(items_of(&self.script), self.frame, self.source.ticks()) {
+            Some(cause) => Moved::Stalled(cause),
+            None => self.land_frame(),
+        }
+    }
+
+    /// Lands the next command.
+    fn command(&mut self) -> Moved
+        ensures script { self.new.script ≡ self.old.script }
+        ensures counts { self.new.counts
+            ≡ counts_after self.old.script self.old.counts Command }
+        ensures moved { result ≡ moved_of self.old.script self.old.counts Command }
+    {
+        match stall_of(items_of(&self.script), self.command, self.source.ticks()) {
+            Some(cause) => Moved::Stalled(cause),
+            None => self.land_command(),
+        }
+    }
+
+    /// Lands the next frame, which is there and due.
+    fn land_frame(&mut self) -> Moved
+        requires { (step (walk_plan self.old.script) self.old.counts Accept).cause ≡ None }
+        ensures script { self.new.script ≡ self.old.script }
+        ensures counts { self.new.counts
+            ≡ counts_after self.old.script self.old.counts Accept }
+        ensures moved { result ≡ moved_of self.old.script self.old.counts Accept }
+    {
+        let i = self.frame;
+        let refusal = refusal_of(&mut self.source, &items_of(&self.script)[i].kind);
+        self.frames += 1;
+        self.frame = next_frame(items_of(&self.script), i + 1);
+        match refusal {
+            None => Moved::Yes,
+            Some(why) => {
+                self.refused_frames += 1;
+                refuse(&mut self.refusals, i as u32, why);
+                Moved::Refused(why)
+            }
+        }
+    }
+
+    /// Lands the next command, which is there and due.
+    fn land_command(&mut self) -> Moved
+        requires { (step (walk_plan self.old.script) self.old.counts Command).cause ≡ None }
+        ensures script { self.new.script ≡ self.old.script }
+        ensures counts { self.new.counts
+            ≡ counts_after self.old.script self.old.counts Command }
+        ensures moved { result ≡ moved_of self.old.script self.old.counts Command }
+    {
+        let i = self.command;
+        let refusal = refusal_of(&mut self.source, &items_of(&self.script)[i].kind);
+        self.commands += 1;
+        self.command = next_command(items_of(&self.script), i + 1);
+        match refusal {
+            None => Moved::Yes,
+            Some(why) => {
+                self.refused_commands += 1;
+                refuse(&mut self.refusals, i as u32, why);
+                Moved::Refused(why)
+            }
+        }
+    }
+
+    /// Takes the next row, where the lines decide it.
+    fn take<F: FrameOut>(&mut self, out: &mut F) -> Moved
+        ensures script { self.new.script ≡ self.old.script }
+        ensures counts { self.new.counts
+            ≡ counts_after self.old.script self.old.counts Take }
+        ensures moved { result ≡ moved_of self.old.script self.old.counts Take }
+        ensures gives { GivesRows F.stands_for out.old out.new self.old.script
+            self.old.counts.rows self.new.counts.rows }
+    {
+        let row = self.sink.taken();
+        if row >= self.script.config.ticks {
+            return Moved::Stalled(StallCause::Done);
+        }
+        if ends_packet(row) && self.back.is_full() {
+            return Moved::Stalled(StallCause::BackFull);
+        }
+        if let Some(line) = pop_lines(&mut self.lines, &mut self.rows) {
+            return Moved::Stalled(StallCause::Waiting { line });
+        }
+        let (packet, got) = take_row(&mut self.sink, &mut self.rows, self.got, out);
+        self.got = got;
+        self.back.say(packet);
+        Moved::Yes
     }
 
     /// Tries one carry of each line.
@@ -279,6 +495,24 @@ fn new_sent(alloc: Global, lines: u8) -> Result<Vec<Vec<Container>>, AllocError>
         sent.push(vec![in alloc; EMPTY; usize::from(lines)]?)?;
     }
     Ok(sent)
+}
+
+/// The lines of a script, before any carry.
+fn new_lines(alloc: Global, config: &Config) -> Result<Vec<WalkLine>, AllocError>
+    requires { IsNetwork config.now }
+    ensures { IfOk result (λ lines. AreOpened config.now config.now.lines lines.items) }
+{
+    let mut lines = Vec::with_capacity(alloc, usize::from(config.lines))?;
+    for m in 0..usize::from(config.lines) {
+        lines.push(WalkLine::new(
+            alloc,
+            config.delays.0[m],
+            &config.windows.0[m].0,
+            config.ticks,
+            config.ring,
+        )?)?;
+    }
+    Ok(lines)
 }
 
 /// Why an item at a place doesn't land.
