@@ -1,5 +1,5 @@
 //! A source over a reader and a sink over a writer of the standard library, which count faults and tell no content.
-ghost use Rattle.std.specs.Prelude.{◌≡◌, ◌<◌, ◌≤◌, length, IfOk, OnOk, OnErr};
+ghost use Rattle.std.specs.Prelude.{◌≡◌, ◌⊎◌, ◌<◌, ◌≤◌, ◌↔◌, length, IsTrue, IfOk, OnOk, OnErr};
 ghost use Rattle.outside_io.specs.Faults.{one_more};
 
 use crate::traits::{ByteSink, ByteSource, Failed};
@@ -83,13 +83,20 @@ impl<W: Write> ByteSink for StdSink<W> {
         ensures counted { OnErr result (self.new ≡ one_more self.old) }
     {
         match self.inner.write(piece) {
-            Ok(n) if n > 0 || piece.is_empty() => Ok(n),
+            Ok(n) if has_moved(n, piece) => Ok(n),
             _ => {
                 self.faults = self.faults.saturating_add(1);
                 Err(Failed)
             }
         }
     }
+}
+
+/// A write that took `n` octets of a piece has moved it on, or there was nothing to take.
+fn has_moved(n: usize, piece: &[u8]) -> bool
+    ensures { IsTrue result ↔ (0 < n) ⊎ (length piece.now ≡ 0) }
+{
+    n > 0 || piece.is_empty()
 }
 
 #[cfg(test)]
