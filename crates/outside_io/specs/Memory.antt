@@ -1,10 +1,11 @@
 -- What is known of a source and a sink in memory. Counts of calls and of faults stop at 2^64 - 1.
-use Rattle.std.specs.Prelude.{◌≡◌, ℕ, ◌⊎◌, ◌<◌, List, length, Contains}
+use Rattle.std.specs.Prelude.{◌≡◌, ℕ, ◌⊎◌, ◌<◌, List, length, min, Option, Some, None, Contains}
 
--- a source that has these octets left, had so many calls and counted so many faults; the calls whose numbers are in
--- `fail` fail, and the first call has number 0
+-- a source that has these octets left, gives at most `step` of them in a call where that is told, had so many calls and counted so
+-- many faults; the calls whose numbers are in `fail` fail, and the first call has number 0
 pub record SourceState : Type 0 where
   pub left : List ℕ
+  pub step : Option ℕ
   pub fail : List ℕ
   pub calls : ℕ
   pub faults : ℕ
@@ -17,6 +18,11 @@ pub record SinkState : Type 0 where
   pub fail : List ℕ
   pub calls : ℕ
   pub faults : ℕ
+
+-- of octets as many as a call gives at most
+abbrev pub given_at_once : Option ℕ → ℕ → ℕ
+given_at_once None left = left
+given_at_once (Some step) left = min step left
 
 -- the next call of the source fails
 abbrev pub IsFailingTake : SourceState → Type 0

@@ -1,8 +1,8 @@
 //! A source and a sink in memory, which tell all, and whose calls fail on demand.
-ghost use Rattle.std.specs.Prelude.{◌≡◌, ◌⊎◌, ◌<◌, ◌≤◌, ◌↔◌, ◌-◌, [], ◌++◌, length, take, drop, min, Some, Contains, IsTrue, IsErr, IfOk, OnOk, OnErr};
+ghost use Rattle.std.specs.Prelude.{◌≡◌, ◌⊎◌, ◌<◌, ◌≤◌, ◌↔◌, ◌-◌, [], ◌++◌, length, take, drop, min, Some, None, IfSome, Contains, IsTrue, IsErr, IfOk, OnOk, OnErr};
 ghost use Rattle.std.specs.Io.KnownBytes.{append_known, prepend_known, IsAtEnd};
 ghost use Rattle.outside_io.specs.Faults.{one_more};
-ghost use Rattle.outside_io.specs.Memory.{IsFailingTake, IsFailingPut};
+ghost use Rattle.outside_io.specs.Memory.{given_at_once, IsFailingTake, IsFailingPut};
 
 use crate::traits::{ByteSink, ByteSource, Failed};
 use std::alloc::{AllocError, Global};
@@ -13,40 +13,52 @@ use std::marker::Model;
 pub struct MemSource {
     bytes: Vec<u8>,
     at: usize,
+    /// The most octets that one call gives, where there is a limit.
+    step: Option<usize>,
     fail: Vec<u32>,
     calls: u64,
     faults: u64,
 }
 
 impl Model for MemSource {
-    ghost use Rattle.std.specs.Prelude.{◌≤◌, vec_len, drop};
+    ghost use Rattle.std.specs.Prelude.{◌≤◌, vec_len, drop, IfSome};
     ghost use Rattle.outside_io.specs.Memory.{SourceState};
 
     ghost Value = { SourceState };
 
     ghost view = { λ source. record {
       left = drop source.at source.bytes.items;
+      step = source.step;
       fail = source.fail.items;
       calls = source.calls;
       faults = source.faults;
     } };
 
-    ghost invariant = { λ source. source.at ≤ vec_len source.bytes };
+    ghost invariant = { λ source.
+        (source.at ≤ vec_len source.bytes) × IfSome source.step (λ step. 1 ≤ step) };
 }
 
 impl MemSource {
     /// A source of these octets. The calls of `take` whose numbers are in `fail` fail, and the first has number 0.
     pub fn new(alloc: Global, bytes: &[u8], fail: &[u32]) -> Result<MemSource, AllocError>
         ensures { IfOk result (λ source.
-            source ≡ record { left = bytes.now; fail = fail.now; calls = 0; faults = 0 }) }
+            source ≡ record { left = bytes.now; step = None; fail = fail.now; calls = 0; faults = 0 }) }
     {
-        Ok(MemSource {
-            bytes: Vec::from_slice(alloc, bytes)?,
-            at: 0,
-            fail: Vec::from_slice(alloc, fail)?,
-            calls: 0,
-            faults: 0,
-        })
+        source_of(alloc, bytes, fail, None)
+    }
+
+    /// Such a source that gives at most `step` octets in a call.
+    pub fn in_steps(
+        alloc: Global,
+        bytes: &[u8],
+        fail: &[u32],
+        step: usize,
+    ) -> Result<MemSource, AllocError>
+        requires { 1 ≤ step }
+        ensures { IfOk result (λ source. source
+            ≡ record { left = bytes.now; step = Some step; fail = fail.now; calls = 0; faults = 0 }) }
+    {
+        source_of(alloc, bytes, fail, Some(step))
     }
 }
 
@@ -57,7 +69,9 @@ impl ByteSource for MemSource {
 
     fn take(&mut self, buf: &mut [u8]) -> Result<usize, Failed>
         ensures fails { IsErr result ↔ IsFailingTake self.old }
-        ensures count { IfOk result (λ n. n ≡ min (length buf.old) (length self.old.left)) }
+        ensures count { IfOk result (λ n. n
+            ≡ min (length buf.old) (given_at_once self.old.step (length self.old.left))) }
+        ensures end { IfOk result (λ n. n ≡ 0 → 0 < length buf.old → length self.new.left ≡ 0) }
         ensures filled { IfOk result (λ n. buf.new ≡ take n self.old.left ++ drop n buf.old) }
         ensures after { IfOk result (λ n. self.new ≡ record self.old {
           left = drop n self.old.left;
@@ -75,7 +89,9 @@ impl ByteSource for MemSource {
             self.faults = self.faults.saturating_add(1);
             return Err(Failed);
         }
-        let n = copy_front(&self.bytes[self.at..], buf);
+        let left = self.bytes.len() - self.at;
+        let most = self.step.map_or(left, |step| step.min(left));
+        let n = copy_front(&self.bytes[self.at..self.at + most], buf);
         self.at += n;
         Ok(n)
     }
@@ -165,6 +181,27 @@ impl ByteSink for MemSink {
             Err(_) => unreachable!(),
         }
     }
+}
+
+/// A source of octets at its start.
+fn source_of(
+    alloc: Global,
+    bytes: &[u8],
+    fail: &[u32],
+    step: Option<usize>,
+) -> Result<MemSource, AllocError>
+    requires { IfSome step (λ step. 1 ≤ step) }
+    ensures { IfOk result (λ source. source
+        ≡ record { left = bytes.now; step = step; fail = fail.now; calls = 0; faults = 0 }) }
+{
+    Ok(MemSource {
+        bytes: Vec::from_slice(alloc, bytes)?,
+        at: 0,
+        step,
+        fail: Vec::from_slice(alloc, fail)?,
+        calls: 0,
+        faults: 0,
+    })
 }
 
 fn is_among(numbers: &[u32], call: u64) -> bool

@@ -49,6 +49,17 @@ fn takes_and_fails_by_number(rt: HostRuntime) -> Result<(), Fail> {
 }
 
 #[test]
+fn takes_in_steps(rt: HostRuntime) -> Result<(), Fail> {
+    let mut source = MemSource::in_steps(rt.alloc(), &TEXT, &[1], 2)?;
+    let mut buf = [0u8; 3];
+    let answers = [Ok(2), Err(Failed), Ok(2), Ok(1), Ok(0)];
+    for (call, answer) in answers.iter().enumerate() {
+        assert_eq!(rt; source.take(&mut buf), *answer, "call {call}");
+    }
+    Ok(())
+}
+
+#[test]
 fn puts_within_room(rt: HostRuntime) -> Result<(), Fail> {
     let failing: [u32; 1] = [2];
     let cases: [(usize, &[u32], Result<(), Failed>, &[u8]); 5] = [
