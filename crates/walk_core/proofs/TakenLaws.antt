@@ -1,5 +1,5 @@
 -- A row is taken in a walk, or cells are popped and it waits.
-use Rattle.std.proofs.Common.{◌≡◌, ℕ, zero, suc, ◌+◌, ◌-◌, ◌*◌, ◌/◌, ◌%◌, ◌==◌, ◌&&◌, ◌<◌, ◌≤◌, min, nat_le, nat_lt, Bool, true, false, List, [], ◌∷◌, ◌++◌, take, drop, map, length, slice_get, Option, Some, None, refl, sym, ◌∙◌, ap, ap₂, subst, arith, ◌⊎◌, inl, inr}
+use Rattle.std.proofs.Common.{◌≡◌, ℕ, zero, suc, ◌+◌, ◌-◌, ◌%◌, ◌==◌, ◌&&◌, ◌<◌, ◌≤◌, min, nat_le, nat_lt, Bool, true, false, List, [], ◌∷◌, ◌++◌, take, drop, map, length, slice_get, Option, Some, None, refl, sym, ◌∙◌, ap, ap₂, subst, arith, ◌⊎◌, inl, inr}
 use Rattle.std.specs.Prelude.{IsTrue, ◌↔◌}
 use Rattle.std.specs.List.{range_with_len}
 use Rattle.std.proofs.lemmas.Bool.{cases_Bool, cases_lt, le-leb, lt-leb, leb-false}
@@ -37,7 +37,7 @@ use Rattle.walk_parts.specs.Ringed.{Ringed}
 use Rattle.walk_core.specs.declared.moved.StepNote.{StepNote}
 use Rattle.walk_core.specs.declared.moved.Moved.TheVariants.{Yes, Stalled}
 use Rattle.walk_core.specs.Moved.{answer_by, moved_of, counts_after, delivered_since, GivesRows}
-use Rattle.walk_core.specs.Parts.{Parts, Landing, HasBack, HasSink, counts_of, line_counts, IsWalk}
+use Rattle.walk_core.specs.Parts.{Parts, Landing, HasBack, counts_of, line_counts, IsWalk}
 use Rattle.walk_core.specs.Take.{take_cause, CanPop, HasPopped, CanTake, HasRow}
 use Rattle.walk_core.proofs.EventLaws.{walk-fits, walked-next}
 use Rattle.walk_core.proofs.BackLaws.{ring-size}

@@ -15,7 +15,7 @@ use Rattle.walk_law.specs.Rings.{delay_on}
 use Rattle.walk_parts.specs.Ringed.{Ringed}
 use Rattle.walk_core.specs.Parts.{line_counts, HasLines}
 
--- why no cell is popped: of a walk with a total of rows
+-- why no cell is popped, where none is: of a total of rows
 abbrev pub take_cause : ℕ → Counts → Option StallCause
 take_cause total s = if nat_le total s.rows then Some Done else (if is_back_full s then Some BackFull else None)
 

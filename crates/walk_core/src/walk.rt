@@ -342,7 +342,7 @@ impl Walk {
         Moved::Yes
     }
 
-    /// Why no cell is popped.
+    /// Why no row is taken and no cell popped.
     fn take_stall(&self) -> Option<StallCause>
         ensures { result ≡ take_cause self.now.script.config.ticks self.now.counts }
     {

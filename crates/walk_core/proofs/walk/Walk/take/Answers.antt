@@ -5,7 +5,7 @@ use Rattle.session_model.specs.declared.walk.StallCause.TheVariants.{Waiting}
 use Rattle.walk_core.specs.declared.moved.Moved.TheVariants.{Yes, Stalled}
 use Rattle.walk_core.specs.Moved.{Walked, moved_of, counts_after, GivesRows}
 use Rattle.walk_core.specs.Take.{take_cause}
-use Rattle.walk_core.proofs.TakenLaws.{rows-few, can-pop, waits-counts, waits-moved, waits-kept, can-take, taken-moved, said-room, taken-counts, taken-kept, taken-gives}
+use Rattle.walk_core.proofs.TakenLaws.{can-pop, waits-counts, waits-moved, waits-kept, can-take, taken-moved, said-room, taken-counts, taken-kept, taken-gives}
 use Rattle.walk_core.proofs.walk.Walk.take.Goals as goal
 
 pub invariant_of-self : goal.invariant_of-self

@@ -1,5 +1,5 @@
 -- A row that isn't the last is taken, but where it ends a packet and the return ring is full.
-use Rattle.std.proofs.Common.{◌≡◌, Some, None, ◌∙◌, ap, subst, inl, inr, arith}
+use Rattle.std.proofs.Common.{◌≡◌, Some, None, subst, inl, inr, arith}
 use Rattle.session_model.specs.declared.walk.StallCause.TheVariants.{BackFull}
 use Rattle.walk_core.specs.Moved.{Walked}
 use Rattle.walk_core.specs.Take.{take_cause}
