@@ -1,9 +1,9 @@
 -- What an item that lands leaves of a walk.
-use Rattle.std.proofs.Common.{◌≡◌, ℕ, suc, ◌+◌, ◌-◌, ◌<◌, ◌≤◌, nat_lt, Bool, true, false, List, [], ◌∷◌, ◌++◌, length, take, drop, slice_get, Option, Some, None, option_map, inl, inr, refl, sym, ◌∙◌, ap, subst, arith}
+use Rattle.std.proofs.Common.{◌≡◌, ℕ, suc, ◌+◌, ◌-◌, ◌<◌, ◌≤◌, nat_lt, Bool, true, false, List, [], ◌∷◌, ◌++◌, length, take, drop, slice_get, slice_index_or, Option, Some, None, option_map, inl, inr, refl, sym, ◌∙◌, ap, subst, arith}
 use Rattle.std.specs.List.{flat_map}
 use Rattle.std.proofs.lemmas.Bool.{cases_Bool}
 use Rattle.std.proofs.lemmas.List.{length-append, length-take-le}
-use Rattle.std.proofs.lemmas.Option.{slice_get_within, get_or_from_slice_get}
+use Rattle.std.proofs.lemmas.Option.{slice_get_within, get_or_from_slice_get, slice_get-get_or}
 use Rattle.std.proofs.Math.Seq.{take-suc}
 use Rattle.std.proofs.lemmas.List.{append-nil}
 use Rattle.session_model.specs.declared.script.Item.{Item}
@@ -38,11 +38,11 @@ use Rattle.session_model.specs.Table.{Told}
 use Rattle.session_model.specs.Counts.{step}
 use Rattle.walk_law.specs.Walk.{walk_plan}
 use Rattle.walk_core.specs.declared.moved.Moved.{Moved}
-use Rattle.walk_core.specs.declared.moved.Moved.TheVariants.{Yes, Refused}
-use Rattle.walk_core.specs.Moved.{moved_of, counts_after}
+use Rattle.walk_core.specs.declared.moved.Moved.TheVariants.{Stalled}
+use Rattle.walk_core.specs.Moved.{Walked, moved_of, counts_after}
 use Rattle.walk_core.proofs.EventLaws.{walked-next}
 use Rattle.walk_core.proofs.CarryLaws.{same-some}
-use Rattle.walk_core.proofs.LandLaws.{count_of, count-few, place-found, place-next, offers-size, orders-size, offer-here, order-here, item-there, frame-stall, command-stall, answer_of, frame-moves, command-moves}
+use Rattle.walk_core.proofs.LandLaws.{count_of, count-few, place-found, place-next, offers-size, orders-size, offer-here, order-here, item-there, IsNext, frame-next, command-next, answer_of, next-cause, next-stays, next-moves}
 
 take-next : {X : Type 0} (xs : List X) (n : ℕ) (x : X) → slice_get xs n ≡ Some x → take (n + 1) xs ≡ take n xs ++ x ∷ []
 take-next xs n x there =
@@ -71,14 +71,14 @@ module _ (script : Script) (parts : Parts) (landing : Landing) (got : ℕ) (last
   abbrev s : Counts
   s = counts_of parts landing
 
-  pub frame-lands : (i : ℕ) (item : Item) → i ≡ place_of is_frame landing.frames script.items → slice_get script.items i ≡ Some item → item.due ≤ parts.source.ticks →
-      Lands script (counts_of parts landing) (record (counts_of parts landing) { frames = landing.frames + 1 }) parts.source i item with_frame_told
-  frame-lands i item at there due =
-      let found = place-found is_frame script.items landing.frames item (sym (ap (λ n. slice_get script.items n) at) ∙ there) in
+  pub frame-lands : (item : Item) → slice_get script.items landing.frame ≡ Some item → item.due ≤ parts.source.ticks →
+      Lands script (counts_of parts landing) (record (counts_of parts landing) { frames = landing.frames + 1 }) parts.source landing.frame item with_frame_told
+  frame-lands item there due =
+      let found = place-found is_frame script.items landing.frames item (sym (ap (λ n. slice_get script.items n) is.landed.frame) ∙ there) in
       let (offer, that) = offer-here item.due item.kind found.0 in
-      let numbered : Numbered = record { number = i; item = item } in
+      let numbered : Numbered = record { number = landing.frame; item = item } in
       let here : IsOfferAt script.items landing.frames numbered offer =
-      record { there = there; is = that.is; before = offers-size (take i script.items) ∙ ap (λ n. count_of is_frame (take n script.items)) at ∙ found.1 } in
+      record { there = there; is = that.is; before = offers-size (take landing.frame script.items) ∙ ap (λ n. count_of is_frame (take n script.items)) is.landed.frame ∙ found.1 } in
       let same = that.time in
       let soon : offer.due ≤ parts.source.ticks = omega (arith, same, due) in
       let (next, earlier) = offer-at script.items landing.frames numbered offer here in
@@ -96,14 +96,14 @@ module _ (script : Script) (parts : Parts) (landing : Landing) (got : ℕ) (last
         totals = frame-totals script s numbered offer here;
       }
 
-  pub command-lands : (i : ℕ) (item : Item) → i ≡ place_of is_command landing.commands script.items → slice_get script.items i ≡ Some item → item.due ≤ parts.source.ticks →
-      Lands script (counts_of parts landing) (record (counts_of parts landing) { commands = landing.commands + 1 }) parts.source i item with_command_told
-  command-lands i item at there due =
-      let found = place-found is_command script.items landing.commands item (sym (ap (λ n. slice_get script.items n) at) ∙ there) in
+  pub command-lands : (item : Item) → slice_get script.items landing.command ≡ Some item → item.due ≤ parts.source.ticks →
+      Lands script (counts_of parts landing) (record (counts_of parts landing) { commands = landing.commands + 1 }) parts.source landing.command item with_command_told
+  command-lands item there due =
+      let found = place-found is_command script.items landing.commands item (sym (ap (λ n. slice_get script.items n) is.landed.command) ∙ there) in
       let (order, that) = order-here item.due item.kind found.0 in
-      let numbered : Numbered = record { number = i; item = item } in
+      let numbered : Numbered = record { number = landing.command; item = item } in
       let here : IsOrderAt script.items landing.commands numbered order =
-      record { there = there; is = that.is; before = orders-size (take i script.items) ∙ ap (λ n. count_of is_command (take n script.items)) at ∙ found.1 } in
+      record { there = there; is = that.is; before = orders-size (take landing.command script.items) ∙ ap (λ n. count_of is_command (take n script.items)) is.landed.command ∙ found.1 } in
       let same = that.time in
       let soon : order.due ≤ parts.source.ticks = omega (arith, same, due) in
       let (next, earlier) = order-at script.items landing.commands numbered order here in
@@ -201,127 +201,28 @@ refusals-more i why was now placed =
     let rest = length-append placed.front own in
     omega (arith, old, new, rest)
 
-module _ (script : Script) (parts : Parts) (landing : Landing) (got : ℕ) (last : Option StepNote) (is : IsWalk script parts landing got last) (i : ℕ) (item : Item) where
-  abbrev with_frames : Counts
-  with_frames = record (counts_of parts landing) { frames = landing.frames + 1 }
+-- ---- the totals, where one has landed more
+abbrev pub one_more : Option Refusal → ℕ → ℕ
+one_more None n = n
+one_more (Some why) n = n + 1
 
-  abbrev with_commands : Counts
-  with_commands = record (counts_of parts landing) { commands = landing.commands + 1 }
+frame-told : (why : Option Refusal) (was now : Totals) (frames commands a b : ℕ) → now ≡ with_frame_told why was →
+    frames ≡ was.frames + a → commands ≡ was.commands + b → was.refused ≡ a + b →
+    (frames + 1 ≡ now.frames + one_more why a) × (commands ≡ now.commands + b) × (now.refused ≡ one_more why a + b)
+frame-told None was now frames commands a b told f c r = rw told (omega arith, c, r)
+frame-told (Some why) was now frames commands a b told f c r = rw told (omega arith, c, omega arith)
 
-  pub refusal-placed : (next : Counts) (told : Option Refusal → Totals → Totals) (why : Refusal) → Lands script (counts_of parts landing) next parts.source i item told → met_by parts.source item.kind ≡ Some why →
-      IsPlaced i ((i, why) ∷ []) landing.refusals (refusals_of script next)
-  refusal-placed next told why lands met =
-      subst (λ was. IsPlaced i ((i, why) ∷ []) was (refusals_of script next)) (sym is.landed.refusals)
-      (subst (λ found. IsPlaced i (refused_by i found) (refusals_of script (counts_of parts landing)) (refusals_of script next)) (sym lands.met ∙ met) lands.placed)
-
-  pub refusal-room : (next : Counts) (told : Option Refusal → Totals → Totals) (why : Refusal) → Lands script (counts_of parts landing) next parts.source i item told → met_by parts.source item.kind ≡ Some why →
-      length landing.refusals < landing.room
-  refusal-room next told why lands met =
-      let more = refusals-more i why landing.refusals (refusals_of script next) (refusal-placed next told why lands met) in
-      let most = refusals-few script next in
-      let room = is.landed.room in
-      omega (arith, more, most, room)
-
-  refusals-kept : (next : Counts) (told : Option Refusal → Totals → Totals) → Lands script (counts_of parts landing) next parts.source i item told → met_by parts.source item.kind ≡ None →
-      landing.refusals ≡ refusals_of script next
-  refusals-kept next told lands met =
-      is.landed.refusals
-      ∙ refusals-same i (refusals_of script (counts_of parts landing)) (refusals_of script next)
-      (subst (λ found. IsPlaced i (refused_by i found) (refusals_of script (counts_of parts landing)) (refusals_of script next)) (sym lands.met ∙ met) lands.placed)
-
-  told-by : (next : Counts) (told : Option Refusal → Totals → Totals) (why : Option Refusal) → Lands script (counts_of parts landing) next parts.source i item told → met_by parts.source item.kind ≡ why →
-      totals_of script next ≡ told why (totals_of script (counts_of parts landing))
-  told-by next told why lands met = lands.totals ∙ ap (λ found. told found (totals_of script (counts_of parts landing))) (sym lands.met ∙ met)
-
-  pub frame-accepted : (place : ℕ) → place ≡ place_of is_frame (landing.frames + 1) script.items →
-      Lands script (counts_of parts landing) with_frames parts.source i item with_frame_told → met_by parts.source item.kind ≡ None →
-      HasLanded script with_frames (record landing { frame = place; frames = landing.frames + 1 })
-  frame-accepted place at lands met =
-      let told = told-by with_frames with_frame_told None lands met in
-      let a = ap (λ (t : Totals). t.frames) told in
-      let b = ap (λ (t : Totals). t.commands) told in
-      let d = ap (λ (t : Totals). t.refused) told in
-      let frames = is.landed.frames in
-      let commands = is.landed.commands in
-      let refused = is.landed.refused in
-      record {
-        frame = at;
-        command = is.landed.command;
-        refusals = refusals-kept with_frames with_frame_told lands met;
-        room = is.landed.room;
-        frames = omega (arith, a, frames);
-        commands = omega (arith, b, commands);
-        refused = omega (arith, d, refused);
-      }
-
-  pub frame-refused : (place : ℕ) (refusals : List (ℕ × Refusal)) (room : ℕ) (why : Refusal) → room ≡ landing.room → place ≡ place_of is_frame (landing.frames + 1) script.items → refusals ≡ refusals_of script with_frames →
-      Lands script (counts_of parts landing) with_frames parts.source i item with_frame_told → met_by parts.source item.kind ≡ Some why →
-      HasLanded script with_frames (record landing { refusals = refusals; room = room; frame = place; frames = landing.frames + 1; refused_frames = landing.refused_frames + 1 })
-  frame-refused place refusals room why same_room at same lands met =
-      let told = told-by with_frames with_frame_told (Some why) lands met in
-      let a = ap (λ (t : Totals). t.frames) told in
-      let b = ap (λ (t : Totals). t.commands) told in
-      let d = ap (λ (t : Totals). t.refused) told in
-      let frames = is.landed.frames in
-      let commands = is.landed.commands in
-      let refused = is.landed.refused in
-      record {
-        frame = at;
-        command = is.landed.command;
-        refusals = same;
-        room = let most = is.landed.room in omega (arith, most, same_room);
-        frames = omega (arith, a, frames);
-        commands = omega (arith, b, commands);
-        refused = omega (arith, d, refused);
-      }
-
-  pub command-accepted : (place : ℕ) → place ≡ place_of is_command (landing.commands + 1) script.items →
-      Lands script (counts_of parts landing) with_commands parts.source i item with_command_told → met_by parts.source item.kind ≡ None →
-      HasLanded script with_commands (record landing { command = place; commands = landing.commands + 1 })
-  command-accepted place at lands met =
-      let told = told-by with_commands with_command_told None lands met in
-      let a = ap (λ (t : Totals). t.frames) told in
-      let b = ap (λ (t : Totals). t.commands) told in
-      let d = ap (λ (t : Totals). t.refused) told in
-      let frames = is.landed.frames in
-      let commands = is.landed.commands in
-      let refused = is.landed.refused in
-      record {
-        frame = is.landed.frame;
-        command = at;
-        refusals = refusals-kept with_commands with_command_told lands met;
-        room = is.landed.room;
-        frames = omega (arith, a, frames);
-        commands = omega (arith, b, commands);
-        refused = omega (arith, d, refused);
-      }
-
-  pub command-refused : (place : ℕ) (refusals : List (ℕ × Refusal)) (room : ℕ) (why : Refusal) → room ≡ landing.room → place ≡ place_of is_command (landing.commands + 1) script.items → refusals ≡ refusals_of script with_commands →
-      Lands script (counts_of parts landing) with_commands parts.source i item with_command_told → met_by parts.source item.kind ≡ Some why →
-      HasLanded script with_commands (record landing { refusals = refusals; room = room; command = place; commands = landing.commands + 1; refused_commands = landing.refused_commands + 1 })
-  command-refused place refusals room why same_room at same lands met =
-      let told = told-by with_commands with_command_told (Some why) lands met in
-      let a = ap (λ (t : Totals). t.frames) told in
-      let b = ap (λ (t : Totals). t.commands) told in
-      let d = ap (λ (t : Totals). t.refused) told in
-      let frames = is.landed.frames in
-      let commands = is.landed.commands in
-      let refused = is.landed.refused in
-      record {
-        frame = is.landed.frame;
-        command = at;
-        refusals = same;
-        room = let most = is.landed.room in omega (arith, most, same_room);
-        frames = omega (arith, a, frames);
-        commands = omega (arith, b, commands);
-        refused = omega (arith, d, refused);
-      }
+command-told : (why : Option Refusal) (was now : Totals) (frames commands a b : ℕ) → now ≡ with_command_told why was →
+    frames ≡ was.frames + a → commands ≡ was.commands + b → was.refused ≡ a + b →
+    (frames ≡ now.frames + a) × (commands + 1 ≡ now.commands + one_more why b) × (now.refused ≡ a + one_more why b)
+command-told None was now frames commands a b told f c r = rw told (f, omega arith, r)
+command-told (Some why) was now frames commands a b told f c r = rw told (f, omega arith, omega arith)
 
 -- ---- what an event gives that lands an item
-pub record Done (script : Script) (s : Counts) (event : Event) (parts : Parts) (landing : Landing) (got : ℕ) (last : Option StepNote) (answer : Moved) : Type 0 where
+pub record Done (script : Script) (old : Walked) (event : Event) (parts : Parts) (landing : Landing) (got : ℕ) (last : Option StepNote) (answer : Moved) : Type 0 where
   pub kept : IsWalk script parts landing got last
-  pub counts : counts_of parts landing ≡ counts_after script s event
-  pub moved : answer ≡ moved_of script s event
+  pub counts : counts_of parts landing ≡ counts_after old.script old.counts event
+  pub moved : answer ≡ moved_of old.script old.counts event
 
 -- a source that was given an item more
 pub record IsGiven (source was : Terminal) (kind : ItemKind) : Type 0 where
@@ -329,159 +230,200 @@ pub record IsGiven (source was : Terminal) (kind : ItemKind) : Type 0 where
   pub ticks : source.ticks ≡ was.ticks
   pub same : SameKind source was
 
-module _ (script : Script) (parts : Parts) (landing : Landing) (got : ℕ) (last : Option StepNote) (is : IsWalk script parts landing got last) where
-  -- ---- why the next one doesn't land, where the items and the ticks are read
-  module _ (items : List Item) (ticks : ℕ) (all : items ≡ script.items) (now : ticks ≡ parts.source.ticks) (cause : Option StallCause) where
-    pub frame-cause : cause ≡ stall_by ticks (slice_get items landing.frame) → (step (walk_plan script) (counts_of parts landing) Accept).cause ≡ cause
-    frame-cause found =
-        frame-stall script (counts_of parts landing) landing.frame ticks is.landed.frame now
+-- an event lands the next item of one kind
+record Turn (script : Script) (s next : Counts) (event : Event) (source : Terminal) (i : ℕ) (tell : Option Refusal → Totals → Totals) : Type 0 where
+  is : IsNext script s next event i
+  lands : (item : Item) → slice_get script.items i ≡ Some item → item.due ≤ source.ticks → Lands script s next source i item tell
+
+-- an item is there, at place i, where so many of its kind landed and were refused
+pub record IsThere (items : List Item) (i landed refused : ℕ) : Type 0 where
+  pub within : i < length items
+  pub few : length items ≤ 67108864
+  pub landed_few : landed ≤ i
+  pub refused_few : refused ≤ landed
+
+module _ (script : Script) (parts : Parts) (landing : Landing) (got : ℕ) (last : Option StepNote) (is : IsWalk script parts landing got last)
+    (old : Walked) (view : record { script = script; counts = counts_of parts landing } ≡ old) where
+  module _ (frames commands : ℕ) (event : Event) (i : ℕ) (tell : Option Refusal → Totals → Totals)
+      (turn : Turn script (counts_of parts landing) (record (counts_of parts landing) { frames = frames; commands = commands }) event parts.source i tell)
+      (none : (step (walk_plan old.script) old.counts event).cause ≡ None) where
+    abbrev next : Counts
+    next = record (counts_of parts landing) { frames = frames; commands = commands }
+
+    none-here : (step (walk_plan script) (counts_of parts landing) event).cause ≡ None
+    none-here = ap (λ (w : Walked). (step (walk_plan w.script) w.counts event).cause) view ∙ none
+
+    here : (item : Item) × (slice_get script.items i ≡ Some item) × (item.due ≤ parts.source.ticks)
+    here = item-there parts.source.ticks script.items i (sym (next-cause script (counts_of parts landing) next event i turn.is) ∙ none-here)
+
+    at-place : (items : List Item) → items ≡ script.items → (d : Item) → slice_get script.items i ≡ Some (slice_index_or items i d)
+    at-place items all d =
+        let within = slice_get_within script.items i here.0 here.1 in
+        let size = ap length all in
+        sym (ap (λ (xs : List Item). slice_get xs i) all) ∙ slice_get-get_or items i d (omega (arith, within, size))
+
+    module _ (item : Item) (there : slice_get script.items i ≡ Some item) (why : Option Refusal) (met : why ≡ met_by parts.source item.kind) where
+      lands : Lands script (counts_of parts landing) next parts.source i item tell
+      lands =
+          let (found, at, due) = here in
+          let e = ap (λ (i : Item). i.due) (same-some found item (sym at ∙ there)) in
+          turn.lands item there (omega (arith, due, e))
+
+      same-why : refusal_at script (record { number = i; item = item }) ≡ why
+      same-why = sym lands.met ∙ sym met
+
+      placed : IsPlaced i (refused_by i why) landing.refusals (refusals_of script next)
+      placed =
+          subst (λ was. IsPlaced i (refused_by i why) was (refusals_of script next)) (sym is.landed.refusals)
+          (subst (λ found. IsPlaced i (refused_by i found) (refusals_of script (counts_of parts landing)) (refusals_of script next)) same-why lands.placed)
+
+      totals : totals_of script next ≡ tell why (totals_of script (counts_of parts landing))
+      totals = lands.totals ∙ ap (λ found. tell found (totals_of script (counts_of parts landing))) same-why
+
+      ends : (source : Terminal) → IsGiven source parts.source item.kind → (landed : Landing) →
+          HasLanded script next (record landed { frames = frames; commands = commands }) →
+          Done script old event (record parts { source = source }) (record landed { frames = frames; commands = commands }) got last (answer_of why)
+      ends source given landed has =
+          let moves = next-moves script (counts_of parts landing) next event i turn.is item there none-here in
+          record {
+            kept = land-kept script parts landing got last is item.kind source (record landed { frames = frames; commands = commands }) has
+                (walked-next script (counts_of parts landing) next event is.walked moves.0) lands.told
+                (given.stands (landed_scenario script (counts_of parts landing)) (told_before script parts.source.ticks) is.source.made) given.ticks given.same;
+            counts = ap (λ t. record next { ticks = t }) given.ticks ∙ moves.0 ∙ ap (λ (w : Walked). counts_after w.script w.counts event) view;
+            moved = ap answer_of (sym same-why) ∙ moves.1 ∙ ap (λ (w : Walked). moved_of w.script w.counts event) view;
+          }
+
+      room-left : (own : Refusal) → why ≡ Some own → length landing.refusals < landing.room
+      room-left own e =
+          let more = refusals-more i own landing.refusals (refusals_of script next) (subst (λ found. IsPlaced i (refused_by i found) landing.refusals (refusals_of script next)) e placed) in
+          let most = refusals-few script next in
+          let room = is.landed.room in
+          omega (arith, more, most, room)
+
+  -- ---- a frame
+  frame-turn : Turn script (counts_of parts landing) (record (counts_of parts landing) { frames = landing.frames + 1 }) Accept parts.source landing.frame with_frame_told
+  frame-turn = record {
+    is = frame-next script (counts_of parts landing) landing.frame is.landed.frame;
+    lands = frame-lands script parts landing got last is;
+  }
+
+  module _ (items : List Item) (all : items ≡ script.items) where
+    pub frame-stalls : (ticks : ℕ) → ticks ≡ parts.source.ticks → (cause : Option StallCause) → cause ≡ stall_by ticks (slice_get items landing.frame) →
+        (step (walk_plan old.script) old.counts Accept).cause ≡ cause
+    frame-stalls ticks now cause found =
+        sym (ap (λ (w : Walked). (step (walk_plan w.script) w.counts Accept).cause) view)
+        ∙ next-cause script (counts_of parts landing) _ Accept landing.frame frame-turn.is
+        ∙ ap (λ t. stall_by t (slice_get script.items landing.frame)) (sym now)
         ∙ ap (λ (xs : List Item). stall_by ticks (slice_get xs landing.frame)) (sym all) ∙ sym found
 
-    pub command-cause : cause ≡ stall_by ticks (slice_get items landing.command) → (step (walk_plan script) (counts_of parts landing) Command).cause ≡ cause
-    command-cause found =
-        command-stall script (counts_of parts landing) landing.command ticks is.landed.command now
+    pub frame-stays : (cause : StallCause) → (step (walk_plan old.script) old.counts Accept).cause ≡ Some cause →
+        (old.counts ≡ counts_after old.script old.counts Accept) × (Stalled cause ≡ moved_of old.script old.counts Accept)
+    frame-stays cause e = next-stays old.script old.counts (record old.counts { frames = old.counts.frames + 1 }) Accept landing.frame
+        (subst (λ (w : Walked). IsNext w.script w.counts (record w.counts { frames = w.counts.frames + 1 }) Accept landing.frame) view frame-turn.is) cause e
+
+    module _ (none : (step (walk_plan old.script) old.counts Accept).cause ≡ None) where
+      pub frame-there : IsThere items landing.frame landing.frames landing.refused_frames
+      frame-there =
+          let (item, there, due) = here (landing.frames + 1) landing.commands Accept landing.frame with_frame_told frame-turn none in
+          let frames = is.landed.frames in
+          subst (λ xs. IsThere xs landing.frame landing.frames landing.refused_frames) (sym all) (record {
+            within = slice_get_within script.items landing.frame item there;
+            few = is.valid.few;
+            landed_few = landed-before is_frame script.items landing.frames landing.frame item is.landed.frame there;
+            refused_few = omega (arith, frames);
+          })
+
+      module _ (d : Item) (why : Option Refusal) (met : why ≡ met_by parts.source (slice_index_or items landing.frame d).kind) where
+        pub frame-ends : (source : Terminal) → IsGiven source parts.source (slice_index_or items landing.frame d).kind →
+            (place : ℕ) → place ≡ landing.frame + 1 + place_of is_frame 0 (drop (landing.frame + 1) items) →
+            (refusals : List (ℕ × Refusal)) (room : ℕ) → room ≡ landing.room →
+            ((now : List (ℕ × Refusal)) → IsPlaced landing.frame (refused_by landing.frame why) landing.refusals now → refusals ≡ now) →
+            Done script old Accept (record parts { source = source })
+            (record landing { refusals = refusals; room = room; frame = place; frames = landing.frames + 1; refused_frames = one_more why landing.refused_frames }) got last (answer_of why)
+        frame-ends source given place at refusals room same put =
+            let item : Item = slice_index_or items landing.frame d in
+            let there = at-place (landing.frames + 1) landing.commands Accept landing.frame with_frame_told frame-turn none items all d in
+            let told = frame-told why (totals_of script (counts_of parts landing)) (totals_of script (record (counts_of parts landing) { frames = landing.frames + 1 }))
+            landing.frames landing.commands landing.refused_frames landing.refused_commands
+            (totals (landing.frames + 1) landing.commands Accept landing.frame with_frame_told frame-turn none item there why met) is.landed.frames is.landed.commands is.landed.refused in
+            let most = is.landed.room in
+            ends (landing.frames + 1) landing.commands Accept landing.frame with_frame_told frame-turn none item there why met source given
+            (record landing { refusals = refusals; room = room; frame = place; refused_frames = one_more why landing.refused_frames }) (record {
+              frame = at ∙ ap (λ (xs : List Item). landing.frame + 1 + place_of is_frame 0 (drop (landing.frame + 1) xs)) all
+                  ∙ place-next is_frame script.items landing.frames landing.frame item is.landed.frame there;
+              command = is.landed.command;
+              refusals = put (refusals_of script (record (counts_of parts landing) { frames = landing.frames + 1 }))
+                  (placed (landing.frames + 1) landing.commands Accept landing.frame with_frame_told frame-turn none item there why met);
+              room = omega (arith, most, same);
+              frames = told.0;
+              commands = told.1;
+              refused = told.2;
+            })
+
+        pub frame-room : (own : Refusal) → why ≡ Some own → length landing.refusals < landing.room
+        frame-room = room-left (landing.frames + 1) landing.commands Accept landing.frame with_frame_told frame-turn none (slice_index_or items landing.frame d)
+            (at-place (landing.frames + 1) landing.commands Accept landing.frame with_frame_told frame-turn none items all d) why met
+
+  -- ---- a command
+  command-turn : Turn script (counts_of parts landing) (record (counts_of parts landing) { commands = landing.commands + 1 }) Command parts.source landing.command with_command_told
+  command-turn = record {
+    is = command-next script (counts_of parts landing) landing.command is.landed.command;
+    lands = command-lands script parts landing got last is;
+  }
+
+  module _ (items : List Item) (all : items ≡ script.items) where
+    pub command-stalls : (ticks : ℕ) → ticks ≡ parts.source.ticks → (cause : Option StallCause) → cause ≡ stall_by ticks (slice_get items landing.command) →
+        (step (walk_plan old.script) old.counts Command).cause ≡ cause
+    command-stalls ticks now cause found =
+        sym (ap (λ (w : Walked). (step (walk_plan w.script) w.counts Command).cause) view)
+        ∙ next-cause script (counts_of parts landing) _ Command landing.command command-turn.is
+        ∙ ap (λ t. stall_by t (slice_get script.items landing.command)) (sym now)
         ∙ ap (λ (xs : List Item). stall_by ticks (slice_get xs landing.command)) (sym all) ∙ sym found
 
-  module _ (none : (step (walk_plan script) (counts_of parts landing) Accept).cause ≡ None) where
-    pub frame-item : (item : Item) × (slice_get script.items landing.frame ≡ Some item) × (item.due ≤ parts.source.ticks)
-    frame-item = item-there parts.source.ticks script.items landing.frame (sym (frame-stall script (counts_of parts landing) landing.frame parts.source.ticks is.landed.frame refl) ∙ none)
+    pub command-stays : (cause : StallCause) → (step (walk_plan old.script) old.counts Command).cause ≡ Some cause →
+        (old.counts ≡ counts_after old.script old.counts Command) × (Stalled cause ≡ moved_of old.script old.counts Command)
+    command-stays cause e = next-stays old.script old.counts (record old.counts { commands = old.counts.commands + 1 }) Command landing.command
+        (subst (λ (w : Walked). IsNext w.script w.counts (record w.counts { commands = w.counts.commands + 1 }) Command landing.command) view command-turn.is) cause e
 
-    pub frame-due : (item : Item) → slice_get script.items landing.frame ≡ Some item → item.due ≤ parts.source.ticks
-    frame-due item there =
-        let (found, at, due) = frame-item in
-        let same : found ≡ item = same-some found item (sym at ∙ there) in
-        let e = ap (λ (i : Item). i.due) same in
-        omega (arith, due, e)
+    module _ (none : (step (walk_plan old.script) old.counts Command).cause ≡ None) where
+      pub command-there : IsThere items landing.command landing.commands landing.refused_commands
+      command-there =
+          let (item, there, due) = here landing.frames (landing.commands + 1) Command landing.command with_command_told command-turn none in
+          let commands = is.landed.commands in
+          subst (λ xs. IsThere xs landing.command landing.commands landing.refused_commands) (sym all) (record {
+            within = slice_get_within script.items landing.command item there;
+            few = is.valid.few;
+            landed_few = landed-before is_command script.items landing.commands landing.command item is.landed.command there;
+            refused_few = omega (arith, commands);
+          })
 
-    pub frame-within : landing.frame < length script.items
-    frame-within = let (item, there, due) = frame-item in slice_get_within script.items landing.frame item there
+      module _ (d : Item) (why : Option Refusal) (met : why ≡ met_by parts.source (slice_index_or items landing.command d).kind) where
+        pub command-ends : (source : Terminal) → IsGiven source parts.source (slice_index_or items landing.command d).kind →
+            (place : ℕ) → place ≡ landing.command + 1 + place_of is_command 0 (drop (landing.command + 1) items) →
+            (refusals : List (ℕ × Refusal)) (room : ℕ) → room ≡ landing.room →
+            ((now : List (ℕ × Refusal)) → IsPlaced landing.command (refused_by landing.command why) landing.refusals now → refusals ≡ now) →
+            Done script old Command (record parts { source = source })
+            (record landing { refusals = refusals; room = room; command = place; commands = landing.commands + 1; refused_commands = one_more why landing.refused_commands }) got last (answer_of why)
+        command-ends source given place at refusals room same put =
+            let item : Item = slice_index_or items landing.command d in
+            let there = at-place landing.frames (landing.commands + 1) Command landing.command with_command_told command-turn none items all d in
+            let told = command-told why (totals_of script (counts_of parts landing)) (totals_of script (record (counts_of parts landing) { commands = landing.commands + 1 }))
+            landing.frames landing.commands landing.refused_frames landing.refused_commands
+            (totals landing.frames (landing.commands + 1) Command landing.command with_command_told command-turn none item there why met) is.landed.frames is.landed.commands is.landed.refused in
+            let most = is.landed.room in
+            ends landing.frames (landing.commands + 1) Command landing.command with_command_told command-turn none item there why met source given
+            (record landing { refusals = refusals; room = room; command = place; refused_commands = one_more why landing.refused_commands }) (record {
+              frame = is.landed.frame;
+              command = at ∙ ap (λ (xs : List Item). landing.command + 1 + place_of is_command 0 (drop (landing.command + 1) xs)) all
+                  ∙ place-next is_command script.items landing.commands landing.command item is.landed.command there;
+              refusals = put (refusals_of script (record (counts_of parts landing) { commands = landing.commands + 1 }))
+                  (placed landing.frames (landing.commands + 1) Command landing.command with_command_told command-turn none item there why met);
+              room = omega (arith, most, same);
+              frames = told.0;
+              commands = told.1;
+              refused = told.2;
+            })
 
-    module _ (item : Item) (there : slice_get script.items landing.frame ≡ Some item) (source : Terminal) (given : IsGiven source parts.source item.kind) (place : ℕ)
-        (at : place ≡ landing.frame + 1 + place_of is_frame 0 (drop (landing.frame + 1) script.items)) where
-      lands : Lands script (counts_of parts landing) (record (counts_of parts landing) { frames = landing.frames + 1 }) parts.source landing.frame item with_frame_told
-      lands = frame-lands script parts landing got last is landing.frame item is.landed.frame there (frame-due item there)
-
-      next-place : place ≡ place_of is_frame (landing.frames + 1) script.items
-      next-place = at ∙ place-next is_frame script.items landing.frames landing.frame item is.landed.frame there
-
-      moves : (record (counts_of parts landing) { frames = landing.frames + 1 } ≡ counts_after script (counts_of parts landing) Accept)
-          × (answer_of (refusal_at script (record { number = landing.frame; item = item })) ≡ moved_of script (counts_of parts landing) Accept)
-      moves = frame-moves script (counts_of parts landing) landing.frame item is.landed.frame there none
-
-      walked : IsWalked script (record (counts_of parts landing) { frames = landing.frames + 1 })
-      walked = walked-next script (counts_of parts landing) (record (counts_of parts landing) { frames = landing.frames + 1 }) Accept is.walked moves.0
-
-      pub frame-yes : met_by parts.source item.kind ≡ None →
-          Done script (counts_of parts landing) Accept (record parts { source = source }) (record landing { frame = place; frames = landing.frames + 1 }) got last Yes
-      frame-yes met = record {
-        kept = land-kept script parts landing got last is item.kind source (record landing { frame = place; frames = landing.frames + 1 })
-            (frame-accepted script parts landing got last is landing.frame item place next-place lands met) walked lands.told
-            (given.stands (landed_scenario script (counts_of parts landing)) (told_before script parts.source.ticks) is.source.made) given.ticks given.same;
-        counts = ap (λ t. record (counts_of parts landing) { ticks = t; frames = landing.frames + 1 }) given.ticks ∙ moves.0;
-        moved = ap answer_of (sym met ∙ lands.met) ∙ moves.1;
-      }
-
-      pub frame-no : (why : Refusal) (refusals : List (ℕ × Refusal)) (room : ℕ) → room ≡ landing.room → met_by parts.source item.kind ≡ Some why →
-          ((now : List (ℕ × Refusal)) → IsPlaced landing.frame ((landing.frame, why) ∷ []) landing.refusals now → refusals ≡ now) →
-          Done script (counts_of parts landing) Accept (record parts { source = source })
-          (record landing { refusals = refusals; room = room; frame = place; frames = landing.frames + 1; refused_frames = landing.refused_frames + 1 }) got last (Refused why)
-      frame-no why refusals room same_room met put = record {
-        kept = land-kept script parts landing got last is item.kind source
-            (record landing { refusals = refusals; room = room; frame = place; frames = landing.frames + 1; refused_frames = landing.refused_frames + 1 })
-            (frame-refused script parts landing got last is landing.frame item place refusals room why same_room next-place
-            (put (refusals_of script (record (counts_of parts landing) { frames = landing.frames + 1 }))
-            (refusal-placed script parts landing got last is landing.frame item (record (counts_of parts landing) { frames = landing.frames + 1 }) with_frame_told why lands met))
-            lands met) walked lands.told
-            (given.stands (landed_scenario script (counts_of parts landing)) (told_before script parts.source.ticks) is.source.made) given.ticks given.same;
-        counts = ap (λ t. record (counts_of parts landing) { ticks = t; frames = landing.frames + 1 }) given.ticks ∙ moves.0;
-        moved = ap answer_of (sym met ∙ lands.met) ∙ moves.1;
-      }
-
-      pub frame-room : (why : Refusal) → met_by parts.source item.kind ≡ Some why → length landing.refusals < landing.room
-      frame-room why met = refusal-room script parts landing got last is landing.frame item (record (counts_of parts landing) { frames = landing.frames + 1 }) with_frame_told why lands met
-
-    pub frames-low : landing.frames < 67108864
-    frames-low =
-        let (item, there, due) = frame-item in
-        let before = landed-before is_frame script.items landing.frames landing.frame item is.landed.frame there in
-        let within = frame-within in
-        let few = is.valid.few in
-        omega (arith, before, within, few)
-
-    pub place-low : landing.frame < 67108864
-    place-low = let within = frame-within in let few = is.valid.few in omega (arith, within, few)
-
-    pub refused-low : landing.refused_frames < 67108864
-    refused-low = let low = frames-low in let frames = is.landed.frames in omega (arith, low, frames)
-
-  module _ (none : (step (walk_plan script) (counts_of parts landing) Command).cause ≡ None) where
-    pub command-item : (item : Item) × (slice_get script.items landing.command ≡ Some item) × (item.due ≤ parts.source.ticks)
-    command-item = item-there parts.source.ticks script.items landing.command (sym (command-stall script (counts_of parts landing) landing.command parts.source.ticks is.landed.command refl) ∙ none)
-
-    pub command-due : (item : Item) → slice_get script.items landing.command ≡ Some item → item.due ≤ parts.source.ticks
-    command-due item there =
-        let (found, at, due) = command-item in
-        let same : found ≡ item = same-some found item (sym at ∙ there) in
-        let e = ap (λ (i : Item). i.due) same in
-        omega (arith, due, e)
-
-    pub command-within : landing.command < length script.items
-    command-within = let (item, there, due) = command-item in slice_get_within script.items landing.command item there
-
-    module _ (item : Item) (there : slice_get script.items landing.command ≡ Some item) (source : Terminal) (given : IsGiven source parts.source item.kind) (place : ℕ)
-        (at : place ≡ landing.command + 1 + place_of is_command 0 (drop (landing.command + 1) script.items)) where
-      lands-too : Lands script (counts_of parts landing) (record (counts_of parts landing) { commands = landing.commands + 1 }) parts.source landing.command item with_command_told
-      lands-too = command-lands script parts landing got last is landing.command item is.landed.command there (command-due item there)
-
-      next-place-too : place ≡ place_of is_command (landing.commands + 1) script.items
-      next-place-too = at ∙ place-next is_command script.items landing.commands landing.command item is.landed.command there
-
-      moves-too : (record (counts_of parts landing) { commands = landing.commands + 1 } ≡ counts_after script (counts_of parts landing) Command)
-          × (answer_of (refusal_at script (record { number = landing.command; item = item })) ≡ moved_of script (counts_of parts landing) Command)
-      moves-too = command-moves script (counts_of parts landing) landing.command item is.landed.command there none
-
-      walked-too : IsWalked script (record (counts_of parts landing) { commands = landing.commands + 1 })
-      walked-too = walked-next script (counts_of parts landing) (record (counts_of parts landing) { commands = landing.commands + 1 }) Command is.walked moves-too.0
-
-      pub command-yes : met_by parts.source item.kind ≡ None →
-          Done script (counts_of parts landing) Command (record parts { source = source }) (record landing { command = place; commands = landing.commands + 1 }) got last Yes
-      command-yes met = record {
-        kept = land-kept script parts landing got last is item.kind source (record landing { command = place; commands = landing.commands + 1 })
-            (command-accepted script parts landing got last is landing.command item place next-place-too lands-too met) walked-too lands-too.told
-            (given.stands (landed_scenario script (counts_of parts landing)) (told_before script parts.source.ticks) is.source.made) given.ticks given.same;
-        counts = ap (λ t. record (counts_of parts landing) { ticks = t; commands = landing.commands + 1 }) given.ticks ∙ moves-too.0;
-        moved = ap answer_of (sym met ∙ lands-too.met) ∙ moves-too.1;
-      }
-
-      pub command-no : (why : Refusal) (refusals : List (ℕ × Refusal)) (room : ℕ) → room ≡ landing.room → met_by parts.source item.kind ≡ Some why →
-          ((now : List (ℕ × Refusal)) → IsPlaced landing.command ((landing.command, why) ∷ []) landing.refusals now → refusals ≡ now) →
-          Done script (counts_of parts landing) Command (record parts { source = source })
-          (record landing { refusals = refusals; room = room; command = place; commands = landing.commands + 1; refused_commands = landing.refused_commands + 1 }) got last (Refused why)
-      command-no why refusals room same_room met put = record {
-        kept = land-kept script parts landing got last is item.kind source
-            (record landing { refusals = refusals; room = room; command = place; commands = landing.commands + 1; refused_commands = landing.refused_commands + 1 })
-            (command-refused script parts landing got last is landing.command item place refusals room why same_room next-place-too
-            (put (refusals_of script (record (counts_of parts landing) { commands = landing.commands + 1 }))
-            (refusal-placed script parts landing got last is landing.command item (record (counts_of parts landing) { commands = landing.commands + 1 }) with_command_told why lands-too met))
-            lands-too met) walked-too lands-too.told
-            (given.stands (landed_scenario script (counts_of parts landing)) (told_before script parts.source.ticks) is.source.made) given.ticks given.same;
-        counts = ap (λ t. record (counts_of parts landing) { ticks = t; commands = landing.commands + 1 }) given.ticks ∙ moves-too.0;
-        moved = ap answer_of (sym met ∙ lands-too.met) ∙ moves-too.1;
-      }
-
-      pub command-room : (why : Refusal) → met_by parts.source item.kind ≡ Some why → length landing.refusals < landing.room
-      command-room why met = refusal-room script parts landing got last is landing.command item (record (counts_of parts landing) { commands = landing.commands + 1 }) with_command_told why lands-too met
-
-    pub commands-low : landing.commands < 67108864
-    commands-low =
-        let (item, there, due) = command-item in
-        let before = landed-before is_command script.items landing.commands landing.command item is.landed.command there in
-        let within = command-within in
-        let few = is.valid.few in
-        omega (arith, before, within, few)
-
-    pub command-place-low : landing.command < 67108864
-    command-place-low = let within = command-within in let few = is.valid.few in omega (arith, within, few)
-
-    pub refused-commands-low : landing.refused_commands < 67108864
-    refused-commands-low = let low = commands-low in let commands = is.landed.commands in omega (arith, low, commands)
+        pub command-room : (own : Refusal) → why ≡ Some own → length landing.refusals < landing.room
+        command-room = room-left landing.frames (landing.commands + 1) Command landing.command with_command_told command-turn none (slice_index_or items landing.command d)
+            (at-place landing.frames (landing.commands + 1) Command landing.command with_command_told command-turn none items all d) why met
