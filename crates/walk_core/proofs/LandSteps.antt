@@ -1,5 +1,5 @@
 -- What an item that lands leaves of a walk.
-use Rattle.std.proofs.Common.{◌≡◌, ℕ, suc, ◌+◌, ◌-◌, ◌<◌, ◌≤◌, nat_lt, Bool, true, false, List, [], ◌∷◌, ◌++◌, length, take, drop, slice_get, slice_index_or, Option, Some, None, option_map, inl, inr, refl, sym, ◌∙◌, ap, subst, arith}
+use Rattle.std.proofs.Common.{◌≡◌, ℕ, suc, ◌+◌, ◌-◌, ◌<◌, ◌≤◌, nat_lt, Bool, true, false, List, [], ◌∷◌, ◌++◌, length, take, drop, slice_get, slice_index_or, Option, Some, None, option_map, inl, inr, sym, ◌∙◌, ap, subst, arith}
 use Rattle.std.specs.List.{flat_map}
 use Rattle.std.proofs.lemmas.Bool.{cases_Bool}
 use Rattle.std.proofs.lemmas.List.{length-append, length-take-le}
@@ -58,7 +58,7 @@ pub record Lands (script : Script) (s next : Counts) (source : Terminal) (i : �
   pub totals : totals_of script next ≡ tell (refusal_at script (record { number = i; item = item })) (totals_of script s)
 
 -- so many of the kind are before it
-pub landed-before : (is : ItemKind → Bool) (items : List Item) (k i : ℕ) (item : Item) → i ≡ place_of is k items → slice_get items i ≡ Some item → k ≤ i
+landed-before : (is : ItemKind → Bool) (items : List Item) (k i : ℕ) (item : Item) → i ≡ place_of is k items → slice_get items i ≡ Some item → k ≤ i
 landed-before is items k i item at there =
     let found = place-found is items k item (sym (ap (λ n. slice_get items n) at) ∙ there) in
     let most = count-few is (take (place_of is k items) items) in
@@ -71,7 +71,7 @@ module _ (script : Script) (parts : Parts) (landing : Landing) (got : ℕ) (last
   abbrev s : Counts
   s = counts_of parts landing
 
-  pub frame-lands : (item : Item) → slice_get script.items landing.frame ≡ Some item → item.due ≤ parts.source.ticks →
+  frame-lands : (item : Item) → slice_get script.items landing.frame ≡ Some item → item.due ≤ parts.source.ticks →
       Lands script (counts_of parts landing) (record (counts_of parts landing) { frames = landing.frames + 1 }) parts.source landing.frame item with_frame_told
   frame-lands item there due =
       let found = place-found is_frame script.items landing.frames item (sym (ap (λ n. slice_get script.items n) is.landed.frame) ∙ there) in
@@ -96,7 +96,7 @@ module _ (script : Script) (parts : Parts) (landing : Landing) (got : ℕ) (last
         totals = frame-totals script s numbered offer here;
       }
 
-  pub command-lands : (item : Item) → slice_get script.items landing.command ≡ Some item → item.due ≤ parts.source.ticks →
+  command-lands : (item : Item) → slice_get script.items landing.command ≡ Some item → item.due ≤ parts.source.ticks →
       Lands script (counts_of parts landing) (record (counts_of parts landing) { commands = landing.commands + 1 }) parts.source landing.command item with_command_told
   command-lands item there due =
       let found = place-found is_command script.items landing.commands item (sym (ap (λ n. slice_get script.items n) is.landed.command) ∙ there) in
@@ -124,7 +124,7 @@ module _ (script : Script) (parts : Parts) (landing : Landing) (got : ℕ) (last
       }
 
   -- ---- the walk after it, where its source was given the item, and what has landed is so many
-  pub land-kept : (kind : ItemKind) (source : Terminal) (landed : Landing) →
+  land-kept : (kind : ItemKind) (source : Terminal) (landed : Landing) →
       HasLanded script (record (counts_of parts landing) { frames = landed.frames; commands = landed.commands }) landed →
       IsWalked script (record (counts_of parts landing) { frames = landed.frames; commands = landed.commands }) →
       with_kind (landed_scenario script (counts_of parts landing)) parts.source.ticks kind
@@ -183,7 +183,7 @@ list-few script (item ∷ items) =
     few-refused number None = omega arith
     few-refused number (Some why) = omega arith
 
-pub refusals-few : (script : Script) (s : Counts) → length (refusals_of script s) ≤ length script.items
+refusals-few : (script : Script) (s : Counts) → length (refusals_of script s) ≤ length script.items
 refusals-few script s =
     let a = list-few script (landed_items script s) in
     let b = landed-few s.frames s.commands 0 script.items in
@@ -193,7 +193,7 @@ refusals-few script s =
 pub refusals-same : (i : ℕ) (was now : List (ℕ × Refusal)) → IsPlaced i [] was now → was ≡ now
 refusals-same i was now placed = placed.was_so ∙ ap (λ xs. xs ++ placed.back) (sym (append-nil placed.front)) ∙ sym placed.is_so
 
-pub refusals-more : (i : ℕ) (why : Refusal) (was now : List (ℕ × Refusal)) → IsPlaced i ((i, why) ∷ []) was now → length now ≡ length was + 1
+refusals-more : (i : ℕ) (why : Refusal) (was now : List (ℕ × Refusal)) → IsPlaced i ((i, why) ∷ []) was now → length now ≡ length was + 1
 refusals-more i why was now placed =
     let own : List (ℕ × Refusal) = (i, why) ∷ [] in
     let old = ap length placed.was_so ∙ length-append placed.front placed.back in
@@ -218,10 +218,92 @@ command-told : (why : Option Refusal) (was now : Totals) (frames commands a b : 
 command-told None was now frames commands a b told f c r = rw told (f, omega arith, r)
 command-told (Some why) was now frames commands a b told f c r = rw told (f, omega arith, omega arith)
 
+-- ---- one of the two kinds of items: its event, and which items are of it; the place of the next one, and how many have landed and
+-- were refused; then the counts with one more, what it does to the totals, and what has landed with it, by why it is refused, the place
+-- after it, the refusals and the room for them
+pub record Side : Type 0 where
+  pub event : Event
+  pub kind : ItemKind → Bool
+  pub place : ℕ
+  pub landed : ℕ
+  pub refused : ℕ
+  pub frames : ℕ
+  pub commands : ℕ
+  pub tell : Option Refusal → Totals → Totals
+  pub after : Option Refusal → ℕ → List (ℕ × Refusal) → ℕ → Landing
+
+abbrev pub frame_side : Landing → Side
+frame_side landing = record {
+  event = Accept;
+  kind = is_frame;
+  place = landing.frame;
+  landed = landing.frames;
+  refused = landing.refused_frames;
+  frames = landing.frames + 1;
+  commands = landing.commands;
+  tell = with_frame_told;
+  after = λ why place refusals room. record landing { refusals = refusals; room = room; frame = place; refused_frames = one_more why landing.refused_frames };
+}
+
+abbrev pub command_side : Landing → Side
+command_side landing = record {
+  event = Command;
+  kind = is_command;
+  place = landing.command;
+  landed = landing.commands;
+  refused = landing.refused_commands;
+  frames = landing.frames;
+  commands = landing.commands + 1;
+  tell = with_command_told;
+  after = λ why place refusals room. record landing { refusals = refusals; room = room; command = place; refused_commands = one_more why landing.refused_commands };
+}
+
+abbrev pub next_of : Parts → Landing → Side → Counts
+next_of parts landing side = record (counts_of parts landing) { frames = side.frames; commands = side.commands }
+
+abbrev pub after_of : Side → Option Refusal → ℕ → List (ℕ × Refusal) → ℕ → Landing
+after_of side why place refusals room = record (side.after why place refusals room) { frames = side.frames; commands = side.commands }
+
+pub record IsSide (script : Script) (parts : Parts) (landing : Landing) (side : Side) : Type 0 where
+  pub at : side.place ≡ place_of side.kind side.landed script.items
+  pub fewer : side.refused ≤ side.landed
+  pub is : IsNext script (counts_of parts landing) (next_of parts landing side) side.event side.place
+  pub lands : (item : Item) → slice_get script.items side.place ≡ Some item → item.due ≤ parts.source.ticks →
+      Lands script (counts_of parts landing) (next_of parts landing side) parts.source side.place item side.tell
+  pub has : (why : Option Refusal) (place : ℕ) (refusals : List (ℕ × Refusal)) (room : ℕ) → place ≡ place_of side.kind (side.landed + 1) script.items →
+      refusals ≡ refusals_of script (next_of parts landing side) → length script.items ≤ room →
+      totals_of script (next_of parts landing side) ≡ side.tell why (totals_of script (counts_of parts landing)) →
+      HasLanded script (next_of parts landing side) (after_of side why place refusals room)
+
+pub frame-side : (script : Script) (parts : Parts) (landing : Landing) (got : ℕ) (last : Option StepNote) → IsWalk script parts landing got last → IsSide script parts landing (frame_side landing)
+frame-side script parts landing got last is =
+    let frames = is.landed.frames in
+    record {
+      at = is.landed.frame;
+      fewer = omega (arith, frames);
+      is = frame-next script (counts_of parts landing) landing.frame is.landed.frame;
+      lands = frame-lands script parts landing got last is;
+      has = λ why place refusals room at same most told.
+          let t = frame-told why _ _ landing.frames landing.commands landing.refused_frames landing.refused_commands told is.landed.frames is.landed.commands is.landed.refused in
+          record { frame = at; command = is.landed.command; refusals = same; room = most; frames = t.0; commands = t.1; refused = t.2 };
+    }
+
+pub command-side : (script : Script) (parts : Parts) (landing : Landing) (got : ℕ) (last : Option StepNote) → IsWalk script parts landing got last → IsSide script parts landing (command_side landing)
+command-side script parts landing got last is =
+    let commands = is.landed.commands in
+    record {
+      at = is.landed.command;
+      fewer = omega (arith, commands);
+      is = command-next script (counts_of parts landing) landing.command is.landed.command;
+      lands = command-lands script parts landing got last is;
+      has = λ why place refusals room at same most told.
+          let t = command-told why _ _ landing.frames landing.commands landing.refused_frames landing.refused_commands told is.landed.frames is.landed.commands is.landed.refused in
+          record { frame = is.landed.frame; command = at; refusals = same; room = most; frames = t.0; commands = t.1; refused = t.2 };
+    }
+
 -- ---- what an event gives that lands an item
 pub record Done (script : Script) (old : Walked) (event : Event) (parts : Parts) (landing : Landing) (got : ℕ) (last : Option StepNote) (answer : Moved) : Type 0 where
   pub kept : IsWalk script parts landing got last
-  pub counts : counts_of parts landing ≡ counts_after old.script old.counts event
   pub moved : answer ≡ moved_of old.script old.counts event
 
 -- a source that was given an item more
@@ -230,12 +312,7 @@ pub record IsGiven (source was : Terminal) (kind : ItemKind) : Type 0 where
   pub ticks : source.ticks ≡ was.ticks
   pub same : SameKind source was
 
--- an event lands the next item of one kind
-record Turn (script : Script) (s next : Counts) (event : Event) (source : Terminal) (i : ℕ) (tell : Option Refusal → Totals → Totals) : Type 0 where
-  is : IsNext script s next event i
-  lands : (item : Item) → slice_get script.items i ≡ Some item → item.due ≤ source.ticks → Lands script s next source i item tell
-
--- an item is there, at place i, where so many of its kind landed and were refused
+-- an item is there, at place i, where so many of its kind have landed and were refused
 pub record IsThere (items : List Item) (i landed refused : ℕ) : Type 0 where
   pub within : i < length items
   pub few : length items ≤ 67108864
@@ -243,187 +320,90 @@ pub record IsThere (items : List Item) (i landed refused : ℕ) : Type 0 where
   pub refused_few : refused ≤ landed
 
 module _ (script : Script) (parts : Parts) (landing : Landing) (got : ℕ) (last : Option StepNote) (is : IsWalk script parts landing got last)
-    (old : Walked) (view : record { script = script; counts = counts_of parts landing } ≡ old) where
-  module _ (frames commands : ℕ) (event : Event) (i : ℕ) (tell : Option Refusal → Totals → Totals)
-      (turn : Turn script (counts_of parts landing) (record (counts_of parts landing) { frames = frames; commands = commands }) event parts.source i tell)
-      (none : (step (walk_plan old.script) old.counts event).cause ≡ None) where
-    abbrev next : Counts
-    next = record (counts_of parts landing) { frames = frames; commands = commands }
+    (old : Walked) (view : record { script = script; counts = counts_of parts landing } ≡ old)
+    (side : Side) (turn : IsSide script parts landing side) (items : List Item) (all : items ≡ script.items) where
+  abbrev before : Counts
+  before = counts_of parts landing
 
-    none-here : (step (walk_plan script) (counts_of parts landing) event).cause ≡ None
-    none-here = ap (λ (w : Walked). (step (walk_plan w.script) w.counts event).cause) view ∙ none
+  abbrev next : Counts
+  next = next_of parts landing side
 
-    here : (item : Item) × (slice_get script.items i ≡ Some item) × (item.due ≤ parts.source.ticks)
-    here = item-there parts.source.ticks script.items i (sym (next-cause script (counts_of parts landing) next event i turn.is) ∙ none-here)
+  pub land-stalls : (ticks : ℕ) → ticks ≡ parts.source.ticks → (cause : Option StallCause) → cause ≡ stall_by ticks (slice_get items side.place) →
+      (step (walk_plan old.script) old.counts side.event).cause ≡ cause
+  land-stalls ticks now cause found =
+      sym (ap (λ (w : Walked). (step (walk_plan w.script) w.counts side.event).cause) view)
+      ∙ next-cause script before next side.event side.place turn.is
+      ∙ ap (λ t. stall_by t (slice_get script.items side.place)) (sym now)
+      ∙ ap (λ (xs : List Item). stall_by ticks (slice_get xs side.place)) (sym all) ∙ sym found
 
-    at-place : (items : List Item) → items ≡ script.items → (d : Item) → slice_get script.items i ≡ Some (slice_index_or items i d)
-    at-place items all d =
-        let within = slice_get_within script.items i here.0 here.1 in
-        let size = ap length all in
-        sym (ap (λ (xs : List Item). slice_get xs i) all) ∙ slice_get-get_or items i d (omega (arith, within, size))
+  pub land-stays : (ticks : ℕ) → ticks ≡ parts.source.ticks → (found : Option StallCause) → found ≡ stall_by ticks (slice_get items side.place) →
+      (cause : StallCause) → found ≡ Some cause →
+      (old.counts ≡ counts_after old.script old.counts side.event) × (Stalled cause ≡ moved_of old.script old.counts side.event)
+  land-stays ticks now found is_found cause e =
+      subst (λ (w : Walked). (w.counts ≡ counts_after w.script w.counts side.event) × (Stalled cause ≡ moved_of w.script w.counts side.event)) view
+      (next-stays script before next side.event side.place turn.is cause
+      (ap (λ (w : Walked). (step (walk_plan w.script) w.counts side.event).cause) view ∙ land-stalls ticks now found is_found ∙ e))
 
-    module _ (item : Item) (there : slice_get script.items i ≡ Some item) (why : Option Refusal) (met : why ≡ met_by parts.source item.kind) where
-      lands : Lands script (counts_of parts landing) next parts.source i item tell
+  module _ (none : (step (walk_plan old.script) old.counts side.event).cause ≡ None) where
+    none-here : (step (walk_plan script) (counts_of parts landing) side.event).cause ≡ None
+    none-here = ap (λ (w : Walked). (step (walk_plan w.script) w.counts side.event).cause) view ∙ none
+
+    here : (item : Item) × (slice_get script.items side.place ≡ Some item) × (item.due ≤ parts.source.ticks)
+    here = item-there parts.source.ticks script.items side.place (sym (next-cause script before next side.event side.place turn.is) ∙ none-here)
+
+    pub land-there : IsThere items side.place side.landed side.refused
+    land-there =
+        let (item, there, due) = here in
+        subst (λ xs. IsThere xs side.place side.landed side.refused) (sym all) (record {
+          within = slice_get_within script.items side.place item there;
+          few = is.valid.few;
+          landed_few = landed-before side.kind script.items side.landed side.place item turn.at there;
+          refused_few = turn.fewer;
+        })
+
+    module _ (d : Item) (why : Option Refusal) (met : why ≡ met_by parts.source (slice_index_or items side.place d).kind) where
+      there : slice_get script.items side.place ≡ Some (slice_index_or items side.place d)
+      there = sym (ap (λ (xs : List Item). slice_get xs side.place) all) ∙ slice_get-get_or items side.place d land-there.within
+
+      lands : Lands script (counts_of parts landing) (next_of parts landing side) parts.source side.place (slice_index_or items side.place d) side.tell
       lands =
           let (found, at, due) = here in
-          let e = ap (λ (i : Item). i.due) (same-some found item (sym at ∙ there)) in
-          turn.lands item there (omega (arith, due, e))
+          let e = ap (λ (i : Item). i.due) (same-some found (slice_index_or items side.place d) (sym at ∙ there)) in
+          turn.lands (slice_index_or items side.place d) there (omega (arith, due, e))
 
-      same-why : refusal_at script (record { number = i; item = item }) ≡ why
+      same-why : refusal_at script (record { number = side.place; item = slice_index_or items side.place d }) ≡ why
       same-why = sym lands.met ∙ sym met
 
-      placed : IsPlaced i (refused_by i why) landing.refusals (refusals_of script next)
+      placed : IsPlaced side.place (refused_by side.place why) landing.refusals (refusals_of script (next_of parts landing side))
       placed =
-          subst (λ was. IsPlaced i (refused_by i why) was (refusals_of script next)) (sym is.landed.refusals)
-          (subst (λ found. IsPlaced i (refused_by i found) (refusals_of script (counts_of parts landing)) (refusals_of script next)) same-why lands.placed)
+          subst (λ was. IsPlaced side.place (refused_by side.place why) was (refusals_of script next)) (sym is.landed.refusals)
+          (subst (λ found. IsPlaced side.place (refused_by side.place found) (refusals_of script before) (refusals_of script next)) same-why lands.placed)
 
-      totals : totals_of script next ≡ tell why (totals_of script (counts_of parts landing))
-      totals = lands.totals ∙ ap (λ found. tell found (totals_of script (counts_of parts landing))) same-why
-
-      ends : (source : Terminal) → IsGiven source parts.source item.kind → (landed : Landing) →
-          HasLanded script next (record landed { frames = frames; commands = commands }) →
-          Done script old event (record parts { source = source }) (record landed { frames = frames; commands = commands }) got last (answer_of why)
-      ends source given landed has =
-          let moves = next-moves script (counts_of parts landing) next event i turn.is item there none-here in
-          record {
-            kept = land-kept script parts landing got last is item.kind source (record landed { frames = frames; commands = commands }) has
-                (walked-next script (counts_of parts landing) next event is.walked moves.0) lands.told
-                (given.stands (landed_scenario script (counts_of parts landing)) (told_before script parts.source.ticks) is.source.made) given.ticks given.same;
-            counts = ap (λ t. record next { ticks = t }) given.ticks ∙ moves.0 ∙ ap (λ (w : Walked). counts_after w.script w.counts event) view;
-            moved = ap answer_of (sym same-why) ∙ moves.1 ∙ ap (λ (w : Walked). moved_of w.script w.counts event) view;
-          }
-
-      room-left : (own : Refusal) → why ≡ Some own → length landing.refusals < landing.room
-      room-left own e =
-          let more = refusals-more i own landing.refusals (refusals_of script next) (subst (λ found. IsPlaced i (refused_by i found) landing.refusals (refusals_of script next)) e placed) in
+      pub land-room : (own : Refusal) → why ≡ Some own → length landing.refusals < landing.room
+      land-room own e =
+          let more = refusals-more side.place own landing.refusals (refusals_of script next)
+          (subst (λ found. IsPlaced side.place (refused_by side.place found) landing.refusals (refusals_of script next)) e placed) in
           let most = refusals-few script next in
           let room = is.landed.room in
           omega (arith, more, most, room)
 
-  -- ---- a frame
-  frame-turn : Turn script (counts_of parts landing) (record (counts_of parts landing) { frames = landing.frames + 1 }) Accept parts.source landing.frame with_frame_told
-  frame-turn = record {
-    is = frame-next script (counts_of parts landing) landing.frame is.landed.frame;
-    lands = frame-lands script parts landing got last is;
-  }
-
-  module _ (items : List Item) (all : items ≡ script.items) where
-    pub frame-stalls : (ticks : ℕ) → ticks ≡ parts.source.ticks → (cause : Option StallCause) → cause ≡ stall_by ticks (slice_get items landing.frame) →
-        (step (walk_plan old.script) old.counts Accept).cause ≡ cause
-    frame-stalls ticks now cause found =
-        sym (ap (λ (w : Walked). (step (walk_plan w.script) w.counts Accept).cause) view)
-        ∙ next-cause script (counts_of parts landing) _ Accept landing.frame frame-turn.is
-        ∙ ap (λ t. stall_by t (slice_get script.items landing.frame)) (sym now)
-        ∙ ap (λ (xs : List Item). stall_by ticks (slice_get xs landing.frame)) (sym all) ∙ sym found
-
-    pub frame-stays : (cause : StallCause) → (step (walk_plan old.script) old.counts Accept).cause ≡ Some cause →
-        (old.counts ≡ counts_after old.script old.counts Accept) × (Stalled cause ≡ moved_of old.script old.counts Accept)
-    frame-stays cause e = next-stays old.script old.counts (record old.counts { frames = old.counts.frames + 1 }) Accept landing.frame
-        (subst (λ (w : Walked). IsNext w.script w.counts (record w.counts { frames = w.counts.frames + 1 }) Accept landing.frame) view frame-turn.is) cause e
-
-    module _ (none : (step (walk_plan old.script) old.counts Accept).cause ≡ None) where
-      pub frame-there : IsThere items landing.frame landing.frames landing.refused_frames
-      frame-there =
-          let (item, there, due) = here (landing.frames + 1) landing.commands Accept landing.frame with_frame_told frame-turn none in
-          let frames = is.landed.frames in
-          subst (λ xs. IsThere xs landing.frame landing.frames landing.refused_frames) (sym all) (record {
-            within = slice_get_within script.items landing.frame item there;
-            few = is.valid.few;
-            landed_few = landed-before is_frame script.items landing.frames landing.frame item is.landed.frame there;
-            refused_few = omega (arith, frames);
-          })
-
-      module _ (d : Item) (why : Option Refusal) (met : why ≡ met_by parts.source (slice_index_or items landing.frame d).kind) where
-        pub frame-ends : (source : Terminal) → IsGiven source parts.source (slice_index_or items landing.frame d).kind →
-            (place : ℕ) → place ≡ landing.frame + 1 + place_of is_frame 0 (drop (landing.frame + 1) items) →
-            (refusals : List (ℕ × Refusal)) (room : ℕ) → room ≡ landing.room →
-            ((now : List (ℕ × Refusal)) → IsPlaced landing.frame (refused_by landing.frame why) landing.refusals now → refusals ≡ now) →
-            Done script old Accept (record parts { source = source })
-            (record landing { refusals = refusals; room = room; frame = place; frames = landing.frames + 1; refused_frames = one_more why landing.refused_frames }) got last (answer_of why)
-        frame-ends source given place at refusals room same put =
-            let item : Item = slice_index_or items landing.frame d in
-            let there = at-place (landing.frames + 1) landing.commands Accept landing.frame with_frame_told frame-turn none items all d in
-            let told = frame-told why (totals_of script (counts_of parts landing)) (totals_of script (record (counts_of parts landing) { frames = landing.frames + 1 }))
-            landing.frames landing.commands landing.refused_frames landing.refused_commands
-            (totals (landing.frames + 1) landing.commands Accept landing.frame with_frame_told frame-turn none item there why met) is.landed.frames is.landed.commands is.landed.refused in
-            let most = is.landed.room in
-            ends (landing.frames + 1) landing.commands Accept landing.frame with_frame_told frame-turn none item there why met source given
-            (record landing { refusals = refusals; room = room; frame = place; refused_frames = one_more why landing.refused_frames }) (record {
-              frame = at ∙ ap (λ (xs : List Item). landing.frame + 1 + place_of is_frame 0 (drop (landing.frame + 1) xs)) all
-                  ∙ place-next is_frame script.items landing.frames landing.frame item is.landed.frame there;
-              command = is.landed.command;
-              refusals = put (refusals_of script (record (counts_of parts landing) { frames = landing.frames + 1 }))
-                  (placed (landing.frames + 1) landing.commands Accept landing.frame with_frame_told frame-turn none item there why met);
-              room = omega (arith, most, same);
-              frames = told.0;
-              commands = told.1;
-              refused = told.2;
-            })
-
-        pub frame-room : (own : Refusal) → why ≡ Some own → length landing.refusals < landing.room
-        frame-room = room-left (landing.frames + 1) landing.commands Accept landing.frame with_frame_told frame-turn none (slice_index_or items landing.frame d)
-            (at-place (landing.frames + 1) landing.commands Accept landing.frame with_frame_told frame-turn none items all d) why met
-
-  -- ---- a command
-  command-turn : Turn script (counts_of parts landing) (record (counts_of parts landing) { commands = landing.commands + 1 }) Command parts.source landing.command with_command_told
-  command-turn = record {
-    is = command-next script (counts_of parts landing) landing.command is.landed.command;
-    lands = command-lands script parts landing got last is;
-  }
-
-  module _ (items : List Item) (all : items ≡ script.items) where
-    pub command-stalls : (ticks : ℕ) → ticks ≡ parts.source.ticks → (cause : Option StallCause) → cause ≡ stall_by ticks (slice_get items landing.command) →
-        (step (walk_plan old.script) old.counts Command).cause ≡ cause
-    command-stalls ticks now cause found =
-        sym (ap (λ (w : Walked). (step (walk_plan w.script) w.counts Command).cause) view)
-        ∙ next-cause script (counts_of parts landing) _ Command landing.command command-turn.is
-        ∙ ap (λ t. stall_by t (slice_get script.items landing.command)) (sym now)
-        ∙ ap (λ (xs : List Item). stall_by ticks (slice_get xs landing.command)) (sym all) ∙ sym found
-
-    pub command-stays : (cause : StallCause) → (step (walk_plan old.script) old.counts Command).cause ≡ Some cause →
-        (old.counts ≡ counts_after old.script old.counts Command) × (Stalled cause ≡ moved_of old.script old.counts Command)
-    command-stays cause e = next-stays old.script old.counts (record old.counts { commands = old.counts.commands + 1 }) Command landing.command
-        (subst (λ (w : Walked). IsNext w.script w.counts (record w.counts { commands = w.counts.commands + 1 }) Command landing.command) view command-turn.is) cause e
-
-    module _ (none : (step (walk_plan old.script) old.counts Command).cause ≡ None) where
-      pub command-there : IsThere items landing.command landing.commands landing.refused_commands
-      command-there =
-          let (item, there, due) = here landing.frames (landing.commands + 1) Command landing.command with_command_told command-turn none in
-          let commands = is.landed.commands in
-          subst (λ xs. IsThere xs landing.command landing.commands landing.refused_commands) (sym all) (record {
-            within = slice_get_within script.items landing.command item there;
-            few = is.valid.few;
-            landed_few = landed-before is_command script.items landing.commands landing.command item is.landed.command there;
-            refused_few = omega (arith, commands);
-          })
-
-      module _ (d : Item) (why : Option Refusal) (met : why ≡ met_by parts.source (slice_index_or items landing.command d).kind) where
-        pub command-ends : (source : Terminal) → IsGiven source parts.source (slice_index_or items landing.command d).kind →
-            (place : ℕ) → place ≡ landing.command + 1 + place_of is_command 0 (drop (landing.command + 1) items) →
-            (refusals : List (ℕ × Refusal)) (room : ℕ) → room ≡ landing.room →
-            ((now : List (ℕ × Refusal)) → IsPlaced landing.command (refused_by landing.command why) landing.refusals now → refusals ≡ now) →
-            Done script old Command (record parts { source = source })
-            (record landing { refusals = refusals; room = room; command = place; commands = landing.commands + 1; refused_commands = one_more why landing.refused_commands }) got last (answer_of why)
-        command-ends source given place at refusals room same put =
-            let item : Item = slice_index_or items landing.command d in
-            let there = at-place landing.frames (landing.commands + 1) Command landing.command with_command_told command-turn none items all d in
-            let told = command-told why (totals_of script (counts_of parts landing)) (totals_of script (record (counts_of parts landing) { commands = landing.commands + 1 }))
-            landing.frames landing.commands landing.refused_frames landing.refused_commands
-            (totals landing.frames (landing.commands + 1) Command landing.command with_command_told command-turn none item there why met) is.landed.frames is.landed.commands is.landed.refused in
-            let most = is.landed.room in
-            ends landing.frames (landing.commands + 1) Command landing.command with_command_told command-turn none item there why met source given
-            (record landing { refusals = refusals; room = room; command = place; refused_commands = one_more why landing.refused_commands }) (record {
-              frame = is.landed.frame;
-              command = at ∙ ap (λ (xs : List Item). landing.command + 1 + place_of is_command 0 (drop (landing.command + 1) xs)) all
-                  ∙ place-next is_command script.items landing.commands landing.command item is.landed.command there;
-              refusals = put (refusals_of script (record (counts_of parts landing) { commands = landing.commands + 1 }))
-                  (placed landing.frames (landing.commands + 1) Command landing.command with_command_told command-turn none item there why met);
-              room = omega (arith, most, same);
-              frames = told.0;
-              commands = told.1;
-              refused = told.2;
-            })
-
-        pub command-room : (own : Refusal) → why ≡ Some own → length landing.refusals < landing.room
-        command-room = room-left landing.frames (landing.commands + 1) Command landing.command with_command_told command-turn none (slice_index_or items landing.command d)
-            (at-place landing.frames (landing.commands + 1) Command landing.command with_command_told command-turn none items all d) why met
+      pub land-ends : (source : Terminal) → IsGiven source parts.source (slice_index_or items side.place d).kind →
+          (place : ℕ) → place ≡ side.place + 1 + place_of side.kind 0 (drop (side.place + 1) items) →
+          (refusals : List (ℕ × Refusal)) (room : ℕ) → room ≡ landing.room →
+          ((now : List (ℕ × Refusal)) → IsPlaced side.place (refused_by side.place why) landing.refusals now → refusals ≡ now) →
+          Done script old side.event (record parts { source = source }) (after_of side why place refusals room) got last (answer_of why)
+      land-ends source given place at refusals room same put =
+          let item : Item = slice_index_or items side.place d in
+          let moves = next-moves script before next side.event side.place turn.is item there none-here in
+          let most = is.landed.room in
+          let has = turn.has why place refusals room
+          (at ∙ ap (λ (xs : List Item). side.place + 1 + place_of side.kind 0 (drop (side.place + 1) xs)) all
+          ∙ place-next side.kind script.items side.landed side.place item turn.at there)
+          (put (refusals_of script next) placed) (omega (arith, most, same))
+          (lands.totals ∙ ap (λ found. side.tell found (totals_of script before)) same-why) in
+          record {
+            kept = land-kept script parts landing got last is item.kind source (after_of side why place refusals room) has
+                (walked-next script before next side.event is.walked moves.0) lands.told
+                (given.stands (landed_scenario script before) (told_before script parts.source.ticks) is.source.made) given.ticks given.same;
+            moved = ap answer_of (sym same-why) ∙ moves.1 ∙ ap (λ (w : Walked). moved_of w.script w.counts side.event) view;
+          }
