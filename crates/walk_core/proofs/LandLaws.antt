@@ -5,11 +5,12 @@ use Rattle.session_model.specs.declared.script.Item.{Item}
 use Rattle.session_model.specs.declared.script.ItemKind.{ItemKind}
 use Rattle.session_model.specs.declared.script.ItemKind.TheVariants.{Frame, Add, Remove}
 use Rattle.session_model.specs.declared.script.Script.{Script}
+use Rattle.session_model.specs.declared.walk.Event.{Event}
 use Rattle.session_model.specs.declared.walk.Event.TheVariants.{Accept, Command}
 use Rattle.session_model.specs.declared.walk.StallCause.{StallCause}
 use Rattle.session_model.specs.declared.walk.StallCause.TheVariants.{NotDue}
 use Rattle.session_model.specs.Scenario.{Scenario, Order, Offer, order_of, offer_of, orders_of, offers_of}
-use Rattle.session_model.specs.Counts.{Counts, due_of, dues_of, frame_dues, command_dues, land_due, step}
+use Rattle.session_model.specs.Counts.{Counts, Step, due_of, dues_of, frame_dues, command_dues, land_due, step}
 use Rattle.session_model.specs.declared.table.Command.TheVariants.{Add as add, Remove as remove}
 use Rattle.session_model.specs.Source.{refusal}
 use Rattle.session_model.specs.Client.{refusal_while}
@@ -141,28 +142,12 @@ stall-cause : (ticks : ℕ) (found : Option Item) (s next : Counts) → (land_du
 stall-cause ticks None s next = refl
 stall-cause ticks (Some item) s next = elim (cases_Bool (nat_lt ticks item.due)) [ inl e ↦ rw e refl | inr e ↦ rw e refl ]
 
-pub frame-stall : (script : Script) (s : Counts) (i ticks : ℕ) → i ≡ place_of is_frame s.frames script.items → ticks ≡ s.ticks →
-    (step (walk_plan script) s Accept).cause ≡ stall_by ticks (slice_get script.items i)
-frame-stall script s i ticks at same =
-    ap (λ due. (land_due s.ticks due s (record s { frames = s.frames + 1 })).cause) (frame-due script.items s.frames)
-    ∙ stall-cause s.ticks (slice_get script.items (place_of is_frame s.frames script.items)) s (record s { frames = s.frames + 1 })
-    ∙ ap (λ n. stall_by s.ticks (slice_get script.items n)) (sym at)
-    ∙ ap (λ n. stall_by n (slice_get script.items i)) (sym same)
-
-pub command-stall : (script : Script) (s : Counts) (i ticks : ℕ) → i ≡ place_of is_command s.commands script.items → ticks ≡ s.ticks →
-    (step (walk_plan script) s Command).cause ≡ stall_by ticks (slice_get script.items i)
-command-stall script s i ticks at same =
-    ap (λ due. (land_due s.ticks due s (record s { commands = s.commands + 1 })).cause) (command-due script.items s.commands)
-    ∙ stall-cause s.ticks (slice_get script.items (place_of is_command s.commands script.items)) s (record s { commands = s.commands + 1 })
-    ∙ ap (λ n. stall_by s.ticks (slice_get script.items n)) (sym at)
-    ∙ ap (λ n. stall_by n (slice_get script.items i)) (sym same)
-
-pub land-stays : (ticks : ℕ) (due : Option ℕ) (s next : Counts) (cause : StallCause) → (land_due ticks due s next).cause ≡ Some cause → (land_due ticks due s next).counts ≡ s
+land-stays : (ticks : ℕ) (due : Option ℕ) (s next : Counts) (cause : StallCause) → (land_due ticks due s next).cause ≡ Some cause → (land_due ticks due s next).counts ≡ s
 land-stays ticks None s next cause e = refl
 land-stays ticks (Some due) s next cause e =
     elim (cases_Bool (nat_lt ticks due)) [ inl late ↦ rw late refl | inr now ↦ absurd (let f : None ≡ Some cause = rw now at e in cc) ]
 
-pub land-moves : (ticks : ℕ) (due : Option ℕ) (s next : Counts) → (land_due ticks due s next).cause ≡ None → (land_due ticks due s next).counts ≡ next
+land-moves : (ticks : ℕ) (due : Option ℕ) (s next : Counts) → (land_due ticks due s next).cause ≡ None → (land_due ticks due s next).counts ≡ next
 land-moves ticks None s next e = absurd cc
 land-moves ticks (Some due) s next e =
     elim (cases_Bool (nat_lt ticks due)) [ inl late ↦ absurd (let f : Some (NotDue due) ≡ None = rw late at e in cc) | inr now ↦ rw now refl ]
@@ -201,39 +186,42 @@ order-here due (Frame octets) e = absurd cc
 order-here due (Add line) e = (record { due = due; command = add line }, record { is = refl; time = refl; met = λ core. refl; told = λ scenario ticks. refl })
 order-here due (Remove line) e = (record { due = due; command = remove line }, record { is = refl; time = refl; met = λ core. refl; told = λ scenario ticks. refl })
 
--- ---- an event that stalls, or lands an item
-pub frame-stays : (script : Script) (s : Counts) (cause : StallCause) → (step (walk_plan script) s Accept).cause ≡ Some cause →
-    (s ≡ counts_after script s Accept) × (Stalled cause ≡ moved_of script s Accept)
-frame-stays script s cause e = (
-  sym (land-stays s.ticks (slice_get (frame_dues (dues_of script.items)) s.frames) s (record s { frames = s.frames + 1 }) cause e),
-  stalled-moved cause (step (walk_plan script) s Accept).cause (refusal_in_event script s Accept) e,
-)
+-- ---- an event lands the next item of its kind, which is at place i, or stalls
+pub record IsNext (script : Script) (s next : Counts) (event : Event) (i : ℕ) : Type 0 where
+  pub steps : step (walk_plan script) s event ≡ land_due s.ticks (due_at script.items i) s next
+  pub why : refusal_in_event script s event ≡ refusal_of_item script i (slice_get script.items i)
 
-pub command-stays : (script : Script) (s : Counts) (cause : StallCause) → (step (walk_plan script) s Command).cause ≡ Some cause →
-    (s ≡ counts_after script s Command) × (Stalled cause ≡ moved_of script s Command)
-command-stays script s cause e = (
-  sym (land-stays s.ticks (slice_get (command_dues (dues_of script.items)) s.commands) s (record s { commands = s.commands + 1 }) cause e),
-  stalled-moved cause (step (walk_plan script) s Command).cause (refusal_in_event script s Command) e,
-)
+pub frame-next : (script : Script) (s : Counts) (i : ℕ) → i ≡ place_of is_frame s.frames script.items → IsNext script s (record s { frames = s.frames + 1 }) Accept i
+frame-next script s i at = record {
+  steps = ap (λ due. land_due s.ticks due s (record s { frames = s.frames + 1 })) (frame-due script.items s.frames ∙ ap (due_at script.items) (sym at));
+  why = ap (λ n. refusal_of_item script n (slice_get script.items n)) (sym at);
+}
+
+pub command-next : (script : Script) (s : Counts) (i : ℕ) → i ≡ place_of is_command s.commands script.items → IsNext script s (record s { commands = s.commands + 1 }) Command i
+command-next script s i at = record {
+  steps = ap (λ due. land_due s.ticks due s (record s { commands = s.commands + 1 })) (command-due script.items s.commands ∙ ap (due_at script.items) (sym at));
+  why = ap (λ n. refusal_of_item script n (slice_get script.items n)) (sym at);
+}
 
 -- what an event answers that lands an item
 abbrev pub answer_of : Option Refusal → Moved
 answer_of why = answer_by None why
 
-pub frame-moves : (script : Script) (s : Counts) (i : ℕ) (item : Item) → i ≡ place_of is_frame s.frames script.items → slice_get script.items i ≡ Some item → (step (walk_plan script) s Accept).cause ≡ None →
-    (record s { frames = s.frames + 1 } ≡ counts_after script s Accept) × (answer_of (refusal_at script (record { number = i; item = item })) ≡ moved_of script s Accept)
-frame-moves script s i item at there e = (
-  sym (land-moves s.ticks (slice_get (frame_dues (dues_of script.items)) s.frames) s (record s { frames = s.frames + 1 }) e),
-  ap (λ found. answer_by None (refusal_of_item script i found)) (sym there)
-      ∙ ap (λ n. answer_by None (refusal_of_item script n (slice_get script.items n))) at
-      ∙ ap (λ cause. answer_by cause (refusal_in_event script s Accept)) (sym e),
-)
+module _ (script : Script) (s next : Counts) (event : Event) (i : ℕ) (is : IsNext script s next event i) where
+  pub next-cause : (step (walk_plan script) s event).cause ≡ stall_by s.ticks (slice_get script.items i)
+  next-cause = ap (λ (done : Step). done.cause) is.steps ∙ stall-cause s.ticks (slice_get script.items i) s next
 
-pub command-moves : (script : Script) (s : Counts) (i : ℕ) (item : Item) → i ≡ place_of is_command s.commands script.items → slice_get script.items i ≡ Some item → (step (walk_plan script) s Command).cause ≡ None →
-    (record s { commands = s.commands + 1 } ≡ counts_after script s Command) × (answer_of (refusal_at script (record { number = i; item = item })) ≡ moved_of script s Command)
-command-moves script s i item at there e = (
-  sym (land-moves s.ticks (slice_get (command_dues (dues_of script.items)) s.commands) s (record s { commands = s.commands + 1 }) e),
-  ap (λ found. answer_by None (refusal_of_item script i found)) (sym there)
-      ∙ ap (λ n. answer_by None (refusal_of_item script n (slice_get script.items n))) at
-      ∙ ap (λ cause. answer_by cause (refusal_in_event script s Command)) (sym e),
-)
+  pub next-stays : (cause : StallCause) → (step (walk_plan script) s event).cause ≡ Some cause →
+      (s ≡ counts_after script s event) × (Stalled cause ≡ moved_of script s event)
+  next-stays cause e = (
+    sym (ap (λ (done : Step). done.counts) is.steps ∙ land-stays s.ticks (due_at script.items i) s next cause (sym (ap (λ (done : Step). done.cause) is.steps) ∙ e)),
+    stalled-moved cause (step (walk_plan script) s event).cause (refusal_in_event script s event) e,
+  )
+
+  pub next-moves : (item : Item) → slice_get script.items i ≡ Some item → (step (walk_plan script) s event).cause ≡ None →
+      (next ≡ counts_after script s event) × (answer_of (refusal_at script (record { number = i; item = item })) ≡ moved_of script s event)
+  next-moves item there e = (
+    sym (ap (λ (done : Step). done.counts) is.steps ∙ land-moves s.ticks (due_at script.items i) s next (sym (ap (λ (done : Step). done.cause) is.steps) ∙ e)),
+    ap (λ found. answer_of (refusal_of_item script i found)) (sym there) ∙ ap answer_of (sym is.why)
+        ∙ ap (λ cause. answer_by cause (refusal_in_event script s event)) (sym e),
+  )

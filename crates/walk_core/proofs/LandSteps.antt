@@ -1,9 +1,9 @@
 -- What an item that lands leaves of a walk.
-use Rattle.std.proofs.Common.{◌≡◌, ℕ, suc, ◌+◌, ◌-◌, ◌<◌, ◌≤◌, nat_lt, Bool, true, false, List, [], ◌∷◌, ◌++◌, length, take, drop, slice_get, Option, Some, None, option_map, inl, inr, refl, sym, ◌∙◌, ap, subst, arith}
+use Rattle.std.proofs.Common.{◌≡◌, ℕ, suc, ◌+◌, ◌-◌, ◌<◌, ◌≤◌, nat_lt, Bool, true, false, List, [], ◌∷◌, ◌++◌, length, take, drop, slice_get, slice_index_or, Option, Some, None, option_map, inl, inr, sym, ◌∙◌, ap, subst, arith}
 use Rattle.std.specs.List.{flat_map}
 use Rattle.std.proofs.lemmas.Bool.{cases_Bool}
 use Rattle.std.proofs.lemmas.List.{length-append, length-take-le}
-use Rattle.std.proofs.lemmas.Option.{slice_get_within, get_or_from_slice_get}
+use Rattle.std.proofs.lemmas.Option.{slice_get_within, get_or_from_slice_get, slice_get-get_or}
 use Rattle.std.proofs.Math.Seq.{take-suc}
 use Rattle.std.proofs.lemmas.List.{append-nil}
 use Rattle.session_model.specs.declared.script.Item.{Item}
@@ -29,19 +29,20 @@ use Rattle.walk_law.proofs.SourceLaws.{meets-stream, meets-source}
 use Rattle.walk_law.proofs.ReportLaws.{frame-placed, command-placed, frame-totals, command-totals}
 use Rattle.walk_parts.specs.Place.{is_frame, is_command, place_of}
 use Rattle.walk_core.specs.declared.moved.StepNote.{StepNote}
-use Rattle.walk_core.specs.Landing.{met_by, with_kind}
+use Rattle.walk_core.specs.Landing.{stall_by, met_by, with_kind}
 use Rattle.walk_core.specs.Parts.{Parts, Landing, counts_of, note_of, HasSource, HasSent, HasBack, HasLanded, IsWalk}
 use Rattle.session_model.specs.declared.walk.Event.{Event}
+use Rattle.session_model.specs.declared.walk.StallCause.{StallCause}
 use Rattle.session_model.specs.declared.walk.Event.TheVariants.{Accept, Command}
 use Rattle.session_model.specs.Table.{Told}
 use Rattle.session_model.specs.Counts.{step}
 use Rattle.walk_law.specs.Walk.{walk_plan}
 use Rattle.walk_core.specs.declared.moved.Moved.{Moved}
-use Rattle.walk_core.specs.declared.moved.Moved.TheVariants.{Yes, Refused}
-use Rattle.walk_core.specs.Moved.{moved_of, counts_after}
+use Rattle.walk_core.specs.declared.moved.Moved.TheVariants.{Stalled}
+use Rattle.walk_core.specs.Moved.{Walked, moved_of, counts_after}
 use Rattle.walk_core.proofs.EventLaws.{walked-next}
 use Rattle.walk_core.proofs.CarryLaws.{same-some}
-use Rattle.walk_core.proofs.LandLaws.{count_of, count-few, place-found, place-next, offers-size, orders-size, offer-here, order-here, item-there, frame-stall, command-stall, answer_of, frame-moves, command-moves}
+use Rattle.walk_core.proofs.LandLaws.{count_of, count-few, place-found, place-next, offers-size, orders-size, offer-here, order-here, item-there, IsNext, frame-next, command-next, answer_of, next-cause, next-stays, next-moves}
 
 take-next : {X : Type 0} (xs : List X) (n : ℕ) (x : X) → slice_get xs n ≡ Some x → take (n + 1) xs ≡ take n xs ++ x ∷ []
 take-next xs n x there =
@@ -57,7 +58,7 @@ pub record Lands (script : Script) (s next : Counts) (source : Terminal) (i : �
   pub totals : totals_of script next ≡ tell (refusal_at script (record { number = i; item = item })) (totals_of script s)
 
 -- so many of the kind are before it
-pub landed-before : (is : ItemKind → Bool) (items : List Item) (k i : ℕ) (item : Item) → i ≡ place_of is k items → slice_get items i ≡ Some item → k ≤ i
+landed-before : (is : ItemKind → Bool) (items : List Item) (k i : ℕ) (item : Item) → i ≡ place_of is k items → slice_get items i ≡ Some item → k ≤ i
 landed-before is items k i item at there =
     let found = place-found is items k item (sym (ap (λ n. slice_get items n) at) ∙ there) in
     let most = count-few is (take (place_of is k items) items) in
@@ -70,14 +71,14 @@ module _ (script : Script) (parts : Parts) (landing : Landing) (got : ℕ) (last
   abbrev s : Counts
   s = counts_of parts landing
 
-  pub frame-lands : (i : ℕ) (item : Item) → i ≡ place_of is_frame landing.frames script.items → slice_get script.items i ≡ Some item → item.due ≤ parts.source.ticks →
-      Lands script (counts_of parts landing) (record (counts_of parts landing) { frames = landing.frames + 1 }) parts.source i item with_frame_told
-  frame-lands i item at there due =
-      let found = place-found is_frame script.items landing.frames item (sym (ap (λ n. slice_get script.items n) at) ∙ there) in
+  frame-lands : (item : Item) → slice_get script.items landing.frame ≡ Some item → item.due ≤ parts.source.ticks →
+      Lands script (counts_of parts landing) (record (counts_of parts landing) { frames = landing.frames + 1 }) parts.source landing.frame item with_frame_told
+  frame-lands item there due =
+      let found = place-found is_frame script.items landing.frames item (sym (ap (λ n. slice_get script.items n) is.landed.frame) ∙ there) in
       let (offer, that) = offer-here item.due item.kind found.0 in
-      let numbered : Numbered = record { number = i; item = item } in
+      let numbered : Numbered = record { number = landing.frame; item = item } in
       let here : IsOfferAt script.items landing.frames numbered offer =
-      record { there = there; is = that.is; before = offers-size (take i script.items) ∙ ap (λ n. count_of is_frame (take n script.items)) at ∙ found.1 } in
+      record { there = there; is = that.is; before = offers-size (take landing.frame script.items) ∙ ap (λ n. count_of is_frame (take n script.items)) is.landed.frame ∙ found.1 } in
       let same = that.time in
       let soon : offer.due ≤ parts.source.ticks = omega (arith, same, due) in
       let (next, earlier) = offer-at script.items landing.frames numbered offer here in
@@ -95,14 +96,14 @@ module _ (script : Script) (parts : Parts) (landing : Landing) (got : ℕ) (last
         totals = frame-totals script s numbered offer here;
       }
 
-  pub command-lands : (i : ℕ) (item : Item) → i ≡ place_of is_command landing.commands script.items → slice_get script.items i ≡ Some item → item.due ≤ parts.source.ticks →
-      Lands script (counts_of parts landing) (record (counts_of parts landing) { commands = landing.commands + 1 }) parts.source i item with_command_told
-  command-lands i item at there due =
-      let found = place-found is_command script.items landing.commands item (sym (ap (λ n. slice_get script.items n) at) ∙ there) in
+  command-lands : (item : Item) → slice_get script.items landing.command ≡ Some item → item.due ≤ parts.source.ticks →
+      Lands script (counts_of parts landing) (record (counts_of parts landing) { commands = landing.commands + 1 }) parts.source landing.command item with_command_told
+  command-lands item there due =
+      let found = place-found is_command script.items landing.commands item (sym (ap (λ n. slice_get script.items n) is.landed.command) ∙ there) in
       let (order, that) = order-here item.due item.kind found.0 in
-      let numbered : Numbered = record { number = i; item = item } in
+      let numbered : Numbered = record { number = landing.command; item = item } in
       let here : IsOrderAt script.items landing.commands numbered order =
-      record { there = there; is = that.is; before = orders-size (take i script.items) ∙ ap (λ n. count_of is_command (take n script.items)) at ∙ found.1 } in
+      record { there = there; is = that.is; before = orders-size (take landing.command script.items) ∙ ap (λ n. count_of is_command (take n script.items)) is.landed.command ∙ found.1 } in
       let same = that.time in
       let soon : order.due ≤ parts.source.ticks = omega (arith, same, due) in
       let (next, earlier) = order-at script.items landing.commands numbered order here in
@@ -123,7 +124,7 @@ module _ (script : Script) (parts : Parts) (landing : Landing) (got : ℕ) (last
       }
 
   -- ---- the walk after it, where its source was given the item, and what has landed is so many
-  pub land-kept : (kind : ItemKind) (source : Terminal) (landed : Landing) →
+  land-kept : (kind : ItemKind) (source : Terminal) (landed : Landing) →
       HasLanded script (record (counts_of parts landing) { frames = landed.frames; commands = landed.commands }) landed →
       IsWalked script (record (counts_of parts landing) { frames = landed.frames; commands = landed.commands }) →
       with_kind (landed_scenario script (counts_of parts landing)) parts.source.ticks kind
@@ -182,7 +183,7 @@ list-few script (item ∷ items) =
     few-refused number None = omega arith
     few-refused number (Some why) = omega arith
 
-pub refusals-few : (script : Script) (s : Counts) → length (refusals_of script s) ≤ length script.items
+refusals-few : (script : Script) (s : Counts) → length (refusals_of script s) ≤ length script.items
 refusals-few script s =
     let a = list-few script (landed_items script s) in
     let b = landed-few s.frames s.commands 0 script.items in
@@ -192,7 +193,7 @@ refusals-few script s =
 pub refusals-same : (i : ℕ) (was now : List (ℕ × Refusal)) → IsPlaced i [] was now → was ≡ now
 refusals-same i was now placed = placed.was_so ∙ ap (λ xs. xs ++ placed.back) (sym (append-nil placed.front)) ∙ sym placed.is_so
 
-pub refusals-more : (i : ℕ) (why : Refusal) (was now : List (ℕ × Refusal)) → IsPlaced i ((i, why) ∷ []) was now → length now ≡ length was + 1
+refusals-more : (i : ℕ) (why : Refusal) (was now : List (ℕ × Refusal)) → IsPlaced i ((i, why) ∷ []) was now → length now ≡ length was + 1
 refusals-more i why was now placed =
     let own : List (ℕ × Refusal) = (i, why) ∷ [] in
     let old = ap length placed.was_so ∙ length-append placed.front placed.back in
@@ -200,127 +201,110 @@ refusals-more i why was now placed =
     let rest = length-append placed.front own in
     omega (arith, old, new, rest)
 
-module _ (script : Script) (parts : Parts) (landing : Landing) (got : ℕ) (last : Option StepNote) (is : IsWalk script parts landing got last) (i : ℕ) (item : Item) where
-  abbrev with_frames : Counts
-  with_frames = record (counts_of parts landing) { frames = landing.frames + 1 }
+-- ---- the totals, where one has landed more
+abbrev pub one_more : Option Refusal → ℕ → ℕ
+one_more None n = n
+one_more (Some why) n = n + 1
 
-  abbrev with_commands : Counts
-  with_commands = record (counts_of parts landing) { commands = landing.commands + 1 }
+frame-told : (why : Option Refusal) (was now : Totals) (frames commands a b : ℕ) → now ≡ with_frame_told why was →
+    frames ≡ was.frames + a → commands ≡ was.commands + b → was.refused ≡ a + b →
+    (frames + 1 ≡ now.frames + one_more why a) × (commands ≡ now.commands + b) × (now.refused ≡ one_more why a + b)
+frame-told None was now frames commands a b told f c r = rw told (omega arith, c, r)
+frame-told (Some why) was now frames commands a b told f c r = rw told (omega arith, c, omega arith)
 
-  pub refusal-placed : (next : Counts) (told : Option Refusal → Totals → Totals) (why : Refusal) → Lands script (counts_of parts landing) next parts.source i item told → met_by parts.source item.kind ≡ Some why →
-      IsPlaced i ((i, why) ∷ []) landing.refusals (refusals_of script next)
-  refusal-placed next told why lands met =
-      subst (λ was. IsPlaced i ((i, why) ∷ []) was (refusals_of script next)) (sym is.landed.refusals)
-      (subst (λ found. IsPlaced i (refused_by i found) (refusals_of script (counts_of parts landing)) (refusals_of script next)) (sym lands.met ∙ met) lands.placed)
+command-told : (why : Option Refusal) (was now : Totals) (frames commands a b : ℕ) → now ≡ with_command_told why was →
+    frames ≡ was.frames + a → commands ≡ was.commands + b → was.refused ≡ a + b →
+    (frames ≡ now.frames + a) × (commands + 1 ≡ now.commands + one_more why b) × (now.refused ≡ a + one_more why b)
+command-told None was now frames commands a b told f c r = rw told (f, omega arith, r)
+command-told (Some why) was now frames commands a b told f c r = rw told (f, omega arith, omega arith)
 
-  pub refusal-room : (next : Counts) (told : Option Refusal → Totals → Totals) (why : Refusal) → Lands script (counts_of parts landing) next parts.source i item told → met_by parts.source item.kind ≡ Some why →
-      length landing.refusals < landing.room
-  refusal-room next told why lands met =
-      let more = refusals-more i why landing.refusals (refusals_of script next) (refusal-placed next told why lands met) in
-      let most = refusals-few script next in
-      let room = is.landed.room in
-      omega (arith, more, most, room)
+-- ---- one of the two kinds of items: its event, and which items are of it; the place of the next one, and how many have landed and
+-- were refused; then the counts with one more, what it does to the totals, and what has landed with it, by why it is refused, the place
+-- after it, the refusals and the room for them
+pub record Side : Type 0 where
+  pub event : Event
+  pub kind : ItemKind → Bool
+  pub place : ℕ
+  pub landed : ℕ
+  pub refused : ℕ
+  pub frames : ℕ
+  pub commands : ℕ
+  pub tell : Option Refusal → Totals → Totals
+  pub after : Option Refusal → ℕ → List (ℕ × Refusal) → ℕ → Landing
 
-  refusals-kept : (next : Counts) (told : Option Refusal → Totals → Totals) → Lands script (counts_of parts landing) next parts.source i item told → met_by parts.source item.kind ≡ None →
-      landing.refusals ≡ refusals_of script next
-  refusals-kept next told lands met =
-      is.landed.refusals
-      ∙ refusals-same i (refusals_of script (counts_of parts landing)) (refusals_of script next)
-      (subst (λ found. IsPlaced i (refused_by i found) (refusals_of script (counts_of parts landing)) (refusals_of script next)) (sym lands.met ∙ met) lands.placed)
+abbrev pub frame_side : Landing → Side
+frame_side landing = record {
+  event = Accept;
+  kind = is_frame;
+  place = landing.frame;
+  landed = landing.frames;
+  refused = landing.refused_frames;
+  frames = landing.frames + 1;
+  commands = landing.commands;
+  tell = with_frame_told;
+  after = λ why place refusals room. record landing { refusals = refusals; room = room; frame = place; refused_frames = one_more why landing.refused_frames };
+}
 
-  told-by : (next : Counts) (told : Option Refusal → Totals → Totals) (why : Option Refusal) → Lands script (counts_of parts landing) next parts.source i item told → met_by parts.source item.kind ≡ why →
-      totals_of script next ≡ told why (totals_of script (counts_of parts landing))
-  told-by next told why lands met = lands.totals ∙ ap (λ found. told found (totals_of script (counts_of parts landing))) (sym lands.met ∙ met)
+abbrev pub command_side : Landing → Side
+command_side landing = record {
+  event = Command;
+  kind = is_command;
+  place = landing.command;
+  landed = landing.commands;
+  refused = landing.refused_commands;
+  frames = landing.frames;
+  commands = landing.commands + 1;
+  tell = with_command_told;
+  after = λ why place refusals room. record landing { refusals = refusals; room = room; command = place; refused_commands = one_more why landing.refused_commands };
+}
 
-  pub frame-accepted : (place : ℕ) → place ≡ place_of is_frame (landing.frames + 1) script.items →
-      Lands script (counts_of parts landing) with_frames parts.source i item with_frame_told → met_by parts.source item.kind ≡ None →
-      HasLanded script with_frames (record landing { frame = place; frames = landing.frames + 1 })
-  frame-accepted place at lands met =
-      let told = told-by with_frames with_frame_told None lands met in
-      let a = ap (λ (t : Totals). t.frames) told in
-      let b = ap (λ (t : Totals). t.commands) told in
-      let d = ap (λ (t : Totals). t.refused) told in
-      let frames = is.landed.frames in
-      let commands = is.landed.commands in
-      let refused = is.landed.refused in
-      record {
-        frame = at;
-        command = is.landed.command;
-        refusals = refusals-kept with_frames with_frame_told lands met;
-        room = is.landed.room;
-        frames = omega (arith, a, frames);
-        commands = omega (arith, b, commands);
-        refused = omega (arith, d, refused);
-      }
+abbrev pub next_of : Parts → Landing → Side → Counts
+next_of parts landing side = record (counts_of parts landing) { frames = side.frames; commands = side.commands }
 
-  pub frame-refused : (place : ℕ) (refusals : List (ℕ × Refusal)) (why : Refusal) → place ≡ place_of is_frame (landing.frames + 1) script.items → refusals ≡ refusals_of script with_frames →
-      Lands script (counts_of parts landing) with_frames parts.source i item with_frame_told → met_by parts.source item.kind ≡ Some why →
-      HasLanded script with_frames (record landing { refusals = refusals; frame = place; frames = landing.frames + 1; refused_frames = landing.refused_frames + 1 })
-  frame-refused place refusals why at same lands met =
-      let told = told-by with_frames with_frame_told (Some why) lands met in
-      let a = ap (λ (t : Totals). t.frames) told in
-      let b = ap (λ (t : Totals). t.commands) told in
-      let d = ap (λ (t : Totals). t.refused) told in
-      let frames = is.landed.frames in
-      let commands = is.landed.commands in
-      let refused = is.landed.refused in
-      record {
-        frame = at;
-        command = is.landed.command;
-        refusals = same;
-        room = is.landed.room;
-        frames = omega (arith, a, frames);
-        commands = omega (arith, b, commands);
-        refused = omega (arith, d, refused);
-      }
+abbrev pub after_of : Side → Option Refusal → ℕ → List (ℕ × Refusal) → ℕ → Landing
+after_of side why place refusals room = record (side.after why place refusals room) { frames = side.frames; commands = side.commands }
 
-  pub command-accepted : (place : ℕ) → place ≡ place_of is_command (landing.commands + 1) script.items →
-      Lands script (counts_of parts landing) with_commands parts.source i item with_command_told → met_by parts.source item.kind ≡ None →
-      HasLanded script with_commands (record landing { command = place; commands = landing.commands + 1 })
-  command-accepted place at lands met =
-      let told = told-by with_commands with_command_told None lands met in
-      let a = ap (λ (t : Totals). t.frames) told in
-      let b = ap (λ (t : Totals). t.commands) told in
-      let d = ap (λ (t : Totals). t.refused) told in
-      let frames = is.landed.frames in
-      let commands = is.landed.commands in
-      let refused = is.landed.refused in
-      record {
-        frame = is.landed.frame;
-        command = at;
-        refusals = refusals-kept with_commands with_command_told lands met;
-        room = is.landed.room;
-        frames = omega (arith, a, frames);
-        commands = omega (arith, b, commands);
-        refused = omega (arith, d, refused);
-      }
+pub record IsSide (script : Script) (parts : Parts) (landing : Landing) (side : Side) : Type 0 where
+  pub at : side.place ≡ place_of side.kind side.landed script.items
+  pub fewer : side.refused ≤ side.landed
+  pub is : IsNext script (counts_of parts landing) (next_of parts landing side) side.event side.place
+  pub lands : (item : Item) → slice_get script.items side.place ≡ Some item → item.due ≤ parts.source.ticks →
+      Lands script (counts_of parts landing) (next_of parts landing side) parts.source side.place item side.tell
+  pub has : (why : Option Refusal) (place : ℕ) (refusals : List (ℕ × Refusal)) (room : ℕ) → place ≡ place_of side.kind (side.landed + 1) script.items →
+      refusals ≡ refusals_of script (next_of parts landing side) → length script.items ≤ room →
+      totals_of script (next_of parts landing side) ≡ side.tell why (totals_of script (counts_of parts landing)) →
+      HasLanded script (next_of parts landing side) (after_of side why place refusals room)
 
-  pub command-refused : (place : ℕ) (refusals : List (ℕ × Refusal)) (why : Refusal) → place ≡ place_of is_command (landing.commands + 1) script.items → refusals ≡ refusals_of script with_commands →
-      Lands script (counts_of parts landing) with_commands parts.source i item with_command_told → met_by parts.source item.kind ≡ Some why →
-      HasLanded script with_commands (record landing { refusals = refusals; command = place; commands = landing.commands + 1; refused_commands = landing.refused_commands + 1 })
-  command-refused place refusals why at same lands met =
-      let told = told-by with_commands with_command_told (Some why) lands met in
-      let a = ap (λ (t : Totals). t.frames) told in
-      let b = ap (λ (t : Totals). t.commands) told in
-      let d = ap (λ (t : Totals). t.refused) told in
-      let frames = is.landed.frames in
-      let commands = is.landed.commands in
-      let refused = is.landed.refused in
-      record {
-        frame = is.landed.frame;
-        command = at;
-        refusals = same;
-        room = is.landed.room;
-        frames = omega (arith, a, frames);
-        commands = omega (arith, b, commands);
-        refused = omega (arith, d, refused);
-      }
+pub frame-side : (script : Script) (parts : Parts) (landing : Landing) (got : ℕ) (last : Option StepNote) → IsWalk script parts landing got last → IsSide script parts landing (frame_side landing)
+frame-side script parts landing got last is =
+    let frames = is.landed.frames in
+    record {
+      at = is.landed.frame;
+      fewer = omega (arith, frames);
+      is = frame-next script (counts_of parts landing) landing.frame is.landed.frame;
+      lands = frame-lands script parts landing got last is;
+      has = λ why place refusals room at same most told.
+          let t = frame-told why _ _ landing.frames landing.commands landing.refused_frames landing.refused_commands told is.landed.frames is.landed.commands is.landed.refused in
+          record { frame = at; command = is.landed.command; refusals = same; room = most; frames = t.0; commands = t.1; refused = t.2 };
+    }
+
+pub command-side : (script : Script) (parts : Parts) (landing : Landing) (got : ℕ) (last : Option StepNote) → IsWalk script parts landing got last → IsSide script parts landing (command_side landing)
+command-side script parts landing got last is =
+    let commands = is.landed.commands in
+    record {
+      at = is.landed.command;
+      fewer = omega (arith, commands);
+      is = command-next script (counts_of parts landing) landing.command is.landed.command;
+      lands = command-lands script parts landing got last is;
+      has = λ why place refusals room at same most told.
+          let t = command-told why _ _ landing.frames landing.commands landing.refused_frames landing.refused_commands told is.landed.frames is.landed.commands is.landed.refused in
+          record { frame = is.landed.frame; command = at; refusals = same; room = most; frames = t.0; commands = t.1; refused = t.2 };
+    }
 
 -- ---- what an event gives that lands an item
-pub record Done (script : Script) (s : Counts) (event : Event) (parts : Parts) (landing : Landing) (got : ℕ) (last : Option StepNote) (answer : Moved) : Type 0 where
+pub record Done (script : Script) (old : Walked) (event : Event) (parts : Parts) (landing : Landing) (got : ℕ) (last : Option StepNote) (answer : Moved) : Type 0 where
   pub kept : IsWalk script parts landing got last
-  pub counts : counts_of parts landing ≡ counts_after script s event
-  pub moved : answer ≡ moved_of script s event
+  pub moved : answer ≡ moved_of old.script old.counts event
 
 -- a source that was given an item more
 pub record IsGiven (source was : Terminal) (kind : ItemKind) : Type 0 where
@@ -328,147 +312,98 @@ pub record IsGiven (source was : Terminal) (kind : ItemKind) : Type 0 where
   pub ticks : source.ticks ≡ was.ticks
   pub same : SameKind source was
 
-module _ (script : Script) (parts : Parts) (landing : Landing) (got : ℕ) (last : Option StepNote) (is : IsWalk script parts landing got last) where
-  module _ (none : (step (walk_plan script) (counts_of parts landing) Accept).cause ≡ None) where
-    pub frame-item : (item : Item) × (slice_get script.items landing.frame ≡ Some item) × (item.due ≤ parts.source.ticks)
-    frame-item = item-there parts.source.ticks script.items landing.frame (sym (frame-stall script (counts_of parts landing) landing.frame parts.source.ticks is.landed.frame refl) ∙ none)
+-- an item is there, at place i, where so many of its kind have landed and were refused
+pub record IsThere (items : List Item) (i landed refused : ℕ) : Type 0 where
+  pub within : i < length items
+  pub few : length items ≤ 67108864
+  pub landed_few : landed ≤ i
+  pub refused_few : refused ≤ landed
 
-    pub frame-due : (item : Item) → slice_get script.items landing.frame ≡ Some item → item.due ≤ parts.source.ticks
-    frame-due item there =
-        let (found, at, due) = frame-item in
-        let same : found ≡ item = same-some found item (sym at ∙ there) in
-        let e = ap (λ (i : Item). i.due) same in
-        omega (arith, due, e)
+module _ (script : Script) (parts : Parts) (landing : Landing) (got : ℕ) (last : Option StepNote) (is : IsWalk script parts landing got last)
+    (old : Walked) (view : record { script = script; counts = counts_of parts landing } ≡ old)
+    (side : Side) (turn : IsSide script parts landing side) (items : List Item) (all : items ≡ script.items) where
+  abbrev before : Counts
+  before = counts_of parts landing
 
-    pub frame-within : landing.frame < length script.items
-    frame-within = let (item, there, due) = frame-item in slice_get_within script.items landing.frame item there
+  abbrev next : Counts
+  next = next_of parts landing side
 
-    module _ (item : Item) (there : slice_get script.items landing.frame ≡ Some item) (source : Terminal) (given : IsGiven source parts.source item.kind) (place : ℕ)
-        (at : place ≡ landing.frame + 1 + place_of is_frame 0 (drop (landing.frame + 1) script.items)) where
-      lands : Lands script (counts_of parts landing) (record (counts_of parts landing) { frames = landing.frames + 1 }) parts.source landing.frame item with_frame_told
-      lands = frame-lands script parts landing got last is landing.frame item is.landed.frame there (frame-due item there)
+  pub land-stalls : (ticks : ℕ) → ticks ≡ parts.source.ticks → (cause : Option StallCause) → cause ≡ stall_by ticks (slice_get items side.place) →
+      (step (walk_plan old.script) old.counts side.event).cause ≡ cause
+  land-stalls ticks now cause found =
+      sym (ap (λ (w : Walked). (step (walk_plan w.script) w.counts side.event).cause) view)
+      ∙ next-cause script before next side.event side.place turn.is
+      ∙ ap (λ t. stall_by t (slice_get script.items side.place)) (sym now)
+      ∙ ap (λ (xs : List Item). stall_by ticks (slice_get xs side.place)) (sym all) ∙ sym found
 
-      next-place : place ≡ place_of is_frame (landing.frames + 1) script.items
-      next-place = at ∙ place-next is_frame script.items landing.frames landing.frame item is.landed.frame there
+  pub land-stays : (ticks : ℕ) → ticks ≡ parts.source.ticks → (found : Option StallCause) → found ≡ stall_by ticks (slice_get items side.place) →
+      (cause : StallCause) → found ≡ Some cause →
+      (old.counts ≡ counts_after old.script old.counts side.event) × (Stalled cause ≡ moved_of old.script old.counts side.event)
+  land-stays ticks now found is_found cause e =
+      subst (λ (w : Walked). (w.counts ≡ counts_after w.script w.counts side.event) × (Stalled cause ≡ moved_of w.script w.counts side.event)) view
+      (next-stays script before next side.event side.place turn.is cause
+      (ap (λ (w : Walked). (step (walk_plan w.script) w.counts side.event).cause) view ∙ land-stalls ticks now found is_found ∙ e))
 
-      moves : (record (counts_of parts landing) { frames = landing.frames + 1 } ≡ counts_after script (counts_of parts landing) Accept)
-          × (answer_of (refusal_at script (record { number = landing.frame; item = item })) ≡ moved_of script (counts_of parts landing) Accept)
-      moves = frame-moves script (counts_of parts landing) landing.frame item is.landed.frame there none
+  module _ (none : (step (walk_plan old.script) old.counts side.event).cause ≡ None) where
+    none-here : (step (walk_plan script) (counts_of parts landing) side.event).cause ≡ None
+    none-here = ap (λ (w : Walked). (step (walk_plan w.script) w.counts side.event).cause) view ∙ none
 
-      walked : IsWalked script (record (counts_of parts landing) { frames = landing.frames + 1 })
-      walked = walked-next script (counts_of parts landing) (record (counts_of parts landing) { frames = landing.frames + 1 }) Accept is.walked moves.0
+    here : (item : Item) × (slice_get script.items side.place ≡ Some item) × (item.due ≤ parts.source.ticks)
+    here = item-there parts.source.ticks script.items side.place (sym (next-cause script before next side.event side.place turn.is) ∙ none-here)
 
-      pub frame-yes : met_by parts.source item.kind ≡ None →
-          Done script (counts_of parts landing) Accept (record parts { source = source }) (record landing { frame = place; frames = landing.frames + 1 }) got last Yes
-      frame-yes met = record {
-        kept = land-kept script parts landing got last is item.kind source (record landing { frame = place; frames = landing.frames + 1 })
-            (frame-accepted script parts landing got last is landing.frame item place next-place lands met) walked lands.told
-            (given.stands (landed_scenario script (counts_of parts landing)) (told_before script parts.source.ticks) is.source.made) given.ticks given.same;
-        counts = ap (λ t. record (counts_of parts landing) { ticks = t; frames = landing.frames + 1 }) given.ticks ∙ moves.0;
-        moved = ap answer_of (sym met ∙ lands.met) ∙ moves.1;
-      }
+    pub land-there : IsThere items side.place side.landed side.refused
+    land-there =
+        let (item, there, due) = here in
+        subst (λ xs. IsThere xs side.place side.landed side.refused) (sym all) (record {
+          within = slice_get_within script.items side.place item there;
+          few = is.valid.few;
+          landed_few = landed-before side.kind script.items side.landed side.place item turn.at there;
+          refused_few = turn.fewer;
+        })
 
-      pub frame-no : (why : Refusal) (refusals : List (ℕ × Refusal)) → met_by parts.source item.kind ≡ Some why →
-          ((now : List (ℕ × Refusal)) → IsPlaced landing.frame ((landing.frame, why) ∷ []) landing.refusals now → refusals ≡ now) →
-          Done script (counts_of parts landing) Accept (record parts { source = source })
-          (record landing { refusals = refusals; frame = place; frames = landing.frames + 1; refused_frames = landing.refused_frames + 1 }) got last (Refused why)
-      frame-no why refusals met put = record {
-        kept = land-kept script parts landing got last is item.kind source
-            (record landing { refusals = refusals; frame = place; frames = landing.frames + 1; refused_frames = landing.refused_frames + 1 })
-            (frame-refused script parts landing got last is landing.frame item place refusals why next-place
-            (put (refusals_of script (record (counts_of parts landing) { frames = landing.frames + 1 }))
-            (refusal-placed script parts landing got last is landing.frame item (record (counts_of parts landing) { frames = landing.frames + 1 }) with_frame_told why lands met))
-            lands met) walked lands.told
-            (given.stands (landed_scenario script (counts_of parts landing)) (told_before script parts.source.ticks) is.source.made) given.ticks given.same;
-        counts = ap (λ t. record (counts_of parts landing) { ticks = t; frames = landing.frames + 1 }) given.ticks ∙ moves.0;
-        moved = ap answer_of (sym met ∙ lands.met) ∙ moves.1;
-      }
+    module _ (d : Item) (why : Option Refusal) (met : why ≡ met_by parts.source (slice_index_or items side.place d).kind) where
+      there : slice_get script.items side.place ≡ Some (slice_index_or items side.place d)
+      there = sym (ap (λ (xs : List Item). slice_get xs side.place) all) ∙ slice_get-get_or items side.place d land-there.within
 
-      pub frame-room : (why : Refusal) → met_by parts.source item.kind ≡ Some why → length landing.refusals < landing.room
-      frame-room why met = refusal-room script parts landing got last is landing.frame item (record (counts_of parts landing) { frames = landing.frames + 1 }) with_frame_told why lands met
+      lands : Lands script (counts_of parts landing) (next_of parts landing side) parts.source side.place (slice_index_or items side.place d) side.tell
+      lands =
+          let (found, at, due) = here in
+          let e = ap (λ (i : Item). i.due) (same-some found (slice_index_or items side.place d) (sym at ∙ there)) in
+          turn.lands (slice_index_or items side.place d) there (omega (arith, due, e))
 
-    pub frames-low : landing.frames < 67108864
-    frames-low =
-        let (item, there, due) = frame-item in
-        let before = landed-before is_frame script.items landing.frames landing.frame item is.landed.frame there in
-        let within = frame-within in
-        let few = is.valid.few in
-        omega (arith, before, within, few)
+      same-why : refusal_at script (record { number = side.place; item = slice_index_or items side.place d }) ≡ why
+      same-why = sym lands.met ∙ sym met
 
-    pub place-low : landing.frame < 67108864
-    place-low = let within = frame-within in let few = is.valid.few in omega (arith, within, few)
+      placed : IsPlaced side.place (refused_by side.place why) landing.refusals (refusals_of script (next_of parts landing side))
+      placed =
+          subst (λ was. IsPlaced side.place (refused_by side.place why) was (refusals_of script next)) (sym is.landed.refusals)
+          (subst (λ found. IsPlaced side.place (refused_by side.place found) (refusals_of script before) (refusals_of script next)) same-why lands.placed)
 
-    pub refused-low : landing.refused_frames < 67108864
-    refused-low = let low = frames-low in let frames = is.landed.frames in omega (arith, low, frames)
+      pub land-room : (own : Refusal) → why ≡ Some own → length landing.refusals < landing.room
+      land-room own e =
+          let more = refusals-more side.place own landing.refusals (refusals_of script next)
+          (subst (λ found. IsPlaced side.place (refused_by side.place found) landing.refusals (refusals_of script next)) e placed) in
+          let most = refusals-few script next in
+          let room = is.landed.room in
+          omega (arith, more, most, room)
 
-  module _ (none : (step (walk_plan script) (counts_of parts landing) Command).cause ≡ None) where
-    pub command-item : (item : Item) × (slice_get script.items landing.command ≡ Some item) × (item.due ≤ parts.source.ticks)
-    command-item = item-there parts.source.ticks script.items landing.command (sym (command-stall script (counts_of parts landing) landing.command parts.source.ticks is.landed.command refl) ∙ none)
-
-    pub command-due : (item : Item) → slice_get script.items landing.command ≡ Some item → item.due ≤ parts.source.ticks
-    command-due item there =
-        let (found, at, due) = command-item in
-        let same : found ≡ item = same-some found item (sym at ∙ there) in
-        let e = ap (λ (i : Item). i.due) same in
-        omega (arith, due, e)
-
-    pub command-within : landing.command < length script.items
-    command-within = let (item, there, due) = command-item in slice_get_within script.items landing.command item there
-
-    module _ (item : Item) (there : slice_get script.items landing.command ≡ Some item) (source : Terminal) (given : IsGiven source parts.source item.kind) (place : ℕ)
-        (at : place ≡ landing.command + 1 + place_of is_command 0 (drop (landing.command + 1) script.items)) where
-      lands-too : Lands script (counts_of parts landing) (record (counts_of parts landing) { commands = landing.commands + 1 }) parts.source landing.command item with_command_told
-      lands-too = command-lands script parts landing got last is landing.command item is.landed.command there (command-due item there)
-
-      next-place-too : place ≡ place_of is_command (landing.commands + 1) script.items
-      next-place-too = at ∙ place-next is_command script.items landing.commands landing.command item is.landed.command there
-
-      moves-too : (record (counts_of parts landing) { commands = landing.commands + 1 } ≡ counts_after script (counts_of parts landing) Command)
-          × (answer_of (refusal_at script (record { number = landing.command; item = item })) ≡ moved_of script (counts_of parts landing) Command)
-      moves-too = command-moves script (counts_of parts landing) landing.command item is.landed.command there none
-
-      walked-too : IsWalked script (record (counts_of parts landing) { commands = landing.commands + 1 })
-      walked-too = walked-next script (counts_of parts landing) (record (counts_of parts landing) { commands = landing.commands + 1 }) Command is.walked moves-too.0
-
-      pub command-yes : met_by parts.source item.kind ≡ None →
-          Done script (counts_of parts landing) Command (record parts { source = source }) (record landing { command = place; commands = landing.commands + 1 }) got last Yes
-      command-yes met = record {
-        kept = land-kept script parts landing got last is item.kind source (record landing { command = place; commands = landing.commands + 1 })
-            (command-accepted script parts landing got last is landing.command item place next-place-too lands-too met) walked-too lands-too.told
-            (given.stands (landed_scenario script (counts_of parts landing)) (told_before script parts.source.ticks) is.source.made) given.ticks given.same;
-        counts = ap (λ t. record (counts_of parts landing) { ticks = t; commands = landing.commands + 1 }) given.ticks ∙ moves-too.0;
-        moved = ap answer_of (sym met ∙ lands-too.met) ∙ moves-too.1;
-      }
-
-      pub command-no : (why : Refusal) (refusals : List (ℕ × Refusal)) → met_by parts.source item.kind ≡ Some why →
-          ((now : List (ℕ × Refusal)) → IsPlaced landing.command ((landing.command, why) ∷ []) landing.refusals now → refusals ≡ now) →
-          Done script (counts_of parts landing) Command (record parts { source = source })
-          (record landing { refusals = refusals; command = place; commands = landing.commands + 1; refused_commands = landing.refused_commands + 1 }) got last (Refused why)
-      command-no why refusals met put = record {
-        kept = land-kept script parts landing got last is item.kind source
-            (record landing { refusals = refusals; command = place; commands = landing.commands + 1; refused_commands = landing.refused_commands + 1 })
-            (command-refused script parts landing got last is landing.command item place refusals why next-place-too
-            (put (refusals_of script (record (counts_of parts landing) { commands = landing.commands + 1 }))
-            (refusal-placed script parts landing got last is landing.command item (record (counts_of parts landing) { commands = landing.commands + 1 }) with_command_told why lands-too met))
-            lands-too met) walked-too lands-too.told
-            (given.stands (landed_scenario script (counts_of parts landing)) (told_before script parts.source.ticks) is.source.made) given.ticks given.same;
-        counts = ap (λ t. record (counts_of parts landing) { ticks = t; commands = landing.commands + 1 }) given.ticks ∙ moves-too.0;
-        moved = ap answer_of (sym met ∙ lands-too.met) ∙ moves-too.1;
-      }
-
-      pub command-room : (why : Refusal) → met_by parts.source item.kind ≡ Some why → length landing.refusals < landing.room
-      command-room why met = refusal-room script parts landing got last is landing.command item (record (counts_of parts landing) { commands = landing.commands + 1 }) with_command_told why lands-too met
-
-    pub commands-low : landing.commands < 67108864
-    commands-low =
-        let (item, there, due) = command-item in
-        let before = landed-before is_command script.items landing.commands landing.command item is.landed.command there in
-        let within = command-within in
-        let few = is.valid.few in
-        omega (arith, before, within, few)
-
-    pub command-place-low : landing.command < 67108864
-    command-place-low = let within = command-within in let few = is.valid.few in omega (arith, within, few)
-
-    pub refused-commands-low : landing.refused_commands < 67108864
-    refused-commands-low = let low = commands-low in let commands = is.landed.commands in omega (arith, low, commands)
+      pub land-ends : (source : Terminal) → IsGiven source parts.source (slice_index_or items side.place d).kind →
+          (place : ℕ) → place ≡ side.place + 1 + place_of side.kind 0 (drop (side.place + 1) items) →
+          (refusals : List (ℕ × Refusal)) (room : ℕ) → room ≡ landing.room →
+          ((now : List (ℕ × Refusal)) → IsPlaced side.place (refused_by side.place why) landing.refusals now → refusals ≡ now) →
+          Done script old side.event (record parts { source = source }) (after_of side why place refusals room) got last (answer_of why)
+      land-ends source given place at refusals room same put =
+          let item : Item = slice_index_or items side.place d in
+          let moves = next-moves script before next side.event side.place turn.is item there none-here in
+          let most = is.landed.room in
+          let has = turn.has why place refusals room
+          (at ∙ ap (λ (xs : List Item). side.place + 1 + place_of side.kind 0 (drop (side.place + 1) xs)) all
+          ∙ place-next side.kind script.items side.landed side.place item turn.at there)
+          (put (refusals_of script next) placed) (omega (arith, most, same))
+          (lands.totals ∙ ap (λ found. side.tell found (totals_of script before)) same-why) in
+          record {
+            kept = land-kept script parts landing got last is item.kind source (after_of side why place refusals room) has
+                (walked-next script before next side.event is.walked moves.0) lands.told
+                (given.stands (landed_scenario script before) (told_before script parts.source.ticks) is.source.made) given.ticks given.same;
+            moved = ap answer_of (sym same-why) ∙ moves.1 ∙ ap (λ (w : Walked). moved_of w.script w.counts side.event) view;
+          }

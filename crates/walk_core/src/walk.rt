@@ -286,9 +286,10 @@ impl Walk {
         ensures moved { result ≡ moved_of self.old.script self.old.counts Accept }
     {
         let i = self.frame;
-        let refusal = refusal_of(&mut self.source, &items_of(&self.script)[i].kind);
+        let items = items_of(&self.script);
+        let refusal = refusal_of(&mut self.source, &items[i].kind);
         self.frames += 1;
-        self.frame = next_frame(items_of(&self.script), i + 1);
+        self.frame = next_frame(items, i + 1);
         match refusal {
             None => Moved::Yes,
             Some(why) => {
@@ -308,9 +309,10 @@ impl Walk {
         ensures moved { result ≡ moved_of self.old.script self.old.counts Command }
     {
         let i = self.command;
-        let refusal = refusal_of(&mut self.source, &items_of(&self.script)[i].kind);
+        let items = items_of(&self.script);
+        let refusal = refusal_of(&mut self.source, &items[i].kind);
         self.commands += 1;
-        self.command = next_command(items_of(&self.script), i + 1);
+        self.command = next_command(items, i + 1);
         match refusal {
             None => Moved::Yes,
             Some(why) => {
