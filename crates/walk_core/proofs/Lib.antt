@@ -8,3 +8,4 @@ pub mod TakeLaws
 pub mod RefuseLaws
 pub mod LandLaws
 pub mod LandSteps
+pub mod TotalLaws

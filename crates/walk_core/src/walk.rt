@@ -238,7 +238,11 @@ impl Walk {
             (replicate (suc (length (walk_plan self.old.script).items)) Accept) }
         ensures rows { self.new.counts.rows ≡ self.old.counts.rows }
     {
-        while !matches!(self.accept(), Moved::Stalled(_)) {}
+        loop {
+            if let Moved::Stalled(_) = self.accept() {
+                return;
+            }
+        }
     }
 
     /// Lands commands until one stalls.
@@ -248,7 +252,11 @@ impl Walk {
             (replicate (suc (length (walk_plan self.old.script).items)) Command) }
         ensures rows { self.new.counts.rows ≡ self.old.counts.rows }
     {
-        while !matches!(self.command(), Moved::Stalled(_)) {}
+        loop {
+            if let Moved::Stalled(_) = self.command() {
+                return;
+            }
+        }
     }
 
     /// Lands the next frame.
