@@ -9,3 +9,4 @@ pub mod RefuseLaws
 pub mod LandLaws
 pub mod LandSteps
 pub mod TotalLaws
+pub mod TakenLaws
