@@ -1,9 +1,10 @@
 //! The words of a command line.
-ghost use Rattle.std.specs.Prelude.{◌≡◌, ◌≤◌, IfSome, IfNone, Ok, Err, None, Some, map, string_bytes};
+ghost use Rattle.std.specs.Prelude.{◌≡◌, ◌≤◌, ◌↔◌, IfOk, IsErrOf, IsNone, Ok, Err, None, Some, map, string_bytes};
 ghost use Rattle.cmd_words.specs.Commands.{command_of, walk_command, run_command, single, make_of, run_of, number_in};
 
 use crate::command::{Command, Program, WordFault};
 use crate::number::number_within;
+use std::alloc::Global;
 
 // The command that is one word.
 fn read_single(word: &[u8]) -> Option<Command>
@@ -69,12 +70,16 @@ fn read_threads(words: &[String]) -> Option<Command>
 /// The command that the words after a program's name are. They are one exactly where they are `walk`, `trace`, `decode`, or `make` and a
 /// number below 2^64, 1 to 64 lines and 1 to 1,000,000 ticks; of the program of runs, `run` and 1 to 64 workers. Numbers are decimal
 /// digits, and may have leading zeros.
-pub fn read_words(words: &[String], program: Program) -> Result<Command, WordFault>
-    ensures command { IfSome (command_of program (map string_bytes words.now))
-        (λ command. result ≡ Ok command) }
-    ensures usage { IfNone (command_of program (map string_bytes words.now))
-        (result ≡ Err WordFault.Usage) }
+///
+/// # Errors
+/// `Usage` exactly where they are no command, and `Memory` where memory runs out over words that are one.
+pub fn read_words(alloc: Global, words: &[String], program: Program) -> Result<Command, WordFault>
+    ensures command { IfOk result (λ command.
+        command_of program (map string_bytes words.now) ≡ Some command) }
+    ensures usage { IsErrOf result WordFault.Usage
+        ↔ IsNone (command_of program (map string_bytes words.now)) }
 {
+    let _ = alloc;
     let command = match program {
         Program::Walk => read_walk(words),
         Program::Run => read_threads(words),

@@ -62,7 +62,7 @@ fn told(alloc: Global, text: &str, program: Program) -> Result<String, AllocErro
     for word in text.split(' ') {
         words.push(String::from_str(alloc, word)?)?;
     }
-    match read_words(words.as_slice(), program) {
+    match read_words(alloc, words.as_slice(), program) {
         Ok(command) => format!(in alloc; "{command:?}"),
         Err(fault) => format!(in alloc; "{fault}"),
     }
@@ -76,7 +76,7 @@ fn words_are_commands(rt: HostRuntime) -> Result<(), Fail> {
             let (text, want) = row.split_once("=> ").unwrap_or((row, "a row"));
             assert_eq!(rt; told(alloc, text, program)?.as_str(), want, "{row}");
         }
-        assert_eq!(rt; read_words(&[], program).is_err(), true);
+        assert_eq!(rt; read_words(alloc, &[], program).is_err(), true);
     }
     Ok(())
 }
