@@ -111,8 +111,8 @@ reads_make word number lines ticks h = elim (cases_Bool (bytes_eq word (codes "m
 reads_run : (word workers : Text) → is_some (command_of program.Run (word ∷ workers ∷ [])) ≡ true → Reads program.Run (word ∷ workers ∷ [])
 reads_run word workers h = elim (cases_Bool (bytes_eq word (codes "run"))) [
   | inl e ↦
-    let a = begins 1 64 workers (run_part _ (rw e at h)) in
-    rw (same word _ e, a.word_is) (says-run a.digit a.rest a.no_dash)
+      let a = begins 1 64 workers (run_part _ (rw e at h)) in
+      rw (same word _ e, a.word_is) (says-run a.digit a.rest a.no_dash)
   | inr other ↦ absurd (false≢true (rw other at h))
 ]
 

@@ -13,7 +13,8 @@ use std::alloc::Global;
 
 // The word of an argument.
 fn value<'a>(values: &ArgMatches<'a>, id: &str) -> Option<&'a [u8]>
-    ensures { option_map (λ word. word.now) result ≡ first_of id.now (rows_of (found_of values.now)) }
+    ensures { option_map (λ word. word.now) result
+        ≡ first_of id.now (rows_of (found_of values.now)) }
 {
     Some(values.get_str(id)?.as_bytes())
 }
