@@ -1,18 +1,14 @@
 -- The parsers take each command, and their matches say it.
-use Rattle.std.proofs.Common.{◌≡◌, ◌==◌, ◌≤◌, ◌<◌, ◌&&◌, ◌∙◌, ℕ, List, [], ◌∷◌, Bool, true, false, refl, sym, subst, arith, if◌then◌else◌, codes, nat_le, Some, None, Option, is_some, length, inl, inr}
+use Rattle.std.proofs.Common.{◌≡◌, ◌==◌, ◌≤◌, ◌<◌, ◌∙◌, ℕ, List, [], ◌∷◌, Bool, true, false, refl, sym, arith, if◌then◌else◌, codes, Some, None, Option, is_some, length, inl, inr}
 use Rattle.std.specs.Str.{bytes_eq}
-use Rattle.std.specs.List.{list_all}
 use Rattle.std.proofs.lemmas.Bool.{and_parts, cases_Bool, false≢true, leb-true, ne_eqb}
-use Rattle.std.proofs.lemmas.Bool.Decides.{nat_tests}
 use Rattle.std.proofs.lemmas.Slice.Eq.{bytes_eq-Decides}
 use Rattle.clap.specs.Words.{Text, is_simple, subcommand_of, takes}
 use Rattle.clap.proofs.OnLiterals.{clap_on_literals}
-use Rattle.script_read.specs.Words.{is_digit}
-use Rattle.cmd_words.specs.declared.command.Command.{Command}
 use Rattle.cmd_words.specs.declared.command.Program.{Program}
 use Rattle.cmd_words.specs.declared.command.Program.TheVariants as program
 use Rattle.cmd_words.specs.Commands.{command_of, make_of, number_in, run_of, single}
-use Rattle.cmd_words.specs.Parsers.{app_for, command_in, run_app, walk_app}
+use Rattle.cmd_words.specs.Parsers.{app_for, command_in}
 
 pub is_parser : (program : Program) → is_simple (app_for program) ≡ true
 unfolding clap_on_literals

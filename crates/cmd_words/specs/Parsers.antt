@@ -1,5 +1,5 @@
 -- The parsers of the programs, and the command that their matches say.
-use Rattle.std.specs.Prelude.{ℕ, true, List, Option, Some, None, codes, bytes_eq, if◌then◌else◌, option_and_then}
+use Rattle.std.specs.Prelude.{ℕ, true, List, Option, codes, bytes_eq, if◌then◌else◌, option_and_then}
 use Rattle.clap.specs.Words.{App, Row, Rule, Text, first_of, new_app, new_rule, with_rule, with_subcommand}
 use Rattle.cmd_words.specs.declared.command.Command.{Command}
 use Rattle.cmd_words.specs.declared.command.Program.{Program}

@@ -1,5 +1,5 @@
 -- What the parser says of words that are a command.
-use Rattle.std.proofs.Common.{◌≡◌, ◌∙◌, ap, map, true}
+use Rattle.std.proofs.Common.{◌∙◌, ap, map}
 use Rattle.std.specs.Prelude.{string_bytes}
 use Rattle.std.proofs.lemmas.Result.{IfErr-weaker, IfOk-weaker}
 use Rattle.clap.specs.Words.{App, is_simple, subcommand_of, takes}
