@@ -1,6 +1,5 @@
 //! The commands of each program as `clap` knows them.
-ghost use Rattle.std.specs.Prelude.{◌≡◌, IfOk, IfErr, is_some, true, false, map, string_bytes};
-ghost use Rattle.clap.specs.declared.builder.command.Command.TheViews.{out-Command};
+ghost use Rattle.std.specs.Prelude.{◌≡◌, IfOk, IfErr, is_some, true, map, string_bytes};
 ghost use Rattle.clap.specs.Words.{app_of, kind_of, subcommand_rows_of};
 ghost use Rattle.cmd_words.specs.Commands.{command_of};
 ghost use Rattle.cmd_words.specs.Parsers.{program_app, make_app, walk_app, run_app, app_for, command_in};
@@ -12,8 +11,7 @@ use std::alloc::{AllocError, Global};
 
 // A program, before its commands. Its words come without its name, and it has no help.
 fn program_parser<'a>(alloc: Global, name: &'a str) -> clap::Command<'a>
-    ensures parser { app_of result ≡ program_app name.entry.now }
-    ensures local { (out-Command result).has_globals ≡ false }
+    ensures { app_of result ≡ program_app name.entry.now }
 {
     clap::Command::new(alloc, name)
         .no_binary_name(true)
@@ -22,8 +20,7 @@ fn program_parser<'a>(alloc: Global, name: &'a str) -> clap::Command<'a>
 }
 
 fn make_parser<'a>(alloc: Global) -> Result<clap::Command<'a>, AllocError>
-    ensures parser { IfOk result (λ parser. app_of parser ≡ make_app) }
-    ensures local { IfOk result (λ parser. (out-Command parser).has_globals ≡ false) }
+    ensures { IfOk result (λ parser. app_of parser ≡ make_app) }
 {
     clap::Command::new(alloc, "make")
         .arg(Arg::new(alloc, "number").required(true))?
