@@ -30,4 +30,7 @@ pub enum WordFault {
     /// They are none of the program's.
     #[error("usage")]
     Usage,
+    /// Memory ran out.
+    #[error("memory")]
+    Memory,
 }

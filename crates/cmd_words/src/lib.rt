@@ -3,7 +3,10 @@
 #![tactic(auto)]
 
 mod command;
+mod form;
 mod number;
+mod parser;
+mod parts;
 mod reading;
 #[cfg(test)]
 mod tests;

@@ -1,86 +1,67 @@
-//! The words of a command line.
-ghost use Rattle.std.specs.Prelude.{◌≡◌, ◌≤◌, IfSome, IfNone, Ok, Err, None, Some, map, string_bytes};
-ghost use Rattle.cmd_words.specs.Commands.{command_of, walk_command, run_command, single, make_of, run_of, number_in};
+//! The command that words are, as `clap` reads them.
+ghost use Rattle.std.specs.Prelude.{◌≡◌, ◌↔◌, IfOk, IsErrOf, IsNone, Some, map, option_map, string_bytes};
+ghost use Rattle.clap.specs.Words.{first_of, found_of, rows_of, subcommand_rows_of};
+ghost use Rattle.cmd_words.specs.Commands.{command_of};
+ghost use Rattle.cmd_words.specs.Parsers.{command_at, command_in};
 
 use crate::command::{Command, Program, WordFault};
-use crate::number::number_within;
+use crate::form::is_command;
+use crate::parser::{parse, parser_of};
+use crate::parts::{read_make, read_run, read_single};
+use clap::ArgMatches;
+use std::alloc::Global;
 
-// The command that is one word.
-fn read_single(word: &[u8]) -> Option<Command>
-    ensures { result ≡ single word.now }
+// The word of an argument.
+fn value<'a>(values: &ArgMatches<'a>, id: &str) -> Option<&'a [u8]>
+    ensures { option_map (λ word. word.now) result
+        ≡ first_of id.now (rows_of (found_of values.now)) }
 {
-    if word == b"walk".as_slice() {
-        Some(Command::Walk { trace: false })
-    } else if word == b"trace".as_slice() {
-        Some(Command::Walk { trace: true })
-    } else if word == b"decode".as_slice() {
-        Some(Command::Decode)
-    } else {
-        None
+    Some(values.get_str(id)?.as_bytes())
+}
+
+// The command of a subcommand and its arguments.
+fn read_subcommand(name: &str, values: &ArgMatches<'_>) -> Option<Command>
+    ensures { result ≡ command_at name.now (rows_of (found_of values.now)) }
+{
+    match name {
+        "make" => read_make(
+            value(values, "number")?,
+            value(values, "lines")?,
+            value(values, "ticks")?,
+        ),
+        "run" => read_run(value(values, "workers")?),
+        _ => read_single(name.as_bytes()),
     }
 }
 
-// The numbers of a load.
-fn read_make(number: &[u8], lines: &[u8], ticks: &[u8]) -> Option<Command>
-    ensures { result ≡ make_of (number_in 0 18446744073709551615 number.now)
-        (number_in 1 64 lines.now) (number_in 1 1000000 ticks.now) }
+// The command that the matches say.
+fn read_matches(matches: &ArgMatches<'_>) -> Option<Command>
+    ensures { result ≡ command_in (subcommand_rows_of matches.now) }
 {
-    let number = number_within(number, 0, u64::MAX)?;
-    let lines = number_within(lines, 1, 64)? as u8;
-    let ticks = number_within(ticks, 1, 1_000_000)? as u32;
-    Some(Command::Make {
-        number,
-        lines,
-        ticks,
-    })
-}
-
-// The number of workers of a run.
-fn read_run(workers: &[u8]) -> Option<Command>
-    ensures { result ≡ run_of (number_in 1 64 workers.now) }
-{
-    let workers = number_within(workers, 1, 64)? as u8;
-    Some(Command::Run { workers })
-}
-
-// The command of the program of walks.
-fn read_walk(words: &[String]) -> Option<Command>
-    ensures { result ≡ walk_command (map string_bytes words.now) }
-{
-    match words {
-        [word] => read_single(word.as_bytes()),
-        [word, number, lines, ticks] if word.as_str() == "make" => {
-            read_make(number.as_bytes(), lines.as_bytes(), ticks.as_bytes())
-        }
-        _ => None,
-    }
-}
-
-// The command of the program of runs.
-fn read_threads(words: &[String]) -> Option<Command>
-    ensures { result ≡ run_command (map string_bytes words.now) }
-{
-    match words {
-        [word, workers] if word.as_str() == "run" => read_run(workers.as_bytes()),
-        _ => None,
-    }
+    let (name, values) = matches.subcommand()?;
+    read_subcommand(name, values)
 }
 
 /// The command that the words after a program's name are. They are one exactly where they are `walk`, `trace`, `decode`, or `make` and a
 /// number below 2^64, 1 to 64 lines and 1 to 1,000,000 ticks; of the program of runs, `run` and 1 to 64 workers. Numbers are decimal
 /// digits, and may have leading zeros.
-pub fn read_words(words: &[String], program: Program) -> Result<Command, WordFault>
-    ensures command { IfSome (command_of program (map string_bytes words.now))
-        (λ command. result ≡ Ok command) }
-    ensures usage { IfNone (command_of program (map string_bytes words.now))
-        (result ≡ Err WordFault.Usage) }
+///
+/// # Errors
+/// `Usage` exactly where they are no command, and `Memory` where memory runs out over words that are one.
+pub fn read_words(alloc: Global, words: &[String], program: Program) -> Result<Command, WordFault>
+    ensures command { IfOk result (λ command.
+        command_of program (map string_bytes words.now) ≡ Some command) }
+    ensures usage { IsErrOf result WordFault.Usage
+        ↔ IsNone (command_of program (map string_bytes words.now)) }
 {
-    let command = match program {
-        Program::Walk => read_walk(words),
-        Program::Run => read_threads(words),
+    if !is_command(words, program) {
+        return Err(WordFault::Usage);
+    }
+    let Ok(parser) = parser_of(alloc, program) else {
+        return Err(WordFault::Memory);
     };
-    match command {
-        Some(command) => Ok(command),
-        None => Err(WordFault::Usage),
+    match parse(parser, words, program) {
+        Ok(matches) => read_matches(&matches).ok_or(WordFault::Usage),
+        Err(_) => Err(WordFault::Memory),
     }
 }

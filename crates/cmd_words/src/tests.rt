@@ -23,6 +23,11 @@ const WALKS: &str = "\
     make 1 1 4294967297=> usage\n\
     make +1 1 1=> usage\n\
     make -1 1 1=> usage\n\
+    make 1 -1 1=> usage\n\
+    make 1 1 -1=> usage\n\
+    make -- 1 1 1=> usage\n\
+    make 1 1 1 --=> usage\n\
+    make --help=> usage\n\
     make 1x 1 1=> usage\n\
     make  1 1=> usage\n\
     make 1 1=> usage\n\
@@ -32,13 +37,17 @@ const WALKS: &str = "\
     walk x=> usage\n\
     walk walk=> usage\n\
     walk --trace=> usage\n\
+    walk -h=> usage\n\
+    -- walk=> usage\n\
     run 2=> usage\n\
     -=> usage\n\
     --=> usage\n\
     -h=> usage\n\
     --help=> usage\n\
     --version=> usage\n\
+    -V=> usage\n\
     help=> usage\n\
+    help walk=> usage\n\
     => usage";
 
 // And the command of the program of runs.
@@ -51,6 +60,10 @@ const RUNS: &str = "\
     run=> usage\n\
     run 1 1=> usage\n\
     run -1=> usage\n\
+    run +1=> usage\n\
+    run -- 1=> usage\n\
+    run --workers=1=> usage\n\
+    help run=> usage\n\
     Run 1=> usage\n\
     walk=> usage\n\
     --help=> usage\n\
@@ -62,7 +75,7 @@ fn told(alloc: Global, text: &str, program: Program) -> Result<String, AllocErro
     for word in text.split(' ') {
         words.push(String::from_str(alloc, word)?)?;
     }
-    match read_words(words.as_slice(), program) {
+    match read_words(alloc, words.as_slice(), program) {
         Ok(command) => format!(in alloc; "{command:?}"),
         Err(fault) => format!(in alloc; "{fault}"),
     }
@@ -76,7 +89,7 @@ fn words_are_commands(rt: HostRuntime) -> Result<(), Fail> {
             let (text, want) = row.split_once("=> ").unwrap_or((row, "a row"));
             assert_eq!(rt; told(alloc, text, program)?.as_str(), want, "{row}");
         }
-        assert_eq!(rt; read_words(&[], program).is_err(), true);
+        assert_eq!(rt; read_words(alloc, &[], program).is_err(), true);
     }
     Ok(())
 }
