@@ -183,7 +183,7 @@ list-few script (item ∷ items) =
     few-refused number None = omega arith
     few-refused number (Some why) = omega arith
 
-refusals-few : (script : Script) (s : Counts) → length (refusals_of script s) ≤ length script.items
+pub refusals-few : (script : Script) (s : Counts) → length (refusals_of script s) ≤ length script.items
 refusals-few script s =
     let a = list-few script (landed_items script s) in
     let b = landed-few s.frames s.commands 0 script.items in

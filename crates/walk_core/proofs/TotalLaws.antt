@@ -1,8 +1,8 @@
 -- The totals of a walk.
-use Rattle.std.proofs.Common.{◌≡◌, ℕ, ◌+◌, ◌-◌, ◌≤◌, min, length, Option, sym, ◌∙◌, ap, arith}
+use Rattle.std.proofs.Common.{◌≡◌, ℕ, ◌+◌, ◌-◌, ◌≤◌, length, Option, sym, ◌∙◌, ap, arith}
 use Rattle.session_model.specs.declared.script.Script.{Script}
 use Rattle.report_text.specs.declared.report.Totals.{Totals}
-use Rattle.walk_law.specs.Landed.{refusals_of, totals_of}
+use Rattle.walk_law.specs.Landed.{totals_of}
 use Rattle.walk_law.specs.Delivered.{delivered_of}
 use Rattle.walk_law.proofs.CountLaws.{delivered-few}
 use Rattle.walk_core.specs.declared.moved.StepNote.{StepNote}

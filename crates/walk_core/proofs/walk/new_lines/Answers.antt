@@ -1,5 +1,5 @@
 -- One line more is opened.
-use Rattle.std.proofs.Common.{◌≡◌, ◌<◌, [], length, refl, sym, ◌∙◌, ap, subst, arith}
+use Rattle.std.proofs.Common.{◌<◌, [], length, refl, sym, ◌∙◌, ap, subst, arith}
 use Rattle.session_model.specs.declared.script.Config.{Config}
 use Rattle.walk_core.specs.Opened.{IsOpened}
 use Rattle.walk_core.proofs.OpenLaws.{opened-more, opened-at, index-is}

@@ -1,5 +1,5 @@
 -- A round more, or all rows are taken.
-use Rattle.std.proofs.Common.{◌≡◌, ◌<◌, ◌≤◌, refl, sym, ◌∙◌, ap, subst, arith}
+use Rattle.std.proofs.Common.{◌<◌, ◌≤◌, refl, sym, ◌∙◌, ap, subst, arith}
 use Rattle.session_model.specs.declared.script.Script.{Script}
 use Rattle.session_model.specs.Counts.{Counts, run, round}
 use Rattle.session_model.specs.Valid.{IsValid}

@@ -1,5 +1,5 @@
 -- Nothing has landed, was sent, or was taken.
-use Rattle.std.proofs.Common.{◌≡◌, ◌+◌, length, drop, ◌∙◌, ap, arith}
+use Rattle.std.proofs.Common.{◌+◌, length, drop, ◌∙◌, ap, arith}
 use Rattle.std.specs.Vec.{vec_capacity}
 use Rattle.walk_parts.specs.Place.{is_frame, is_command, place_of}
 use Rattle.walk_core.proofs.OpenLaws.{new-counts, new-walk}

@@ -1,5 +1,5 @@
 -- A round by its parts, of which only the last takes a row.
-use Rattle.std.proofs.Common.{◌≡◌, suc, sym, ◌∙◌, ap, subst, length, replicate, [], ◌∷◌}
+use Rattle.std.proofs.Common.{suc, sym, ◌∙◌, ap, subst, length, replicate, [], ◌∷◌}
 use Rattle.session_model.specs.declared.script.Script.{Script}
 use Rattle.session_model.specs.declared.walk.Event.TheVariants.{Command, Tick, Back, Take}
 use Rattle.session_model.specs.Counts.{run, carries_from}
