@@ -96,7 +96,8 @@ pub const CASES: [Case; 8] = [
     },
 ];
 
-/// A lag, and events of a walk of one line without items: each with how often it is made, and what it answers each time.
+/// A lag, and events of a walk of one line without items: each with how often it is made, and what it answers
+/// the last time.
 pub type Course = (u8, &'static [(Event, u32, Moved)]);
 
 pub const COURSES: [Course; 3] = [
