@@ -8,7 +8,7 @@ ghost use Rattle.session_model.specs.Valid.{IsValid};
 use crate::{Event, Moved, Walk};
 use report_text::{GOT_ROOM, REFUSED_ROOM, TOTAL_ROOM, got_line, refused_line, total_line};
 use script_read::read_script;
-use session_model::{EventLine, SourceState};
+use session_model::{EventLine, EventList, SourceState};
 use sink_core::KeptFrames;
 use std::alloc::{AllocError, Global};
 use std::process::Abort;
@@ -21,9 +21,41 @@ fn make(walk: &mut Walk, lines: u8, event: Event, out: &mut KeptFrames) -> Optio
     requires lines { lines ≡ walk.old.script.config.lines }
     ensures { walk.new.script ≡ walk.old.script }
 {
-    match event {
-        Event::Carry(line) if line >= lines => None,
-        _ => Some(walk.step(event, out)),
+    if let Event::Carry(line) = event {
+        return if line < lines {
+            Some(walk.step(Event::Carry(line), out))
+        } else {
+            None
+        };
+    }
+    Some(walk.step(event, out))
+}
+
+/// Makes an event some times, and gives its last answer.
+fn repeat(
+    walk: &mut Walk,
+    lines: u8,
+    event: Event,
+    count: u32,
+    out: &mut KeptFrames,
+) -> Option<Moved>
+    requires valid { IsValid walk.old.script }
+    requires lines { lines ≡ walk.old.script.config.lines }
+    ensures { walk.new.script ≡ walk.old.script }
+{
+    let mut moved = None;
+    for _ in 0..count {
+        moved = make(walk, lines, event, out);
+    }
+    moved
+}
+
+/// Makes rounds.
+fn rounds(walk: &mut Walk, count: u32, out: &mut KeptFrames)
+    ensures { walk.new.script ≡ walk.old.script }
+{
+    for _ in 0..count {
+        walk.round(out);
     }
 }
 
@@ -40,17 +72,10 @@ fn follow(walk: &mut Walk, lines: u8, line: EventLine, out: &mut KeptFrames)
         EventLine::Carry(line, count) => (Event::Carry(line), count),
         EventLine::Back(count) => (Event::Back, count),
         EventLine::Take(count) => (Event::Take, count),
-        EventLine::Round(count) => {
-            for _ in 0..count {
-                walk.round(out);
-            }
-            return;
-        }
+        EventLine::Round(count) => return rounds(walk, count, out),
         EventLine::Drain => return walk.drain(out),
     };
-    for _ in 0..count {
-        make(walk, lines, event, out);
-    }
+    repeat(walk, lines, event, count, out);
 }
 
 /// Octets of a text that stand for others: the end of a line, and octets of a frame.
@@ -58,7 +83,7 @@ fn text_of(alloc: Global, short: &[u8]) -> Result<Vec<u8>, AllocError> {
     let mut text = Vec::new(alloc);
     for octet in short {
         let (digits, count) = match *octet {
-            b'/' => (b"\n".as_slice(), 1),
+            b'/' => (b"\n".as_slice(), 1u16),
             b'*' => (b"5a".as_slice(), 63),
             b'%' => (b"c3".as_slice(), 1399),
             _ => (std::slice::from_ref(octet), 1),
@@ -73,7 +98,7 @@ fn text_of(alloc: Global, short: &[u8]) -> Result<Vec<u8>, AllocError> {
 /// The lines of the frames that were delivered, of the refusals, and of the totals.
 fn report(alloc: Global, walk: &Walk, out: &KeptFrames) -> Result<Vec<u8>, AllocError> {
     let mut text = Vec::new(alloc);
-    let mut got = vec![in alloc; 0u8; GOT_ROOM]?;
+    let mut got = [0; GOT_ROOM];
     for frame in out.frames() {
         if frame.len() <= 9600 {
             let n = got_line(frame, &mut got);
@@ -91,16 +116,18 @@ fn report(alloc: Global, walk: &Walk, out: &KeptFrames) -> Result<Vec<u8>, Alloc
     Ok(text)
 }
 
+/// The event lines of a script.
+fn copy_of(alloc: Global, events: &EventList) -> Result<Vec<EventLine>, AllocError> {
+    Vec::from_slice(alloc, &events.0)
+}
+
 /// What comes of a script.
 fn outcome(alloc: Global, script: &[u8]) -> Result<Vec<u8>, Fail>
     requires { length script.now ≤ 67108864 }
 {
-    let mut script = read_script(alloc, script)?;
+    let script = read_script(alloc, script)?;
     let lines = script.config.lines;
-    let mut events = Vec::new(alloc);
-    for line in &script.events.0 {
-        events.push(*line)?;
-    }
+    let events = copy_of(alloc, &script.events)?;
     let mut walk = Walk::new(alloc, script)?;
     let mut out = KeptFrames::new(alloc)?;
     for line in &events {
@@ -135,7 +162,7 @@ fn a_line_is_added(rt: HostRuntime) -> Result<(), Fail> {
     Ok(())
 }
 
-/// Makes the events of a course, and compares what each answers.
+/// Makes the events of a course, and compares the last answer of each.
 fn run_course(rt: &impl Abort, alloc: Global, (lag, steps): Course) -> Result<(), Fail> {
     let text = format!(in alloc; "lines 1\ndelays 0\nring 1\nlag {lag}\nticks 41\n")?;
     assert!(rt; text.len() < 100);
@@ -144,13 +171,8 @@ fn run_course(rt: &impl Abort, alloc: Global, (lag, steps): Course) -> Result<()
     let mut walk = Walk::new(alloc, script)?;
     let mut out = KeptFrames::new(alloc)?;
     for (i, (event, count, moved)) in steps.iter().enumerate() {
-        for _ in 0..*count {
-            assert_eq!(rt;
-                make(&mut walk, lines, *event, &mut out),
-                Some(*moved),
-                "lag {lag}, {i}"
-            );
-        }
+        let last = repeat(&mut walk, lines, *event, *count, &mut out);
+        assert_eq!(rt; last, Some(*moved), "lag {lag}, {i}");
     }
     Ok(())
 }

@@ -96,14 +96,15 @@ pub const CASES: [Case; 8] = [
     },
 ];
 
-/// A lag, and events of a walk of one line without items: each with how often it is made, and what it answers each time.
+/// A lag, and events of a walk of one line without items: each with how often it is made, and what it answers
+/// the last time.
 pub type Course = (u8, &'static [(Event, u32, Moved)]);
 
 pub const COURSES: [Course; 3] = [
     (
         1,
         &[
-            (Event::Accept, 2, Stalled(Done)),
+            (Event::Accept, 1, Stalled(Done)),
             (Event::Carry(0), 1, Stalled(Empty { line: 0 })),
             (Event::Tick, 24, Yes),
             (Event::Carry(0), 1, Yes),
@@ -116,13 +117,13 @@ pub const COURSES: [Course; 3] = [
         2,
         &[
             (Event::Tick, 32, Yes),
-            (Event::Tick, 2, Stalled(TxFull { line: 0 })),
+            (Event::Tick, 1, Stalled(TxFull { line: 0 })),
         ],
     ),
     (
         2,
         &[
-            (Event::Take, 2, Stalled(Waiting { line: 0 })),
+            (Event::Take, 1, Stalled(Waiting { line: 0 })),
             (Event::Tick, 1, Yes),
             (Event::Carry(0), 1, Yes),
             (Event::Take, 1, Yes),
