@@ -8,12 +8,36 @@ use gfp_fill::{Filler, FrameQueue};
 use h4_multiframe::h4;
 use lcas_packet::Packet;
 use line_core::{LineCore, Windows};
-use member_ring::{LineEnds, LineWorker, OpenGate, RingIn, RingOut, back_ring, line_rings};
+use member_ring::{
+    Gate, LineEnds, LineWorker, OpenGate, RingIn, RingOut, Who, back_ring, line_rings,
+};
 use outside_io::MemSink;
 use std::alloc::Global;
+use std::sync::atomic::{AtomicU64, Ordering};
 use std::test::Fail;
 use vc_cell::{Cell, Container, Ctrl, PAYLOAD};
 use vcat_interleave::spread;
+
+// Counts how often the sink passes, and how often it moved.
+#[derive(Drop)]
+struct Counter {
+    passed: AtomicU64,
+    moved: AtomicU64,
+}
+
+impl Gate for Counter {
+    fn pass(&self, who: Who) {
+        if who == Who::Sink {
+            self.passed.fetch_add(1, Ordering::SeqCst);
+        }
+    }
+
+    fn moved(&self, who: Who) {
+        if who == Who::Sink {
+            self.moved.fetch_add(1, Ordering::SeqCst);
+        }
+    }
+}
 
 #[test]
 fn one_row_is_taken(rt: HostRuntime) -> Result<(), Fail> {
@@ -28,14 +52,20 @@ fn one_row_is_taken(rt: HostRuntime) -> Result<(), Fail> {
     ends.push(rx_out)?;
     let mut sink = SinkWorker::new(rt.alloc(), 1, 1, 756, ends, back)?;
     let mut out = MemSink::new(rt.alloc(), 100, &[])?;
+    let gate = Counter {
+        passed: AtomicU64::new(0),
+        moved: AtomicU64::new(0),
+    };
     let waiting = SinkBurst::Idle(SinkIdle::Waiting { line: 0 });
-    assert_eq!(rt; sink.burst(&mut out, &OpenGate), waiting);
+    assert_eq!(rt; sink.burst(&mut out, &gate), waiting);
     assert!(rt; rx.ready());
     rx.push(Cell::Fail);
-    assert_eq!(rt; sink.burst(&mut out, &OpenGate), SinkBurst::Moved);
-    assert_eq!(rt; sink.burst(&mut out, &OpenGate), SinkBurst::Done);
+    assert_eq!(rt; sink.burst(&mut out, &gate), SinkBurst::Moved);
+    assert_eq!(rt; sink.burst(&mut out, &gate), SinkBurst::Done);
     assert_eq!(rt; (sink.taken(), sink.got(), sink.failed()), (1, 0, false));
     assert!(rt; out.bytes().is_empty());
+    assert_eq!(rt; gate.passed.load(Ordering::SeqCst), 3);
+    assert_eq!(rt; gate.moved.load(Ordering::SeqCst), 1);
     Ok(())
 }
 
