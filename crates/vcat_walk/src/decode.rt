@@ -5,9 +5,12 @@ ghost use Rattle.session_model.specs.DecodeText.{decoded_text};
 ghost use Rattle.trace_core.specs.Decoder.{Stands};
 ghost use Rattle.vcat_walk.specs.Written.{HasLines, HasLinesPart};
 
-use crate::report::{FOUND_ROOM, end_line, found_line};
-use outside_io::{ByteSink, Failed, put_all};
-use trace_core::H4Decoder;
+use crate::hex_lines::{HexLinesFault, read_octets};
+use crate::input::read_input;
+use crate::stop::Stop;
+use outside_io::{ByteSink, ByteSource, Failed, put_all};
+use std::alloc::Global;
+use trace_core::{FOUND_ROOM, H4Decoder, end_line, found_line};
 
 /// Gives an H4 octet to the decoder, and writes the line of what it finds. The answer is the number of lines.
 fn take_h4<K: ByteSink>(
@@ -38,7 +41,7 @@ fn take_h4<K: ByteSink>(
 }
 
 /// Writes a line for each control packet in the H4 octets of a line, and the last line.
-pub fn write_packets<K: ByteSink>(octets: &[u8], out: &mut K) -> Result<(), Failed>
+fn write_packets<K: ByteSink>(octets: &[u8], out: &mut K) -> Result<(), Failed>
     requires { length octets.now ≤ 33554432 }
     ensures ok { OnOk result (Appends K.written K.faults out.old out.new (decoded_text octets.now)) }
     ensures err { OnErr result (AppendsPart K.written K.faults out.old out.new (decoded_text octets.now)) }
@@ -54,4 +57,41 @@ pub fn write_packets<K: ByteSink>(octets: &[u8], out: &mut K) -> Result<(), Fail
     }
     let end = end_line(octets.len(), packets, &mut line);
     put_all(out, &line[..end])
+}
+
+/// Reads the H4 octets of a line and writes the control packets in them.
+pub fn decode<S: ByteSource, K: ByteSink>(
+    alloc: Global,
+    script: &mut S,
+    out: &mut K,
+) -> Result<(), Stop>
+    ensures command { result ≢ Err Stop.Usage }
+    ensures form { result ≢ Err Stop.OtherForm }
+    ensures long { result ≡ Err Stop.TooLong → IfSome (S.left script.old) (λ text. most_octets < length text) }
+    ensures fits { HasReadAll result → IfSome (S.left script.old) (λ text. length text ≤ most_octets) }
+    ensures hex { (number : ℕ) → result ≡ Err (Stop.NotHex number) →
+        IfSome (S.left script.old) (λ text. IsFirstFault text number) }
+    ensures end { HasReadAll result → IsAtEnd (S.left script.new) }
+    ensures decoded { OnOk result (IfSome (S.left script.old) (WritesPackets K.written K.faults out.old out.new)) }
+    ensures part { result ≡ Err Stop.Write →
+        IfSome (S.left script.old) (WritesPacketsPart K.written K.faults out.old out.new) }
+    ensures nothing { IfErr result (λ stop. stop ≢ Stop.Write → out.new ≡ out.old) }
+    ensures read_failed { result ≡ Err Stop.Read → S.faults script.new ≡ one_more (S.faults script.old) }
+    ensures read_quiet { result ≢ Err Stop.Read → S.faults script.new ≡ S.faults script.old }
+    ensures write_failed { result ≡ Err Stop.Write → K.faults out.new ≡ one_more (K.faults out.old) }
+    ensures write_quiet { result ≢ Err Stop.Write → K.faults out.new ≡ K.faults out.old }
+{
+    let text = match read_input(alloc, script) {
+        Ok(text) => text,
+        Err(stop) => return Err(stop),
+    };
+    let octets = match read_octets(alloc, text.as_slice()) {
+        Ok(octets) => octets,
+        Err(HexLinesFault::Memory) => return Err(Stop::Memory),
+        Err(HexLinesFault::Line { number }) => return Err(Stop::NotHex { number }),
+    };
+    match write_packets(octets.as_slice(), out) {
+        Ok(()) => Ok(()),
+        Err(Failed) => Err(Stop::Write),
+    }
 }

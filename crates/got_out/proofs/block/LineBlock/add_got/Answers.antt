@@ -2,8 +2,8 @@
 use Rattle.std.proofs.Common.{rules, ◌-◌, ℕ, List, subst}
 use Rattle.std.proofs.lemmas.Result.{on_ok_weaker, on_err_weaker}
 use Rattle.outside_io.specs.Transfer.{AppendsPart}
-use Rattle.vcat_walk.proofs.BlockLaws.{Holds-waits, Holds-all, front_added}
-use Rattle.vcat_walk.proofs.block.LineBlock.add_got.Goals as goal
+use Rattle.got_out.proofs.BlockLaws.{Holds-waits, Holds-all, front_added}
+use Rattle.got_out.proofs.block.LineBlock.add_got.Goals as goal
 
 pub returns-then-end-lt-MUCH-clause-ok : goal.returns-then-end-lt-MUCH-clause-ok
 returns-then-end-lt-MUCH-clause-ok g c =

@@ -2,8 +2,8 @@
 use Rattle.std.proofs.Common.{rules, ◌-◌, ℕ, List, subst}
 use Rattle.std.proofs.lemmas.Result.{on_ok_weaker, on_err_weaker}
 use Rattle.outside_io.specs.Transfer.{Appends, AppendsPart}
-use Rattle.vcat_walk.proofs.BlockLaws.{front_added}
-use Rattle.vcat_walk.proofs.block.LineBlock.put_total.Goals as goal
+use Rattle.got_out.proofs.BlockLaws.{front_added}
+use Rattle.got_out.proofs.block.LineBlock.put_total.Goals as goal
 
 pub returns-clause-ok : goal.returns-clause-ok
 returns-clause-ok g c =

@@ -5,7 +5,7 @@ use Rattle.std.proofs.lemmas.List.{take-append-le, length-take-le}
 use borrow.Rule.Slice.PartMut.{put_mid, post_of}
 use Rattle.outside_io.specs.Transfer.{Appends, AppendsPart}
 use Rattle.outside_io.proofs.Parts.{Appends-none, Appends-then, AppendsPart-then}
-use Rattle.vcat_walk.specs.Written.{Holds}
+use Rattle.got_out.specs.Told.{Holds}
 
 -- nothing is put, and all waits
 pub Holds-waits : {K : Type 0} (written : K → Option (List ℕ)) (faults : K → ℕ) (sink : K) (waiting text : List ℕ) → waiting ≡ text

@@ -1,11 +1,11 @@
 //! Lines of text that wait in a block, so that many of them go out in one call.
 ghost use Rattle.std.specs.Prelude.{◌≡◌, ◌≤◌, [], ◌++◌, length, OnOk, OnErr};
 ghost use Rattle.outside_io.specs.Transfer.{Appends, AppendsPart};
-ghost use Rattle.report_text.specs.Report.{got_text, total_text};
-ghost use Rattle.vcat_walk.specs.Written.{Holds};
+ghost use Rattle.report_text.specs.Report.{got_text};
+ghost use Rattle.got_out.specs.Told.{Holds};
 
 use outside_io::{ByteSink, Failed, put_all};
-use report_text::{GOT_ROOM, Totals, got_line, total_line};
+use report_text::{GOT_ROOM, got_line};
 use std::marker::Model;
 
 /// How many octets wait at least when a block goes out.
@@ -58,14 +58,30 @@ impl LineBlock {
         put_all(out, &self.octets[..end])
     }
 
-    /// Adds the line of totals, and puts all that waits.
-    pub fn put_total<K: ByteSink>(&mut self, totals: &Totals, out: &mut K) -> Result<(), Failed>
-        ensures ok { let text = self.old ++ total_text totals.now in
-            OnOk result (Appends K.written K.faults out.old out.new text) }
-        ensures err { let text = self.old ++ total_text totals.now in
+    /// Adds a line, and puts what waits where it is much.
+    pub fn add<K: ByteSink>(&mut self, line: &[u8], out: &mut K) -> Result<(), Failed>
+        requires { length line.now ≤ 19205 }
+        ensures ok { let text = self.old ++ line.now in
+            OnOk result (Holds K.written K.faults out.old out.new self.new text) }
+        ensures err { let text = self.old ++ line.now in
             OnErr result (AppendsPart K.written K.faults out.old out.new text) }
     {
-        let end = self.len + total_line(totals, &mut self.octets[self.len..]);
+        let end = self.len + line.len();
+        self.octets[self.len..end].copy_from_slice(line);
+        if end < MUCH {
+            self.len = end;
+            return Ok(());
+        }
+        self.len = 0;
+        put_all(out, &self.octets[..end])
+    }
+
+    /// Puts all that waits.
+    pub fn put<K: ByteSink>(&mut self, out: &mut K) -> Result<(), Failed>
+        ensures ok { OnOk result (Appends K.written K.faults out.old out.new self.old) }
+        ensures err { OnErr result (AppendsPart K.written K.faults out.old out.new self.old) }
+    {
+        let end = self.len;
         self.len = 0;
         put_all(out, &self.octets[..end])
     }
