@@ -1,6 +1,8 @@
-pub mod Form
-pub mod Walk
+pub mod Words
 pub mod HexLines
-pub mod Top
+pub mod Texts
+pub mod Made
 pub mod Stop
 pub mod Written
+pub mod Ended
+pub mod Traced
