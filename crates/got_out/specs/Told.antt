@@ -60,9 +60,15 @@ abbrev pub HasText : {K : Type 0} → (K → Option (List ℕ)) → (K → ℕ) 
 HasText written faults got start text = (got.out.ghost_name ≡ start.name)
     × Told got.failed (seen (told_of start.octets) start.faults) (seen (written got.out.now) (faults got.out.now)) got.block text
 
--- a prefix of a text was appended to a sink
-pub record AppendsSome {K : Type 0} (written : K → Option (List ℕ)) (old new : K) (text : List ℕ) : Type 0 where
+-- a prefix of a text was appended to the sink, which may be nothing or the whole, and no fault was counted
+pub record AppendsSome {K : Type 0} (written : K → Option (List ℕ)) (faults : K → ℕ) (old new : K) (text : List ℕ) : Type 0 where
   pub part : List ℕ
   pub rest : List ℕ
   pub prefix : part ++ rest ≡ text
   pub appended : written new ≡ append_known (written old) part
+  pub quiet : faults new ≡ faults old
+
+-- a text was given up: after a fault, or without one
+abbrev pub GivesUp : {K : Type 0} → Bool → (K → Option (List ℕ)) → (K → ℕ) → K → K → List ℕ → Type 0
+GivesUp true written faults old new text = AppendsPart written faults old new text
+GivesUp false written faults old new text = AppendsSome written faults old new text

@@ -1,9 +1,9 @@
 //! Frames are written as lines of text.
-ghost use Rattle.std.specs.Prelude.{◌≡◌, ◌≤◌, ℕ, List, [], ◌++◌, length, false, OnOk, OnErr};
+ghost use Rattle.std.specs.Prelude.{◌≡◌, ◌≤◌, ℕ, Bool, List, [], ◌++◌, length, false, OnOk, OnErr};
 ghost use Rattle.outside_io.specs.Transfer.{Appends, AppendsPart};
 ghost use Rattle.outside_io.specs.Faults.{one_more};
 ghost use Rattle.sink_core.specs.Start.{Start};
-ghost use Rattle.got_out.specs.Told.{HasText, AppendsSome, name_of, sink_of, has_failed, start_at};
+ghost use Rattle.got_out.specs.Told.{HasText, GivesUp, name_of, has_failed, start_at};
 
 use crate::block::LineBlock;
 use outside_io::{ByteSink, Failed};
@@ -50,8 +50,9 @@ impl<'a, K: ByteSink> GotOut<'a, K> {
         if self.failed {
             return;
         }
-        if let Err(Failed) = self.block.add(text, self.out) {
-            self.failed = true;
+        match self.block.add(text, self.out) {
+            Ok(()) => {}
+            Err(Failed) => self.failed = true,
         }
     }
 
@@ -80,7 +81,9 @@ impl<'a, K: ByteSink> GotOut<'a, K> {
     /// Writes nothing more. Answers where the lines were written.
     pub fn abandon(self) -> &'a mut K
         ensures name { result.ghost_name ≡ name_of self.entry }
-        ensures now { result.now ≡ sink_of self.entry }
+        ensures gives_up { (first : K) (text : List ℕ) → HasText K.written K.faults self.entry
+            (start_at K.written K.faults first (name_of self.entry)) text → GivesUp
+            (has_failed self.entry) K.written K.faults first result.now text }
     {
         let GotOut {
             out,
@@ -102,8 +105,9 @@ impl<'a, K: ByteSink> FrameOut for GotOut<'a, K> {
         if self.failed {
             return;
         }
-        if let Err(Failed) = self.block.add_got(frame, self.out) {
-            self.failed = true;
+        match self.block.add_got(frame, self.out) {
+            Ok(()) => {}
+            Err(Failed) => self.failed = true,
         }
     }
 }
