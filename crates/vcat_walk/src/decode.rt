@@ -1,8 +1,13 @@
 //! The packets in the H4 octets of a line are found, and a line is written of each.
-ghost use Rattle.std.specs.Prelude.{◌≡◌, ℕ, ◌+◌, ◌<◌, ◌≤◌, List, [], ◌∷◌, ◌++◌, length, IfOk, OnOk, OnErr};
+ghost use Rattle.std.specs.Prelude.{◌≡◌, ◌≢◌, ℕ, ◌+◌, ◌<◌, ◌≤◌, List, [], ◌∷◌, ◌++◌, length, Some, None, IfSome, IfOk, OnOk, OnErr};
+ghost use Rattle.outside_io.specs.Faults.{one_more};
 ghost use Rattle.outside_io.specs.Transfer.{Appends, AppendsPart};
 ghost use Rattle.session_model.specs.DecodeText.{decoded_text};
 ghost use Rattle.trace_core.specs.Decoder.{Stands};
+ghost use Rattle.script_read.specs.declared.fault.ScriptFault.{ScriptFault};
+ghost use Rattle.vcat_walk.specs.Ended.{WritesPackets, WritesPacketsPart};
+ghost use Rattle.vcat_walk.specs.HexLines.{IsFirstFault};
+ghost use Rattle.vcat_walk.specs.Stop.{HasRun, ReadsInput};
 ghost use Rattle.vcat_walk.specs.Written.{HasLines, HasLinesPart};
 
 use crate::hex_lines::{HexLinesFault, read_octets};
@@ -59,39 +64,37 @@ fn write_packets<K: ByteSink>(octets: &[u8], out: &mut K) -> Result<(), Failed>
     put_all(out, &line[..end])
 }
 
-/// Reads the H4 octets of a line and writes the control packets in them.
+/// Reads the H4 octets of a line and writes the control packets in them. Answers why it stopped, where it wasn't done.
 pub fn decode<S: ByteSource, K: ByteSink>(
     alloc: Global,
     script: &mut S,
     out: &mut K,
-) -> Result<(), Stop>
-    ensures command { result ≢ Err Stop.Usage }
-    ensures form { result ≢ Err Stop.OtherForm }
-    ensures long { result ≡ Err Stop.TooLong → IfSome (S.left script.old) (λ text. most_octets < length text) }
-    ensures fits { HasReadAll result → IfSome (S.left script.old) (λ text. length text ≤ most_octets) }
-    ensures hex { (number : ℕ) → result ≡ Err (Stop.NotHex number) →
+) -> Option<Stop>
+    ensures reads { ReadsInput S.left S.faults script.old script.new result }
+    ensures command { result ≢ Some Stop.Usage }
+    ensures fault { (fault : ScriptFault) → result ≢ Some (Stop.Fault fault) }
+    ensures hex { (number : ℕ) → result ≡ Some (Stop.NotHex number) →
         IfSome (S.left script.old) (λ text. IsFirstFault text number) }
-    ensures end { HasReadAll result → IsAtEnd (S.left script.new) }
-    ensures decoded { OnOk result (IfSome (S.left script.old) (WritesPackets K.written K.faults out.old out.new)) }
-    ensures part { result ≡ Err Stop.Write →
+    ensures decoded { result ≡ None →
+        IfSome (S.left script.old) (WritesPackets K.written K.faults out.old out.new) }
+    ensures part { result ≡ Some Stop.Write →
         IfSome (S.left script.old) (WritesPacketsPart K.written K.faults out.old out.new) }
-    ensures nothing { IfErr result (λ stop. stop ≢ Stop.Write → out.new ≡ out.old) }
-    ensures read_failed { result ≡ Err Stop.Read → S.faults script.new ≡ one_more (S.faults script.old) }
-    ensures read_quiet { result ≢ Err Stop.Read → S.faults script.new ≡ S.faults script.old }
-    ensures write_failed { result ≡ Err Stop.Write → K.faults out.new ≡ one_more (K.faults out.old) }
-    ensures write_quiet { result ≢ Err Stop.Write → K.faults out.new ≡ K.faults out.old }
+    ensures nothing { (¬ HasRun result) → out.new ≡ out.old }
+    ensures write_failed { result ≡ Some Stop.Write →
+        K.faults out.new ≡ one_more (K.faults out.old) }
+    ensures write_quiet { result ≢ Some Stop.Write → K.faults out.new ≡ K.faults out.old }
 {
     let text = match read_input(alloc, script) {
         Ok(text) => text,
-        Err(stop) => return Err(stop),
+        Err(stop) => return Some(stop),
     };
     let octets = match read_octets(alloc, text.as_slice()) {
         Ok(octets) => octets,
-        Err(HexLinesFault::Memory) => return Err(Stop::Memory),
-        Err(HexLinesFault::Line { number }) => return Err(Stop::NotHex { number }),
+        Err(HexLinesFault::Memory) => return Some(Stop::Memory),
+        Err(HexLinesFault::Line { number }) => return Some(Stop::NotHex { number }),
     };
     match write_packets(octets.as_slice(), out) {
-        Ok(()) => Ok(()),
-        Err(Failed) => Err(Stop::Write),
+        Ok(()) => None,
+        Err(Failed) => Some(Stop::Write),
     }
 }

@@ -84,12 +84,12 @@ pub fn make<K: ByteSink>(alloc: Global, number: u64, lines: u8, ticks: u32, out:
     };
     let mut sums = SumOut { octets: 0, sum: 0 };
     walk.drain(&mut sums);
-    let end = match write_made(lines, ticks, &walk.totals(), &sums, out) {
-        Ok(()) => Ok(()),
-        Err(Failed) => Err(Stop::Write),
+    let stop = match write_made(lines, ticks, &walk.totals(), &sums, out) {
+        Ok(()) => None,
+        Err(Failed) => Some(Stop::Write),
     };
     Ended {
-        end,
+        stop,
         walk: Some(walk),
     }
 }

@@ -24,8 +24,8 @@ pub enum Stop {
 
 /// How a command ended, and the walk that it made, if it came to one.
 pub struct Ended {
-    /// Whether it was done.
-    pub end: Result<(), Stop>,
+    /// Why it stopped, where it wasn't done.
+    pub stop: Option<Stop>,
     /// The walk.
     pub walk: Option<Walk>,
 }

@@ -31,11 +31,11 @@ pub fn walk_top<S: ByteSource, K: ByteSink, E: ByteSink>(
     notes: &mut E,
 ) -> WalkEnd
 {
-    let Ended { end, walk } = match read_words(words, Program::Walk) {
+    let Ended { stop, walk } = match read_words(words, Program::Walk) {
         Ok(Command::Walk { trace: false }) => walk(alloc, script, out),
         Ok(Command::Walk { trace: true }) => trace(alloc, script, out, notes),
         Ok(Command::Decode) => Ended {
-            end: decode(alloc, script, out),
+            stop: decode(alloc, script, out),
             walk: None,
         },
         Ok(Command::Make {
@@ -45,25 +45,25 @@ pub fn walk_top<S: ByteSource, K: ByteSink, E: ByteSink>(
         }) => make(alloc, number, lines, ticks, out),
         Ok(Command::Run { .. }) | Err(_) => stopped(Stop::Usage),
     };
-    tell(&end, notes);
+    tell(stop, notes);
     WalkEnd {
-        status: status_of(&end),
+        status: status_of(stop),
         walk,
     }
 }
 
-/// The exit status of an end.
-fn status_of(end: &Result<(), Stop>) -> u8 {
-    match end {
-        Ok(()) => 0,
-        Err(Stop::Usage) => 2,
-        Err(Stop::Read) => 3,
-        Err(Stop::Write) => 4,
-        Err(Stop::NotHex { .. } | Stop::Fault(ScriptFault::Line { .. })) => 5,
-        Err(Stop::Fault(
+/// The exit status of a command that was done, or stopped by a cause.
+fn status_of(stop: Option<Stop>) -> u8 {
+    match stop {
+        None => 0,
+        Some(Stop::Usage) => 2,
+        Some(Stop::Read) => 3,
+        Some(Stop::Write) => 4,
+        Some(Stop::NotHex { .. } | Stop::Fault(ScriptFault::Line { .. })) => 5,
+        Some(Stop::Fault(
             ScriptFault::Slip { .. } | ScriptFault::Spread { .. } | ScriptFault::Lag { .. },
         )) => 6,
-        Err(Stop::Memory | Stop::Fault(ScriptFault::Memory)) => 7,
-        Err(Stop::TooLong) => 8,
+        Some(Stop::Memory | Stop::Fault(ScriptFault::Memory)) => 7,
+        Some(Stop::TooLong) => 8,
     }
 }

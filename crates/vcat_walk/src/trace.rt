@@ -221,12 +221,12 @@ pub fn trace<S: ByteSource, K: ByteSink, E: ByteSink>(
     let Ok(mut walk) = Walk::new(alloc, script) else {
         return stopped(Stop::Memory);
     };
-    let end = match write_trace(&mut walk, lines.as_slice(), size, out, notes) {
-        Ok(()) => Ok(()),
-        Err(Failed) => Err(Stop::Write),
+    let stop = match write_trace(&mut walk, lines.as_slice(), size, out, notes) {
+        Ok(()) => None,
+        Err(Failed) => Some(Stop::Write),
     };
     Ended {
-        end,
+        stop,
         walk: Some(walk),
     }
 }

@@ -100,12 +100,12 @@ pub fn walk<S: ByteSource, K: ByteSink>(alloc: Global, script: &mut S, out: &mut
     let Ok(mut walk) = Walk::new(alloc, script) else {
         return stopped(Stop::Memory);
     };
-    let end = match write_walk(&mut walk, lines.as_slice(), out) {
-        Ok(()) => Ok(()),
-        Err(Failed) => Err(Stop::Write),
+    let stop = match write_walk(&mut walk, lines.as_slice(), out) {
+        Ok(()) => None,
+        Err(Failed) => Some(Stop::Write),
     };
     Ended {
-        end,
+        stop,
         walk: Some(walk),
     }
 }
@@ -113,7 +113,7 @@ pub fn walk<S: ByteSource, K: ByteSink>(alloc: Global, script: &mut S, out: &mut
 /// A command that stopped before it came to a walk.
 pub fn stopped(stop: Stop) -> Ended {
     Ended {
-        end: Err(stop),
+        stop: Some(stop),
         walk: None,
     }
 }
