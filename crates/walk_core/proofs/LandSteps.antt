@@ -29,9 +29,10 @@ use Rattle.walk_law.proofs.SourceLaws.{meets-stream, meets-source}
 use Rattle.walk_law.proofs.ReportLaws.{frame-placed, command-placed, frame-totals, command-totals}
 use Rattle.walk_parts.specs.Place.{is_frame, is_command, place_of}
 use Rattle.walk_core.specs.declared.moved.StepNote.{StepNote}
-use Rattle.walk_core.specs.Landing.{met_by, with_kind}
+use Rattle.walk_core.specs.Landing.{stall_by, met_by, with_kind}
 use Rattle.walk_core.specs.Parts.{Parts, Landing, counts_of, note_of, HasSource, HasSent, HasBack, HasLanded, IsWalk}
 use Rattle.session_model.specs.declared.walk.Event.{Event}
+use Rattle.session_model.specs.declared.walk.StallCause.{StallCause}
 use Rattle.session_model.specs.declared.walk.Event.TheVariants.{Accept, Command}
 use Rattle.session_model.specs.Table.{Told}
 use Rattle.session_model.specs.Counts.{step}
@@ -253,10 +254,10 @@ module _ (script : Script) (parts : Parts) (landing : Landing) (got : ℕ) (last
         refused = omega (arith, d, refused);
       }
 
-  pub frame-refused : (place : ℕ) (refusals : List (ℕ × Refusal)) (why : Refusal) → place ≡ place_of is_frame (landing.frames + 1) script.items → refusals ≡ refusals_of script with_frames →
+  pub frame-refused : (place : ℕ) (refusals : List (ℕ × Refusal)) (room : ℕ) (why : Refusal) → room ≡ landing.room → place ≡ place_of is_frame (landing.frames + 1) script.items → refusals ≡ refusals_of script with_frames →
       Lands script (counts_of parts landing) with_frames parts.source i item with_frame_told → met_by parts.source item.kind ≡ Some why →
-      HasLanded script with_frames (record landing { refusals = refusals; frame = place; frames = landing.frames + 1; refused_frames = landing.refused_frames + 1 })
-  frame-refused place refusals why at same lands met =
+      HasLanded script with_frames (record landing { refusals = refusals; room = room; frame = place; frames = landing.frames + 1; refused_frames = landing.refused_frames + 1 })
+  frame-refused place refusals room why same_room at same lands met =
       let told = told-by with_frames with_frame_told (Some why) lands met in
       let a = ap (λ (t : Totals). t.frames) told in
       let b = ap (λ (t : Totals). t.commands) told in
@@ -268,7 +269,7 @@ module _ (script : Script) (parts : Parts) (landing : Landing) (got : ℕ) (last
         frame = at;
         command = is.landed.command;
         refusals = same;
-        room = is.landed.room;
+        room = let most = is.landed.room in omega (arith, most, same_room);
         frames = omega (arith, a, frames);
         commands = omega (arith, b, commands);
         refused = omega (arith, d, refused);
@@ -295,10 +296,10 @@ module _ (script : Script) (parts : Parts) (landing : Landing) (got : ℕ) (last
         refused = omega (arith, d, refused);
       }
 
-  pub command-refused : (place : ℕ) (refusals : List (ℕ × Refusal)) (why : Refusal) → place ≡ place_of is_command (landing.commands + 1) script.items → refusals ≡ refusals_of script with_commands →
+  pub command-refused : (place : ℕ) (refusals : List (ℕ × Refusal)) (room : ℕ) (why : Refusal) → room ≡ landing.room → place ≡ place_of is_command (landing.commands + 1) script.items → refusals ≡ refusals_of script with_commands →
       Lands script (counts_of parts landing) with_commands parts.source i item with_command_told → met_by parts.source item.kind ≡ Some why →
-      HasLanded script with_commands (record landing { refusals = refusals; command = place; commands = landing.commands + 1; refused_commands = landing.refused_commands + 1 })
-  command-refused place refusals why at same lands met =
+      HasLanded script with_commands (record landing { refusals = refusals; room = room; command = place; commands = landing.commands + 1; refused_commands = landing.refused_commands + 1 })
+  command-refused place refusals room why same_room at same lands met =
       let told = told-by with_commands with_command_told (Some why) lands met in
       let a = ap (λ (t : Totals). t.frames) told in
       let b = ap (λ (t : Totals). t.commands) told in
@@ -310,7 +311,7 @@ module _ (script : Script) (parts : Parts) (landing : Landing) (got : ℕ) (last
         frame = is.landed.frame;
         command = at;
         refusals = same;
-        room = is.landed.room;
+        room = let most = is.landed.room in omega (arith, most, same_room);
         frames = omega (arith, a, frames);
         commands = omega (arith, b, commands);
         refused = omega (arith, d, refused);
@@ -329,6 +330,18 @@ pub record IsGiven (source was : Terminal) (kind : ItemKind) : Type 0 where
   pub same : SameKind source was
 
 module _ (script : Script) (parts : Parts) (landing : Landing) (got : ℕ) (last : Option StepNote) (is : IsWalk script parts landing got last) where
+  -- ---- why the next one doesn't land, where the items and the ticks are read
+  module _ (items : List Item) (ticks : ℕ) (all : items ≡ script.items) (now : ticks ≡ parts.source.ticks) (cause : Option StallCause) where
+    pub frame-cause : cause ≡ stall_by ticks (slice_get items landing.frame) → (step (walk_plan script) (counts_of parts landing) Accept).cause ≡ cause
+    frame-cause found =
+        frame-stall script (counts_of parts landing) landing.frame ticks is.landed.frame now
+        ∙ ap (λ (xs : List Item). stall_by ticks (slice_get xs landing.frame)) (sym all) ∙ sym found
+
+    pub command-cause : cause ≡ stall_by ticks (slice_get items landing.command) → (step (walk_plan script) (counts_of parts landing) Command).cause ≡ cause
+    command-cause found =
+        command-stall script (counts_of parts landing) landing.command ticks is.landed.command now
+        ∙ ap (λ (xs : List Item). stall_by ticks (slice_get xs landing.command)) (sym all) ∙ sym found
+
   module _ (none : (step (walk_plan script) (counts_of parts landing) Accept).cause ≡ None) where
     pub frame-item : (item : Item) × (slice_get script.items landing.frame ≡ Some item) × (item.due ≤ parts.source.ticks)
     frame-item = item-there parts.source.ticks script.items landing.frame (sym (frame-stall script (counts_of parts landing) landing.frame parts.source.ticks is.landed.frame refl) ∙ none)
@@ -368,14 +381,14 @@ module _ (script : Script) (parts : Parts) (landing : Landing) (got : ℕ) (last
         moved = ap answer_of (sym met ∙ lands.met) ∙ moves.1;
       }
 
-      pub frame-no : (why : Refusal) (refusals : List (ℕ × Refusal)) → met_by parts.source item.kind ≡ Some why →
+      pub frame-no : (why : Refusal) (refusals : List (ℕ × Refusal)) (room : ℕ) → room ≡ landing.room → met_by parts.source item.kind ≡ Some why →
           ((now : List (ℕ × Refusal)) → IsPlaced landing.frame ((landing.frame, why) ∷ []) landing.refusals now → refusals ≡ now) →
           Done script (counts_of parts landing) Accept (record parts { source = source })
-          (record landing { refusals = refusals; frame = place; frames = landing.frames + 1; refused_frames = landing.refused_frames + 1 }) got last (Refused why)
-      frame-no why refusals met put = record {
+          (record landing { refusals = refusals; room = room; frame = place; frames = landing.frames + 1; refused_frames = landing.refused_frames + 1 }) got last (Refused why)
+      frame-no why refusals room same_room met put = record {
         kept = land-kept script parts landing got last is item.kind source
-            (record landing { refusals = refusals; frame = place; frames = landing.frames + 1; refused_frames = landing.refused_frames + 1 })
-            (frame-refused script parts landing got last is landing.frame item place refusals why next-place
+            (record landing { refusals = refusals; room = room; frame = place; frames = landing.frames + 1; refused_frames = landing.refused_frames + 1 })
+            (frame-refused script parts landing got last is landing.frame item place refusals room why same_room next-place
             (put (refusals_of script (record (counts_of parts landing) { frames = landing.frames + 1 }))
             (refusal-placed script parts landing got last is landing.frame item (record (counts_of parts landing) { frames = landing.frames + 1 }) with_frame_told why lands met))
             lands met) walked lands.told
@@ -440,14 +453,14 @@ module _ (script : Script) (parts : Parts) (landing : Landing) (got : ℕ) (last
         moved = ap answer_of (sym met ∙ lands-too.met) ∙ moves-too.1;
       }
 
-      pub command-no : (why : Refusal) (refusals : List (ℕ × Refusal)) → met_by parts.source item.kind ≡ Some why →
+      pub command-no : (why : Refusal) (refusals : List (ℕ × Refusal)) (room : ℕ) → room ≡ landing.room → met_by parts.source item.kind ≡ Some why →
           ((now : List (ℕ × Refusal)) → IsPlaced landing.command ((landing.command, why) ∷ []) landing.refusals now → refusals ≡ now) →
           Done script (counts_of parts landing) Command (record parts { source = source })
-          (record landing { refusals = refusals; command = place; commands = landing.commands + 1; refused_commands = landing.refused_commands + 1 }) got last (Refused why)
-      command-no why refusals met put = record {
+          (record landing { refusals = refusals; room = room; command = place; commands = landing.commands + 1; refused_commands = landing.refused_commands + 1 }) got last (Refused why)
+      command-no why refusals room same_room met put = record {
         kept = land-kept script parts landing got last is item.kind source
-            (record landing { refusals = refusals; command = place; commands = landing.commands + 1; refused_commands = landing.refused_commands + 1 })
-            (command-refused script parts landing got last is landing.command item place refusals why next-place-too
+            (record landing { refusals = refusals; room = room; command = place; commands = landing.commands + 1; refused_commands = landing.refused_commands + 1 })
+            (command-refused script parts landing got last is landing.command item place refusals room why same_room next-place-too
             (put (refusals_of script (record (counts_of parts landing) { commands = landing.commands + 1 }))
             (refusal-placed script parts landing got last is landing.command item (record (counts_of parts landing) { commands = landing.commands + 1 }) with_command_told why lands-too met))
             lands-too met) walked-too lands-too.told

@@ -8,3 +8,5 @@ pub mod TakeLaws
 pub mod RefuseLaws
 pub mod LandLaws
 pub mod LandSteps
+pub mod TotalLaws
+pub mod TakenLaws

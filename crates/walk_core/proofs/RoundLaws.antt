@@ -1,5 +1,5 @@
 -- Rounds of a walk: items land until they stall, each line is tried once, and so for the rest.
-use Rattle.std.proofs.Common.{◌≡◌, ℕ, zero, suc, ◌+◌, ◌-◌, ◌<◌, ◌≤◌, ◌&&◌, ◌⊎◌, nat_le, nat_lt, inl, inr, List, [], ◌∷◌, ◌++◌, length, replicate, drop, slice_get, Option, Some, None, refl, sym, ◌∙◌, ap, arith, append_assoc}
+use Rattle.std.proofs.Common.{◌≡◌, ℕ, zero, suc, ◌+◌, ◌-◌, ◌<◌, ◌≤◌, ◌&&◌, ◌⊎◌, nat_le, nat_lt, inl, inr, List, [], ◌∷◌, ◌++◌, length, replicate, drop, slice_get, Option, Some, None, refl, sym, ◌∙◌, ap, subst, arith, append_assoc}
 use Rattle.std.proofs.lemmas.Option.{slice_get_within}
 use Rattle.std.proofs.lemmas.Bool.{cases_Bool}
 use Rattle.std.proofs.lemmas.List.{append-nil}
@@ -15,10 +15,11 @@ use Rattle.progress_law.proofs.MeasureLaws.{round-less, drain-round, drain-stop}
 use Rattle.progress_law.proofs.ReachLaws.{run-append}
 use Rattle.report_text.specs.declared.report.Refusal.{Refusal}
 use Rattle.walk_law.specs.Walk.{walk_plan, IsWalked}
+use Rattle.sink_core.specs.Start.{Start}
 use Rattle.walk_law.proofs.PlanLaws.{has-plan, valid-walks}
 use Rattle.walk_law.specs.Delivered.{delivered_of}
 use Rattle.walk_law.proofs.FrameLaws.{frames-grow}
-use Rattle.walk_core.specs.Moved.{delivered_since, answer_by, moved_of, counts_after, refusal_in_event}
+use Rattle.walk_core.specs.Moved.{delivered_since, answer_by, moved_of, counts_after, refusal_in_event, GivesRows}
 use Rattle.walk_core.specs.declared.moved.Moved.{Moved}
 use Rattle.walk_core.specs.declared.moved.Moved.TheVariants.{Yes, Stalled, Refused}
 use Rattle.walk_core.proofs.EventLaws.{walk-fits}
@@ -264,3 +265,35 @@ round-rows script a b t m r e s is_a is_b is_t is_m is_r =
 
 pub take-more : (script : Script) (r e s : Counts) → r.rows ≡ s.rows → e ≡ counts_after script r Take → s.rows ≤ e.rows
 take-more script r e s same is = let low = take-rises (walk_plan script) r in let next = ap (λ (x : Counts). x.rows) is in omega (arith, low, next, same)
+
+-- ---- no event takes rows back
+step-rises : (script : Script) (s : Counts) (event : Event) → s.rows ≤ (counts_after script s event).rows
+step-rises script s Accept = let e = frame-rows script s in omega (arith, e)
+step-rises script s Command = let e = command-rows script s in omega (arith, e)
+step-rises script s Tick = let e = tick-rows (walk_plan script) s in omega (arith, e)
+step-rises script s (Carry m) = let e = carry-rows script s m in omega (arith, e)
+step-rises script s Back = let e = back-rows s in omega (arith, e)
+step-rises script s Take = take-rises (walk_plan script) s
+
+pub run-rises : (script : Script) (s : Counts) (events : List Event) → s.rows ≤ (run (walk_plan script) s events).rows
+unfolding run
+run-rises script s [] = omega arith
+run-rises script s (event ∷ events) =
+    let one = step-rises script s event in
+    let rest = run-rises script (counts_after script s event) events in
+    omega (arith, one, rest)
+
+pub all-taken : (script : Script) (s : Counts) → IsValid script → IsWalked script s → script.config.ticks ≤ s.rows → s.rows ≡ script.config.ticks
+all-taken script s valid walked shut = let most = (walk-fits script s valid walked).rows in omega (arith, most, shut)
+
+-- ---- a place that is given the frames of rows
+pub gives-none : {Out : Type 0} (stands_for : Out → Start → List (List ℕ) → Type 0) (out : Out) (script : Script) (before rows : ℕ) → rows ≡ before → GivesRows stands_for out out script before rows
+gives-none stands_for out script before rows same start given stands =
+    let none = ap (delivered_since script before) same ∙ since-none script before in
+    subst (stands_for out start) (sym (ap (λ more. given ++ more) none ∙ append-nil given)) stands
+
+pub gives-then : {Out : Type 0} (stands_for : Out → Start → List (List ℕ) → Type 0) (was now next : Out) (script : Script) (a b d : ℕ) → a ≤ b → b ≤ d →
+    GivesRows stands_for was now script a b → GivesRows stands_for now next script b d → GivesRows stands_for was next script a d
+gives-then stands_for was now next script a b d low high first then_ start given stands =
+    let whole = append_assoc given (delivered_since script a b) (delivered_since script b d) ∙ ap (λ more. given ++ more) (sym (since-then script a b d low high)) in
+    subst (stands_for next start) whole (then_ start (given ++ delivered_since script a b) (first start given stands))

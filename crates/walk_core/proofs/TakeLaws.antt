@@ -195,7 +195,7 @@ until-pops given zero is_open path t y low same = refl
 until-pops given (suc k) is_open path t y low same =
     ap₂ (λ b z. if b then z else y) (same y (omega (arith, low))) (until-pops given k is_open path t (suc y) (omega (arith, low)) same)
 
-counts-at : (lines : List LineCounts) (m : ℕ) (line : LineCounts) → slice_get lines m ≡ Some line → counts_at lines m ≡ line
+pub counts-at : (lines : List LineCounts) (m : ℕ) (line : LineCounts) → slice_get lines m ≡ Some line → counts_at lines m ≡ line
 counts-at [] m line e = absurd cc
 counts-at (x ∷ lines) zero line e = cc
 counts-at (x ∷ lines) (suc m) line e = counts-at lines m line e

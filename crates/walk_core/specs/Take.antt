@@ -1,10 +1,12 @@
--- What a Take pops.
-use Rattle.std.specs.Prelude.{◌≡◌, ℕ, ◌+◌, ◌<◌, ◌≤◌, List, map, length, slice_get, Option, Some, None}
+-- Why a Take pops nothing, and what it pops.
+use Rattle.std.specs.Prelude.{◌≡◌, ℕ, ◌+◌, ◌<◌, ◌≤◌, nat_le, if◌then◌else◌, List, map, length, slice_get, Option, Some, None}
 use Rattle.vc_cell.specs.declared.Cell.{Cell}
 use Rattle.session_model.specs.declared.script.Script.{Script}
 use Rattle.session_model.specs.declared.packet.Packet.{Packet}
+use Rattle.session_model.specs.declared.walk.StallCause.{StallCause}
+use Rattle.session_model.specs.declared.walk.StallCause.TheVariants.{Done, BackFull}
 use Rattle.session_model.specs.Rows.{first_open}
-use Rattle.session_model.specs.Counts.{pop_lines}
+use Rattle.session_model.specs.Counts.{Counts, is_back_full, pop_lines}
 use Rattle.realign_core.specs.Gather.{Gather, Stands as Gathers, line_count}
 use Rattle.sink_core.specs.Given.{back_at}
 use Rattle.sink_core.specs.Core.{Core, Stands as HasTaken}
@@ -12,6 +14,10 @@ use Rattle.walk_law.specs.Walk.{walk_plan, CanWalk, popped_cells}
 use Rattle.walk_law.specs.Rings.{delay_on}
 use Rattle.walk_parts.specs.Ringed.{Ringed}
 use Rattle.walk_core.specs.Parts.{line_counts, HasLines}
+
+-- why no cell is popped, where none is: of a total of rows
+abbrev pub take_cause : ℕ → Counts → Option StallCause
+take_cause total s = if nat_le total s.rows then Some Done else (if is_back_full s then Some BackFull else None)
 
 -- the cells that were popped of the lines were gathered, and a row is left
 pub record CanPop (script : Script) (own : List Ringed) (gather : Gather) : Type 0 where

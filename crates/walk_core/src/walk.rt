@@ -26,7 +26,7 @@ ghost use Rattle.walk_core.specs.Carry.{carry_cause, CanCarry, IsSentOn, HasRoom
 ghost use Rattle.std.specs.Vec.{vec_capacity};
 ghost use Rattle.walk_core.specs.Landing.{stall_by, met_by, with_kind, IsParted};
 ghost use Rattle.walk_core.specs.Parts.{note_of, line_counts, HasLine as HasLineOn};
-ghost use Rattle.walk_core.specs.Take.{CanPop, HasPopped, CanTake, HasRow};
+ghost use Rattle.walk_core.specs.Take.{take_cause, CanPop, HasPopped, CanTake, HasRow};
 ghost use Rattle.sink_core.specs.Given.{added_frames};
 ghost use Rattle.vc_cell.specs.declared.Cell.{Cell};
 ghost use Rattle.realign_core.specs.Gather.{line_count};
@@ -238,7 +238,11 @@ impl Walk {
             (replicate (suc (length (walk_plan self.old.script).items)) Accept) }
         ensures rows { self.new.counts.rows ≡ self.old.counts.rows }
     {
-        while !matches!(self.accept(), Moved::Stalled(_)) {}
+        loop {
+            if let Moved::Stalled(_) = self.accept() {
+                return;
+            }
+        }
     }
 
     /// Lands commands until one stalls.
@@ -248,7 +252,11 @@ impl Walk {
             (replicate (suc (length (walk_plan self.old.script).items)) Command) }
         ensures rows { self.new.counts.rows ≡ self.old.counts.rows }
     {
-        while !matches!(self.command(), Moved::Stalled(_)) {}
+        loop {
+            if let Moved::Stalled(_) = self.command() {
+                return;
+            }
+        }
     }
 
     /// Lands the next frame.
@@ -330,12 +338,8 @@ impl Walk {
         ensures gives { GivesRows F.stands_for out.old out.new self.old.script
             self.old.counts.rows self.new.counts.rows }
     {
-        let row = self.sink.taken();
-        if row >= self.script.config.ticks {
-            return Moved::Stalled(StallCause::Done);
-        }
-        if ends_packet(row) && self.back.is_full() {
-            return Moved::Stalled(StallCause::BackFull);
+        if let Some(cause) = self.take_stall() {
+            return Moved::Stalled(cause);
         }
         if let Some(line) = pop_lines(&mut self.lines, &mut self.rows) {
             return Moved::Stalled(StallCause::Waiting { line });
@@ -344,6 +348,20 @@ impl Walk {
         self.got = got;
         self.back.say(packet);
         Moved::Yes
+    }
+
+    /// Why no row is taken and no cell popped.
+    fn take_stall(&self) -> Option<StallCause>
+        ensures { result ≡ take_cause self.now.script.config.ticks self.now.counts }
+    {
+        let row = self.sink.taken();
+        if row >= self.script.config.ticks {
+            Some(StallCause::Done)
+        } else if ends_packet(row) && self.back.is_full() {
+            Some(StallCause::BackFull)
+        } else {
+            None
+        }
     }
 
     /// Tries one carry of each line.

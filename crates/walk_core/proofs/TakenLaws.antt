@@ -1,0 +1,357 @@
+-- A row is taken in a walk, or cells are popped and it waits.
+use Rattle.std.proofs.Common.{◌≡◌, ℕ, zero, suc, ◌+◌, ◌-◌, ◌%◌, ◌==◌, ◌&&◌, ◌<◌, ◌≤◌, min, nat_le, nat_lt, Bool, true, false, List, [], ◌∷◌, ◌++◌, take, drop, map, length, slice_get, Option, Some, None, refl, sym, ◌∙◌, ap, ap₂, subst, arith, ◌⊎◌, inl, inr}
+use Rattle.std.specs.Prelude.{IsTrue, ◌↔◌}
+use Rattle.std.specs.List.{range_with_len}
+use Rattle.std.proofs.lemmas.Bool.{cases_Bool, cases_lt, le-leb, lt-leb, leb-false}
+use Rattle.std.proofs.lemmas.List.{length-map, length-append, append-nil, take-append-drop, take-take}
+use Rattle.std.proofs.lemmas.List.FromFn.{length-map-range_with_len}
+use Rattle.std.proofs.lemmas.Option.{slice_get_within}
+use Rattle.vc_cell.specs.declared.Cell.{Cell}
+use Rattle.session_model.specs.declared.packet.Packet.{Packet}
+use Rattle.session_model.specs.declared.script.Script.{Script}
+use Rattle.session_model.specs.declared.walk.Event.TheVariants.{Take}
+use Rattle.session_model.specs.declared.walk.StallCause.{StallCause}
+use Rattle.session_model.specs.declared.walk.StallCause.TheVariants.{Done, BackFull, Waiting}
+use Rattle.session_model.specs.Scenario.{packets_in}
+use Rattle.session_model.specs.Rows.{first_open, return_at}
+use Rattle.session_model.specs.Counts.{LinePath, LineCounts, Plan, Counts, Step, step, moved, stalled, pop, popped_line, pop_lines, in_return, is_back_full, take_popped, take_row}
+use Rattle.progress_law.specs.Progress.{LineFits, Fits}
+use Rattle.terminal_law.proofs.ListLaws.{range-at}
+use Rattle.line_law.specs.StableRows.{IsLonger}
+use Rattle.realign_core.specs.Gather.{Gather, line_count}
+use Rattle.sink_core.specs.Given.{row_in, added_frames, back_at}
+use Rattle.sink_core.specs.Core.{Core, Stands as HasTaken}
+use Rattle.sink_core.specs.Start.{Start}
+use Rattle.sink_core.proofs.GivenLaws.{packet-ends, packet-of}
+use Rattle.sink_core.proofs.LaterLaws.{stands-longer}
+use Rattle.walk_law.specs.Walk.{walk_plan, CanWalk, IsWalked, counts_at, popped_on, popped_cells, path_on}
+use Rattle.walk_law.specs.Rings.{line_cells, said_packet, return_ring}
+use Rattle.walk_law.specs.Delivered.{delivered_of, IsReceived}
+use Rattle.walk_law.proofs.PlanLaws.{valid-walks}
+use Rattle.walk_law.proofs.WalkLaws.{line-fits}
+use Rattle.walk_law.proofs.WaitLaws.{take-waits}
+use Rattle.walk_law.proofs.ReturnLaws.{packet-said, packets-next, ring-says}
+use Rattle.walk_law.proofs.FrameLaws.{frames-received, frames-grow}
+use Rattle.walk_parts.specs.Return.{Return, listed, and_said}
+use Rattle.walk_parts.specs.Ringed.{Ringed}
+use Rattle.walk_core.specs.declared.moved.StepNote.{StepNote}
+use Rattle.walk_core.specs.declared.moved.Moved.TheVariants.{Yes, Stalled}
+use Rattle.walk_core.specs.Moved.{answer_by, moved_of, counts_after, delivered_since, GivesRows}
+use Rattle.walk_core.specs.Parts.{Parts, Landing, HasBack, counts_of, line_counts, IsWalk}
+use Rattle.walk_core.specs.Take.{take_cause, CanPop, HasPopped, CanTake, HasRow}
+use Rattle.walk_core.proofs.EventLaws.{walk-fits, walked-next}
+use Rattle.walk_core.proofs.BackLaws.{ring-size}
+use Rattle.walk_core.proofs.CarryLaws.{numbers, map-get, same-some}
+use Rattle.walk_core.proofs.TakeLaws.{counts-at}
+
+-- ---- what is popped is more
+pop-more : (k : ℕ) (path : LinePath) (t y : ℕ) → y ≤ pop k path t y
+unfolding pop
+pop-more zero path t y = omega arith
+pop-more (suc k) path t y =
+    elim (cases_Bool (nat_le (path.decided y) t)) [
+      | inl e ↦ rw e (let h = pop-more k path t (suc y) in omega (arith, h))
+      | inr e ↦ rw e (omega arith)
+    ]
+
+pops-more : (t k : ℕ) (paths : List LinePath) (lines : List LineCounts) (m : ℕ) → (counts_at lines m).popped ≤ (counts_at (pop_lines t k paths lines).lines m).popped
+unfolding pop_lines
+pops-more t k [] lines m = omega arith
+pops-more t k (path ∷ paths) [] m = omega arith
+pops-more t k (path ∷ paths) (line ∷ lines) zero =
+    let more = pop-more (path.given line.carried - line.popped) path t line.popped in
+    elim (cases_Bool (nat_le (path.decided (popped_line path t line).popped) t)) [
+      | inl e ↦ rw e (omega (arith, more))
+      | inr e ↦ rw e (omega (arith, more))
+    ]
+pops-more t k (path ∷ paths) (line ∷ lines) (suc m) =
+    elim (cases_Bool (nat_le (path.decided (popped_line path t line).popped) t)) [
+      | inl e ↦ rw e (omega arith)
+      | inr e ↦ rw e (pops-more t (suc k) paths lines m)
+    ]
+
+cells-longer : (script : Script) (before after : List LineCounts) → ((m : ℕ) → (counts_at before m).popped ≤ (counts_at after m).popped) → IsLonger (popped_cells script before) (popped_cells script after)
+cells-longer script before after more = record {
+  size = length-map-range_with_len (popped_on script after) 0 (length script.config.windows) ∙ sym (length-map-range_with_len (popped_on script before) 0 (length script.config.windows));
+  each = λ m own here.
+      let n : ℕ = length script.config.windows in
+      let y : ℕ = (counts_at before m).popped in
+      let z : ℕ = (counts_at after m).popped in
+      let all : List Cell = line_cells script m in
+      let size = length-map-range_with_len (popped_on script before) 0 (length script.config.windows) in
+      let within = slice_get_within (popped_cells script before) m own here in
+      let at = range-at 0 n m (omega (arith, size, within)) ∙ ap Some (let e : 0 + m ≡ m = omega arith in e) in
+      let is : take y all ≡ own = same-some (popped_on script before m) own (sym (map-get (popped_on script before) (range_with_len 0 n) m m at) ∙ here) in (
+        drop y (take z all),
+        map-get (popped_on script after) (range_with_len 0 n) m m at
+            ∙ ap Some (sym (take-append-drop y (take z all)) ∙ ap (λ l. l ++ drop y (take z all)) (take-take y z all (more m) ∙ is)),
+      );
+}
+
+-- ---- the cause of a stall
+cause-stalls : (plan : Plan) (s : Counts) (cause : StallCause) → Some cause ≡ take_cause plan.ticks s → take_row plan s ≡ stalled s cause
+cause-stalls plan s cause e =
+    elim (cases_Bool (nat_le plan.ticks s.rows)) [
+      | inl done ↦ rw done (ap (stalled s) (let f : Some cause ≡ Some Done = rw done at e in sym (same-some cause Done f)))
+      | inr left ↦ elim (cases_Bool (is_back_full s)) [
+        | inl full ↦ rw (left, full) (ap (stalled s) (let f : Some cause ≡ Some BackFull = rw (left, full) at e in sym (same-some cause BackFull f)))
+        | inr room ↦ absurd (let f : Some cause ≡ None = rw (left, room) at e in cc)
+      ]
+    ]
+
+record Goes (plan : Plan) (s : Counts) : Type 0 where
+  left : s.rows < plan.ticks
+  room : is_back_full s ≡ false
+  moves : take_row plan s ≡ take_popped s (pop_lines s.rows 0 plan.paths s.lines).lines (pop_lines s.rows 0 plan.paths s.lines).waiting
+
+goes : (plan : Plan) (s : Counts) → None ≡ take_cause plan.ticks s → Goes plan s
+goes plan s e =
+    elim (cases_Bool (nat_le plan.ticks s.rows)) [
+      | inl done ↦ absurd (let f : None ≡ Some Done = rw done at e in cc)
+      | inr left ↦ elim (cases_Bool (is_back_full s)) [
+        | inl full ↦ absurd (let f : None ≡ Some BackFull = rw (left, full) at e in cc)
+        | inr room ↦ record { left = leb-false plan.ticks s.rows left; room = room; moves = rw (left, room) refl }
+      ]
+    ]
+
+full-by : (full : Bool) (size count : ℕ) → (IsTrue full ↔ (size ≡ 4)) → size ≡ count → count ≤ 4 → full ≡ nat_le 4 count
+full-by true size count same is most = let all = same.0 refl in sym (le-leb 4 count (omega (arith, all, is)))
+full-by false size count same is most =
+    elim (cases_lt count 4) [
+      | inl some ↦ sym (lt-leb 4 count some)
+      | inr all ↦ absurd (let e : false ≡ true = same.1 (omega (arith, all, is, most)) in cc)
+    ]
+
+-- ---- the return packet of a row
+-- a row that ends a packet has room for it
+end-room : (s : Counts) → is_back_full s ≡ false → nat_lt 22 s.rows && s.rows % 16 == 7 ≡ true → in_return s < 4
+end-room s room ends =
+    elim (cases_Bool (nat_le 4 (in_return s))) [
+      | inl full ↦ absurd (let f : true ≡ false = rw (ends, full) at room in cc)
+      | inr some ↦ leb-false 4 (in_return s) some
+    ]
+
+-- what the sink says is the next packet of the return ring, which has room for it
+record IsSaid (script : Script) (s : Counts) (lines : List LineCounts) (packet : Option Packet) : Type 0 where
+  ring : return_ring script s ++ listed packet ≡ return_ring script (record s { lines = lines; rows = s.rows + 1 })
+  room : in_return s + length (listed packet) ≤ 4
+
+said : (script : Script) (s : Counts) (lines : List LineCounts) (packet : Option Packet) → CanWalk script → IsWalked script (record s { lines = lines; rows = s.rows + 1 }) →
+    s.backs ≤ packets_in s.rows → packets_in s.rows ≤ s.backs + 4 → is_back_full s ≡ false → packet ≡ back_at (popped_cells script lines) s.rows → IsSaid script s lines packet
+said script s lines packet can walked low high room is =
+    let next : Counts = record s { lines = lines; rows = s.rows + 1 } in
+    elim (cases_Bool (nat_lt 22 s.rows && s.rows % 16 == 7)) [
+      | inl ends ↦
+          let place = packet-ends s.rows ends in
+          let k = packet-of s.rows place.0 place.1 in
+          let late = place.0 in
+          let at = place.1 in
+          let told = packet-said script next (packets_in s.rows) can walked (omega (arith, late, at)) in
+          let some : packet ≡ Some (said_packet script (packets_in s.rows)) =
+          is ∙ rw ends (ap Some (ap (return_at (popped_cells script lines)) k ∙ told)) in
+          let free = end-room s room ends in
+          record {
+            ring = ap (λ p. return_ring script s ++ listed p) some ∙ sym (ring-says script s (s.rows + 1) low (packets-next s.rows ∙ rw ends refl));
+            room = subst (λ p. in_return s + length (listed p) ≤ 4) (sym some) (omega (arith, free));
+          }
+      | inr other ↦
+          let none : packet ≡ None = is ∙ rw other refl in
+          let same : packets_in s.rows ≡ packets_in (s.rows + 1) = let e = rw other at (packets-next s.rows) in omega (arith, e) in
+          record {
+            ring = ap (λ p. return_ring script s ++ listed p) none ∙ append-nil (return_ring script s)
+                ∙ ap (λ n. map (said_packet script) (range_with_len s.backs (n - s.backs))) same;
+            room = subst (λ p. in_return s + length (listed p) ≤ 4) (sym none) (omega (arith, high));
+          }
+    ]
+
+received : IsReceived row_in
+received = record { whole = λ octets. refl; lost = refl }
+
+-- ---- of a walk
+module _ (script : Script) (parts : Parts) (landing : Landing) (got : ℕ) (last : Option StepNote) (is : IsWalk script parts landing got last) where
+  abbrev was : Counts
+  was = counts_of parts landing
+
+  can : CanWalk script
+  can = valid-walks script is.valid
+
+  fits : Fits (walk_plan script) (counts_of parts landing)
+  fits = walk-fits script was is.valid is.walked
+
+  ring-is : length parts.back.ring ≡ in_return (counts_of parts landing)
+  ring-is = ap length is.back.ring ∙ ring-size script was
+
+  line-at : (m : ℕ) (line : Ringed) → slice_get parts.lines m ≡ Some line → LineFits script.config.ticks script.config.ring parts.source.ticks parts.sink.taken (path_on script m) (line_counts line)
+  line-at m line there =
+      let low = slice_get_within parts.lines m line there in
+      let size = is.lines.size in
+      let windows = is.valid.network.windows_each in
+      subst (LineFits script.config.ticks script.config.ring parts.source.ticks parts.sink.taken (path_on script m))
+      (counts-at (map line_counts parts.lines) m (line_counts line) (map-get line_counts parts.lines m line there))
+      (line-fits script was can is.walked m (omega (arith, low, size, windows)))
+
+  pub full-is : (full : Bool) → (IsTrue full ↔ (length parts.back.ring ≡ 4)) → full ≡ nat_le 4 (in_return (counts_of parts landing))
+  full-is full same = full-by full (length parts.back.ring) (in_return was) same ring-is (let most = fits.returns in omega (arith, most))
+
+  pub cause-full : (row : ℕ) → row ≡ parts.sink.taken → row < script.config.ticks → true ≡ (nat_le 23 row && row % 16 == 7) → (IsTrue true ↔ (length parts.back.ring ≡ 4)) →
+      Some BackFull ≡ take_cause script.config.ticks (counts_of parts landing)
+  cause-full row at low ends full =
+      let left = lt-leb script.config.ticks parts.sink.taken (subst (λ t. t < script.config.ticks) at low) in
+      rw (left, sym (subst (λ t. true ≡ (nat_le 23 t && t % 16 == 7)) at ends), sym (full-is true full)) refl
+
+  pub cause-none : (row : ℕ) → row ≡ parts.sink.taken → row < script.config.ticks → (false ≡ (nat_le 23 row && row % 16 == 7)) ⊎ (IsTrue false ↔ (length parts.back.ring ≡ 4)) →
+      None ≡ take_cause script.config.ticks (counts_of parts landing)
+  cause-none row at low room =
+      let left = lt-leb script.config.ticks parts.sink.taken (subst (λ t. t < script.config.ticks) at low) in
+      elim (cases_Bool (nat_le 23 parts.sink.taken && parts.sink.taken % 16 == 7)) [
+        | inr other ↦ rw (left, other) refl
+        | inl ends ↦ elim room [
+          | inl other ↦ absurd (let e : false ≡ true = subst (λ t. false ≡ (nat_le 23 t && t % 16 == 7)) at other ∙ ends in cc)
+          | inr some ↦ rw (left, ends, sym (full-is false some)) refl
+        ]
+      ]
+
+  pub take-stays : (cause : StallCause) → Some cause ≡ take_cause script.config.ticks (counts_of parts landing) →
+      (counts_of parts landing ≡ counts_after script (counts_of parts landing) Take) × (Stalled cause ≡ moved_of script (counts_of parts landing) Take)
+  take-stays cause e =
+      let stays = cause-stalls (walk_plan script) was cause e in
+      (sym (ap (λ (x : Step). x.counts) stays), ap (λ (x : Step). answer_by x.cause None) (sym stays))
+
+  module _ (none : None ≡ take_cause script.config.ticks (counts_of parts landing)) where
+    is_left : Goes (walk_plan script) (counts_of parts landing)
+    is_left = goes (walk_plan script) was none
+
+    pub rows-few : parts.sink.taken < 4294967295
+    rows-few = let low = is_left.left in let most = is.valid.network.ticks.1 in omega (arith, low, most)
+
+    pub can-pop : CanPop script parts.lines parts.rows
+    can-pop = record {
+      can = can;
+      lines = is.lines;
+      size = is.lines.size ∙ sym is.valid.network.windows_each;
+      pops = λ m line there.
+          let given = (numbers script m line (is.lines.each m line there)).given in
+          let pops = (line-at m line there).pops in
+          omega (arith, given, pops);
+      carries = λ m line there. (line-at m line there).carries;
+      row = subst (λ t. t < script.config.ticks) (sym is.sink.passed) is_left.left;
+      gathers = is.sink.gathers;
+    }
+
+    module _ (lines : List Ringed) (rows : Gather) (waiting : Option ℕ) (same : rows.rows ≡ parts.rows.rows) (count : line_count rows ≡ line_count parts.rows) (popped : HasPopped script parts.lines lines rows waiting) where
+      row-is : rows.rows ≡ parts.sink.taken
+      row-is = same ∙ is.sink.passed
+
+      lines-are : map line_counts lines ≡ (pop_lines parts.sink.taken 0 (walk_plan script).paths (map line_counts parts.lines)).lines
+      lines-are = popped.counts ∙ ap (λ t. (pop_lines t 0 (walk_plan script).paths (map line_counts parts.lines)).lines) row-is
+
+      waits-are : waiting ≡ (pop_lines parts.sink.taken 0 (walk_plan script).paths (map line_counts parts.lines)).waiting
+      waits-are = popped.waits ∙ ap (λ t. (pop_lines t 0 (walk_plan script).paths (map line_counts parts.lines)).waiting) row-is
+
+      moves : step (walk_plan script) (counts_of parts landing) Take ≡ take_popped (counts_of parts landing) (map line_counts lines) waiting
+      moves = is_left.moves ∙ ap₂ (take_popped was) (sym lines-are) (sym waits-are)
+
+      stands : HasTaken parts.sink (popped_cells script (map line_counts lines))
+      stands =
+          stands-longer parts.sink (popped_cells script was.lines) (popped_cells script (map line_counts lines))
+          (cells-longer script was.lines (map line_counts lines)
+          (λ m. subst (λ ls. (counts_at (map line_counts parts.lines) m).popped ≤ (counts_at ls m).popped) (sym lines-are) (pops-more parts.sink.taken 0 (walk_plan script).paths was.lines m)))
+          is.sink.taken
+
+      module _ (line : ℕ) (waits : Some line ≡ waiting) where
+        stays : step (walk_plan script) (counts_of parts landing) Take ≡ stalled (record (counts_of parts landing) { lines = map line_counts lines }) (Waiting line)
+        stays = moves ∙ ap (take_popped was (map line_counts lines)) (sym waits)
+
+        pub waits-counts : counts_of (record parts { lines = lines; rows = rows }) landing ≡ counts_after script (counts_of parts landing) Take
+        waits-counts = sym (ap (λ (x : Step). x.counts) stays)
+
+        pub waits-moved : Stalled (Waiting line) ≡ moved_of script (counts_of parts landing) Take
+        waits-moved = ap (λ (x : Step). answer_by x.cause None) (sym stays)
+
+        pub waits-kept : IsWalk script (record parts { lines = lines; rows = rows }) landing got last
+        waits-kept = record {
+          valid = is.valid;
+          walked = walked-next script was _ Take is.walked waits-counts;
+          source = record { made = is.source.made; lines = is.source.lines; lag = is.source.lag; size = is.source.size };
+          sent = is.sent;
+          lines = popped.lines;
+          sink = record { gathers = popped.gathers; taken = stands; passed = row-is; lines = count ∙ is.sink.lines; all = is.sink.all; size = is.sink.size };
+          back = record { ring = is.back.ring; inbox = is.back.inbox; room = is.back.room };
+          landed = record { frame = is.landed.frame; command = is.landed.command; refusals = is.landed.refusals; room = is.landed.room; frames = is.landed.frames; commands = is.landed.commands; refused = is.landed.refused };
+          counted = is.counted;
+          noted = is.noted;
+        }
+
+      module _ (decided : None ≡ waiting) where
+        pub can-take : CanTake (popped_cells script (map line_counts lines)) parts.sink rows
+        can-take = record {
+          gathers = popped.gathers;
+          taken = stands;
+          none = ap (λ ls. first_open (popped_cells script ls) parts.sink.taken) lines-are
+              ∙ take-waits script was.lines parts.sink.taken can (length-map parts.lines line_counts ∙ can-pop.size) is_left.left ∙ sym waits-are ∙ sym decided;
+        }
+
+        abbrev next : Counts
+        next = record (counts_of parts landing) { lines = map line_counts lines; rows = parts.sink.taken + 1 }
+
+        passes : step (walk_plan script) (counts_of parts landing) Take ≡ moved next
+        passes = moves ∙ ap (take_popped was (map line_counts lines)) (sym decided)
+
+        pub taken-moved : Yes ≡ moved_of script (counts_of parts landing) Take
+        taken-moved = ap (λ (x : Step). answer_by x.cause None) (sym passes)
+
+        walked-on : IsWalked script next
+        walked-on = walked-next script was next Take is.walked (sym (ap (λ (x : Step). x.counts) passes))
+
+        module _ (sink : Core) (gather : Gather) (packet : Option Packet) (row : HasRow (popped_cells script (map line_counts lines)) parts.sink sink gather packet) where
+          is_said : IsSaid script (counts_of parts landing) (map line_counts lines) packet
+          is_said = said script was (map line_counts lines) packet can walked-on fits.backs fits.returns is_left.room row.said
+
+          pub said-room : length parts.back.ring + length (listed packet) ≤ 4
+          said-room = let e = ring-is in let room = is_said.room in omega (arith, e, room)
+
+          added-is : added_frames parts.sink.size (popped_cells script (map line_counts lines)) parts.sink.taken sink.taken ≡ delivered_since script parts.sink.taken sink.taken
+          added-is =
+              ap₂ (λ size t. added_frames size (popped_cells script (map line_counts lines)) parts.sink.taken t) is.sink.size row.one
+              ∙ ap₂ (λ before all. drop (length before) all) (frames-received script next can walked-on row_in received parts.sink.taken (omega arith)) (frames-received script next can walked-on row_in received (parts.sink.taken + 1) (omega arith))
+              ∙ ap (delivered_since script parts.sink.taken) (sym row.one)
+
+          pub taken-gives : {Out : Type 0} (stands_for : Out → Start → List (List ℕ) → Type 0) (before after : Out) →
+              ((start : Start) (given : List (List ℕ)) → stands_for before start given →
+              stands_for after start (given ++ added_frames parts.sink.size (popped_cells script (map line_counts lines)) parts.sink.taken sink.taken)) →
+              GivesRows stands_for before after script parts.sink.taken sink.taken
+          taken-gives stands_for before after gives start given stood = subst (λ frames. stands_for after start (given ++ frames)) added-is (gives start given stood)
+
+          module _ (back : Return) (says : back ≡ and_said parts.back packet)
+              (count' : ℕ) (counts : count' ≡ min (got + length (added_frames parts.sink.size (popped_cells script (map line_counts lines)) parts.sink.taken sink.taken)) 18446744073709551615) where
+            counts-are : counts_of (record parts { lines = lines; rows = gather; sink = sink; back = back }) landing ≡ next
+            counts-are = ap₂ (λ n (b : Return). record next { rows = n; backs = b.backs }) row.one says
+
+            pub taken-counts : counts_of (record parts { lines = lines; rows = gather; sink = sink; back = back }) landing ≡ counts_after script (counts_of parts landing) Take
+            taken-counts = counts-are ∙ sym (ap (λ (x : Step). x.counts) passes)
+
+            counted : count' ≡ min (length (delivered_of script sink.taken)) 18446744073709551615
+            counted =
+                let all = ap length (frames-grow script parts.sink.taken 1) ∙ length-append (delivered_of script parts.sink.taken) (delivered_since script parts.sink.taken (parts.sink.taken + 1)) in
+                let now = ap (λ t. length (delivered_of script t)) row.one in
+                let more = ap length added-is ∙ ap (λ t. length (delivered_since script parts.sink.taken t)) row.one in
+                let before = is.counted in
+                omega (arith, counts, all, now, more, before)
+
+            pub taken-kept : IsWalk script (record parts { lines = lines; rows = gather; sink = sink; back = back }) landing count' last
+            taken-kept = record {
+              valid = is.valid;
+              walked = subst (IsWalked script) (sym counts-are) walked-on;
+              source = record { made = is.source.made; lines = is.source.lines; lag = is.source.lag; size = is.source.size };
+              sent = is.sent;
+              lines = popped.lines;
+              sink = record { gathers = row.gathers; taken = row.taken; passed = row.passed; lines = row.lines ∙ sym row.all; all = row.all ∙ is.sink.all; size = row.size ∙ is.sink.size };
+              back = subst (λ s. HasBack script s back) (sym counts-are) (record {
+                ring = ap (λ (b : Return). b.ring) says ∙ ap (λ ring. ring ++ listed packet) is.back.ring ∙ is_said.ring;
+                inbox = ap (λ (b : Return). b.inbox) says ∙ is.back.inbox;
+                room = ap (λ (b : Return). b.room) says ∙ is.back.room;
+              });
+              landed = record { frame = is.landed.frame; command = is.landed.command; refusals = is.landed.refusals; room = is.landed.room; frames = is.landed.frames; commands = is.landed.commands; refused = is.landed.refused };
+              counted = counted;
+              noted = is.noted;
+            }
