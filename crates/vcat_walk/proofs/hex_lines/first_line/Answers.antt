@@ -2,9 +2,9 @@
 use Rattle.std.proofs.Common.{ℕ, ◌∙◌, ap, arith}
 use Rattle.std.specs.Prelude.{◌==◌}
 use Rattle.std.proofs.lemmas.List.{get_or_default}
-use Rattle.vcat_walk.specs.Form.{IsLine}
+use Rattle.vcat_walk.specs.HexLines.{IsLine}
 use Rattle.vcat_walk.proofs.LineLaws.{not_line}
-use Rattle.vcat_walk.proofs.lines.first_line.Goals as goal
+use Rattle.vcat_walk.proofs.hex_lines.first_line.Goals as goal
 
 pub returns-in_default-clause-none : goal.returns-in_default-clause-none
 returns-in_default-clause-none c line rest is =
