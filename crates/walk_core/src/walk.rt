@@ -119,7 +119,7 @@ impl Walk {
         let rows = RowGather::new(alloc, config.lines)?;
         let sink = SinkCore::new(alloc, config.lines, config.size)?;
         let back = ReturnPath::new(alloc, config.lag)?;
-        let refusals = Vec::with_capacity(alloc, script.items.0.len())?;
+        let refusals = Vec::with_capacity(alloc, items_of(&script).len())?;
         let frame = next_frame(items_of(&script), 0);
         let command = next_command(items_of(&script), 0);
         Ok(Walk {
@@ -157,7 +157,10 @@ impl Walk {
             Event::Accept => self.accept(),
             Event::Command => self.command(),
             Event::Tick => self.tick(),
-            Event::Carry(line) => self.carry(line),
+            Event::Carry(line) => {
+                prove!(line < self.script.config.lines);
+                self.carry(line)
+            }
             Event::Back => self.back(),
             Event::Take => self.take(out),
         }

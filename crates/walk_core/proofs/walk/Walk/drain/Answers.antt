@@ -17,16 +17,70 @@ loop-self-init g c = record {
 }
 
 pub loop-self-smaller : goal.loop-self-smaller
-loop-self-smaller g c = let h = c.self in let i = c.loop-self in let j = c.loop-self-test in let k = c.round in ?
+loop-self-smaller g c =
+    let inv = c.loop-self.invariant in
+    let s : Counts = c.loop-self.self.counts in
+    let valid = subst IsValid inv.script (subst (λ (w : Walked). IsValid w.script) c.self.view_is c.self.invariant.valid) in
+    let walked = subst (λ (x : Script). IsWalked x s) inv.script (subst (λ (w : Walked). IsWalked w.script w.counts) c.self.view_is c.self.invariant.walked) in
+    let rows = ap (λ (w : Walked). w.counts.rows) c.self.view_is in
+    let ticks = ap (λ (w : Walked). w.script.config.ticks) c.self.view_is ∙ ap (λ (x : Script). x.config.ticks) inv.script in
+    let taken = c.taken.ensures in
+    let test = c.loop-self-test.true in
+    let open_ : s.rows < c.args.self.now.script.config.ticks = omega (arith, test, taken, rows, ticks) in
+    let after = c.round.ensures.counts ∙ ap (λ (x : Script). run (walk_plan x) s (round (walk_plan x))) inv.script in
+    (round-turn c.args.self.now.script s c.round.new.self.counts valid walked open_ after).0
 
 pub loop-self-preserved : goal.loop-self-preserved
-loop-self-preserved g c = ?
+loop-self-preserved g c =
+    let inv = c.loop-self.invariant in
+    let script : Script = c.args.self.now.script in
+    let s : Counts = c.loop-self.self.counts in
+    let next : Counts = c.round.new.self.counts in
+    let valid = subst IsValid inv.script (subst (λ (w : Walked). IsValid w.script) c.self.view_is c.self.invariant.valid) in
+    let walked = subst (λ (x : Script). IsWalked x s) inv.script (subst (λ (w : Walked). IsWalked w.script w.counts) c.self.view_is c.self.invariant.walked) in
+    let rows = ap (λ (w : Walked). w.counts.rows) c.self.view_is in
+    let ticks = ap (λ (w : Walked). w.script.config.ticks) c.self.view_is ∙ ap (λ (x : Script). x.config.ticks) inv.script in
+    let taken = c.taken.ensures in
+    let test = c.loop-self-test.true in
+    let open_ : s.rows < script.config.ticks = omega (arith, test, taken, rows, ticks) in
+    let after = c.round.ensures.counts ∙ ap (λ (x : Script). run (walk_plan x) s (round (walk_plan x))) inv.script in
+    let more : s.rows ≤ next.rows = subst (λ (n : Counts). s.rows ≤ n.rows) (sym after) (run-rises script s (round (walk_plan script))) in
+    let rises = inv.rises in
+    record {
+      script = c.round.ensures.script ∙ inv.script;
+      left = (round-turn script s next valid walked open_ after).1 ∙ inv.left;
+      rises = omega (arith, rises, more);
+      gives = gives-then g.F.FrameOut.stands_for c.args.out.now c.loop-self.out c.round.new.out script c.args.self.now.counts.rows s.rows next.rows rises more inv.gives
+          (subst (λ (x : Script). GivesRows g.F.FrameOut.stands_for c.loop-self.out c.round.new.out x s.rows next.rows) inv.script c.round.ensures.gives);
+    }
 
 pub returns-clause-counts : goal.returns-clause-counts
-returns-clause-counts g c = ?
+returns-clause-counts g c =
+    let inv = c.loop-self.invariant in
+    let rows = ap (λ (w : Walked). w.counts.rows) c.self.view_is in
+    let ticks = ap (λ (w : Walked). w.script.config.ticks) c.self.view_is ∙ ap (λ (x : Script). x.config.ticks) inv.script in
+    let taken = c.taken.ensures in
+    let test = c.loop-self-test.false in
+    let shut : c.args.self.now.script.config.ticks ≤ c.loop-self.self.counts.rows = omega (arith, test, taken, rows, ticks) in
+    drained-end c.args.self.now.script c.loop-self.self.counts _ shut inv.left
 
 pub returns-clause-all : goal.returns-clause-all
-returns-clause-all g c = ?
+returns-clause-all g c =
+    let inv = c.loop-self.invariant in
+    let taken = c.taken.ensures in
+    let test = c.loop-self-test.false in
+    let shut : c.self.inside.script.config.ticks ≤ c.self.inside.sink.taken = omega (arith, test, taken) in
+    ap (λ (w : Walked). w.counts.rows) (sym c.self.view_is)
+    ∙ all-taken c.self.inside.script _ c.self.invariant.valid c.self.invariant.walked shut
+    ∙ ap (λ (w : Walked). w.script.config.ticks) c.self.view_is ∙ ap (λ (x : Script). x.config.ticks) inv.script
 
 pub returns-clause-gives : goal.returns-clause-gives
-returns-clause-gives g c = ?
+returns-clause-gives g c =
+    let inv = c.loop-self.invariant in
+    let taken = c.taken.ensures in
+    let test = c.loop-self-test.false in
+    let shut : c.self.inside.script.config.ticks ≤ c.self.inside.sink.taken = omega (arith, test, taken) in
+    let all = ap (λ (w : Walked). w.counts.rows) (sym c.self.view_is)
+    ∙ all-taken c.self.inside.script _ c.self.invariant.valid c.self.invariant.walked shut
+    ∙ ap (λ (w : Walked). w.script.config.ticks) c.self.view_is ∙ ap (λ (x : Script). x.config.ticks) inv.script in
+    subst (GivesRows g.F.FrameOut.stands_for c.args.out.now c.loop-self.out c.args.self.now.script c.args.self.now.counts.rows) all inv.gives

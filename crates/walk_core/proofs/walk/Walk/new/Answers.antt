@@ -1,5 +1,5 @@
 -- Nothing has landed, was sent, or was taken.
-use Rattle.std.proofs.Common.{◌≡◌, ◌+◌, drop, ◌∙◌, ap, arith}
+use Rattle.std.proofs.Common.{◌≡◌, ◌+◌, length, drop, ◌∙◌, ap, arith}
 use Rattle.std.specs.Vec.{vec_capacity}
 use Rattle.walk_parts.specs.Place.{is_frame, is_command, place_of}
 use Rattle.walk_core.proofs.OpenLaws.{new-counts, new-walk}
@@ -27,9 +27,9 @@ invariant_of-result c =
       no_back = c.in_ok-back.ensures;
     })
     c.requires c.in_ok-refusals.refusals.items (vec_capacity c.in_ok-refusals.refusals) c.next_frame-frame.result c.next_command-command.result
-    c.in_ok-refusals.ensures.items (omega arith)
-    (c.next_frame-frame.ensures ∙ ap (λ items. 0 + place_of is_frame 0 (drop 0 items)) c.items_of.ensures)
-    (c.next_command-command.ensures ∙ ap (λ items. 0 + place_of is_command 0 (drop 0 items)) c.items_of-2.ensures)
+    c.in_ok-refusals.ensures.items (let items = ap length c.items_of.ensures in let room = c.in_ok-refusals.ensures.capacity in omega (arith, items, room))
+    (c.next_frame-frame.ensures ∙ ap (λ items. 0 + place_of is_frame 0 (drop 0 items)) c.items_of-2.ensures)
+    (c.next_command-command.ensures ∙ ap (λ items. 0 + place_of is_command 0 (drop 0 items)) c.items_of-3.ensures)
 
 pub returns-clause-counts : goal.returns-clause-counts
 returns-clause-counts c =
@@ -53,6 +53,6 @@ returns-clause-counts c =
       no_back = c.in_ok-back.ensures;
     })
     c.requires c.in_ok-refusals.refusals.items (vec_capacity c.in_ok-refusals.refusals) c.next_frame-frame.result c.next_command-command.result
-    c.in_ok-refusals.ensures.items (omega arith)
-    (c.next_frame-frame.ensures ∙ ap (λ items. 0 + place_of is_frame 0 (drop 0 items)) c.items_of.ensures)
-    (c.next_command-command.ensures ∙ ap (λ items. 0 + place_of is_command 0 (drop 0 items)) c.items_of-2.ensures)
+    c.in_ok-refusals.ensures.items (let items = ap length c.items_of.ensures in let room = c.in_ok-refusals.ensures.capacity in omega (arith, items, room))
+    (c.next_frame-frame.ensures ∙ ap (λ items. 0 + place_of is_frame 0 (drop 0 items)) c.items_of-2.ensures)
+    (c.next_command-command.ensures ∙ ap (λ items. 0 + place_of is_command 0 (drop 0 items)) c.items_of-3.ensures)

@@ -1,11 +1,22 @@
 -- No event but a Take gives frames.
-use Rattle.std.proofs.Common.{◌∙◌, ap}
+use Rattle.std.proofs.Common.{◌≡◌, ◌<◌, length, ◌∙◌, ap, subst, arith}
 use Rattle.session_model.specs.Counts.{Counts}
+use Rattle.session_model.specs.Valid.{IsValid}
+use Rattle.progress_law.specs.Progress.{HasLine}
+use Rattle.walk_law.specs.Walk.{walk_plan}
+use Rattle.walk_law.proofs.PlanLaws.{has-paths, valid-walks}
+use Rattle.walk_core.specs.Moved.{Walked}
 use Rattle.walk_core.proofs.RoundLaws.{frame-rows, command-rows, carry-rows, gives-none}
 use Rattle.walk_core.proofs.walk.Walk.step.Goals as goal
 
-pub carry-requires : goal.carry-requires
-carry-requires g c = let h = c.in-Carry in let i = c.if-prove in ?
+pub prove-unreachable-requires : goal.prove-unreachable-requires
+prove-unreachable-requires g c =
+    let valid = subst (λ (w : Walked). IsValid w.script) c.self.view_is c.self.invariant.valid in
+    let size = has-paths c.args.self.now.script (valid-walks c.args.self.now.script valid) ∙ valid.network.windows_each in
+    let lines = ap (λ (w : Walked). w.script.config.lines) c.self.view_is in
+    let has : c.in-Carry.line < length (walk_plan c.args.self.now.script).paths = subst (HasLine (walk_plan c.args.self.now.script)) c.in-Carry.is c.requires in
+    let test = c.if-prove.true in
+    omega (arith, size, lines, has, test)
 
 pub returns-in-Accept-clause-gives : goal.returns-in-Accept-clause-gives
 returns-in-Accept-clause-gives g c =

@@ -1,5 +1,5 @@
 -- What was counted is what the script and the counts say.
-use Rattle.std.proofs.Common.{◌≡◌, sym, subst, arith}
+use Rattle.std.proofs.Common.{◌∙◌, ap, arith}
 use Rattle.walk_law.specs.Landed.{totals_of}
 use Rattle.walk_core.specs.Moved.{Walked}
 use Rattle.walk_core.proofs.TotalLaws.{refused-few, totals-are}
@@ -10,4 +10,4 @@ overflow_add-result c = let few = refused-few _ _ _ _ _ c.self.invariant in omeg
 
 pub returns : goal.returns
 returns c =
-    subst (λ (w : Walked). _ ≡ totals_of w.script w.counts) c.self.view_is (totals-are _ _ _ _ _ c.self.invariant _ _ c.ticks.ensures c.taken.ensures)
+    totals-are _ _ _ _ _ c.self.invariant c.ticks.result c.taken.result c.ticks.ensures c.taken.ensures ∙ ap (λ (w : Walked). totals_of w.script w.counts) c.self.view_is
