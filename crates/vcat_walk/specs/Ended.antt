@@ -1,18 +1,18 @@
 -- How the program ends: its statuses, what it writes at each, and the walk that it hands back. `written` and `faults` are what a sink
 -- tells of its octets, where it tells them, and its count of faults.
-use Rattle.std.specs.Prelude.{◌≡◌, ◌⊎◌, ℕ, ◌==◌, ◌||◌, Bool, List, Option, Some, None, Ok, Err}
-use Rattle.outside_io.specs.Transfer.{Appends, AppendsPart, Tells}
+use Rattle.std.specs.Prelude.{◌≡◌, ◌⊎◌, ℕ, ◌≤◌, length, ◌==◌, ◌||◌, Bool, List, Option, Some, None, Ok, Err}
+use Rattle.outside_io.specs.Faults.{one_more}
+use Rattle.outside_io.specs.Transfer.{Appends, AppendsPart}
 use Rattle.session_model.specs.declared.script.Script.{Script}
 use Rattle.session_model.specs.DecodeText.{decoded_text}
 use Rattle.script_read.specs.declared.fault.LineKind.{LineKind}
 use Rattle.script_read.specs.declared.fault.ScriptFault.{ScriptFault}
 use Rattle.script_read.specs.declared.fault.ScriptFault.TheVariants.{Line, Slip, Spread, Lag, Memory}
 use Rattle.script_read.specs.Script.{script_of}
-use Rattle.make_load.specs.Load.{load}
 use Rattle.walk_core.specs.Moved.{Walked}
 use Rattle.got_out.specs.Told.{AppendsSome}
-use Rattle.vcat_walk.specs.HexLines.{IsHexText, IsFirstFault}
-use Rattle.vcat_walk.specs.Texts.{counts_in, walk_text, trace_text, fault_text}
+use Rattle.vcat_walk.specs.HexLines.{IsHexText}
+use Rattle.vcat_walk.specs.Texts.{counts_in, walk_text, trace_text}
 
 -- the greatest number of octets of an input
 abbrev pub most_octets : ℕ
@@ -30,6 +30,27 @@ HasRead status = (status ≡ 0) ⊎ ((status ≡ 4) ⊎ ((status ≡ 5) ⊎ (sta
 -- those at which something was run
 abbrev pub HasRunAt : ℕ → Type 0
 HasRunAt status = (status ≡ 0) ⊎ (status ≡ 4)
+
+-- ---- faults
+-- a count of faults rose, or stands at its greatest value
+abbrev pub Rises : ℕ → ℕ → Type 0
+Rises old new = one_more old ≤ new
+
+-- the text is a script, and not too long
+abbrev pub IsGoodScript : List ℕ → Type 0
+IsGoodScript text = (length text ≤ most_octets) × (script : Script) × (script_of text ≡ Ok script)
+
+-- the text is lines of hexadecimal digits, and not too long
+abbrev pub IsGoodHex : List ℕ → Type 0
+IsGoodHex text = (length text ≤ most_octets) × (octets : List ℕ) × IsHexText text octets
+
+-- why slips, spread or lag of a script don't fit
+abbrev pub IsLimit : ScriptFault → Type 0
+IsLimit (Line number kind) = ⊥
+IsLimit (Slip line window) = Unit {0}
+IsLimit (Spread slow fast slip ring) = Unit {0}
+IsLimit (Lag lag least) = Unit {0}
+IsLimit Memory = ⊥
 
 -- ---- the walk that is handed back: that of a script, with the counts of its events
 abbrev pub IsWalkOf : Script → Option Walked → Type 0

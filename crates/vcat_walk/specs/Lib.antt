@@ -1,7 +1,7 @@
 pub mod Words
 pub mod HexLines
 pub mod Texts
-pub mod Made
+pub mod Make
 pub mod Ended
 pub mod Stop
 pub mod Run

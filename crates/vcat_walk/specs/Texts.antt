@@ -1,5 +1,5 @@
 -- What the program writes: the reports of walks, their traces, and the notes.
-use Rattle.std.specs.Prelude.{ℕ, suc, List, ◌++◌, codes, decimal}
+use Rattle.std.specs.Prelude.{ℕ, ◌+◌, ◌*◌, List, ◌++◌, codes, decimal}
 use Rattle.std.specs.List.{flat_map, range_with_len}
 use Rattle.session_model.specs.declared.script.Script.{Script}
 use Rattle.session_model.specs.Scenario.{scenario_of, steps_in}

@@ -34,7 +34,7 @@ fn repeat<F: FrameOut>(walk: &mut Walk, event: Event, tries: u32, out: &mut F)
     ensures { RunsTo F.stands_for out.old out.new walk.old walk.new
         (run (walk_plan walk.old.script) walk.old.counts (replicate tries event)) }
 {
-    for _ in 0..tries {
+    for _try in 0..tries {
         walk.step(event, out);
     }
 }
@@ -44,7 +44,7 @@ fn rounds<F: FrameOut>(walk: &mut Walk, count: u32, out: &mut F)
     ensures { RunsTo F.stands_for out.old out.new walk.old walk.new
         (run_line (walk_plan walk.old.script) walk.old.counts (EventLine.Round count)) }
 {
-    for _ in 0..count {
+    for _turn in 0..count {
         walk.round(out);
     }
 }
