@@ -5,5 +5,5 @@ use Rattle.walk_law.specs.Walk.{walk_plan}
 use Rattle.vcat_walk.specs.Run.{RunsTo}
 use Rattle.vcat_walk.proofs.walk.repeat.Given as goal
 
-abbrev pub invariant-loop-_try : goal.invariant-loop-_try
-invariant-loop-_try g l = RunsTo g.F.FrameOut.stands_for l.fn.out l.out l.fn.walk l.walk (run (walk_plan l.fn.walk.script) l.fn.walk.counts (replicate l._try l.event))
+abbrev pub invariant-loop-try : goal.invariant-loop-try
+invariant-loop-try g l = RunsTo g.F.FrameOut.stands_for l.fn.out l.out l.fn.walk l.walk (run (walk_plan l.fn.walk.script) l.fn.walk.counts (replicate l._try l.event))
