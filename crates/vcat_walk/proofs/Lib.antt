@@ -3,3 +3,5 @@ pub mod HexLineLaws
 pub mod LineLaws
 pub mod CountLaws
 pub mod RunLaws
+pub mod WriteLaws
+pub mod StopLaws

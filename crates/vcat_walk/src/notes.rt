@@ -1,7 +1,7 @@
 //! The notes of the program, put together in a slice with room for one. Each answers its length.
 ghost use Rattle.std.specs.Prelude.{◌≡◌, ◌+◌, ◌≤◌, length, take, None, IfSome};
 ghost use Rattle.outside_io.specs.Transfer.{Tells};
-ghost use Rattle.report_text.specs.Line.{Extends, HasRoom};
+ghost use Rattle.script_read.specs.declared.fault.ScriptFault.{ScriptFault};
 ghost use Rattle.vcat_walk.specs.Stop.{note_of};
 ghost use Rattle.vcat_walk.specs.Texts.{kind_text, line_text, fault_text};
 
@@ -28,58 +28,99 @@ fn kind_word(kind: LineKind) -> &'static [u8]
     }
 }
 
-/// Adds that a line is faulty.
-fn add_line_fault(line: &mut LineCursor, number: u64, kind: LineKind)
-    requires { HasRoom line.old 64 }
-    ensures text { Extends line.old line.new (line_text number kind) }
-    ensures end { line.new.at ≤ line.old.at + 64 }
+/// Writes a note that is always the same.
+fn fixed_note(text: &[u8], out: &mut [u8]) -> usize
+    requires room { 128 ≤ length out.old }
+    requires short { length text.now ≤ 128 }
+    ensures within { result ≤ 128 }
+    ensures line { take result out.new ≡ text.now }
 {
+    let mut line = LineCursor::new(out);
+    line.text(text);
+    line.end()
+}
+
+/// Writes that a line of the input is faulty.
+fn line_note(number: u64, kind: LineKind, out: &mut [u8]) -> usize
+    requires { 128 ≤ length out.old }
+    ensures within { result ≤ 128 }
+    ensures line { take result out.new ≡ line_text number kind }
+{
+    let mut line = LineCursor::new(out);
     line.text(b"fault: line ");
     line.decimal(number);
     line.text(b": ");
     line.text(kind_word(kind));
     line.text(b"\n");
+    line.end()
 }
 
-/// Adds what is wrong with a script.
-fn add_fault(line: &mut LineCursor, fault: ScriptFault)
-    requires { HasRoom line.old 64 }
-    ensures text { Extends line.old line.new (fault_text fault) }
-    ensures end { line.new.at ≤ line.old.at + 64 }
+/// Writes that a window lets too many containers vanish.
+fn slip_note(member: u8, window: u16, out: &mut [u8]) -> usize
+    requires { 128 ≤ length out.old }
+    ensures within { result ≤ 128 }
+    ensures line { take result out.new ≡ fault_text (ScriptFault.Slip member window) }
+{
+    let mut line = LineCursor::new(out);
+    line.text(b"fault: slip line ");
+    line.decimal(member);
+    line.text(b" window ");
+    line.decimal(window);
+    line.text(b"\n");
+    line.end()
+}
+
+/// Writes that a ring can't hold the spread of the lines.
+fn spread_note(slow: u16, fast: u16, slip: u32, ring: u16, out: &mut [u8]) -> usize
+    requires { 128 ≤ length out.old }
+    ensures within { result ≤ 128 }
+    ensures line { take result out.new ≡ fault_text (ScriptFault.Spread slow fast slip ring) }
+{
+    let mut line = LineCursor::new(out);
+    line.text(b"fault: spread ");
+    line.decimal(slow);
+    line.text(b" ");
+    line.decimal(fast);
+    line.text(b" ");
+    line.decimal(slip);
+    line.text(b" ");
+    line.decimal(ring);
+    line.text(b"\n");
+    line.end()
+}
+
+/// Writes that the lag is too short.
+fn lag_note(lag: u16, least: u32, out: &mut [u8]) -> usize
+    requires { 128 ≤ length out.old }
+    ensures within { result ≤ 128 }
+    ensures line { take result out.new ≡ fault_text (ScriptFault.Lag lag least) }
+{
+    let mut line = LineCursor::new(out);
+    line.text(b"fault: lag ");
+    line.decimal(lag);
+    line.text(b" least ");
+    line.decimal(least);
+    line.text(b"\n");
+    line.end()
+}
+
+/// Writes what is wrong with a script.
+fn fault_note(fault: ScriptFault, out: &mut [u8]) -> usize
+    requires { 128 ≤ length out.old }
+    ensures within { result ≤ 128 }
+    ensures line { take result out.new ≡ fault_text fault }
 {
     match fault {
-        ScriptFault::Line { number, kind } => add_line_fault(line, u64::from(number), kind),
-        ScriptFault::Slip { line: m, window } => {
-            line.text(b"fault: slip line ");
-            line.decimal(m);
-            line.text(b" window ");
-            line.decimal(window);
-            line.text(b"\n");
-        }
+        ScriptFault::Line { number, kind } => line_note(u64::from(number), kind, out),
+        ScriptFault::Slip { line, window } => slip_note(line, window, out),
         ScriptFault::Spread {
             slow,
             fast,
             slip,
             ring,
-        } => {
-            line.text(b"fault: spread ");
-            line.decimal(slow);
-            line.text(b" ");
-            line.decimal(fast);
-            line.text(b" ");
-            line.decimal(slip);
-            line.text(b" ");
-            line.decimal(ring);
-            line.text(b"\n");
-        }
-        ScriptFault::Lag { lag, least } => {
-            line.text(b"fault: lag ");
-            line.decimal(lag);
-            line.text(b" least ");
-            line.decimal(least);
-            line.text(b"\n");
-        }
-        ScriptFault::Memory => line.text(b"fault: no memory\n"),
+        } => spread_note(slow, fast, slip, ring, out),
+        ScriptFault::Lag { lag, least } => lag_note(lag, least, out),
+        ScriptFault::Memory => fixed_note(b"fault: no memory\n", out),
     }
 }
 
@@ -89,19 +130,18 @@ fn note_line(stop: Stop, out: &mut [u8]) -> usize
     ensures within { result ≤ 128 }
     ensures line { take result out.new ≡ note_of stop }
 {
-    let mut line = LineCursor::new(out);
     match stop {
-        Stop::Usage => {
-            line.text(b"usage: vcat_walk walk, trace, decode, or make NUMBER LINES TICKS\n")
-        }
-        Stop::Read => line.text(b"fault: read failed\n"),
-        Stop::TooLong => line.text(b"fault: too long\n"),
-        Stop::Fault(fault) => add_fault(&mut line, fault),
-        Stop::NotHex { number } => add_line_fault(&mut line, number, LineKind::Hex),
-        Stop::Write => line.text(b"fault: write failed\n"),
-        Stop::Memory => line.text(b"fault: no memory\n"),
+        Stop::Usage => fixed_note(
+            b"usage: vcat_walk walk, trace, decode, or make NUMBER LINES TICKS\n",
+            out,
+        ),
+        Stop::Read => fixed_note(b"fault: read failed\n", out),
+        Stop::TooLong => fixed_note(b"fault: too long\n", out),
+        Stop::Fault(fault) => fault_note(fault, out),
+        Stop::NotHex { number } => line_note(number, LineKind::Hex, out),
+        Stop::Write => fixed_note(b"fault: write failed\n", out),
+        Stop::Memory => fixed_note(b"fault: no memory\n", out),
     }
-    line.end()
 }
 
 /// Says on `notes` why a command stopped, where it did and as far as they take it.

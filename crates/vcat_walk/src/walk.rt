@@ -169,13 +169,15 @@ pub fn walk<S: ByteSource, K: ByteSink>(alloc: Global, script: &mut S, out: &mut
     let Ok(mut walk) = Walk::new(alloc, script) else {
         return stopped(Stop::Memory);
     };
-    let stop = match write_walk(&mut walk, lines.as_slice(), out) {
-        Ok(()) => None,
-        Err(Failed) => Some(Stop::Write),
-    };
-    Ended {
-        stop,
-        walk: Some(walk),
+    match write_walk(&mut walk, lines.as_slice(), out) {
+        Ok(()) => Ended {
+            stop: None,
+            walk: Some(walk),
+        },
+        Err(Failed) => Ended {
+            stop: Some(Stop::Write),
+            walk: Some(walk),
+        },
     }
 }
 
