@@ -3,3 +3,4 @@ pub mod HexLineLaws
 pub mod LineLaws
 pub mod CountLaws
 pub mod RunLaws
+pub mod MakeLaws
