@@ -1,3 +1,4 @@
+pub mod MakeLaws
 pub mod DecodedLaws
 pub mod HexLineLaws
 pub mod LineLaws

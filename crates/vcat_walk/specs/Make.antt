@@ -39,8 +39,8 @@ make_text number lines ticks = sums_text (load number lines ticks) (counts_in (l
 
 -- ---- as private clauses say it
 -- the octets of some frames of at most 9,600 octets are counted and added up, up to 2^64 - 1
-pub record HasSummed (octets total : ℕ) (frames : List (List ℕ)) : Type 0 where
-  pub octets : octets ≡ min (octet_count frames) 18446744073709551615
-  pub total : total ≡ min (octet_sum frames) 18446744073709551615
+pub record HasSummed (count add : ℕ) (frames : List (List ℕ)) : Type 0 where
+  pub octets : count ≡ min (octet_count frames) 18446744073709551615
+  pub total : add ≡ min (octet_sum frames) 18446744073709551615
   pub few : octet_count frames ≤ 9600 * length frames
   pub small : octet_sum frames ≤ 2448000 * length frames
