@@ -1,3 +1,6 @@
+pub mod MakeLaws
+pub mod TraceLaws
+pub mod EndLaws
 pub mod DecodedLaws
 pub mod HexLineLaws
 pub mod LineLaws

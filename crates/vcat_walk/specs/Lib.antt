@@ -6,3 +6,4 @@ pub mod Ended
 pub mod Stop
 pub mod Run
 pub mod Written
+pub mod Trace
