@@ -55,15 +55,27 @@ some-map : {X : Type 0} (P Q : X → Type 0) (o : Option X) → ((x : X) → P x
 some-map P Q None f h = tt
 some-map P Q (Some x) f h = f x h
 
-module _ {K : Type 0} (written : K → Option (List ℕ)) (faults : K → ℕ) (known : Option (List ℕ)) (script : Script) (old new : K) where
-  pub writes-walk : IfSome known (λ text. script_of text ≡ Ok script) → Appends written faults old new (walk_text script) → IfSome known (WritesWalk written faults old new)
-  writes-walk is appends = some-map (λ text. script_of text ≡ Ok script) (WritesWalk written faults old new) known (λ text e. (script, e, appends)) is
+module _ {K : Type 0} (written : K → Option (List ℕ)) (faults : K → ℕ) (known : Option (List ℕ)) (script other : Script) (old new : K) where
+  pub writes-walk : other ≡ script → IfSome known (λ text. script_of text ≡ Ok script) → Appends written faults old new (walk_text other) → IfSome known (WritesWalk written faults old new)
+  writes-walk same is appends =
+      let P : Script → Type 0 = λ script. Appends written faults old new (walk_text script) in
+      some-map (λ text. script_of text ≡ Ok script) (WritesWalk written faults old new) known (λ text e. (script, e, subst P same appends)) is
 
-  pub writes-part : IfSome known (λ text. script_of text ≡ Ok script) → AppendsPart written faults old new (walk_text script) → IfSome known (WritesWalkPart written faults old new)
-  writes-part is part = some-map (λ text. script_of text ≡ Ok script) (WritesWalkPart written faults old new) known (λ text e. (script, e, part)) is
+  pub writes-part : other ≡ script → IfSome known (λ text. script_of text ≡ Ok script) → AppendsPart written faults old new (walk_text other)
+      → IfSome known (WritesWalkPart written faults old new)
+  writes-part same is part =
+      let P : Script → Type 0 = λ script. AppendsPart written faults old new (walk_text script) in
+      some-map (λ text. script_of text ≡ Ok script) (WritesWalkPart written faults old new) known (λ text e. (script, e, subst P same part)) is
 
 -- the walk of a script
-pub hands-back : (known : Option (List ℕ)) (script : Script) (walk : Walked) → IfSome known (λ text. script_of text ≡ Ok script) → walk.script ≡ script → walk.counts ≡ counts_in script
-    → IfSome known (HandsBack (Some walk))
-hands-back known script walk is same counts =
-    some-map (λ text. script_of text ≡ Ok script) (HandsBack (Some walk)) known (λ text e. (script, e, cc (same, counts))) is
+walk-is : (walk : Walked) (script : Script) (s : Counts) → walk.script ≡ script → walk.counts ≡ s → walk ≡ record { script = script; counts = s }
+walk-is walk script s same counts =
+    let f : Script → Walked = λ script. record { script = script; counts = walk.counts } in
+    let g : Counts → Walked = λ s. record { script = script; counts = s } in
+    ap f same ∙ ap g counts
+
+pub hands-back : (known : Option (List ℕ)) (script other : Script) (walk : Walked) → other ≡ script → IfSome known (λ text. script_of text ≡ Ok script) → walk.script ≡ other
+    → walk.counts ≡ counts_in other → IfSome known (HandsBack (Some walk))
+hands-back known script other walk same is mine counts =
+    some-map (λ text. script_of text ≡ Ok script) (HandsBack (Some walk)) known
+    (λ text e. (script, e, ap Some (walk-is walk script (counts_in script) (mine ∙ same) (counts ∙ ap counts_in same)))) is

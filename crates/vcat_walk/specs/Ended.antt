@@ -36,6 +36,10 @@ HasRunAt status = (status ≡ 0) ⊎ (status ≡ 4)
 abbrev pub Rises : ℕ → ℕ → Type 0
 Rises old new = one_more old ≤ new
 
+-- of two counts one rose by one, and the other stayed
+abbrev pub FailsOnce : ℕ → ℕ → ℕ → ℕ → Type 0
+FailsOnce k_old k_new e_old e_new = ((k_new ≡ one_more k_old) × (e_new ≡ e_old)) ⊎ ((k_new ≡ k_old) × (e_new ≡ one_more e_old))
+
 -- the text is a script, and not too long
 abbrev pub IsGoodScript : List ℕ → Type 0
 IsGoodScript text = (length text ≤ most_octets) × (script : Script) × (script_of text ≡ Ok script)

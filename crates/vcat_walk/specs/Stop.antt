@@ -1,9 +1,8 @@
 -- How a command ends, as private clauses say it: done, or stopped by a cause. `left` and `faults` are what a source tells of its octets,
 -- where it tells them, and its count of faults.
-use Rattle.std.specs.Prelude.{◌≡◌, ◌≢◌, ◌⊎◌, ℕ, ◌<◌, ◌≤◌, List, length, Option, Some, None, IfSome, Err, codes}
+use Rattle.std.specs.Prelude.{◌≡◌, ◌≢◌, ℕ, ◌<◌, ◌≤◌, List, length, Option, Some, None, IfSome, Err, codes}
 use Rattle.std.specs.Io.KnownBytes.{IsAtEnd}
 use Rattle.outside_io.specs.Faults.{one_more}
-use Rattle.script_read.specs.declared.fault.LineKind.{LineKind}
 use Rattle.script_read.specs.declared.fault.LineKind.TheVariants.{Hex}
 use Rattle.script_read.specs.declared.fault.ScriptFault.{ScriptFault}
 use Rattle.script_read.specs.declared.fault.ScriptFault.TheVariants.{Line, Slip, Spread, Lag}
@@ -12,7 +11,7 @@ use Rattle.script_read.specs.Script.{script_of}
 use Rattle.vcat_walk.specs.declared.stop.Stop.{Stop}
 use Rattle.vcat_walk.specs.declared.stop.Stop.TheVariants.{Usage, Read, TooLong, Fault, NotHex, Write, Memory}
 use Rattle.vcat_walk.specs.Texts.{usage_text, line_text, fault_text}
-use Rattle.vcat_walk.specs.Ended.{most_octets, IsLimit}
+use Rattle.vcat_walk.specs.Ended.{most_octets}
 
 -- a script has this fault, and isn't short of memory
 abbrev pub IsToldFault : ScriptFault → Type 0
@@ -74,15 +73,17 @@ pub data IsLate : Option Stop → Type 0 where
   cut : IsLate (Some Write)
   short : IsLate (Some Memory)
 
--- ---- the statuses that causes have
--- a line is faulty
-abbrev pub IsLineStop : Option Stop → Type 0
-IsLineStop stop = ((number : ℕ) × (kind : LineKind) × (stop ≡ Some (Fault (Line number kind)))) ⊎ ((number : ℕ) × (stop ≡ Some (NotHex number)))
-
--- slips, spread or lag don't fit
-abbrev pub IsLimitStop : Option Stop → Type 0
-IsLimitStop stop = (fault : ScriptFault) × IsLimit fault × (stop ≡ Some (Fault fault))
-
--- memory is short
-abbrev pub IsMemoryStop : Option Stop → Type 0
-IsMemoryStop stop = (stop ≡ Some Memory) ⊎ (stop ≡ Some (Fault fault.Memory))
+-- the status of a cause
+abbrev pub status_at : Option Stop → ℕ
+status_at None = 0
+status_at (Some Usage) = 2
+status_at (Some Read) = 3
+status_at (Some Write) = 4
+status_at (Some (NotHex number)) = 5
+status_at (Some (Fault (Line number kind))) = 5
+status_at (Some (Fault (Slip line window))) = 6
+status_at (Some (Fault (Spread slow fast slip ring))) = 6
+status_at (Some (Fault (Lag lag least))) = 6
+status_at (Some (Fault fault.Memory)) = 7
+status_at (Some Memory) = 7
+status_at (Some TooLong) = 8

@@ -14,7 +14,7 @@ ghost use Rattle.vcat_walk.specs.HexLines.{IsFirstFault};
 ghost use Rattle.vcat_walk.specs.Texts.{usage_text, line_text, fault_text};
 ghost use Rattle.vcat_walk.specs.Make.{make_text};
 ghost use Rattle.vcat_walk.specs.Ended.{most_octets, is_status, HasRead, HasRunAt, Rises, IsGoodScript, IsGoodHex, IsLimit, IsWalkOf, HandsBack, WritesWalk, WritesWalkPart, WritesTrace, StopsInTrace, WritesPackets, WritesPacketsPart};
-ghost use Rattle.vcat_walk.specs.Stop.{IsLineStop, IsLimitStop, IsMemoryStop};
+ghost use Rattle.vcat_walk.specs.Stop.{status_at, note_of};
 
 use crate::decode::decode;
 use crate::make::make;
@@ -22,7 +22,7 @@ use crate::notes::tell;
 use crate::stop::{Ended, Stop};
 use crate::trace::trace;
 use crate::walk::{stopped, walk};
-use cmd_words::{Command, Program, read_words};
+use cmd_words::{Command, Program, WordFault, read_words};
 use outside_io::{ByteSink, ByteSource};
 use script_read::ScriptFault;
 use std::alloc::Global;
@@ -136,20 +136,45 @@ pub fn walk_top<S: ByteSource, K: ByteSink, E: ByteSink>(
     ensures told_long { result.status ≡ 8 →
         Tells E.written E.faults notes.old notes.new (codes "fault: too long\n") }
 {
-    let Ended { stop, walk } = match read_words(words, Program::Walk) {
-        Ok(Command::Walk { trace: false }) => walk(alloc, script, out),
-        Ok(Command::Walk { trace: true }) => trace(alloc, script, out, notes),
-        Ok(Command::Decode) => Ended {
-            stop: decode(alloc, script, out),
-            walk: None,
-        },
-        Ok(Command::Make {
+    match read_command(words) {
+        Some(Command::Walk { trace: false }) => finish(walk(alloc, script, out), notes),
+        Some(Command::Walk { trace: true }) => {
+            let ended = trace(alloc, script, out, notes);
+            finish(ended, notes)
+        }
+        Some(Command::Decode) => {
+            let stop = decode(alloc, script, out);
+            finish(Ended { stop, walk: None }, notes)
+        }
+        Some(Command::Make {
             number,
             lines,
             ticks,
-        }) => make(alloc, number, lines, ticks, out),
-        Ok(Command::Run { .. }) | Err(_) => stopped(Stop::Usage),
-    };
+        }) => finish(make(alloc, number, lines, ticks, out), notes),
+        Some(Command::Run { .. }) => unreachable!(),
+        None => finish(stopped(Stop::Usage), notes),
+    }
+}
+
+/// The command that the words are, where they are one.
+fn read_command(words: &[String]) -> Option<Command>
+    ensures { result ≡ command_in words.now }
+{
+    match read_words(words, Program::Walk) {
+        Ok(command) => Some(command),
+        Err(WordFault::Usage) => None,
+    }
+}
+
+/// Says on `notes` why a command stopped, where it did, and gives the status.
+fn finish<E: ByteSink>(ended: Ended, notes: &mut E) -> WalkEnd
+    ensures status { result.status ≡ status_at ended.stop }
+    ensures walk { result.walk ≡ ended.walk }
+    ensures quiet { ended.stop ≡ None → notes.new ≡ notes.old }
+    ensures told { IfSome ended.stop (λ cause.
+        Tells E.written E.faults notes.old notes.new (note_of cause)) }
+{
+    let Ended { stop, walk } = ended;
     tell(stop, notes);
     WalkEnd {
         status: status_of(stop),
@@ -159,15 +184,7 @@ pub fn walk_top<S: ByteSource, K: ByteSink, E: ByteSink>(
 
 /// The exit status of a command that was done, or stopped by a cause.
 fn status_of(stop: Option<Stop>) -> u8
-    ensures known { IsTrue (is_status result) }
-    ensures done { (result ≡ 0) ↔ (stop ≡ None) }
-    ensures usage { (result ≡ 2) ↔ (stop ≡ Some Stop.Usage) }
-    ensures read { (result ≡ 3) ↔ (stop ≡ Some Stop.Read) }
-    ensures write { (result ≡ 4) ↔ (stop ≡ Some Stop.Write) }
-    ensures line { result ≡ 5 → IsLineStop stop }
-    ensures limits { result ≡ 6 → IsLimitStop stop }
-    ensures memory { result ≡ 7 → IsMemoryStop stop }
-    ensures long { (result ≡ 8) ↔ (stop ≡ Some Stop.TooLong) }
+    ensures { result ≡ status_at stop }
 {
     match stop {
         None => 0,

@@ -11,7 +11,7 @@ ghost use Rattle.sink_core.specs.Start.{Start};
 ghost use Rattle.walk_law.specs.Walk.{walk_plan, IsWalked};
 ghost use Rattle.walk_law.specs.Delivered.{delivered_of};
 ghost use Rattle.walk_core.specs.Moved.{GivesRows};
-ghost use Rattle.vcat_walk.specs.Ended.{WritesWalk, WritesTrace, StopsBoth, StopsInTrace, HandsBack};
+ghost use Rattle.vcat_walk.specs.Ended.{WritesWalk, WritesTrace, StopsBoth, StopsInTrace, HandsBack, FailsOnce};
 ghost use Rattle.vcat_walk.specs.Stop.{HasRun, ReadsScript};
 ghost use Rattle.vcat_walk.specs.Texts.{counts_in, walk_text, decision_text, decisions_text, trace_text};
 ghost use Rattle.vcat_walk.specs.Trace.{events_of, IsTurn, IsTold};
@@ -393,6 +393,10 @@ pub fn trace<S: ByteSource, K: ByteSink, E: ByteSink>(
     ensures kept { (¬ HasRun result.stop) → result.walk ≡ None }
     ensures nothing { (¬ HasRun result.stop) → out.new ≡ out.old }
     ensures quiet { (¬ HasRun result.stop) → notes.new ≡ notes.old }
+    ensures write_failed { result.stop ≡ Some Stop.Write →
+        FailsOnce (K.faults out.old) (K.faults out.new) (E.faults notes.old) (E.faults notes.new) }
+    ensures write_quiet { result.stop ≢ Some Stop.Write →
+        (K.faults out.new ≡ K.faults out.old) × (E.faults notes.new ≡ E.faults notes.old) }
 {
     let script = match read_whole_script(alloc, script) {
         Ok(script) => script,
