@@ -111,3 +111,6 @@ not-run now stop is other run = stopped stop other (subst HasRun is run)
     stopped (NotHex number) other run = run
     stopped Write other run = other refl
     stopped Memory other run = run
+
+pub same-stop : (a b : Stop) → Some a ≡ Some b → a ≡ b
+same-stop a b e = cc
