@@ -1,3 +1,4 @@
 pub mod Decoder
 pub mod Wording
 pub mod Worked
+pub mod StepText

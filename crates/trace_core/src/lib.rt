@@ -1,5 +1,6 @@
-//! Finds the control packets of a line in its H4 octets, octet by octet. Begin with `H4Decoder`; `packets_law` says that its
-//! definition is what is worded of packets. How a packet is read is not said here, nor how it is printed.
+//! Finds the control packets of a line in its H4 octets, octet by octet, and puts together the lines of a decoding and of a trace.
+//! Begin with `H4Decoder` and `trace_line`; `packets_law` says that the decoder's definition is what is worded of packets. How a packet
+//! is read is not said here, and nothing is written to an output.
 #![tactic(auto)]
 
 ghost use Rattle.std.specs.Prelude.{◌≡◌, ℕ, ◌+◌, ◌<◌, List, [], ◌∷◌, ◌++◌};
@@ -8,6 +9,10 @@ ghost use Rattle.session_model.specs.Decode.{packets_in};
 ghost use Rattle.trace_core.specs.Decoder.{Stands};
 ghost use Rattle.trace_core.specs.Wording.{AreWorded, AreOnly, PacketsStay};
 ghost use Rattle.trace_core.specs.Worked.{AreRead, IsRefused};
+
+mod lines;
+
+pub use lines::{FOUND_ROOM, TRACE_ROOM, end_line, found_line, trace_line};
 
 use h4_multiframe::{MfiLock, Place};
 use lcas_packet::{Packet, PacketFault, read};

@@ -8,7 +8,7 @@ use Rattle.std.proofs.lemmas.List.{length-reverse, reverse-append, length-drop, 
 use Rattle.std.proofs.lemmas.List.Splits.{slice_split_none, slice_split_at, length-slice_split}
 use Rattle.std.proofs.lemmas.Grind.{flat_map-append}
 use Rattle.std.proofs.lemmas.Bool.Decides.{nat_tests}
-use Rattle.vcat_walk.specs.Form.{IsLine}
+use Rattle.vcat_walk.specs.HexLines.{IsLine}
 use Rattle.vcat_walk.specs.HexLines.{behind_spaces, line_octets}
 
 parts_more : (part : List ℕ) (parts : List (List ℕ)) → 0 < length parts → lines_of_parts (part ∷ parts) ≡ strip_carriage_return part ∷ lines_of_parts parts

@@ -1,7 +1,7 @@
 -- Texts in which no line ends.
 use Rattle.std.proofs.Common.{◌≡◌, ℕ, ◌+◌, List, ◌∷◌, ◌++◌, length, get_or, arith, refl, ap, ◌∙◌}
 use Rattle.std.proofs.lemmas.List.{get_or_at, length-append}
-use Rattle.vcat_walk.specs.Form.{IsLine}
+use Rattle.vcat_walk.specs.HexLines.{IsLine}
 
 -- a text with no LF has no line in front
 pub not_line : (text line rest : List ℕ) → IsLine text → text ≡ line ++ 10 ∷ rest → ⊥

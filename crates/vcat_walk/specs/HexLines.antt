@@ -1,6 +1,6 @@
 -- A text of lines of hexadecimal digits. Spaces at either end of a line are dropped; a line with nothing else, or whose first
 -- other octet is '#', is skipped.
-use Rattle.std.specs.Prelude.{◌≡◌, ℕ, ◌+◌, ◌==◌, List, [], ◌∷◌, ◌++◌, length, map, reverse, Option, Some, None, if◌then◌else◌}
+use Rattle.std.specs.Prelude.{◌≡◌, ◌≢◌, ℕ, ◌+◌, ◌==◌, List, [], ◌∷◌, ◌++◌, length, map, reverse, All, Option, Some, None, if◌then◌else◌}
 use Rattle.std.specs.List.{flat_map}
 use Rattle.std.specs.Result.{result_ok}
 use Rattle.std.specs.Str.Lines.{lines}
@@ -39,3 +39,7 @@ pub record IsFirstFault (text : List ℕ) (number : ℕ) : Type 0 where
   pub faulty : line_octets line ≡ None
   pub parts : List (List ℕ)
   pub sound : map line_octets before ≡ map Some parts
+
+-- a line holds no LF
+abbrev pub IsLine : List ℕ → Type 0
+IsLine line = All (λ octet. octet ≢ 10) line

@@ -1,6 +1,9 @@
-pub mod Form
-pub mod Walk
+pub mod Words
 pub mod HexLines
-pub mod Top
+pub mod Texts
+pub mod Make
+pub mod Ended
 pub mod Stop
+pub mod Run
 pub mod Written
+pub mod Trace

@@ -1,13 +1,21 @@
 //! The packets in the H4 octets of a line are found, and a line is written of each.
-ghost use Rattle.std.specs.Prelude.{◌≡◌, ℕ, ◌+◌, ◌<◌, ◌≤◌, List, [], ◌∷◌, ◌++◌, length, IfOk, OnOk, OnErr};
+ghost use Rattle.std.specs.Prelude.{◌≡◌, ◌≢◌, ℕ, ◌+◌, ◌<◌, ◌≤◌, List, [], ◌∷◌, ◌++◌, length, Some, None, IfSome, IfOk, OnOk, OnErr};
+ghost use Rattle.outside_io.specs.Faults.{one_more};
 ghost use Rattle.outside_io.specs.Transfer.{Appends, AppendsPart};
 ghost use Rattle.session_model.specs.DecodeText.{decoded_text};
 ghost use Rattle.trace_core.specs.Decoder.{Stands};
+ghost use Rattle.script_read.specs.declared.fault.ScriptFault.{ScriptFault};
+ghost use Rattle.vcat_walk.specs.Ended.{WritesPackets, WritesPacketsPart};
+ghost use Rattle.vcat_walk.specs.HexLines.{IsFirstFault};
+ghost use Rattle.vcat_walk.specs.Stop.{HasRun, ReadsInput};
 ghost use Rattle.vcat_walk.specs.Written.{HasLines, HasLinesPart};
 
-use crate::report::{FOUND_ROOM, end_line, found_line};
-use outside_io::{ByteSink, Failed, put_all};
-use trace_core::H4Decoder;
+use crate::hex_lines::{HexLinesFault, read_octets};
+use crate::input::read_input;
+use crate::stop::Stop;
+use outside_io::{ByteSink, ByteSource, Failed, put_all};
+use std::alloc::Global;
+use trace_core::{FOUND_ROOM, H4Decoder, end_line, found_line};
 
 /// Gives an H4 octet to the decoder, and writes the line of what it finds. The answer is the number of lines.
 fn take_h4<K: ByteSink>(
@@ -38,7 +46,7 @@ fn take_h4<K: ByteSink>(
 }
 
 /// Writes a line for each control packet in the H4 octets of a line, and the last line.
-pub fn write_packets<K: ByteSink>(octets: &[u8], out: &mut K) -> Result<(), Failed>
+fn write_packets<K: ByteSink>(octets: &[u8], out: &mut K) -> Result<(), Failed>
     requires { length octets.now ≤ 33554432 }
     ensures ok { OnOk result (Appends K.written K.faults out.old out.new (decoded_text octets.now)) }
     ensures err { OnErr result (AppendsPart K.written K.faults out.old out.new (decoded_text octets.now)) }
@@ -54,4 +62,39 @@ pub fn write_packets<K: ByteSink>(octets: &[u8], out: &mut K) -> Result<(), Fail
     }
     let end = end_line(octets.len(), packets, &mut line);
     put_all(out, &line[..end])
+}
+
+/// Reads the H4 octets of a line and writes the control packets in them. Answers why it stopped, where it wasn't done.
+pub fn decode<S: ByteSource, K: ByteSink>(
+    alloc: Global,
+    script: &mut S,
+    out: &mut K,
+) -> Option<Stop>
+    ensures reads { ReadsInput S.left S.faults script.old script.new result }
+    ensures command { result ≢ Some Stop.Usage }
+    ensures fault { (fault : ScriptFault) → result ≢ Some (Stop.Fault fault) }
+    ensures hex { (number : ℕ) → result ≡ Some (Stop.NotHex number) →
+        IfSome (S.left script.old) (λ text. IsFirstFault text number) }
+    ensures decoded { result ≡ None →
+        IfSome (S.left script.old) (WritesPackets K.written K.faults out.old out.new) }
+    ensures part { result ≡ Some Stop.Write →
+        IfSome (S.left script.old) (WritesPacketsPart K.written K.faults out.old out.new) }
+    ensures nothing { (¬ HasRun result) → out.new ≡ out.old }
+    ensures write_failed { result ≡ Some Stop.Write →
+        K.faults out.new ≡ one_more (K.faults out.old) }
+    ensures write_quiet { result ≢ Some Stop.Write → K.faults out.new ≡ K.faults out.old }
+{
+    let text = match read_input(alloc, script) {
+        Ok(text) => text,
+        Err(stop) => return Some(stop),
+    };
+    let octets = match read_octets(alloc, text.as_slice()) {
+        Ok(octets) => octets,
+        Err(HexLinesFault::Memory) => return Some(Stop::Memory),
+        Err(HexLinesFault::Line { number }) => return Some(Stop::NotHex { number }),
+    };
+    match write_packets(octets.as_slice(), out) {
+        Ok(()) => None,
+        Err(Failed) => Some(Stop::Write),
+    }
 }

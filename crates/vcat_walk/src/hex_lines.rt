@@ -1,11 +1,11 @@
 //! The octets that lines of hexadecimal digits say.
-ghost use Rattle.std.specs.Prelude.{◌≡◌, ℕ, ◌≤◌, ◌<◌, ◌+◌, ◌*◌, ◌/◌, ◌∷◌, ◌++◌, [], List, reverse, length, vec_len, IfOk, OnOk, OnErr, IfSome, IfNone};
+ghost use Rattle.std.specs.Prelude.{◌≡◌, ◌≢◌, ℕ, ◌≤◌, ◌<◌, ◌+◌, ◌*◌, ◌/◌, ◌∷◌, ◌++◌, [], List, reverse, length, vec_len, IfOk, OnOk, OnErr, IfSome, IfNone};
 ghost use Rattle.std.specs.Str.Lines.{lines, strip_carriage_return};
 ghost use Rattle.std.specs.Vec.{vec_capacity};
-ghost use Rattle.vcat_walk.specs.HexLines.{IsHexText, IsFirstFault, behind_spaces, trimmed, line_octets};
+ghost use Rattle.vcat_walk.specs.HexLines.{IsLine, IsHexText, IsFirstFault, behind_spaces, trimmed, line_octets};
 
-use crate::lines::first_line;
 use hex_text::{NotHex, decode_into};
+use memchr::memchr;
 use std::alloc::Global;
 
 /// Why a text gives no octets.
@@ -15,6 +15,18 @@ pub enum HexLinesFault {
     Line { number: u64 },
     /// Memory is short.
     Memory,
+}
+
+/// The first line of a text without its LF, and the rest of the text.
+fn first_line(text: &[u8]) -> Option<(&[u8], &[u8])>
+    ensures line { IfSome result (λ parts. IsLine parts.0.now) }
+    ensures some { IfSome result (λ parts. text.now ≡ parts.0.now ++ 10 ∷ parts.1.now) }
+    ensures none { IfNone result ((line rest : List ℕ) → text.now ≢ line ++ 10 ∷ rest) }
+{
+    let Some(end) = memchr(b'\n', text) else {
+        return None;
+    };
+    Some((&text[..end], &text[end + 1..]))
 }
 
 /// A line without the CR at its end.

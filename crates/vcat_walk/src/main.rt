@@ -1,16 +1,18 @@
-//! The program `vcat_walk`: it carries frames over the lines of a group, and decodes the control packets of a line.
+//! The program `vcat_walk`: it runs the scripts and loads of a group on one thread, and decodes the control packets of a line.
 #![tactic(auto)]
 
-mod block;
-mod commands;
+ghost use Rattle.std.specs.Prelude.{◌≡◌};
+
 mod decode;
-mod form;
 mod hex_lines;
-mod lines;
-mod report;
+mod input;
+mod make;
+mod notes;
+mod stop;
 #[cfg(test)]
 mod tests;
 mod top;
+mod trace;
 mod walk;
 mod words;
 
@@ -18,9 +20,16 @@ use outside_io::{StdSink, StdSource};
 use std::process::ExitCode;
 use top::walk_top;
 
+/// The status where there is no memory for the words.
+fn no_memory() -> u8
+    ensures { result ≡ 7 }
+{
+    7
+}
+
 fn main(rt: HostRuntime) -> ExitCode {
     let Ok(words) = words::given_words(&rt) else {
-        return ExitCode::from(7);
+        return ExitCode::from(no_memory());
     };
     let mut script = StdSource::new(rt.stdin());
     let mut out = StdSink::new(rt.stdout());

@@ -1,4 +1,4 @@
-//! The program by commands, inputs and faults.
+//! The program by words, inputs and faults. What is expected comes of a model of the definitions, or is counted by hand.
 
 use crate::top::walk_top;
 use outside_io::{MemSink, MemSource};
@@ -9,63 +9,59 @@ use std::test::Fail;
 #[derive(Drop)]
 struct Answer {
     status: u8,
+    walked: bool,
     out: Vec<u8>,
     notes: Vec<u8>,
 }
 
-/// Calls the program with one word, where the reads and the writes of these numbers fail.
-fn walked(
-    alloc: Global,
-    word: &str,
-    script: &[u8],
-    fail_reads: &[u32],
-    fail_writes: &[u32],
-) -> Result<Answer, AllocError> {
-    called(alloc, &[word], script, fail_reads, fail_writes)
+/// Which calls fail: of the source, of `out`, and of `notes`.
+#[derive(Clone, Copy)]
+struct Fails<'a> {
+    takes: &'a [u32],
+    puts: &'a [u32],
+    tells: &'a [u32],
 }
 
-/// Calls the program with any words.
+/// No call fails.
+const NONE: Fails<'static> = Fails {
+    takes: &[],
+    puts: &[],
+    tells: &[],
+};
+
+/// Calls the program with words that stand one space apart.
 fn called(
     alloc: Global,
-    given: &[&str],
+    text: &str,
     script: &[u8],
-    fail_reads: &[u32],
-    fail_writes: &[u32],
+    fails: Fails<'_>,
 ) -> Result<Answer, AllocError> {
     let mut words = Vec::new(alloc);
-    for word in given {
+    for word in text.split(' ') {
         words.push(String::from_str(alloc, word)?)?;
     }
-    let mut source = MemSource::new(alloc, script, fail_reads)?;
-    let mut out = MemSink::new(alloc, 1 << 20, fail_writes)?;
-    let mut notes = MemSink::new(alloc, 1 << 10, &[])?;
+    let mut source = MemSource::new(alloc, script, fails.takes)?;
+    let mut out = MemSink::new(alloc, 1 << 20, fails.puts)?;
+    let mut notes = MemSink::new(alloc, 1 << 16, fails.tells)?;
     let end = walk_top(alloc, words.as_slice(), &mut source, &mut out, &mut notes);
     Ok(Answer {
         status: end.status,
+        walked: end.walk.is_some(),
         out: Vec::from_slice(alloc, out.bytes())?,
         notes: Vec::from_slice(alloc, notes.bytes())?,
     })
 }
 
-/// Appends the hexadecimal digits of a frame of `length` octets.
-fn push_digits(text: &mut Vec<u8>, length: usize) -> Result<(), AllocError> {
+/// Appends a frame line with a due tick and a number of octets.
+fn push_frame(text: &mut Vec<u8>, due: &str, length: usize) -> Result<(), AllocError> {
+    text.extend_from_slice(b"frame ")?;
+    text.extend_from_slice(due.as_bytes())?;
+    text.extend_from_slice(b" ")?;
     for _ in 0..length {
         text.extend_from_slice(b"5a")?;
     }
+    text.extend_from_slice(b"\n")?;
     Ok(())
-}
-
-/// A script of a number of ticks, with a frame of each length.
-fn script(alloc: Global, ticks: &str, lengths: &[usize]) -> Result<Vec<u8>, AllocError> {
-    let mut text = Vec::from_slice(alloc, b"lines 1\ndelays 0\nring 1\nlag 1\nticks ")?;
-    text.extend_from_slice(ticks.as_bytes())?;
-    text.extend_from_slice(b"\nadd 0 0\n")?;
-    for length in lengths {
-        text.extend_from_slice(b"frame 0 ")?;
-        push_digits(&mut text, *length)?;
-        text.extend_from_slice(b"\n")?;
-    }
-    Ok(text)
 }
 
 /// How many lines a text has.
@@ -73,169 +69,294 @@ fn count_lines(text: &[u8]) -> usize {
     text.iter().filter(|octet| **octet == b'\n').count()
 }
 
+/// Whether a text has this line.
+fn has_line(text: &[u8], wanted: &str) -> bool {
+    text.split(|octet| *octet == b'\n')
+        .any(|line| line == wanted.as_bytes())
+}
+
+/// Words, inputs without frames, and what is answered: the status, `out` and `notes`.
+const ANSWERS: &[(&str, &str, u8, &str, &str)] = &[
+    (
+        "walk",
+        "lines 1\ndelays 0\nring 1\nlag 1\nticks 1\n",
+        0,
+        "total ticks 1 taken 1 frames 0 commands 0 refused 0 got 0\n",
+        "",
+    ),
+    // What event lines make, and nothing else.
+    (
+        "walk",
+        "lines 1\ndelays 0\nring 1\nlag 1\nticks 5\ntick 2\ncarry 0 1\n",
+        0,
+        "total ticks 2 taken 0 frames 0 commands 0 refused 0 got 0\n",
+        "",
+    ),
+    (
+        "walk",
+        "lines 1\ndelays 0\nring 1\nlag 1\nticks 1\nadd 0 0\nadd 0 0\nremove 0 1\nframe 0 00\n",
+        0,
+        "refused 1 already in\nrefused 2 unknown\nrefused 3 length 1\ntotal ticks 1 taken 1 frames 0 commands 1 refused 3 got 0\n",
+        "",
+    ),
+    (
+        "walk",
+        "lines 2\ndelays 0 0\nring 1\nlag 1\nticks 1\nadd 0 0\nadd 0 0\nremove 0 1",
+        0,
+        "refused 1 already in\nrefused 2 not in\ntotal ticks 1 taken 1 frames 0 commands 1 refused 2 got 0\n",
+        "",
+    ),
+    (
+        "trace",
+        "lines 1\ndelays 0\nring 1\nlag 1\nticks 41\nadd 0 0\n",
+        0,
+        "total ticks 41 taken 41 frames 0 commands 1 refused 0 got 0\n",
+        "packet 0 chg 1 act 0 back none add:0\npacket 1 chg 1 act 1 back 7f/1 eos:0\npacket 2 chg 1 act 1 back ff/1 eos:0\n",
+    ),
+    (
+        "make 1 1 1",
+        "",
+        0,
+        "made lines 1 ticks 1\ntotal ticks 1 taken 1 frames 1 commands 1 refused 0 got 0\noctets 0 sum 0\n",
+        "",
+    ),
+    (
+        "make 7 2 400",
+        "",
+        0,
+        "made lines 2 ticks 400\ntotal ticks 400 taken 400 frames 50 commands 2 refused 0 got 50\noctets 43246 sum 5512389\n",
+        "",
+    ),
+    ("walk", "lines 1\nring 1\n", 5, "", "fault: line 2: missing\n"),
+    ("walk", "", 5, "", "fault: line 1: missing\n"),
+    ("walk", "lines 129\n", 5, "", "fault: line 1: range\n"),
+    ("trace", "container vc2\n", 5, "", "fault: line 1: word\n"),
+    (
+        "walk",
+        "lines 1\ndelays 0\nring 1\nlag 1\nticks 1\nframe 0 abc\n",
+        5,
+        "",
+        "fault: line 6: hex\n",
+    ),
+    (
+        "walk",
+        "lines 1\ndelays 0\nring 1\nlag 1\nticks 9\nadd 5 0\nadd 4 0\nx\n",
+        5,
+        "",
+        "fault: line 7: order\n",
+    ),
+    (
+        "walk",
+        "lines 1\ndelays 00000000000\n",
+        5,
+        "",
+        "fault: line 2: number\n",
+    ),
+    (
+        "walk",
+        "lines 2\ndelays 0 63\nring 64\nlag 5\nticks 1\n",
+        0,
+        "total ticks 1 taken 1 frames 0 commands 0 refused 0 got 0\n",
+        "",
+    ),
+    (
+        "walk",
+        "lines 2\ndelays 0 63\nring 63\nlag 5\nticks 1\n",
+        6,
+        "",
+        "fault: spread 63 0 0 63\n",
+    ),
+    (
+        "walk",
+        "lines 2\ndelays 0 63\nring 64\nlag 4\nticks 1\n",
+        6,
+        "",
+        "fault: lag 4 least 5\n",
+    ),
+    (
+        "trace",
+        "lines 1\ndelays 0\nring 1\nlag 1\nticks 20\nfail 0 10 20 10\n",
+        6,
+        "",
+        "fault: slip line 0 window 0\n",
+    ),
+];
+
 #[test]
-fn frames_that_the_rows_carry(rt: HostRuntime) -> Result<(), Fail> {
+fn answers(rt: HostRuntime) -> Result<(), Fail> {
     let alloc = rt.alloc();
-    // Ticks and lengths, and how many got lines there are. The stream begins with two idles, eight octets, after forty empty rows,
-    // and a frame has eight octets of headers.
-    for (ticks, lengths, got) in [
-        ("1", [].as_slice(), 0),
-        ("41", [2324].as_slice(), 1),
-        ("41", [2325].as_slice(), 0),
-        ("40", [64].as_slice(), 0),
-        ("42", [2325, 2331].as_slice(), 2),
-        ("42", [2325, 2332].as_slice(), 1),
-        ("46", [9600, 64].as_slice(), 2),
-    ] {
-        let text = script(alloc, ticks, lengths)?;
-        let end = walked(alloc, "walk", text.as_slice(), &[], &[])?;
-        assert_eq!(rt; end.status, 0, "{ticks}");
-        assert_eq!(rt; count_lines(end.out.as_slice()), got + 1, "{ticks}");
-        assert_eq!(rt; end.notes.len(), 0);
+    for (words, script, status, out, notes) in ANSWERS {
+        let end = called(alloc, words, script.as_bytes(), NONE)?;
+        assert_eq!(rt; end.status, *status, "{words} {script}");
+        assert_eq!(rt; end.out.as_slice(), out.as_bytes(), "{words} {script}");
+        assert_eq!(rt; end.notes.as_slice(), notes.as_bytes(), "{words} {script}");
+        assert_eq!(rt; end.walked, *status == 0, "{words} {script}");
     }
-    let one = walked(alloc, "walk", script(alloc, "1", &[])?.as_slice(), &[], &[])?;
-    assert_eq!(rt;
-        one.out.as_slice(),
-        b"total ticks 1 taken 1 frames 0 commands 1 refused 0 got 0\n".as_slice()
-    );
-    Ok(())
-}
-
-#[test]
-fn frame_that_ends_on_the_last_octet(rt: HostRuntime) -> Result<(), Fail> {
-    let alloc = rt.alloc();
-    let mut text = Vec::from_slice(alloc, b"got ")?;
-    push_digits(&mut text, 2324)?;
-    text.extend_from_slice(b"\ntotal ticks 41 taken 41 frames 1 commands 1 refused 0 got 1\n")?;
-    let end = walked(
-        alloc,
-        "walk",
-        script(alloc, "41", &[2324])?.as_slice(),
-        &[],
-        &[],
-    )?;
-    assert_eq!(rt; end.status, 0);
-    assert_eq!(rt; end.out.as_slice(), text.as_slice());
-    let end = walked(
-        alloc,
-        "walk",
-        script(alloc, "41", &[2325])?.as_slice(),
-        &[],
-        &[],
-    )?;
-    assert_eq!(rt; end.status, 0);
-    assert_eq!(rt;
-        end.out.as_slice(),
-        b"total ticks 41 taken 41 frames 1 commands 1 refused 0 got 0\n".as_slice()
-    );
-    Ok(())
-}
-
-#[test]
-fn texts_of_another_form(rt: HostRuntime) -> Result<(), Fail> {
-    let alloc = rt.alloc();
-    for text in [
-        b"".as_slice(),
-        b"\n",
-        b"lines 2\ndelays 0\nring 1\nlag 1\nticks 1\nadd 0 0\n",
-        b"lines 1\ndelays 0\nring 1\nlag 1\nticks 1\nadd 0 0",
-        b"lines 1\ndelays 0\nring 1\nlag 1\nticks 1\nadd 0",
-        b"lines 1\r\ndelays 0\r\nring 1\r\nlag 1\r\nticks 1\r\nadd 0 0\r\n",
-        b"lines  1\ndelays 0\nring 1\nlag 1\nticks 1\nadd 0 0\n",
-        b"lines 1\ndelays 0\nring 1\nlag 1\nticks 0\nadd 0 0\n",
-        b"lines 1\ndelays 0\nring 1\nlag 1\nticks 1000001\nadd 0 0\n",
-        b"lines 1\ndelays 0\nring 1\nlag 1\nticks 01\nadd 0 0\n",
-        b"lines 1\ndelays 0\nring 1\nlag 1\nticks +1\nadd 0 0\n",
-        b"lines 1\ndelays 0\nring 1\nlag 1\nticks 99999999999999999999\nadd 0 0\n",
-        b"lines 1\ndelays 0\nring 1\nlag 1\nticks 1\nadd 0 0\nframe 0 00\n",
-        b"lines 1\ndelays 0\nring 1\nlag 1\nticks 1\nadd 0 0\n\n",
-        b"lines 1\ndelays 0\nring 1\nlag 1\nticks \xff\nadd 0 0\n",
-    ] {
-        let end = walked(alloc, "walk", text, &[], &[])?;
-        assert_eq!(rt; end.status, 9);
+    for words in ["", "walk ", "walk x", "Walk", "walk walk", "-h", "run 2", "make 1 1"] {
+        let end = called(alloc, words, b"", NONE)?;
+        assert_eq!(rt; end.status, 2, "{words}");
         assert_eq!(rt; end.out.len(), 0);
-        assert_eq!(rt; end.notes.len(), 0);
-    }
-    for (lengths, status) in [
-        ([63].as_slice(), 9),
-        ([64].as_slice(), 0),
-        ([9600].as_slice(), 0),
-        ([9601].as_slice(), 9),
-        ([64; 256].as_slice(), 0),
-        ([64; 257].as_slice(), 9),
-    ] {
-        let text = script(alloc, "41", lengths)?;
         assert_eq!(rt;
-            walked(alloc, "walk", text.as_slice(), &[], &[])?.status,
-            status
+            end.notes.as_slice(),
+            b"usage: vcat_walk walk, trace, decode, or make NUMBER LINES TICKS\n".as_slice()
         );
     }
-    // One digit is upper case; and one is missing.
-    let mut upper = script(alloc, "41", &[64])?;
-    let last = upper.pop();
-    assert_eq!(rt; last, Some(b'\n'));
-    let digit = upper.pop();
-    assert_eq!(rt; digit, Some(b'a'));
-    upper.extend_from_slice(b"A\n")?;
-    assert_eq!(rt;
-        walked(alloc, "walk", upper.as_slice(), &[], &[])?.status,
-        9
-    );
-    let mut odd = script(alloc, "41", &[64])?;
-    let _ = odd.pop();
-    let _ = odd.pop();
-    odd.extend_from_slice(b"\n")?;
-    assert_eq!(rt; walked(alloc, "walk", odd.as_slice(), &[], &[])?.status, 9);
     Ok(())
 }
 
+/// Scripts without frames, and lines of their traces.
+const TRACES: &[(&str, &[&str])] = &[
+    (
+        "lines 3\ndelays 0 0 0\nring 1\nlag 1\nticks 700\nadd 0 0\nadd 0 1\nadd 0 2\nremove 600 1\n",
+        &[
+            "packet 1 chg 0 act 1 back 7f/1 eos:0 add:1 idle:255",
+            "packet 2 chg 1 act 1 back ff/0 eos:0 add:1 add:2",
+            "packet 17 chg 1 act 3 back 1f/1 norm:0 norm:1 eos:2",
+            "packet 33 chg 1 act 3 back 1f/1 norm:0 norm:1 eos:2",
+            "packet 37 chg 0 act 2 back ff/1 norm:0 idle:255 eos:1",
+        ],
+    ),
+    (
+        "lines 3\ndelays 0 0 0\nring 1\nlag 1\nticks 700\nadd 0 0\nadd 0 1\nadd 0 2\nremove 600 2\n",
+        &["packet 37 chg 0 act 2 back ff/1 norm:0 eos:1 idle:255"],
+    ),
+    (
+        "lines 2\ndelays 0 0\nring 1\nlag 4\nticks 1100\nadd 0 0\nremove 552 0\nadd 552 1\n",
+        &[
+            "packet 34 chg 0 act 0 back ff/1 idle:255 idle:255",
+            "packet 36 chg 0 act 0 back 7f/1 idle:255 idle:255",
+            "packet 38 chg 1 act 0 back ff/0 idle:255 add:0",
+            "packet 68 chg 1 act 1 back 7f/1 idle:255 eos:0",
+        ],
+    ),
+    (
+        "lines 2\ndelays 0 0\nring 1\nlag 1\nticks 1600\nfail 1 1024 1048 0\nadd 0 0\nadd 0 1\n",
+        &[
+            "packet 33 chg 0 act 2 back 3f/0 norm:0 eos:1",
+            "packet 65 chg 0 act 1 back 7f/0 eos:0 dnu:1",
+            "packet 97 chg 0 act 2 back 3f/0 norm:0 eos:1",
+        ],
+    ),
+    (
+        "lines 1\ndelays 0\nring 1\nlag 1\nticks 700\nlost 0 1\nadd 0 0\n",
+        &[
+            "packet 1 chg 1 act 0 back lost add:0",
+            "packet 2 chg 1 act 0 back ff/1 add:0",
+            "packet 33 chg 1 act 1 back 7f/1 eos:0",
+        ],
+    ),
+    (
+        "lines 2\ndelays 0 0\nring 1\nlag 1\nticks 1200\nfail 0 0 1100 0\nadd 0 0\nadd 0 1\n",
+        &[
+            "packet 0 chg 1 act 0 back none add:0 idle:255",
+            "packet 1 chg 0 act 0 back ff/1 add:0 add:1",
+            "packet 17 chg 1 act 0 back bf/0 add:1 add:0",
+            "packet 33 chg 1 act 1 back 7f/1 add:1 eos:0",
+        ],
+    ),
+];
+
 #[test]
-fn words_and_faults(rt: HostRuntime) -> Result<(), Fail> {
+fn traces(rt: HostRuntime) -> Result<(), Fail> {
     let alloc = rt.alloc();
-    let text = script(alloc, "50", &[64, 65, 66, 67])?;
-    for words in [
-        [].as_slice(),
-        &[""],
-        &["walk "],
-        &["Walk"],
-        &["decoder"],
-        &["-h"],
-        &["walk", "walk"],
-        &["walk", "x"],
-        &["decode", ""],
-    ] {
-        let end = called(alloc, words, text.as_slice(), &[0], &[])?;
-        assert_eq!(rt; end.status, 2);
-        assert_eq!(rt; end.out.len(), 0);
-        assert_eq!(rt; end.notes.len(), 0);
+    for (script, lines) in TRACES {
+        let end = called(alloc, "trace", script.as_bytes(), NONE)?;
+        assert_eq!(rt; end.status, 0, "{script}");
+        for line in *lines {
+            assert_eq!(rt; has_line(end.notes.as_slice(), line), true, "{line}");
+        }
+        // The same on `out` as a walk.
+        let walk = called(alloc, "walk", script.as_bytes(), NONE)?;
+        assert_eq!(rt; walk.out.as_slice(), end.out.as_slice());
+        assert_eq!(rt; walk.notes.len(), 0);
     }
-    let unread = walked(alloc, "walk", text.as_slice(), &[0], &[])?;
-    assert_eq!(rt; unread.status, 3);
-    assert_eq!(rt; unread.out.len(), 0);
-    let whole = walked(alloc, "walk", text.as_slice(), &[], &[])?;
-    assert_eq!(rt; whole.status, 0);
-    // All lines go out together, since they are short.
-    let unwritten = walked(alloc, "walk", text.as_slice(), &[], &[0])?;
-    assert_eq!(rt; unwritten.status, 4);
-    assert_eq!(rt; unwritten.out.len(), 0);
-    let once = walked(alloc, "walk", text.as_slice(), &[], &[1])?;
-    assert_eq!(rt; once.status, 0);
-    assert_eq!(rt; once.out.as_slice(), whole.out.as_slice());
+    Ok(())
+}
+
+/// How a script begins, the due ticks and lengths of its frames, how it ends, and its got lines.
+const DELIVERED: &[(&str, &[(&str, usize)], &str, usize)] = &[
+    ("lines 1\ndelays 0\nring 1\nlag 1\nticks 41\nadd 0 0\n", &[("0", 2324)], "", 1),
+    ("lines 1\ndelays 0\nring 1\nlag 1\nticks 41\nadd 0 0\n", &[("0", 2325)], "", 0),
+    ("container vc3\nlines 1\ndelays 0\nring 1\nlag 1\nticks 41\nadd 0 0\n", &[("0", 740)], "", 1),
+    ("container vc3\nlines 1\ndelays 0\nring 1\nlag 1\nticks 41\nadd 0 0\n", &[("0", 741)], "", 0),
+    // A failure of 40 containers with a slip of 39: the second frame lies before the first place that is confirmed after it, and the
+    // third one is not yet descrambled.
+    (
+        "lines 1\ndelays 0\nring 40\nlag 4\nticks 200\nfail 0 100 140 39\nadd 0 0\n",
+        &[("0", 64), ("168", 64), ("168", 64), ("168", 64)],
+        "",
+        2,
+    ),
+    // Events in another order than rounds, and then a drain.
+    (
+        "lines 1\ndelays 0\nring 40\nlag 4\nticks 200\nfail 0 100 140 39\nadd 0 0\n",
+        &[("0", 64), ("168", 64), ("168", 64), ("168", 64)],
+        "tick 9\noperator 2\ntick 30\ncarry 0 7\nclient 9\ntick 3\ncarry 0 100\ntake 3\nround 20\ndrain\n",
+        2,
+    ),
+];
+
+#[test]
+fn frames_that_are_delivered(rt: HostRuntime) -> Result<(), Fail> {
+    let alloc = rt.alloc();
+    for (head, frames, tail, got) in DELIVERED {
+        let mut text = Vec::from_slice(alloc, head.as_bytes())?;
+        for (due, length) in *frames {
+            push_frame(&mut text, due, *length)?;
+        }
+        text.extend_from_slice(tail.as_bytes())?;
+        let end = called(alloc, "walk", text.as_slice(), NONE)?;
+        assert_eq!(rt; end.status, 0, "{head}");
+        assert_eq!(rt; count_lines(end.out.as_slice()), got + 1, "{head}{tail}");
+    }
     Ok(())
 }
 
 #[test]
-fn writes_that_fail_between_lines(rt: HostRuntime) -> Result<(), Fail> {
+fn calls_that_fail(rt: HostRuntime) -> Result<(), Fail> {
     let alloc = rt.alloc();
-    // The line of 9,600 octets has 19,205, and goes out alone.
-    let text = script(alloc, "58", &[9600, 9600, 9600, 9600])?;
-    let whole = walked(alloc, "walk", text.as_slice(), &[], &[])?;
+    let mut text = Vec::from_slice(
+        alloc,
+        b"lines 1\ndelays 0\nring 1\nlag 1\nticks 58\nadd 0 0\n",
+    )?;
+    for _ in 0..4 {
+        push_frame(&mut text, "0", 9600)?;
+    }
+    let script = text.as_slice();
+    let whole = called(alloc, "walk", script, NONE)?;
     assert_eq!(rt; whole.status, 0);
     assert_eq!(rt; count_lines(whole.out.as_slice()), 5);
+    // A got line of 9,600 octets has 19,205, and goes out alone.
     for (failing, lines) in [(0, 0), (1, 1), (2, 2), (3, 3), (4, 4)] {
-        let cut = walked(alloc, "walk", text.as_slice(), &[], &[failing])?;
-        assert_eq!(rt; cut.status, 4);
-        assert_eq!(rt; Some(cut.out.as_slice()), whole.out.get(..19_205 * lines));
+        for words in ["walk", "trace"] {
+            let fails = Fails { puts: &[failing], ..NONE };
+            let cut = called(alloc, words, script, fails)?;
+            assert_eq!(rt; cut.status, 4);
+            assert_eq!(rt; cut.walked, true);
+            assert_eq!(rt; Some(cut.out.as_slice()), whole.out.get(..19_205 * lines));
+            assert_eq!(rt; has_line(cut.notes.as_slice(), "fault: write failed"), true);
+        }
+    }
+    // The second line of the trace can't be written: nothing follows it but the note, and on `out` nothing.
+    let fails = Fails { tells: &[1], ..NONE };
+    let cut = called(alloc, "trace", script, fails)?;
+    assert_eq!(rt; cut.status, 4);
+    assert_eq!(rt; cut.out.len(), 0);
+    assert_eq!(rt;
+        cut.notes.as_slice(),
+        b"packet 0 chg 1 act 0 back none add:0\nfault: write failed\n".as_slice()
+    );
+    let fails = Fails { takes: &[0], ..NONE };
+    let unread = called(alloc, "walk", script, fails)?;
+    assert_eq!(rt; unread.status, 3);
+    assert_eq!(rt; unread.out.len(), 0);
+    assert_eq!(rt; unread.notes.as_slice(), b"fault: read failed\n".as_slice());
+    // The status stays where a note can't be written.
+    for (words, input, status) in [("walk", "x\n", 5), ("decode", "x\n", 5), ("x", "", 2)] {
+        let fails = Fails { tells: &[0], ..NONE };
+        let silent = called(alloc, words, input.as_bytes(), fails)?;
+        assert_eq!(rt; silent.status, status);
+        assert_eq!(rt; silent.notes.len(), 0);
     }
     Ok(())
 }
@@ -281,15 +402,15 @@ fn control_packets(rt: HostRuntime) -> Result<(), Fail> {
         (b"00\n00\r", 5, "", "fault: line 2: hex\n"),
         (b"\t\n", 5, "", "fault: line 1: hex\n"),
     ] {
-        let end = walked(alloc, "decode", text, &[], &[])?;
+        let end = called(alloc, "decode", text, NONE)?;
         assert_eq!(rt; end.status, status);
         assert_eq!(rt; end.out.as_slice(), out.as_bytes());
         assert_eq!(rt; end.notes.as_slice(), notes.as_bytes());
     }
-    let unread = walked(alloc, "decode", TWO_PACKETS, &[0], &[])?;
+    let unread = called(alloc, "decode", TWO_PACKETS, Fails { takes: &[0], ..NONE })?;
     assert_eq!(rt; unread.status, 3);
     assert_eq!(rt; unread.notes.as_slice(), b"fault: read failed\n".as_slice());
-    let unwritten = walked(alloc, "decode", TWO_PACKETS, &[], &[1])?;
+    let unwritten = called(alloc, "decode", TWO_PACKETS, Fails { puts: &[1], ..NONE })?;
     assert_eq!(rt; unwritten.status, 4);
     assert_eq!(rt; count_lines(unwritten.out.as_slice()), 1);
     assert_eq!(rt;

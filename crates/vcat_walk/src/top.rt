@@ -1,39 +1,51 @@
-//! The program as a call: words, an input and two outputs in, a status out.
-ghost use Rattle.std.specs.Prelude.{◌≡◌, ◌≢◌, ℕ, ◌<◌, ◌≤◌, ◌↔◌, length, map, string_bytes, IsTrue, IsOk, IfSome, codes, [], ◌∷◌};
+//! The program as a call: words, an input and two outputs in, a status and a walk out.
+ghost use Rattle.std.specs.Prelude.{◌≡◌, ◌≢◌, ◌⊎◌, ℕ, ◌<◌, ◌≤◌, ◌↔◌, length, IsTrue, IfSome, Some, None, Ok, Err, codes};
 ghost use Rattle.std.specs.Io.KnownBytes.{IsAtEnd};
 ghost use Rattle.outside_io.specs.Faults.{one_more};
-ghost use Rattle.outside_io.specs.Transfer.{Tells};
+ghost use Rattle.outside_io.specs.Transfer.{Appends, AppendsPart, Tells};
+ghost use Rattle.script_read.specs.Script.{script_of};
+ghost use Rattle.script_read.specs.declared.fault.LineKind.{LineKind};
+ghost use Rattle.script_read.specs.declared.fault.LineKind.TheVariants.{Hex};
+ghost use Rattle.script_read.specs.declared.fault.ScriptFault.{ScriptFault};
+ghost use Rattle.script_read.specs.declared.fault.ScriptFault.TheVariants.{Line};
+ghost use Rattle.make_load.specs.Load.{load};
+ghost use Rattle.vcat_walk.specs.Words.{command_in, IsWalk, IsTrace, IsDecode, IsMake, RunsScript, ReadsInput};
 ghost use Rattle.vcat_walk.specs.HexLines.{IsFirstFault};
-ghost use Rattle.vcat_walk.specs.Stop.{HasReadAll};
-ghost use Rattle.vcat_walk.specs.Top.{IsWalk, IsDecode, IsCommand, most_octets, IsOtherForm, is_status, HasRead, WritesReport, WritesReportPart, WritesPackets, WritesPacketsPart, line_text};
+ghost use Rattle.vcat_walk.specs.Texts.{usage_text, line_text, fault_text};
+ghost use Rattle.vcat_walk.specs.Make.{make_text};
+ghost use Rattle.vcat_walk.specs.Ended.{most_octets, is_status, HasRead, HasRunAt, Rises, IsGoodScript, IsGoodHex, IsLimit, IsWalkOf, HandsBack, WritesWalk, WritesWalkPart, WritesTrace, StopsInTrace, WritesPackets, WritesPacketsPart};
+ghost use Rattle.vcat_walk.specs.Stop.{status_at, note_of};
 
-use crate::commands::{Stop, decode, told, walk};
+use crate::decode::decode;
+use crate::make::make;
+use crate::notes::tell;
+use crate::stop::{Ended, Stop};
+use crate::trace::trace;
+use crate::walk::{stopped, walk};
+use cmd_words::{Command, Program, WordFault, read_words};
 use outside_io::{ByteSink, ByteSource};
+use script_read::ScriptFault;
 use std::alloc::Global;
+use walk_core::Walk;
 
 /// How a call of the program ended.
-#[derive(Clone, Copy, Debug, PartialEq, Eq)]
+#[derive(Drop)]
 pub struct WalkEnd {
     /// The exit status.
     pub status: u8,
+    /// The walk that was made: of `walk`, `trace` and `make` at the statuses 0 and 4.
+    pub walk: Option<Walk>,
 }
 
-/// The commands.
-#[derive(Clone, Copy, Debug, PartialEq, Eq)]
-enum Command {
-    /// Carries the frames of a script.
-    Walk,
-    /// Finds the control packets in H4 octets.
-    Decode,
-}
-
-/// Runs the command that the words say. `walk` reads a script of one line and writes its report on `out`; `decode` reads
-/// the H4 octets of a line in hexadecimal digits and writes the control packets in them.
+/// Runs the command that the words say. `walk` reads a script, makes its walk and writes on `out` the got lines of the frames that it
+/// delivers, the lines of refused items, and the line of totals; without event lines the walk drains, and with event lines it makes just
+/// these. `trace` does the same, and writes a line for each decision step of the source on `notes`. `make` runs the load of a number and
+/// writes three lines. `decode` reads the H4 octets of a line in hexadecimal digits and writes the control packets in them.
 ///
-/// The status is 2 where the words are no command, 3 where the input can't be read, 8 where it has more than 67,108,864 octets,
-/// 9 where a script is not of the form, 5 where a line of `decode` is not hexadecimal, 4 where `out` can't be written, 7 where
-/// memory is short, and else 0. Of those that hold the first in this order is told; want of memory may come in the place of any
-/// but 2. `decode` says on `notes` what went wrong, and `walk` says nothing there.
+/// The status is 2 where the words are no command, 3 where the input can't be read, 8 where it has more than 67,108,864 octets, 5 where
+/// one of its lines is faulty, 6 where a script's slips, spread or lag don't fit its rings, 4 where an output can't be written, 7 where
+/// memory is short, and else 0. Of those that hold the first in this order is told; want of memory may come in the place of any but 2,
+/// before anything is written. A note says on `notes` what went wrong. After a fault nothing more is written but that note.
 pub fn walk_top<S: ByteSource, K: ByteSink, E: ByteSink>(
     alloc: Global,
     words: &[String],
@@ -41,103 +53,149 @@ pub fn walk_top<S: ByteSource, K: ByteSink, E: ByteSink>(
     out: &mut K,
     notes: &mut E,
 ) -> WalkEnd
+    // The headline: what is written of a script that was read, where all is written. `WritesWalk` says that it is the got lines of the
+    // delivered frames, the lines of refused items, and the line of totals.
+    ensures walked { RunsScript words.now → result.status ≡ 0 →
+        IfSome (S.left script.old) (WritesWalk K.written K.faults out.old out.new) }
+
     // Which status comes. What is said of the input's octets presumes that the source tells them.
     ensures known { IsTrue (is_status result.status) }
-    ensures usage { (result.status ≡ 2) ↔ (¬ IsCommand words.now) }
+    ensures usage { (result.status ≡ 2) ↔ (command_in words.now ≡ None) }
     ensures long { result.status ≡ 8 → IfSome (S.left script.old) (λ text. most_octets < length text) }
-    ensures fits { HasRead result.status → IfSome (S.left script.old) (λ text. length text ≤ most_octets) }
-    ensures form { result.status ≡ 9 → IfSome (S.left script.old) IsOtherForm }
-    ensures form_of_walk { result.status ≡ 9 → IsWalk words.now }
-    ensures hex_of_decode { result.status ≡ 5 → IsDecode words.now }
+    ensures fits { ReadsInput words.now → HasRead result.status →
+        IfSome (S.left script.old) (λ text. length text ≤ most_octets) }
+    ensures limits { result.status ≡ 6 → RunsScript words.now }
+    ensures lines { result.status ≡ 5 → ReadsInput words.now }
+    ensures reading { (result.status ≡ 3) ⊎ (result.status ≡ 8) → ReadsInput words.now }
 
-    // At these two statuses one call failed, and at every other status none did.
+    // A good input is answered with all that is to be written, or with want of memory, where no fault comes.
+    ensures complete_script { RunsScript words.now → IfSome (S.left script.old) (λ text. IsGoodScript text →
+        (result.status ≡ 0) ⊎ ((result.status ≡ 7) ⊎ (Rises (S.faults script.old) (S.faults script.new)
+        ⊎ (Rises (K.faults out.old) (K.faults out.new) ⊎ Rises (E.faults notes.old) (E.faults notes.new))))) }
+    ensures complete_hex { IsDecode words.now → IfSome (S.left script.old) (λ text. IsGoodHex text →
+        (result.status ≡ 0) ⊎ ((result.status ≡ 7) ⊎ (Rises (S.faults script.old) (S.faults script.new)
+        ⊎ Rises (K.faults out.old) (K.faults out.new)))) }
+    ensures complete_make { (number lines ticks : ℕ) → IsMake words.now number lines ticks →
+        (result.status ≡ 0) ⊎ ((result.status ≡ 7) ⊎ Rises (K.faults out.old) (K.faults out.new)) }
+
+    // Faults: at status 3 one call of the source failed, and at 4 one of an output.
     ensures read_failed { result.status ≡ 3 → S.faults script.new ≡ one_more (S.faults script.old) }
     ensures read_quiet { result.status ≢ 3 → S.faults script.new ≡ S.faults script.old }
-    ensures write_failed { result.status ≡ 4 → K.faults out.new ≡ one_more (K.faults out.old) }
+    ensures write_failed { result.status ≡ 4 → Rises (K.faults out.old) (K.faults out.new)
+        ⊎ Rises (E.faults notes.old) (E.faults notes.new) }
+    ensures write_counted { (¬ IsTrace words.now) → result.status ≡ 4 →
+        K.faults out.new ≡ one_more (K.faults out.old) }
     ensures write_quiet { result.status ≢ 4 → K.faults out.new ≡ K.faults out.old }
 
-    // What is read, and what is written on `out`.
-    ensures unread { result.status ≡ 2 → script.new ≡ script.old }
-    ensures end { HasRead result.status → IsAtEnd (S.left script.new) }
-    ensures walked { IsWalk words.now → result.status ≡ 0 →
-        IfSome (S.left script.old) (WritesReport K.written K.faults out.old out.new) }
+    // What is read, and what else is written on `out`.
+    ensures unread { (¬ ReadsInput words.now) → script.new ≡ script.old }
+    ensures end { ReadsInput words.now → HasRead result.status → IsAtEnd (S.left script.new) }
     ensures walked_part { IsWalk words.now → result.status ≡ 4 →
-        IfSome (S.left script.old) (WritesReportPart K.written K.faults out.old out.new) }
+        IfSome (S.left script.old) (WritesWalkPart K.written K.faults out.old out.new) }
     ensures decoded { IsDecode words.now → result.status ≡ 0 →
         IfSome (S.left script.old) (WritesPackets K.written K.faults out.old out.new) }
     ensures decoded_part { IsDecode words.now → result.status ≡ 4 →
         IfSome (S.left script.old) (WritesPacketsPart K.written K.faults out.old out.new) }
+    ensures made { (number lines ticks : ℕ) → IsMake words.now number lines ticks → result.status ≡ 0 →
+        Appends K.written K.faults out.old out.new (make_text number lines ticks) }
+    ensures made_part { (number lines ticks : ℕ) → IsMake words.now number lines ticks → result.status ≡ 4 →
+        AppendsPart K.written K.faults out.old out.new (make_text number lines ticks) }
     ensures nothing { result.status ≢ 0 → result.status ≢ 4 → out.new ≡ out.old }
 
+    // The walk that is handed back has made all events of its script, also where a write failed.
+    ensures handed { RunsScript words.now → HasRunAt result.status →
+        IfSome (S.left script.old) (HandsBack result.walk) }
+    ensures handed_made { (number lines ticks : ℕ) → IsMake words.now number lines ticks →
+        HasRunAt result.status → IsWalkOf (load number lines ticks) result.walk }
+    ensures kept { result.status ≢ 0 → result.status ≢ 4 → result.walk ≡ None }
+    ensures kept_decode { IsDecode words.now → result.walk ≡ None }
+
     // What is said on `notes`.
-    ensures silent { (¬ IsDecode words.now) → notes.new ≡ notes.old }
-    ensures quiet { result.status ≡ 0 → notes.new ≡ notes.old }
-    ensures told_read { IsDecode words.now → result.status ≡ 3 →
+    ensures quiet { (¬ IsTrace words.now) → result.status ≡ 0 → notes.new ≡ notes.old }
+    ensures traced { IsTrace words.now → result.status ≡ 0 →
+        IfSome (S.left script.old) (WritesTrace E.written E.faults notes.old notes.new) }
+    ensures traced_part { IsTrace words.now → result.status ≡ 4 → (told : E) × IfSome (S.left script.old)
+        (StopsInTrace K.written K.faults out.old out.new E.written E.faults notes.old told)
+        × Tells E.written E.faults told notes.new (codes "fault: write failed\n") }
+    ensures told_usage { result.status ≡ 2 → Tells E.written E.faults notes.old notes.new usage_text }
+    ensures told_read { result.status ≡ 3 →
         Tells E.written E.faults notes.old notes.new (codes "fault: read failed\n") }
-    ensures told_write { IsDecode words.now → result.status ≡ 4 →
+    ensures told_write { (¬ IsTrace words.now) → result.status ≡ 4 →
         Tells E.written E.faults notes.old notes.new (codes "fault: write failed\n") }
-    ensures told_line { result.status ≡ 5 → (number : ℕ) × IfSome (S.left script.old) (λ text. IsFirstFault text number)
-        × Tells E.written E.faults notes.old notes.new (line_text number) }
-    ensures told_memory { IsDecode words.now → result.status ≡ 7 →
+    ensures told_line { RunsScript words.now → result.status ≡ 5 → (number : ℕ) × (kind : LineKind)
+        × IfSome (S.left script.old) (λ text. script_of text ≡ Err (Line number kind))
+        × Tells E.written E.faults notes.old notes.new (line_text number kind) }
+    ensures told_hex { IsDecode words.now → result.status ≡ 5 → (number : ℕ)
+        × IfSome (S.left script.old) (λ text. IsFirstFault text number)
+        × Tells E.written E.faults notes.old notes.new (line_text number Hex) }
+    ensures told_limit { result.status ≡ 6 → (fault : ScriptFault) × IsLimit fault
+        × IfSome (S.left script.old) (λ text. script_of text ≡ Err fault)
+        × Tells E.written E.faults notes.old notes.new (fault_text fault) }
+    ensures told_memory { result.status ≡ 7 →
         Tells E.written E.faults notes.old notes.new (codes "fault: no memory\n") }
-    ensures told_long { IsDecode words.now → result.status ≡ 8 →
+    ensures told_long { result.status ≡ 8 →
         Tells E.written E.faults notes.old notes.new (codes "fault: too long\n") }
 {
-    let end = match read_command(words) {
-        None => Err(Stop::Usage),
-        Some(Command::Walk) => walk(alloc, script, out),
-        Some(Command::Decode) => told(decode(alloc, script, out), notes),
-    };
-    WalkEnd {
-        status: status_of(end),
+    match read_command(words) {
+        Some(Command::Walk { trace: false }) => finish(walk(alloc, script, out), notes),
+        Some(Command::Walk { trace: true }) => {
+            let ended = trace(alloc, script, out, notes);
+            finish(ended, notes)
+        }
+        Some(Command::Decode) => {
+            let stop = decode(alloc, script, out);
+            finish(Ended { stop, walk: None }, notes)
+        }
+        Some(Command::Make {
+            number,
+            lines,
+            ticks,
+        }) => finish(make(alloc, number, lines, ticks, out), notes),
+        Some(Command::Run { .. }) => unreachable!(),
+        None => finish(stopped(Stop::Usage), notes),
     }
 }
 
-/// The exit status of an end.
-fn status_of(end: Result<(), Stop>) -> u8
-    ensures known { IsTrue (is_status result) }
-    ensures done { (result ≡ 0) ↔ IsOk end }
-    ensures usage { (result ≡ 2) ↔ (end ≡ Err Stop.Usage) }
-    ensures read { (result ≡ 3) ↔ (end ≡ Err Stop.Read) }
-    ensures write { (result ≡ 4) ↔ (end ≡ Err Stop.Write) }
-    ensures hex { (result ≡ 5) ↔ ((number : ℕ) × (end ≡ Err (Stop.NotHex number))) }
-    ensures memory { (result ≡ 7) ↔ (end ≡ Err Stop.Memory) }
-    ensures long { (result ≡ 8) ↔ (end ≡ Err Stop.TooLong) }
-    ensures form { (result ≡ 9) ↔ (end ≡ Err Stop.OtherForm) }
-    ensures read_all { HasRead result → HasReadAll end }
-{
-    match end {
-        Ok(()) => 0,
-        Err(Stop::Usage) => 2,
-        Err(Stop::Read) => 3,
-        Err(Stop::Write) => 4,
-        Err(Stop::NotHex { .. }) => 5,
-        Err(Stop::Memory) => 7,
-        Err(Stop::TooLong) => 8,
-        Err(Stop::OtherForm) => 9,
-    }
-}
-
-/// The command that the words say.
+/// The command that the words are, where they are one.
 fn read_command(words: &[String]) -> Option<Command>
-    ensures walk { (result ≡ Some Command.Walk) ↔ IsWalk words.now }
-    ensures decode { (result ≡ Some Command.Decode) ↔ IsDecode words.now }
+    ensures { result ≡ command_in words.now }
 {
-    if is_word(words, "walk") {
-        Some(Command::Walk)
-    } else if is_word(words, "decode") {
-        Some(Command::Decode)
-    } else {
-        None
+    match read_words(words, Program::Walk) {
+        Ok(command) => Some(command),
+        Err(WordFault::Usage) => None,
     }
 }
 
-/// Whether the words are this one word.
-fn is_word(words: &[String], wanted: &str) -> bool
-    ensures { IsTrue result ↔ (map string_bytes words.now ≡ wanted.now ∷ []) }
+/// Says on `notes` why a command stopped, where it did, and gives the status.
+fn finish<E: ByteSink>(ended: Ended, notes: &mut E) -> WalkEnd
+    ensures status { result.status ≡ status_at ended.stop }
+    ensures walk { result.walk ≡ ended.walk }
+    ensures quiet { ended.stop ≡ None → notes.new ≡ notes.old }
+    ensures told { IfSome ended.stop (λ cause.
+        Tells E.written E.faults notes.old notes.new (note_of cause)) }
 {
-    match words.split_first() {
-        Some((word, rest)) => rest.is_empty() && word.as_str() == wanted,
-        None => false,
+    let Ended { stop, walk } = ended;
+    tell(stop, notes);
+    WalkEnd {
+        status: status_of(stop),
+        walk,
+    }
+}
+
+/// The exit status of a command that was done, or stopped by a cause.
+fn status_of(stop: Option<Stop>) -> u8
+    ensures { result ≡ status_at stop }
+{
+    match stop {
+        None => 0,
+        Some(Stop::Usage) => 2,
+        Some(Stop::Read) => 3,
+        Some(Stop::Write) => 4,
+        Some(Stop::NotHex { .. } | Stop::Fault(ScriptFault::Line { .. })) => 5,
+        Some(Stop::Fault(
+            ScriptFault::Slip { .. } | ScriptFault::Spread { .. } | ScriptFault::Lag { .. },
+        )) => 6,
+        Some(Stop::Memory | Stop::Fault(ScriptFault::Memory)) => 7,
+        Some(Stop::TooLong) => 8,
     }
 }

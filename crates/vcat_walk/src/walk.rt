@@ -1,153 +1,193 @@
-//! The stream of the frames that wait is carried row by row to a receiver, and a line is written of each frame that it delivers.
-ghost use Rattle.std.specs.Prelude.{◌≡◌, ℕ, ◌+◌, ◌*◌, ◌<◌, ◌≤◌, List, [], ◌++◌, length, take, All, OnOk, OnErr, IfOk};
-ghost use Rattle.session_model.specs.Piece.{opening, frames_by};
-ghost use Rattle.gfp_delineate.specs.Receiver.{Stands};
+//! A walk of a script: its events are made, and what came of them is written.
+ghost use Rattle.std.specs.Prelude.{◌≡◌, ◌≢◌, ◌≤◌, ℕ, List, ◌++◌, length, replicate, Some, None, IfSome, OnOk, OnErr};
+ghost use Rattle.std.specs.List.{flat_map};
+ghost use Rattle.outside_io.specs.Faults.{one_more};
 ghost use Rattle.outside_io.specs.Transfer.{Appends, AppendsPart};
-ghost use Rattle.report_text.specs.Report.{got_texts};
-ghost use Rattle.vcat_walk.specs.Form.{IsTicks, IsFrame};
-ghost use Rattle.vcat_walk.specs.Walk.{row_octets, report};
-ghost use Rattle.vcat_walk.specs.Written.{Holds, HasGot, StopsWithin};
+ghost use Rattle.session_model.specs.Valid.{IsValid, IsEvent};
+ghost use Rattle.session_model.specs.Counts.{begin, run, run_line, run_lines, walked, round};
+ghost use Rattle.session_model.specs.declared.walk.Event.{Event};
+ghost use Rattle.progress_law.specs.Progress.{HasLine};
+ghost use Rattle.report_text.specs.Report.{total_text};
+ghost use Rattle.walk_law.specs.Walk.{walk_plan, IsWalked};
+ghost use Rattle.walk_law.specs.Landed.{refusals_of, totals_of};
+ghost use Rattle.walk_law.specs.Report.{refused_texts};
+ghost use Rattle.sink_core.specs.Start.{Start};
+ghost use Rattle.got_out.specs.Told.{HasText};
+ghost use Rattle.vcat_walk.specs.Ended.{WritesWalk, WritesWalkPart, HandsBack};
+ghost use Rattle.vcat_walk.specs.Run.{RunsTo};
+ghost use Rattle.vcat_walk.specs.Stop.{HasRun, ReadsScript};
+ghost use Rattle.vcat_walk.specs.Texts.{counts_in, walk_text};
 
-use crate::block::LineBlock;
-use gfp_delineate::{Delineator, Step, delivery_law};
-use gfp_fill::{Filler, FrameQueue};
-use outside_io::{ByteSink, Failed};
-use report_text::Totals;
-use vc_cell::PAYLOAD;
+use crate::input::read_whole_script;
+use crate::stop::{Ended, Stop};
+use got_out::GotOut;
+use outside_io::{ByteSink, ByteSource, Failed};
+use report_text::{REFUSED_ROOM, TOTAL_ROOM, refused_line, total_line};
+use session_model::{Event, EventLine};
+use sink_core::FrameOut;
+use std::alloc::Global;
+use walk_core::Walk;
 
-/// The rows before the line carries any of the stream.
-const EMPTY_ROWS: u32 = 40;
-
-/// Gives octets to the receiver, up to the first that completes or drops a frame, and writes the line of a frame that is
-/// delivered. The answer is the number of the octets, and that of the lines.
-fn take_some<K: ByteSink>(
-    piece: &[u8],
-    delineator: &mut Delineator,
-    block: &mut LineBlock,
-    out: &mut K,
-) -> Result<(usize, u64), Failed>
-    requires some { 0 < length piece.now }
-    requires standing { (before : List ℕ) × Stands delineator.old 9600 before }
-    ensures within { IfOk result (λ taken. (0 < taken.0) × (taken.0 ≤ length piece.now)) }
-    ensures stands { (before : List ℕ) → Stands delineator.old 9600 before →
-        IfOk result (λ taken. Stands delineator.new 9600 (before ++ take taken.0 piece.now)) }
-    ensures ok { (before : List ℕ) (start : K) (got : ℕ) → Stands delineator.old 9600 before →
-        HasGot K.written K.faults before start out.old block.old got →
-        IfOk result (λ taken. let octets = before ++ take taken.0 piece.now in
-        HasGot K.written K.faults octets start out.new block.new (got + taken.1)) }
-    ensures err { (before : List ℕ) (start : K) (got : ℕ) → Stands delineator.old 9600 before →
-        HasGot K.written K.faults before start out.old block.old got →
-        OnErr result (StopsWithin K.written K.faults before piece.now start out.new) }
-    ensures one { IfOk result (λ taken. taken.1 ≤ 1) }
+/// Tries an event a number of times.
+fn repeat<F: FrameOut>(walk: &mut Walk, event: Event, tries: u32, out: &mut F)
+    requires { HasLine (walk_plan walk.old.script) event }
+    ensures { RunsTo F.stands_for out.old out.new walk.old walk.new
+        (run (walk_plan walk.old.script) walk.old.counts (replicate tries event)) }
 {
-    let (n, step) = delineator.feed(piece);
-    match step {
-        Step::Frame => match block.add_got(delineator.frame(), out) {
-            Ok(()) => Ok((n, 1)),
-            Err(Failed) => Err(Failed),
-        },
-        _ => Ok((n, 0)),
+    for _try in 0..tries {
+        walk.step(event, out);
     }
 }
 
-/// Gives the octets of a row to the receiver, and writes the line of each frame that they complete. The answer is the number of
-/// lines.
-fn take_row<K: ByteSink>(
-    row: &[u8],
-    delineator: &mut Delineator,
-    block: &mut LineBlock,
-    out: &mut K,
-) -> Result<u64, Failed>
-    requires { (before : List ℕ) × Stands delineator.old 9600 before }
-    ensures stands { (before : List ℕ) → Stands delineator.old 9600 before →
-        OnOk result (Stands delineator.new 9600 (before ++ row.now)) }
-    ensures ok { (before : List ℕ) (start : K) (got : ℕ) → Stands delineator.old 9600 before →
-        HasGot K.written K.faults before start out.old block.old got →
-        IfOk result (λ n. let octets = before ++ row.now in
-        HasGot K.written K.faults octets start out.new block.new (got + n)) }
-    ensures err { (before : List ℕ) (start : K) (got : ℕ) → Stands delineator.old 9600 before →
-        HasGot K.written K.faults before start out.old block.old got →
-        OnErr result (StopsWithin K.written K.faults before row.now start out.new) }
-    ensures bound { IfOk result (λ n. n ≤ length row.now) }
+/// Makes a number of rounds.
+fn rounds<F: FrameOut>(walk: &mut Walk, count: u32, out: &mut F)
+    ensures { RunsTo F.stands_for out.old out.new walk.old walk.new
+        (run_line (walk_plan walk.old.script) walk.old.counts (EventLine.Round count)) }
 {
-    let mut at = 0;
-    let mut count = 0;
-    while at < row.len() {
-        match take_some(&row[at..], delineator, block, out) {
-            Ok((n, lines)) => {
-                at += n;
-                count += lines;
-            }
-            Err(Failed) => return Err(Failed),
-        }
+    for _turn in 0..count {
+        walk.round(out);
     }
-    Ok(count)
 }
 
-/// Carries the stream of the frames that wait through a number of rows, and writes the line of each frame that is delivered.
-/// The answer is the number of lines.
-fn carry<K: ByteSink>(
-    rows: u32,
-    queue: &mut FrameQueue,
-    delineator: &mut Delineator,
-    block: &mut LineBlock,
-    out: &mut K,
-) -> Result<u64, Failed>
-    requires frames { All IsFrame queue.old.waiting }
-    requires unsent { queue.old.begun ≡ [] }
-    requires fresh { Stands delineator.old 9600 [] }
-    requires none { block.old ≡ [] }
-    ensures ok { let frames = frames_by (row_octets * rows) (opening queue.old.waiting 0) in
-        OnOk result (Holds K.written K.faults out.old out.new block.new (got_texts frames)) }
-    ensures count { let frames = frames_by (row_octets * rows) (opening queue.old.waiting 0) in
-        IfOk result (λ got. got ≡ length frames) }
-    ensures err { let frames = frames_by (row_octets * rows) (opening queue.old.waiting 0) in
-        OnErr result (AppendsPart K.written K.faults out.old out.new (got_texts frames)) }
+/// Makes what an event line says.
+fn make_line<F: FrameOut>(walk: &mut Walk, line: EventLine, out: &mut F)
+    requires valid { IsValid walk.old.script }
+    requires event { IsEvent walk.old.script.config.lines line }
+    ensures { RunsTo F.stands_for out.old out.new walk.old walk.new
+        (run_line (walk_plan walk.old.script) walk.old.counts line) }
 {
-    delivery_law();
-    let mut filler = Filler::new();
-    let mut payload = [0u8; PAYLOAD];
-    let mut got = 0;
-    for _row in 0..rows {
-        filler.fill(queue, &mut payload);
-        match take_row(&payload, delineator, block, out) {
-            Ok(n) => got += n,
-            Err(Failed) => return Err(Failed),
-        }
+    match line {
+        EventLine::Client(n) => repeat(walk, Event::Accept, n, out),
+        EventLine::Operator(n) => repeat(walk, Event::Command, n, out),
+        EventLine::Tick(n) => repeat(walk, Event::Tick, n, out),
+        EventLine::Carry(line, n) => repeat(walk, Event::Carry(line), n, out),
+        EventLine::Back(n) => repeat(walk, Event::Back, n, out),
+        EventLine::Take(n) => repeat(walk, Event::Take, n, out),
+        EventLine::Round(n) => rounds(walk, n, out),
+        EventLine::Drain => walk.drain(out),
     }
-    Ok(got)
 }
 
-/// Runs a script of one line to its end and writes its report. The frames are those that wait.
-pub fn run<K: ByteSink>(
-    ticks: u32,
-    mut queue: FrameQueue,
-    delineator: &mut Delineator,
+/// Makes what the event lines of a walk's script say. Where there are none, it drains.
+fn make_lines<F: FrameOut>(walk: &mut Walk, lines: &[EventLine], out: &mut F)
+    requires valid { IsValid walk.old.script }
+    requires lines { lines.now ≡ walk.old.script.events }
+    requires begun { walk.old.counts ≡ begin (walk_plan walk.old.script) }
+    ensures { RunsTo F.stands_for out.old out.new walk.old walk.new (counts_in walk.old.script) }
+{
+    if lines.is_empty() {
+        walk.drain(out);
+        return;
+    }
+    for line in lines {
+        make_line(walk, *line, out);
+    }
+}
+
+/// Writes the lines of refused items.
+fn write_refusals<K: ByteSink>(walk: &Walk, got: &mut GotOut<K>)
+    ensures { (start : Start) (before : List ℕ) →
+        HasText K.written K.faults got.old start before →
+        HasText K.written K.faults got.new start
+        (before ++ refused_texts (refusals_of walk.now.script walk.now.counts)) }
+{
+    let mut line = [0u8; REFUSED_ROOM];
+    for (item, why) in walk.refusals() {
+        let end = refused_line(*item, why, &mut line);
+        got.line(&line[..end]);
+    }
+}
+
+/// Writes what follows the lines of delivered frames: those of refused items, and that of totals.
+pub fn write_rest<K: ByteSink>(walk: &Walk, got: &mut GotOut<K>)
+    ensures { (start : Start) (before : List ℕ) →
+        HasText K.written K.faults got.old start before →
+        HasText K.written K.faults got.new start
+        (before ++ refused_texts (refusals_of walk.now.script walk.now.counts)
+        ++ total_text (totals_of walk.now.script walk.now.counts)) }
+{
+    write_refusals(walk, got);
+    let mut line = [0u8; TOTAL_ROOM];
+    let end = total_line(&walk.totals(), &mut line);
+    got.line(&line[..end]);
+}
+
+/// Ends a loan: what was lent is then what the reference says.
+pub fn take_back<K>(out: &mut K)
+    ensures { out.new ≡ out.old }
+{
+    let _ = out;
+}
+
+/// Makes a walk, and writes what comes of it.
+fn write_walk<K: ByteSink>(
+    walk: &mut Walk,
+    lines: &[EventLine],
     out: &mut K,
 ) -> Result<(), Failed>
-    requires ticks { IsTicks ticks }
-    requires frames { All IsFrame queue.waiting }
-    requires unsent { queue.begun ≡ [] }
-    requires fresh { Stands delineator.old 9600 [] }
-    ensures ok { let text = report ticks queue.waiting in
-        OnOk result (Appends K.written K.faults out.old out.new text) }
-    ensures err { let text = report ticks queue.waiting in
-        OnErr result (AppendsPart K.written K.faults out.old out.new text) }
+    requires valid { IsValid walk.old.script }
+    requires lines { lines.now ≡ walk.old.script.events }
+    requires begun { walk.old.counts ≡ begin (walk_plan walk.old.script) }
+    ensures script { walk.new.script ≡ walk.old.script }
+    ensures counts { walk.new.counts ≡ counts_in walk.old.script }
+    ensures ok { OnOk result
+        (Appends K.written K.faults out.old out.new (walk_text walk.old.script)) }
+    ensures err { OnErr result
+        (AppendsPart K.written K.faults out.old out.new (walk_text walk.old.script)) }
 {
-    let frames = queue.waiting();
-    let mut block = LineBlock::new();
-    let rows = ticks.saturating_sub(EMPTY_ROWS);
-    let got = match carry(rows, &mut queue, delineator, &mut block, out) {
-        Ok(got) => got,
-        Err(Failed) => return Err(Failed),
+    let mut got = GotOut::new(out);
+    make_lines(walk, lines, &mut got);
+    write_rest(walk, &mut got);
+    let (back, end) = got.finish();
+    take_back(back);
+    end
+}
+
+/// Reads a script, makes its walk and writes what comes of it.
+pub fn walk<S: ByteSource, K: ByteSink>(alloc: Global, script: &mut S, out: &mut K) -> Ended
+    ensures reads { ReadsScript S.left S.faults script.old script.new result.stop }
+    ensures command { result.stop ≢ Some Stop.Usage }
+    ensures hex { (number : ℕ) → result.stop ≢ Some (Stop.NotHex number) }
+    ensures walked { result.stop ≡ None →
+        IfSome (S.left script.old) (WritesWalk K.written K.faults out.old out.new) }
+    ensures part { result.stop ≡ Some Stop.Write →
+        IfSome (S.left script.old) (WritesWalkPart K.written K.faults out.old out.new) }
+    ensures handed { HasRun result.stop → IfSome (S.left script.old) (HandsBack result.walk) }
+    ensures kept { (¬ HasRun result.stop) → result.walk ≡ None }
+    ensures nothing { (¬ HasRun result.stop) → out.new ≡ out.old }
+    ensures write_failed { result.stop ≡ Some Stop.Write →
+        K.faults out.new ≡ one_more (K.faults out.old) }
+    ensures write_quiet { result.stop ≢ Some Stop.Write → K.faults out.new ≡ K.faults out.old }
+{
+    let script = match read_whole_script(alloc, script) {
+        Ok(script) => script,
+        Err(stop) => return stopped(stop),
     };
-    let totals = Totals {
-        ticks,
-        taken: ticks,
-        frames: u32::from(frames),
-        commands: 1,
-        refused: 0,
-        got,
+    let Ok(lines) = Vec::from_slice(alloc, script.events.0.as_slice()) else {
+        return stopped(Stop::Memory);
     };
-    block.put_total(&totals, out)
+    let Ok(mut walk) = Walk::new(alloc, script) else {
+        return stopped(Stop::Memory);
+    };
+    match write_walk(&mut walk, lines.as_slice(), out) {
+        Ok(()) => Ended {
+            stop: None,
+            walk: Some(walk),
+        },
+        Err(Failed) => Ended {
+            stop: Some(Stop::Write),
+            walk: Some(walk),
+        },
+    }
+}
+
+/// A command that stopped before it came to a walk.
+pub fn stopped(stop: Stop) -> Ended
+    ensures stop { result.stop ≡ Some stop }
+    ensures walk { result.walk ≡ None }
+{
+    Ended {
+        stop: Some(stop),
+        walk: None,
+    }
 }

@@ -1,0 +1,97 @@
+-- A script is read, its walk is traced, and its texts are written or a write fails.
+use Rattle.std.proofs.Common.{◌≡◌, ℕ, List, Option, Some, None, sym, ◌∙◌, ap, subst}
+use Rattle.outside_io.specs.Transfer.{Appends}
+use Rattle.session_model.specs.declared.script.Script.{Script}
+use Rattle.session_model.specs.Counts.{begin}
+use Rattle.session_model.specs.Valid.{IsValid}
+use Rattle.walk_law.specs.Walk.{walk_plan}
+use Rattle.vcat_walk.specs.declared.stop.Stop.{Stop}
+use Rattle.vcat_walk.specs.declared.stop.Stop.TheVariants.{Usage, NotHex, Write, Memory}
+use Rattle.vcat_walk.specs.Ended.{StopsBoth}
+use Rattle.vcat_walk.specs.Stop.{ReadsScript}
+use Rattle.vcat_walk.specs.Texts.{counts_in, walk_text, trace_text}
+use Rattle.vcat_walk.proofs.StopLaws.{reads-late}
+use Rattle.vcat_walk.proofs.WriteLaws.{writes-walk, hands-back}
+use Rattle.vcat_walk.proofs.EndLaws.{writes-trace, stops-in-trace, not-run, same-stop}
+use Rattle.vcat_walk.proofs.trace.trace.Goals as goal
+use Rattle.vcat_walk.proofs.trace.trace.Goals.{in-Ok-write_trace, in-Err-write_trace}
+
+-- ---- nothing was read, or no script
+pub returns-in-Err-clause-reads : goal.returns-in-Err-clause-reads
+returns-in-Err-clause-reads g c =
+    let P : Option Stop → Type 0 = λ stop. ReadsScript g.S.ByteSource.left g.S.ByteSource.faults c.args.script.now c.read_whole_script.new.source stop in
+    subst P (sym c.stopped.ensures.stop) c.in-Err.ensures.stopped
+
+pub returns-in-Err-clause-command : goal.returns-in-Err-clause-command
+returns-in-Err-clause-command g c usage = c.in-Err.ensures.causes.0 (same-stop c.in-Err.stop Usage (sym c.stopped.ensures.stop ∙ usage))
+
+pub returns-in-Err-clause-hex : goal.returns-in-Err-clause-hex
+returns-in-Err-clause-hex g c number hex = c.in-Err.ensures.causes.2 number (same-stop c.in-Err.stop (NotHex number) (sym c.stopped.ensures.stop ∙ hex))
+
+pub returns-in-Err-clause-part : goal.returns-in-Err-clause-part
+returns-in-Err-clause-part g c stopped = absurd (c.in-Err.ensures.causes.1 (same-stop c.in-Err.stop Write (sym c.stopped.ensures.stop ∙ stopped)))
+
+pub returns-in-Err-clause-handed : goal.returns-in-Err-clause-handed
+returns-in-Err-clause-handed g c run = absurd (not-run c.stopped.result.stop c.in-Err.stop c.stopped.ensures.stop c.in-Err.ensures.causes.1 run)
+
+-- ---- memory is short
+pub returns-in_default-clause-reads : goal.returns-in_default-clause-reads
+returns-in_default-clause-reads g c =
+    let P : Option Stop → Type 0 = λ stop. ReadsScript g.S.ByteSource.left g.S.ByteSource.faults c.args.script.now c.read_whole_script.new.source stop in
+    subst P (sym c.stopped-in_default.ensures.stop) (reads-late g.S.ByteSource.left g.S.ByteSource.faults c.args.script.now c.read_whole_script.new.source c.in-Ok.ensures.done).1
+
+pub returns-in_default-clause-handed : goal.returns-in_default-clause-handed
+returns-in_default-clause-handed g c run = absurd (not-run c.stopped-in_default.result.stop Memory c.stopped-in_default.ensures.stop (λ e. absurd cc) run)
+
+pub returns-in_default-new-clause-reads : goal.returns-in_default-new-clause-reads
+returns-in_default-new-clause-reads g c =
+    let P : Option Stop → Type 0 = λ stop. ReadsScript g.S.ByteSource.left g.S.ByteSource.faults c.args.script.now c.read_whole_script.new.source stop in
+    subst P (sym c.stopped-in_default-new.ensures.stop) (reads-late g.S.ByteSource.left g.S.ByteSource.faults c.args.script.now c.read_whole_script.new.source c.in-Ok.ensures.done).1
+
+pub returns-in_default-new-clause-handed : goal.returns-in_default-new-clause-handed
+returns-in_default-new-clause-handed g c run = absurd (not-run c.stopped-in_default-new.result.stop Memory c.stopped-in_default-new.ensures.stop (λ e. absurd cc) run)
+
+-- ---- the walk
+pub write_trace-requires-clause-valid : goal.write_trace-requires-clause-valid
+write_trace-requires-clause-valid g c = subst IsValid (sym c.in-Ok-new.ensures.script) c.in-Ok.ensures.valid
+
+pub write_trace-requires-clause-begun : goal.write_trace-requires-clause-begun
+write_trace-requires-clause-begun g c = c.in-Ok-new.ensures.counts ∙ ap (λ (s : Script). begin (walk_plan s)) (sym c.in-Ok-new.ensures.script)
+
+pub returns-clause-reads : goal.returns-clause-reads
+returns-clause-reads g c =
+    let P : Option Stop → Type 0 = λ stop. ReadsScript g.S.ByteSource.left g.S.ByteSource.faults c.args.script.now c.read_whole_script.new.source stop in
+    elim c.match-write_trace.branch [
+      | in-Ok-write_trace w ↦ subst P (sym w.stop-is) c.in-Ok.ensures.done
+      | in-Err-write_trace w ↦ subst P (sym w.stop-is) (reads-late g.S.ByteSource.left g.S.ByteSource.faults c.args.script.now c.read_whole_script.new.source c.in-Ok.ensures.done).0
+    ]
+
+pub returns-clause-walked : goal.returns-clause-walked
+returns-clause-walked g c none = elim c.match-write_trace.branch [
+  | in-Ok-write_trace w ↦
+      writes-walk g.K.ByteSink.written g.K.ByteSink.faults (g.S.ByteSource.left c.args.script.now) c.in-Ok.script c.args.out.now c.write_trace.new.out c.in-Ok.ensures.script
+      (subst (λ (s : Script). Appends g.K.ByteSink.written g.K.ByteSink.faults c.args.out.now c.write_trace.new.out (walk_text s)) c.in-Ok-new.ensures.script w.in-Ok-write_trace.ensures.walked)
+  | in-Err-write_trace w ↦ absurd (let e : None ≡ Some Write = sym none ∙ w.stop-is in cc)
+]
+
+pub returns-clause-traced : goal.returns-clause-traced
+returns-clause-traced g c none = elim c.match-write_trace.branch [
+  | in-Ok-write_trace w ↦
+      writes-trace g.E.ByteSink.written g.E.ByteSink.faults (g.S.ByteSource.left c.args.script.now) c.in-Ok.script c.args.notes.now c.write_trace.new.notes c.in-Ok.ensures.script
+      (subst (λ (s : Script). Appends g.E.ByteSink.written g.E.ByteSink.faults c.args.notes.now c.write_trace.new.notes (trace_text s)) c.in-Ok-new.ensures.script w.in-Ok-write_trace.ensures.traced)
+  | in-Err-write_trace w ↦ absurd (let e : None ≡ Some Write = sym none ∙ w.stop-is in cc)
+]
+
+pub returns-clause-part : goal.returns-clause-part
+returns-clause-part g c stopped = elim c.match-write_trace.branch [
+  | in-Ok-write_trace w ↦ absurd (let e : Some Write ≡ None = sym stopped ∙ w.stop-is in cc)
+  | in-Err-write_trace w ↦
+      stops-in-trace g.K.ByteSink.written g.K.ByteSink.faults c.args.out.now c.write_trace.new.out g.E.ByteSink.written g.E.ByteSink.faults c.args.notes.now c.write_trace.new.notes (g.S.ByteSource.left c.args.script.now) c.in-Ok.script c.in-Ok.ensures.script
+      (subst (λ (s : Script). StopsBoth g.K.ByteSink.written g.K.ByteSink.faults c.args.out.now c.write_trace.new.out (walk_text s) g.E.ByteSink.written g.E.ByteSink.faults c.args.notes.now c.write_trace.new.notes (trace_text s))
+      c.in-Ok-new.ensures.script w.in-Err-write_trace.ensures.err)
+]
+
+pub returns-clause-handed : goal.returns-clause-handed
+returns-clause-handed g c run =
+    hands-back (g.S.ByteSource.left c.args.script.now) c.in-Ok.script c.write_trace.new.walk c.in-Ok.ensures.script (c.write_trace.ensures.script ∙ c.in-Ok-new.ensures.script)
+    (c.write_trace.ensures.counts ∙ ap counts_in c.in-Ok-new.ensures.script)
