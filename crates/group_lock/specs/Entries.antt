@@ -28,11 +28,11 @@ IsThere size (add_entered line) = Unit {0}
 IsThere size (remove_entered line) = Unit {0}
 
 -- of a journal: its octets and entries; how many more of both there is room for; the room; how many of the entries are frames and commands
-pub record AreEntries (octets : List ℕ) (entries : List Entry) (slots bytes room space frames commands : ℕ) : Type 0 where
+pub record AreEntries (octets : List ℕ) (entries : List Entry) (slots bytes entry_room octet_room frame_count command_count : ℕ) : Type 0 where
   pub there : All (λ (entry : Entry). IsThere (length octets) entry.what) entries
-  pub room : length entries + slots ≤ room
-  pub space : length octets + bytes ≤ space
+  pub room : length entries + slots ≤ entry_room
+  pub space : length octets + bytes ≤ octet_room
   pub few : length entries + slots ≤ 4294967295
-  pub frames : frames ≡ length (offers_of (items_in (entries_in octets entries)))
-  pub commands : commands ≡ length (orders_of (items_in (entries_in octets entries)))
-  pub all : frames + commands ≡ length entries
+  pub frames : frame_count ≡ length (offers_of (items_in (entries_in octets entries)))
+  pub commands : command_count ≡ length (orders_of (items_in (entries_in octets entries)))
+  pub all : frame_count + command_count ≡ length entries

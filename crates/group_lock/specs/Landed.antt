@@ -60,15 +60,15 @@ AreOfLanded landed = (i : ℕ) (one : ℕ × Refusal) (item : Item) → slice_ge
     one.0 < next_place landed (is_client item.kind)
 
 -- what is kept of it: the places of the next frame and the next command, and room for a refusal of each item
-pub record IsLanded (landed : Landed) (frame command room : ℕ) : Type 0 where
-  pub frame : frame ≡ next_place landed true
-  pub command : command ≡ next_place landed false
+pub record IsLanded (landed : Landed) (next_frame next_command space : ℕ) : Type 0 where
+  pub frame : next_frame ≡ next_place landed true
+  pub command : next_command ≡ next_place landed false
   pub few : length landed.items ≤ 67108864
   pub frames : IsNonDecreasing (frame_dues (dues_of landed.items))
   pub commands : IsNonDecreasing (command_dues (dues_of landed.items))
   pub most_frames : landed.frames ≤ length (frame_dues (dues_of landed.items))
   pub most_commands : landed.commands ≤ length (command_dues (dues_of landed.items))
   pub order : AreInOrder landed.refusals
-  pub landed : AreOfLanded landed
+  pub of_landed : AreOfLanded landed
   pub refused : length landed.refusals ≤ landed.frames + landed.commands
-  pub room : length landed.items ≤ room
+  pub room : length landed.items ≤ space

@@ -106,7 +106,7 @@ impl Journal {
     /// Takes an item that has landed after so many ticks, and has room.
     pub(crate) fn push(&mut self, number: u32, ticks: u32, item: ItemRef)
         requires slots { 0 < self.old.slots }
-        requires bytes { size_of (kind_of item.entry) ≤ self.old.bytes }
+        requires bytes { size_of (kind_of item) ≤ self.old.bytes }
         ensures entries { self.new.entries
             ≡ self.old.entries ++ entry_of number ticks (kind_of item.entry) ∷ [] }
         ensures slots { self.new.slots + 1 ≡ self.old.slots }

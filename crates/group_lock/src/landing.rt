@@ -6,7 +6,7 @@ ghost use Rattle.std.specs.Vec.{vec_capacity};
 ghost use Rattle.session_model.specs.Counts.{dues_of, frame_dues, command_dues, held};
 ghost use Rattle.walk_law.specs.Landed.{IsPlaced, refused_by};
 ghost use Rattle.group_lock.specs.Item.{bare, bare_items};
-ghost use Rattle.group_lock.specs.Landed.{none_landed, next_number, due_at, AreOthers, AreBefore, AreAfter};
+ghost use Rattle.group_lock.specs.Landed.{none_landed, next_place, next_number, due_at, AreOthers, AreBefore, AreAfter};
 
 use report_text::Refusal;
 use session_model::{Item, ItemKind, Octets};
@@ -136,7 +136,7 @@ impl Landing {
 
     /// The place of the next frame, or of the next command.
     fn place(&self, frame: bool) -> usize
-        ensures { result ≡ (if frame then self.now.frame else self.now.command) }
+        ensures { result ≡ next_place self.now frame }
     {
         if frame { self.frame } else { self.command }
     }
