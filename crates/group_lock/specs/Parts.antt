@@ -58,6 +58,10 @@ AreSent scenario cells ticks ends =
 abbrev pub AreDue : List Item → List Numbered → Type 0
 AreDue items entries = (i : ℕ) (entry : Numbered) → slice_get entries i ≡ Some entry → entry.item.due ≡ due_at items entry.number
 
+-- each entry landed after no more ticks than these
+abbrev pub ArePast : ℕ → List Numbered → Type 0
+ArePast ticks entries = (i : ℕ) (entry : Numbered) → slice_get entries i ≡ Some entry → entry.item.due ≤ ticks
+
 -- the source was given the journal, and its containers were sent; the inbox holds the rest of the return cells. There is a place for a
 -- container of each line
 pub record Keeps (at : Parts) (size : ℕ) : Type 0 where
@@ -73,4 +77,5 @@ pub record Keeps (at : Parts) (size : ℕ) : Type 0 where
   pub sent : AreSent (scenario_in at) (told_in_parts at) at.source.ticks at.tx
   pub legal : IsLegal (scenario_in at) (told_in_parts at) at.journal.entries
   pub due : AreDue at.landed.items at.journal.entries
+  pub past : ArePast at.source.ticks at.journal.entries
   pub ahead : Ahead (dues_of at.landed.items) at.source.ticks at.landed.frames at.landed.commands

@@ -1,6 +1,6 @@
 //! What lands next in a group, and what was refused.
 
-ghost use Rattle.std.specs.Prelude.{◌≡◌, ◌<◌, ◌≤◌, ◌+◌, if◌then◌else◌, [], ◌∷◌, length, take, drop, Some, IsSome, IfOk};
+ghost use Rattle.std.specs.Prelude.{◌≡◌, ◌<◌, ◌≤◌, ◌+◌, if◌then◌else◌, [], ◌∷◌, length, take, drop, Some, IfOk};
 ghost use Rattle.std.specs.List.Sorted.{IsNonDecreasing};
 ghost use Rattle.std.specs.Vec.{vec_capacity};
 ghost use Rattle.session_model.specs.Counts.{dues_of, frame_dues, command_dues, held};
@@ -119,18 +119,21 @@ impl Landing {
 
     /// Goes on to the frame after the next one, or to the command after it.
     fn pass(&mut self, frame: bool)
-        requires { IsSome (next_number self.old frame) }
+        requires { next_place self.old frame < length self.old.items }
         ensures items { self.new.items ≡ self.old.items }
         ensures frames { self.new.frames ≡ self.old.frames + (if frame then 1 else 0) }
         ensures commands { self.new.commands ≡ self.old.commands + (if frame then 0 else 1) }
         ensures refusals { self.new.refusals ≡ self.old.refusals }
+        ensures passed { next_place self.old frame < next_place self.new frame }
+        ensures fewer { length self.new.refusals < self.new.frames + self.new.commands }
+        ensures others { AreOthers (next_place self.old frame) self.new.refusals }
     {
         if frame {
-            self.frames += 1;
             self.frame = next_frame(&self.items, self.frame + 1);
+            self.frames += 1;
         } else {
-            self.commands += 1;
             self.command = next_command(&self.items, self.command + 1);
+            self.commands += 1;
         }
     }
 
