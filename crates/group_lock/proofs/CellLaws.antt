@@ -2,7 +2,7 @@
 use Rattle.std.proofs.Common.{◌≡◌, ℕ, zero, suc, ◌+◌, ◌-◌, ◌/◌, ◌%◌, ◌==◌, ◌&&◌, ◌<◌, ◌≤◌, nat_le, Bool, true, false, if◌then◌else◌, List, [], ◌∷◌, ◌++◌, map, take, drop, length, slice_get, Option, Some, None, option_map, refl, sym, ◌∙◌, ap, subst, arith, inl, inr}
 use Rattle.std.specs.Option.{is_some}
 use Rattle.std.proofs.lemmas.Bool.{cases_Bool, leb-false, leb-true}
-use Rattle.std.proofs.lemmas.List.{append-nil, append_assoc, map-append, take-append-le, drop-append-le, length-append, length-map, map_push}
+use Rattle.std.proofs.lemmas.List.{append-nil, append_assoc, map-append, take-append-le, drop-append-le, length-append, length-map, drop-drop}
 use Rattle.std.proofs.lemmas.Option.{slice_get-map, slice_get_within}
 use Rattle.vc_cell.specs.declared.BackCell.{BackCell}
 use Rattle.session_model.specs.Table.{Told}
@@ -69,9 +69,7 @@ first-cell : (used : ℕ) (cells : List BackCell) (cell : BackCell) → slice_ge
 first-cell used cells cell e = ap (slice_get cells) (let same : used ≡ used + 0 = omega arith in same) ∙ sym (slice_get-drop cells used 0) ∙ e
 
 drop-one : {X : Type 0} (n : ℕ) (xs : List X) → drop 1 (drop n xs) ≡ drop (n + 1) xs
-drop-one zero xs = refl
-drop-one (suc n) [] = refl
-drop-one (suc n) (x ∷ xs) = drop-one n xs
+drop-one n xs = drop-drop 1 n xs
 
 -- the cells that were taken, after a tick: one more, where one was needed and is there
 pub record Takes (inbox next : Inbox) (received : List BackCell) (lag ticks : ℕ) (cell : Option BackCell) : Type 0 where
@@ -108,6 +106,10 @@ takes-none inbox received lag ticks has same needs = record {
   some = sym needs;
 }
 
+head-there : (cells : List BackCell) → 0 < length cells → (one : BackCell) × (slice_get cells 0 ≡ Some one)
+head-there [] low = absurd (omega arith)
+head-there (one ∷ cells) low = (one, refl)
+
 -- the tick takes one exactly where it needs one
 pub takes : (inbox next : Inbox) (received : List BackCell) (lag ticks : ℕ) (cell : Option BackCell) → HasCome inbox received (used_in lag ticks) →
     (is_some (needed_at lag ticks) ≡ true → 0 < length inbox.cells) →
@@ -129,10 +131,7 @@ takes inbox next received lag ticks cell has there first left =
         (takes-none inbox received lag ticks has same needs))
     some : used_in lag (ticks + 1) ≡ used_in lag ticks + 1 → is_some (needed_at lag ticks) ≡ true → Takes inbox next received lag ticks cell
     some more needs =
-        let (one, e) = head inbox.cells (there needs) in
+        let (one, e) = head-there inbox.cells (there needs) in
         subst (λ (i : Inbox). Takes inbox i received lag ticks cell) (sym (left ∙ ap (λ b. record inbox { cells = rest_for b inbox.cells }) needs))
         (subst (λ (c : Option BackCell). Takes inbox (record inbox { cells = drop 1 inbox.cells }) received lag ticks c) (sym (first ∙ ap (λ b. cell_for b inbox.cells) needs ∙ e))
         (takes-some inbox received lag ticks one has e more needs))
-    head : (cells : List BackCell) → 0 < length cells → (one : BackCell) × (slice_get cells 0 ≡ Some one)
-    head [] low = absurd (omega arith)
-    head (one ∷ cells) low = (one, refl)
