@@ -31,11 +31,11 @@ use Rattle.group_lock.specs.Journal.{Setting, journal_scenario, items_in, entry_
 use Rattle.group_lock.specs.Lands.{met_by, with_kind}
 
 -- ---- one more item
-offers-push : (items : List Item) (item : Item) → offers_of (items ++ item ∷ []) ≡ offers_of items ++ offer_of item.due item.kind
+pub offers-push : (items : List Item) (item : Item) → offers_of (items ++ item ∷ []) ≡ offers_of items ++ offer_of item.due item.kind
 offers-push items item =
     flat_map-append (λ (item : Item). offer_of item.due item.kind) items (item ∷ []) ∙ ap (λ l. offers_of items ++ l) (append-nil (offer_of item.due item.kind))
 
-orders-push : (items : List Item) (item : Item) → orders_of (items ++ item ∷ []) ≡ orders_of items ++ order_of item.due item.kind
+pub orders-push : (items : List Item) (item : Item) → orders_of (items ++ item ∷ []) ≡ orders_of items ++ order_of item.due item.kind
 orders-push items item =
     flat_map-append (λ (item : Item). order_of item.due item.kind) items (item ∷ []) ∙ ap (λ l. orders_of items ++ l) (append-nil (order_of item.due item.kind))
 
@@ -126,10 +126,10 @@ met-journal core setting entries cells (Frame octets) made =
     ap (λ (waiting : List (List ℕ)). option_map frame_refused (refusal_while waiting octets)) made.stream.waits
 met-journal core setting entries cells (Add line) made =
     ap (λ n. option_map command_refused (refusal n (add line) core.table.source)) made.lines
-    ∙ ap (λ (course : Course). option_map command_refused (refusal (length (replicate setting.lines [])) (add line) course.source)) made.table
+    ∙ ap (λ (course : Course). option_map command_refused (refusal (length (journal_scenario setting entries).windows) (add line) course.source)) made.table
 met-journal core setting entries cells (Remove line) made =
     ap (λ n. option_map command_refused (refusal n (remove line) core.table.source)) made.lines
-    ∙ ap (λ (course : Course). option_map command_refused (refusal (length (replicate setting.lines [])) (remove line) course.source)) made.table
+    ∙ ap (λ (course : Course). option_map command_refused (refusal (length (journal_scenario setting entries).windows) (remove line) course.source)) made.table
 
 -- ---- the journal stays legal
 pub legal-alike : (one : Scenario) (a : List (Option Told)) (other : Scenario) (b : List (Option Told)) (t : ℕ) (entries : List Numbered) → Alike one a other b t →
@@ -147,7 +147,8 @@ push-cases P xs x each last i y there =
           let long = length_push xs x in
           let at : i ≡ length xs = omega arith in
           let found : Some x ≡ Some y = sym (slice_get-append_seam xs x []) ∙ ap (slice_get (xs ++ x ∷ [])) (sym at) ∙ there in
-          subst (λ n. P n y) (sym at) (subst (P (length xs)) cc last)
+          let same : x ≡ y = cc in
+          subst (λ n. P n y) (sym at) (subst (P (length xs)) same last)
     ]
 
 pub legal-push : (scenario : Scenario) (cells : List (Option Told)) (entries : List Numbered) (entry : Numbered) → IsLegal scenario cells entries →
