@@ -6,3 +6,4 @@ pub mod EntryLaws
 pub mod HeldLaws
 pub mod KeepLaws
 pub mod GroupLaws
+pub mod TickLaws

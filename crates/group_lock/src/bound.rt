@@ -67,6 +67,7 @@ impl<Y: Session> BoundGroup<Y> {
     }
 
     /// Lands an item, which is the one of this number in the session's script, as `GroupState::submit` does. The journal has room for it.
+    #[tactic(none)]
     pub fn submit(&mut self, number: u32, item: ItemRef) -> Result<(), SubmitFault>
         requires { IsItemOf Y.script number (kind_of item) }
         ensures submits { Submits self.old.state self.new.state number (kind_of item.entry)
@@ -77,6 +78,7 @@ impl<Y: Session> BoundGroup<Y> {
     }
 
     /// Moves return cells, and makes the next frame where it can, as `GroupState::tick` does.
+    #[tactic(none)]
     pub fn tick(&mut self) -> TickAnswer
         ensures { Ticks self.old.state self.new.state result }
     {
