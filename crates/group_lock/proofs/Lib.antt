@@ -7,3 +7,5 @@ pub mod HeldLaws
 pub mod KeepLaws
 pub mod GroupLaws
 pub mod TickLaws
+pub mod InsertLaws
+pub mod BoundLaws
