@@ -211,7 +211,7 @@ order-put number why [] back order before after = (after, order)
 order-put number why (first ∷ front) back order before after =
     let After = λ (refused : ℕ × Refusal). first.0 < refused.0 in (
       All-append After front ((number, why) ∷ back) (all-left After front back order.0)
-      (All-cons After (number, why) back (All-head (λ (refused : ℕ × Refusal). refused.0 < number) first front before) (all-right After front back order.0)),
+          (All-cons After (number, why) back (All-head (λ (refused : ℕ × Refusal). refused.0 < number) first front before) (all-right After front back order.0)),
       order-put number why front back order.1 (All-tail (λ (refused : ℕ × Refusal). refused.0 < number) first front before) after,
     )
 
@@ -426,4 +426,3 @@ next-due landed client number ticks e ahead =
         ahead.of_frames landed.frames item.due (omega arith) (frame-due landed.items landed.frames ∙ ap (due_found landed.items) (sym at) ∙ ap (option_map (λ (item : Item). item.due)) here)
     by_kind false at item here =
         ahead.of_commands landed.commands item.due (omega arith) (command-due landed.items landed.commands ∙ ap (due_found landed.items) (sym at) ∙ ap (option_map (λ (item : Item). item.due)) here)
-

@@ -237,8 +237,10 @@ ticks-ticked a b d g comes looks makes free =
         pushed m mid new there is
         ∙ ap (λ l. l ++ container_of scenario (taken_of g) m (ticks_of d) ∷ []) (rests.looked.each m old mid was there).passed
         ∙ ap (λ n. out_passed old ++ container_of scenario (taken_of g) m n ∷ []) ticks
+
     replay-push : Rests a d → ArePushedOf (replay_of a) d g
     replay-push rests = subst (λ scenario. ArePushedOf scenario d g) (same-replay a d rests) makes.own
+
     ends : Rests a d → SameOuts a.tx.items g.tx.items
     ends rests = record {
       count = makes.sends.count ∙ rests.looked.count;

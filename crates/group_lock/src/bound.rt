@@ -78,7 +78,6 @@ impl<Y: Session> BoundGroup<Y> {
     }
 
     /// Moves return cells, and makes the next frame where it can, as `GroupState::tick` does.
-    #[tactic(none)]
     pub fn tick(&mut self) -> TickAnswer
         ensures { Ticks self.old.state self.new.state result }
     {

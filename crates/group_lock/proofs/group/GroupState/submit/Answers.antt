@@ -1,12 +1,11 @@
 -- Why an item hasn't landed; where it has, all is said of the landing.
-use Rattle.std.proofs.Common.{◌≡◌, ℕ, ◌<◌, ◌≤◌, not, Bool, true, false, eqb, Option, Some, None, refl, sym, ◌∙◌, ap, arith}
+use Rattle.std.proofs.Common.{◌≡◌, ℕ, not, Bool, true, false, eqb, Option, Some, None, refl, sym, ◌∙◌, ap, arith}
 use Rattle.std.specs.Option.{option_eq}
 use Rattle.std.proofs.lemmas.Bool.{eqb-true}
 use Rattle.std.proofs.Common.{eq-eqb}
 use Rattle.group_lock.specs.declared.answer.SubmitFault.TheVariants.{NotNext, Early, JournalFull}
 use Rattle.group_lock.specs.Item.{kind_of}
-use Rattle.group_lock.specs.Landed.{next_number, due_at}
-use Rattle.group_lock.specs.Group.{next_of, items_of}
+use Rattle.group_lock.specs.Landed.{next_number}
 use Rattle.group_lock.proofs.GroupLaws.{submits-none, asked-next, asked-early, asked-full}
 use Rattle.group_lock.proofs.group.GroupState.submit.Goals as goal
 

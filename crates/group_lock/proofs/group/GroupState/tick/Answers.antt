@@ -1,9 +1,9 @@
 -- The parts of a tick, by its answer.
-use Rattle.std.proofs.Common.{◌≡◌, ℕ, ◌<◌, ◌≤◌, true, Some, None, sym, ◌∙◌, ap, arith}
+use Rattle.std.proofs.Common.{◌≡◌, None, sym, ◌∙◌, ap, arith}
 use Rattle.std.specs.Option.{is_some}
 use Rattle.session_model.specs.Counts.{dues_of, held}
 use Rattle.source_core.specs.Terminal.{Terminal, needed}
-use Rattle.group_lock.specs.Group.{ticks_of, total_of, frames_of, commands_of, items_of, held_of, source_of}
+use Rattle.group_lock.specs.Group.{frames_of, commands_of, items_of, source_of}
 use Rattle.group_lock.proofs.TickLaws.{ticks-done, ticks-held, ticks-full, ticks-missing, ticks-ticked, free-before, held-later}
 use Rattle.group_lock.proofs.group.GroupState.tick.Goals as goal
 use Rattle.group_lock.proofs.group.GroupState.tick.Goals.{in-Some-needs_back+else-is_empty, in_default-needs_back}
