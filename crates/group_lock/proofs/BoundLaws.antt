@@ -218,7 +218,8 @@ bound-ticks script tx back a b answer is call =
       sends = outs-then tx a.tx.items b.tx.items is.sends call.sends;
       returns = ins-then back a.back b.back is.returns call.returns;
       room = record {
-        entries = omega arith;
+        entries = subst (λ n. length (drop n (offers_of script.items)) + length (drop (commands_of b) (orders_of script.items)) ≤ slots_of b) (sym frames)
+            (subst (λ n. length (drop (frames_of a) (offers_of script.items)) + length (drop n (orders_of script.items)) ≤ slots_of b) (sym commands) (omega arith));
         octets = subst (λ n. octets_in (drop n (offers_of script.items)) ≤ bytes_of b) (sym frames) (omega arith);
       };
       landed = landed-ticks script a b answer is.of_script is.landed call;

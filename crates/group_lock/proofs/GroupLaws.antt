@@ -31,7 +31,7 @@ pub script-same : (g : GroupState) → SameScript g g
 script-same g = record { lines = refl; lag = refl; size = refl; total = refl; lost = refl; items = refl }
 
 -- ---- why an item isn't accepted, by the tests in their order
-abbrev fault_by : Option ℕ → ℕ → ℕ → ℕ → Bool → ℕ → ℕ → Option SubmitFault → Option SubmitFault
+abbrev pub fault_by : Option ℕ → ℕ → ℕ → ℕ → Bool → ℕ → ℕ → Option SubmitFault → Option SubmitFault
 fault_by next number ticks due fits slots bytes rest =
     if not (is_number next number) then Some (NotNext next)
     else if nat_lt ticks due then Some (Early ticks)

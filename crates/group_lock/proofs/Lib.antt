@@ -9,3 +9,4 @@ pub mod GroupLaws
 pub mod TickLaws
 pub mod InsertLaws
 pub mod BoundLaws
+pub mod SubmitLaws

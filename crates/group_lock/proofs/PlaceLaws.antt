@@ -194,12 +194,12 @@ command-landed landed frame command space next is there at =
         omega arith
 
 -- ---- refusals in order
-all-left : {X : Type 0} (P : X → Type 0) (xs ys : List X) → All P (xs ++ ys) → All P xs
+pub all-left : {X : Type 0} (P : X → Type 0) (xs ys : List X) → All P (xs ++ ys) → All P xs
 all-left P xs ys all k d inside =
     let long = length-append xs ys in
     subst P (get_or_append_left xs ys d k inside) (all k d (omega arith))
 
-all-right : {X : Type 0} (P : X → Type 0) (xs ys : List X) → All P (xs ++ ys) → All P ys
+pub all-right : {X : Type 0} (P : X → Type 0) (xs ys : List X) → All P (xs ++ ys) → All P ys
 all-right P xs ys all k d inside =
     let long = length-append xs ys in
     subst P (get_or-append-add xs ys k d) (all (length xs + k) d (omega arith))
@@ -343,7 +343,7 @@ none-put number (first ∷ refusals) order others =
     more : (a b : ℕ) → b ≤ a → (a ≡ b → ⊥) → b < a
     more a b low other = omega arith
 
-item-there : (items : List Item) (i : ℕ) → i < length items → (item : Item) × (slice_get items i ≡ Some item)
+pub item-there : (items : List Item) (i : ℕ) → i < length items → (item : Item) × (slice_get items i ≡ Some item)
 item-there [] i low = absurd (omega arith)
 item-there (item ∷ items) zero low = (item, refl)
 item-there (item ∷ items) (suc i) low = item-there items i (omega arith)

@@ -63,7 +63,7 @@ AreItemsOf script entries = (i : ℕ) (entry : Numbered) → slice_get entries i
 
 -- there is room in the journal for all items that haven't landed
 pub record HasRoom (script : Script) (g : GroupState) : Type 0 where
-  pub entries : length script.items ≤ frames_of g + commands_of g + slots_of g
+  pub entries : length (drop (frames_of g) (offers_of script.items)) + length (drop (commands_of g) (orders_of script.items)) ≤ slots_of g
   pub octets : octets_in (drop (frames_of g) (offers_of script.items)) ≤ bytes_of g
 
 -- what has come of the script so far: the entries and the refusals are those of its items that have landed, by the return cells that decision
