@@ -8,5 +8,4 @@ pub mod CountLaws
 pub mod RunLaws
 pub mod WriteLaws
 pub mod StopLaws
-pub mod MakeLaws
 pub mod WordLaws

@@ -412,12 +412,14 @@ pub fn trace<S: ByteSource, K: ByteSink, E: ByteSink>(
     let Ok(mut walk) = Walk::new(alloc, script) else {
         return stopped(Stop::Memory);
     };
-    let stop = match write_trace(&mut walk, lines.as_slice(), size, out, notes) {
-        Ok(()) => None,
-        Err(Failed) => Some(Stop::Write),
-    };
-    Ended {
-        stop,
-        walk: Some(walk),
+    match write_trace(&mut walk, lines.as_slice(), size, out, notes) {
+        Ok(()) => Ended {
+            stop: None,
+            walk: Some(walk),
+        },
+        Err(Failed) => Ended {
+            stop: Some(Stop::Write),
+            walk: Some(walk),
+        },
     }
 }
