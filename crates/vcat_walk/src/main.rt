@@ -9,8 +9,8 @@ mod input;
 mod make;
 mod notes;
 mod stop;
-
-
+#[cfg(test)]
+mod tests;
 mod top;
 mod trace;
 mod walk;
