@@ -1,5 +1,5 @@
 -- How a traced walk ends: its text and its trace are written, or prefixes of them.
-use Rattle.std.proofs.Common.{◌≡◌, ◌≢◌, ℕ, ◌≤◌, Bool, false, not, List, [], ◌++◌, Option, Some, None, IfSome, Ok, inl, inr, refl, sym, ◌∙◌, ap, subst, arith}
+use Rattle.std.proofs.Common.{◌≡◌, ◌≢◌, ℕ, false, not, List, [], ◌++◌, Option, Some, None, IfSome, Ok, inl, inr, refl, sym, ◌∙◌, ap, subst, arith}
 use Rattle.outside_io.specs.Transfer.{Appends}
 use Rattle.outside_io.proofs.Parts.{Appends-none}
 use Rattle.session_model.specs.declared.script.Script.{Script}

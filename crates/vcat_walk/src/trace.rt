@@ -84,12 +84,7 @@ fn is_step(before: u32, now: u32) -> bool
 }
 
 /// Writes the line of the decision step that was made since a number of ticks, where one was.
-fn tell_since<E: ByteSink>(
-    walk: &Walk,
-    ticks: u32,
-    lines: u8,
-    notes: &mut E,
-) -> Result<(), Failed>
+fn tell_since<E: ByteSink>(walk: &Walk, ticks: u32, lines: u8, notes: &mut E) -> Result<(), Failed>
     requires few { lines ≤ 128 }
     requires lines { lines ≡ walk.now.script.config.lines }
     requires least { ticks ≤ walk.now.counts.ticks }

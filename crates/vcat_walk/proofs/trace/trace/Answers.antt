@@ -1,5 +1,5 @@
 -- A script is read, its walk is traced, and its texts are written or a write fails.
-use Rattle.std.proofs.Common.{◌≡◌, ℕ, Option, sym, ◌∙◌, ap, subst}
+use Rattle.std.proofs.Common.{Option, sym, ◌∙◌, ap, subst}
 use Rattle.session_model.specs.declared.script.Script.{Script}
 use Rattle.session_model.specs.Counts.{begin}
 use Rattle.session_model.specs.Valid.{IsValid}
