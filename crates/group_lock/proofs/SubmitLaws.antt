@@ -180,7 +180,6 @@ unfolding count_of
 orders-total [] = refl
 orders-total (item ∷ items) = orders-total_by item.due item.kind items (orders-total items)
 
-
 -- ---- the item that lands
 -- it is the script's, and is due
 pub item-here : (script : Script) (g : GroupState) (number : ℕ) (kind : ItemKind) → IsOf script g → next_of g kind ≡ Some number → due_at (items_of g) number ≤ ticks_of g → IsItemOf script number kind →
@@ -312,8 +311,8 @@ command-next script a b number kind order of_script next is here frames commands
     ap (λ n. landed_from (frames_of a) n 0 script.items) (sym commands) ∙ ap (λ n. landed_from n (commands_of b) 0 script.items) (sym frames) in (
       subst (IsInserted (entry_of number (ticks_of a) kind) (landed_items script (counts_of a))) items (landed-command script (counts_of a) (entry_of number (ticks_of a) kind) order at),
       ap (λ (l : List Order). with_items (scenario_of script) l (take (frames_of a) (offers_of script.items))) (sym (take-next (orders_of script.items) (commands_of a) order there))
-      ∙ ap (λ n. with_items (scenario_of script) (take n (orders_of script.items)) (take (frames_of a) (offers_of script.items))) up
-      ∙ ap (λ n. with_items (scenario_of script) (take (commands_of b) (orders_of script.items)) (take n (offers_of script.items))) (sym frames),
+          ∙ ap (λ n. with_items (scenario_of script) (take n (orders_of script.items)) (take (frames_of a) (offers_of script.items))) up
+          ∙ ap (λ n. with_items (scenario_of script) (take (commands_of b) (orders_of script.items)) (take n (offers_of script.items))) (sym frames),
       slice_get_within (orders_of script.items) (commands_of a) order there,
     )
 

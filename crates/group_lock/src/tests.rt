@@ -1,4 +1,7 @@
 //! A small script by hand, over real rings.
+ghost use Rattle.std.specs.Prelude.{◌≡◌, length, IfOk};
+ghost use Rattle.group_lock.specs.Rings.{AreUnused};
+
 use crate::{GroupState, ItemRef, SubmitFault, TickAnswer};
 use member_ring::{LineEnds, RingIn, RingOut, back_ring, line_rings};
 use report_text::{Refusal, Totals};
@@ -13,7 +16,10 @@ use vc_cell::{BackCell, Container};
 fn send_rings(
     alloc: Global,
     lines: u8,
-) -> Result<(Vec<RingOut<Container>>, Vec<RingIn<Container>>), AllocError> {
+) -> Result<(Vec<RingOut<Container>>, Vec<RingIn<Container>>), AllocError>
+    ensures count { IfOk result (λ rings. length rings.0.items ≡ lines) }
+    ensures unused { IfOk result (λ rings. AreUnused rings.0.items) }
+{
     let mut tx = Vec::new(alloc);
     let mut outs = Vec::new(alloc);
     for _ in 0..lines {
