@@ -12,10 +12,9 @@ ghost use Rattle.trace_core.specs.Worked.{AreRead, IsRefused};
 
 mod lines;
 
-pub use lines::{FOUND_ROOM, TRACE_ROOM, end_line, found_line, trace_line};
-
 use h4_multiframe::{MfiLock, Place};
 use lcas_packet::{Packet, PacketFault, read};
+pub use lines::{FOUND_ROOM, TRACE_ROOM, end_line, found_line, trace_line};
 use std::marker::Model;
 use vc_bits::{nibble_hi, nibble_lo};
 

@@ -127,7 +127,13 @@ const ANSWERS: &[(&str, &str, u8, &str, &str)] = &[
         "made lines 2 ticks 400\ntotal ticks 400 taken 400 frames 50 commands 2 refused 0 got 50\noctets 43246 sum 5512389\n",
         "",
     ),
-    ("walk", "lines 1\nring 1\n", 5, "", "fault: line 2: missing\n"),
+    (
+        "walk",
+        "lines 1\nring 1\n",
+        5,
+        "",
+        "fault: line 2: missing\n",
+    ),
     ("walk", "", 5, "", "fault: line 1: missing\n"),
     ("walk", "lines 129\n", 5, "", "fault: line 1: range\n"),
     ("trace", "container vc2\n", 5, "", "fault: line 1: word\n"),
@@ -192,7 +198,16 @@ fn answers(rt: HostRuntime) -> Result<(), Fail> {
         assert_eq!(rt; end.notes.as_slice(), notes.as_bytes(), "{words} {script}");
         assert_eq!(rt; end.walked, *status == 0, "{words} {script}");
     }
-    for words in ["", "walk ", "walk x", "Walk", "walk walk", "-h", "run 2", "make 1 1"] {
+    for words in [
+        "",
+        "walk ",
+        "walk x",
+        "Walk",
+        "walk walk",
+        "-h",
+        "run 2",
+        "make 1 1",
+    ] {
         let end = called(alloc, words, b"", NONE)?;
         assert_eq!(rt; end.status, 2, "{words}");
         assert_eq!(rt; end.out.len(), 0);
@@ -275,10 +290,30 @@ fn traces(rt: HostRuntime) -> Result<(), Fail> {
 
 /// How a script begins, the due ticks and lengths of its frames, how it ends, and its got lines.
 const DELIVERED: &[(&str, &[(&str, usize)], &str, usize)] = &[
-    ("lines 1\ndelays 0\nring 1\nlag 1\nticks 41\nadd 0 0\n", &[("0", 2324)], "", 1),
-    ("lines 1\ndelays 0\nring 1\nlag 1\nticks 41\nadd 0 0\n", &[("0", 2325)], "", 0),
-    ("container vc3\nlines 1\ndelays 0\nring 1\nlag 1\nticks 41\nadd 0 0\n", &[("0", 740)], "", 1),
-    ("container vc3\nlines 1\ndelays 0\nring 1\nlag 1\nticks 41\nadd 0 0\n", &[("0", 741)], "", 0),
+    (
+        "lines 1\ndelays 0\nring 1\nlag 1\nticks 41\nadd 0 0\n",
+        &[("0", 2324)],
+        "",
+        1,
+    ),
+    (
+        "lines 1\ndelays 0\nring 1\nlag 1\nticks 41\nadd 0 0\n",
+        &[("0", 2325)],
+        "",
+        0,
+    ),
+    (
+        "container vc3\nlines 1\ndelays 0\nring 1\nlag 1\nticks 41\nadd 0 0\n",
+        &[("0", 740)],
+        "",
+        1,
+    ),
+    (
+        "container vc3\nlines 1\ndelays 0\nring 1\nlag 1\nticks 41\nadd 0 0\n",
+        &[("0", 741)],
+        "",
+        0,
+    ),
     // A failure of 40 containers with a slip of 39: the second frame lies before the first place that is confirmed after it, and the
     // third one is not yet descrambled.
     (
@@ -329,7 +364,10 @@ fn calls_that_fail(rt: HostRuntime) -> Result<(), Fail> {
     // A got line of 9,600 octets has 19,205, and goes out alone.
     for (failing, lines) in [(0, 0), (1, 1), (2, 2), (3, 3), (4, 4)] {
         for words in ["walk", "trace"] {
-            let fails = Fails { puts: &[failing], ..NONE };
+            let fails = Fails {
+                puts: &[failing],
+                ..NONE
+            };
             let cut = called(alloc, words, script, fails)?;
             assert_eq!(rt; cut.status, 4);
             assert_eq!(rt; cut.walked, true);
@@ -338,7 +376,10 @@ fn calls_that_fail(rt: HostRuntime) -> Result<(), Fail> {
         }
     }
     // The second line of the trace can't be written: nothing follows it but the note, and on `out` nothing.
-    let fails = Fails { tells: &[1], ..NONE };
+    let fails = Fails {
+        tells: &[1],
+        ..NONE
+    };
     let cut = called(alloc, "trace", script, fails)?;
     assert_eq!(rt; cut.status, 4);
     assert_eq!(rt; cut.out.len(), 0);
@@ -346,14 +387,20 @@ fn calls_that_fail(rt: HostRuntime) -> Result<(), Fail> {
         cut.notes.as_slice(),
         b"packet 0 chg 1 act 0 back none add:0\nfault: write failed\n".as_slice()
     );
-    let fails = Fails { takes: &[0], ..NONE };
+    let fails = Fails {
+        takes: &[0],
+        ..NONE
+    };
     let unread = called(alloc, "walk", script, fails)?;
     assert_eq!(rt; unread.status, 3);
     assert_eq!(rt; unread.out.len(), 0);
     assert_eq!(rt; unread.notes.as_slice(), b"fault: read failed\n".as_slice());
     // The status stays where a note can't be written.
     for (words, input, status) in [("walk", "x\n", 5), ("decode", "x\n", 5), ("x", "", 2)] {
-        let fails = Fails { tells: &[0], ..NONE };
+        let fails = Fails {
+            tells: &[0],
+            ..NONE
+        };
         let silent = called(alloc, words, input.as_bytes(), fails)?;
         assert_eq!(rt; silent.status, status);
         assert_eq!(rt; silent.notes.len(), 0);
@@ -407,7 +454,15 @@ fn control_packets(rt: HostRuntime) -> Result<(), Fail> {
         assert_eq!(rt; end.out.as_slice(), out.as_bytes());
         assert_eq!(rt; end.notes.as_slice(), notes.as_bytes());
     }
-    let unread = called(alloc, "decode", TWO_PACKETS, Fails { takes: &[0], ..NONE })?;
+    let unread = called(
+        alloc,
+        "decode",
+        TWO_PACKETS,
+        Fails {
+            takes: &[0],
+            ..NONE
+        },
+    )?;
     assert_eq!(rt; unread.status, 3);
     assert_eq!(rt; unread.notes.as_slice(), b"fault: read failed\n".as_slice());
     let unwritten = called(alloc, "decode", TWO_PACKETS, Fails { puts: &[1], ..NONE })?;

@@ -146,11 +146,13 @@ pub fn walk_top<S: ByteSource, K: ByteSink, E: ByteSink>(
             let stop = decode(alloc, script, out);
             finish(Ended { stop, walk: None }, notes)
         }
-        Some(Command::Make {
-            number,
-            lines,
-            ticks,
-        }) => finish(make(alloc, number, lines, ticks, out), notes),
+        Some(
+            Command::Make {
+                number,
+                lines,
+                ticks,
+            },
+        ) => finish(make(alloc, number, lines, ticks, out), notes),
         Some(Command::Run { .. }) => unreachable!(),
         None => finish(stopped(Stop::Usage), notes),
     }
@@ -192,9 +194,11 @@ fn status_of(stop: Option<Stop>) -> u8
         Some(Stop::Read) => 3,
         Some(Stop::Write) => 4,
         Some(Stop::NotHex { .. } | Stop::Fault(ScriptFault::Line { .. })) => 5,
-        Some(Stop::Fault(
-            ScriptFault::Slip { .. } | ScriptFault::Spread { .. } | ScriptFault::Lag { .. },
-        )) => 6,
+        Some(
+            Stop::Fault(
+                ScriptFault::Slip { .. } | ScriptFault::Spread { .. } | ScriptFault::Lag { .. },
+            ),
+        ) => 6,
         Some(Stop::Memory | Stop::Fault(ScriptFault::Memory)) => 7,
         Some(Stop::TooLong) => 8,
     }

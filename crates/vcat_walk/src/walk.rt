@@ -120,11 +120,7 @@ pub fn take_back<K>(out: &mut K)
 }
 
 /// Makes a walk, and writes what comes of it.
-fn write_walk<K: ByteSink>(
-    walk: &mut Walk,
-    lines: &[EventLine],
-    out: &mut K,
-) -> Result<(), Failed>
+fn write_walk<K: ByteSink>(walk: &mut Walk, lines: &[EventLine], out: &mut K) -> Result<(), Failed>
     requires valid { IsValid walk.old.script }
     requires lines { lines.now ≡ walk.old.script.events }
     requires begun { walk.old.counts ≡ begin (walk_plan walk.old.script) }

@@ -9,15 +9,19 @@ pub returns-then-self : goal.returns-then-self
 returns-then-self g c start frames has =
     let now = c.args.self.now in
     let first = seen (told_of start.octets) start.faults in
-    let last = seen (g.K.ByteSink.written now.out.now) (g.K.ByteSink.faults now.out.now) in
-    (has.0, subst (Told now.failed first last now.block) (texts-more frames c.args.frame.now)
-    (told-stopped now.failed first last now.block now.block (got_texts frames) (got_text c.args.frame.now) c.if-self.true has.1))
+    let last = seen (g.K.ByteSink.written now.out.now) (g.K.ByteSink.faults now.out.now) in (
+      has.0,
+      subst (Told now.failed first last now.block) (texts-more frames c.args.frame.now)
+          (told-stopped now.failed first last now.block now.block (got_texts frames) (got_text c.args.frame.now) c.if-self.true has.1),
+    )
 
 pub returns-in-Ok : goal.returns-in-Ok
 returns-in-Ok g c start frames has =
     let now = c.args.self.now in
     let first = seen (told_of start.octets) start.faults in
-    let last = seen (g.K.ByteSink.written c.add_got.new.out) (g.K.ByteSink.faults c.add_got.new.out) in
-    (has.0, subst (Told now.failed first last c.add_got.new.self) (texts-more frames c.args.frame.now)
-    (told-more g.K.ByteSink.written g.K.ByteSink.faults now.failed first now.out.now c.add_got.new.out now.block c.add_got.new.self (got_texts frames) (got_text c.args.frame.now)
-    c.if-self.false c.in-Ok.ensures.ok has.1))
+    let last = seen (g.K.ByteSink.written c.add_got.new.out) (g.K.ByteSink.faults c.add_got.new.out) in (
+      has.0,
+      subst (Told now.failed first last c.add_got.new.self) (texts-more frames c.args.frame.now)
+          (told-more g.K.ByteSink.written g.K.ByteSink.faults now.failed first now.out.now c.add_got.new.out now.block c.add_got.new.self (got_texts frames) (got_text c.args.frame.now)
+          c.if-self.false c.in-Ok.ensures.ok has.1),
+    )
