@@ -1,5 +1,5 @@
 -- A tick leaves a group bound to its session.
-use Rattle.std.proofs.Common.{◌≡◌, ℕ, zero, suc, ◌+◌, ◌-◌, ◌<◌, ◌≤◌, Bool, true, false, if◌then◌else◌, not, ◌&&◌, List, [], ◌∷◌, ◌++◌, map, filter, take, drop, length, slice_get, get_or, All, Option, Some, None, is_none, option_map, inl, inr, refl, sym, ◌∙◌, ap, subst, arith}
+use Rattle.std.proofs.Common.{◌≡◌, ℕ, zero, suc, ◌+◌, ◌-◌, ◌≤◌, Bool, true, false, if◌then◌else◌, not, ◌&&◌, List, [], ◌∷◌, ◌++◌, filter, take, drop, length, slice_get, get_or, All, Option, Some, is_none, option_map, inl, inr, refl, sym, ◌∙◌, ap, subst, arith}
 use Rattle.std.specs.List.{flat_map}
 use Rattle.std.proofs.Math.Logic.{∥∥₁_map, ∥∥₁_elim}
 use Rattle.std.proofs.Props.{props}
@@ -11,7 +11,6 @@ use Rattle.vc_cell.specs.declared.BackCell.{BackCell}
 use Rattle.session_model.specs.declared.script.Script.{Script}
 use Rattle.session_model.specs.declared.script.Item.{Item}
 use Rattle.session_model.specs.Scenario.{Scenario, Order, Offer, scenario_of, orders_of, offers_of, steps_in}
-use Rattle.session_model.specs.Table.{Told}
 use Rattle.session_model.specs.Journal.{with_items}
 use Rattle.session_model.specs.Sent.{container_of, containers_of}
 use Rattle.session_model.specs.Counts.{dues_of, frame_dues, command_dues, used_in}
@@ -30,12 +29,12 @@ use Rattle.group_lock.specs.declared.answer.TickAnswer.{TickAnswer}
 use Rattle.group_lock.specs.declared.answer.TickAnswer.TheVariants.{Ticked, Held, TxFull, BackMissing, Done}
 use Rattle.group_lock.specs.declared.group.GroupState.{GroupState}
 use Rattle.group_lock.specs.Journal.{items_in}
-use Rattle.group_lock.specs.Inbox.{told_from, told_taken}
+use Rattle.group_lock.specs.Inbox.{told_from}
 use Rattle.group_lock.specs.Rings.{SameOuts, SameIns}
 use Rattle.group_lock.specs.Parts.{AreSent, ArePast}
-use Rattle.group_lock.specs.Group.{IsOf, SameScript, is_ticked, lines_of, lag_of, lost_of, items_of, ticks_of, frames_of, commands_of, journal_of, slots_of, bytes_of, refusals_of, taken_of, source_of}
+use Rattle.group_lock.specs.Group.{IsOf, SameScript, is_ticked, lines_of, lag_of, lost_of, items_of, ticks_of, frames_of, commands_of, slots_of, bytes_of, taken_of, source_of}
 use Rattle.group_lock.specs.Calls.{Ticks}
-use Rattle.group_lock.specs.Session.{counts_of, refusal_by, refusals_by, accepted_frames_by, accepted_commands_by, octets_in, AreItemsOf, HasRoom, HasLandedOf, IsBound}
+use Rattle.group_lock.specs.Session.{counts_of, refusal_by, refusals_by, accepted_frames_by, accepted_commands_by, octets_in, AreItemsOf, HasLandedOf, IsBound}
 use Rattle.group_lock.proofs.PlaceLaws.{bare-dues}
 use Rattle.group_lock.proofs.CellLaws.{taken-more}
 use Rattle.group_lock.proofs.AlikeLaws.{alike-cells, refusal-alike, container-alike, sent-alike, sent-next}

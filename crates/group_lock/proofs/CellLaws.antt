@@ -1,11 +1,10 @@
 -- Return cells that have come, and those that decision steps have taken.
-use Rattle.std.proofs.Common.{◌≡◌, ℕ, zero, suc, ◌+◌, ◌-◌, ◌/◌, ◌%◌, ◌==◌, ◌&&◌, ◌<◌, ◌≤◌, nat_le, Bool, true, false, if◌then◌else◌, List, [], ◌∷◌, ◌++◌, map, take, drop, length, slice_get, Option, Some, None, option_map, refl, sym, ◌∙◌, ap, subst, arith, inl, inr}
+use Rattle.std.proofs.Common.{◌≡◌, ℕ, suc, ◌+◌, ◌/◌, ◌%◌, ◌==◌, ◌<◌, ◌≤◌, nat_le, Bool, true, false, if◌then◌else◌, List, [], ◌∷◌, ◌++◌, map, take, drop, length, slice_get, Option, Some, None, option_map, refl, sym, ◌∙◌, ap, subst, arith, inl, inr}
 use Rattle.std.specs.Option.{is_some}
-use Rattle.std.proofs.lemmas.Bool.{cases_Bool, leb-false, leb-true}
-use Rattle.std.proofs.lemmas.List.{append-nil, append_assoc, map-append, take-append-le, drop-append-le, length-append, length-map, drop-drop}
+use Rattle.std.proofs.lemmas.Bool.{cases_Bool}
+use Rattle.std.proofs.lemmas.List.{map-append, take-append-le, drop-append-le, length-append, length-map, drop-drop}
 use Rattle.std.proofs.lemmas.Option.{slice_get-map, slice_get_within}
 use Rattle.vc_cell.specs.declared.BackCell.{BackCell}
-use Rattle.session_model.specs.Table.{Told}
 use Rattle.session_model.specs.Told.{told_in}
 use Rattle.session_model.specs.Counts.{used_in}
 use Rattle.source_core.specs.Terminal.{needed_at}

@@ -1,13 +1,13 @@
 -- One more entry of a journal.
-use Rattle.std.proofs.Common.{◌≡◌, ℕ, suc, ◌+◌, ◌-◌, ◌≤◌, if◌then◌else◌, List, [], ◌∷◌, ◌++◌, map, drop, take, length, All, refl, sym, ◌∙◌, ap, subst, arith}
+use Rattle.std.proofs.Common.{◌≡◌, ℕ, ◌+◌, ◌-◌, ◌≤◌, if◌then◌else◌, List, [], ◌∷◌, ◌++◌, drop, take, length, All, refl, sym, ◌∙◌, ap, arith}
 use Rattle.std.proofs.lemmas.List.{take-append-le, drop-append-le, length-drop, length-append, length-map, map_push, length_push}
-use Rattle.std.proofs.lemmas.List.Elements.{All-tail, All-push, All-weaker}
+use Rattle.std.proofs.lemmas.List.Elements.{All-tail, All-push}
 use Rattle.session_model.specs.declared.script.Item.{Item}
 use Rattle.session_model.specs.declared.script.ItemKind.{ItemKind}
 use Rattle.session_model.specs.declared.script.ItemKind.TheVariants.{Frame, Add, Remove}
 use Rattle.session_model.specs.Scenario.{offer_of, order_of, offers_of, orders_of}
 use Rattle.walk_law.specs.Landed.{Numbered, is_client}
-use Rattle.walk_law.proofs.ReportLaws.{offers-size, orders-size}
+use Rattle.walk_law.proofs.ReportLaws.{offers-size}
 use Rattle.group_lock.specs.declared.journal.Entered.{Entered}
 use Rattle.group_lock.specs.declared.journal.Entered.TheVariants.{Frame as frame_entered, Add as add_entered, Remove as remove_entered}
 use Rattle.group_lock.specs.declared.journal.Entry.{Entry}

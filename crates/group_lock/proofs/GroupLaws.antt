@@ -1,5 +1,5 @@
 -- What contracts say of a group, by its parts.
-use Rattle.std.proofs.Common.{◌≡◌, ℕ, ◌+◌, ◌<◌, ◌≤◌, ◌==◌, nat_lt, not, Bool, true, false, if◌then◌else◌, List, [], ◌∷◌, ◌++◌, Option, Some, None, option_map, refl, sym, ◌∙◌, ap, subst, arith}
+use Rattle.std.proofs.Common.{◌≡◌, ℕ, ◌+◌, ◌<◌, ◌≤◌, nat_lt, not, Bool, true, false, if◌then◌else◌, List, [], ◌∷◌, ◌++◌, Option, Some, None, option_map, refl, sym, ◌∙◌, ap, subst, arith}
 use Rattle.std.proofs.Math.Logic.{∥∥₁_elim}
 use Rattle.std.proofs.Props.{props}
 use Rattle.std.proofs.lemmas.Bool.Decides.{nat_tests}
@@ -20,7 +20,7 @@ use Rattle.group_lock.specs.Journal.{entry_of, fits}
 use Rattle.group_lock.specs.Landed.{due_at}
 use Rattle.group_lock.specs.Lands.{met_by, with_kind}
 use Rattle.group_lock.specs.Parts.{setting_in}
-use Rattle.group_lock.specs.Group.{parts_of, Stands, SameScript, SameRings, SameLanded, items_of, frames_of, commands_of, journal_of, slots_of, bytes_of, refusals_of, taken_of, source_of, ticks_of, next_of, refusal_of, is_number, fault_in, counted_by, HasCounted, with_landed}
+use Rattle.group_lock.specs.Group.{parts_of, Stands, SameScript, SameRings, items_of, frames_of, commands_of, journal_of, slots_of, bytes_of, refusals_of, taken_of, source_of, ticks_of, next_of, refusal_of, is_number, fault_in, counted_by, HasCounted, with_landed}
 use Rattle.group_lock.specs.Calls.{Submits}
 use Rattle.group_lock.proofs.AlikeLaws.{met-journal}
 

@@ -1,5 +1,5 @@
 -- What hasn't landed isn't due, where no item is held.
-use Rattle.std.proofs.Common.{◌≡◌, ℕ, zero, suc, ◌+◌, ◌<◌, ◌≤◌, nat_le, inl, inr, List, [], ◌∷◌, slice_get, Option, Some, None, arith}
+use Rattle.std.proofs.Common.{◌≡◌, ℕ, zero, suc, ◌+◌, ◌<◌, ◌≤◌, nat_le, inl, inr, List, [], ◌∷◌, slice_get, Some, None, arith}
 use Rattle.std.proofs.lemmas.Bool.{leb-false, cases_Bool}
 use Rattle.session_model.specs.Counts.{Due, frame_due, command_due, frame_dues, command_dues, held}
 use Rattle.walk_law.proofs.LandLaws.{Ahead}

@@ -14,7 +14,6 @@ use Rattle.session_model.specs.Table.{Told}
 use Rattle.session_model.specs.Told.{told_in}
 use Rattle.session_model.specs.Sent.{container_of, containers_of, frame_of}
 use Rattle.session_model.specs.Counts.{dues_of, frame_dues, command_dues, used_in, held}
-use Rattle.session_law.proofs.AlikeLaws.{Alike}
 use Rattle.member_ring.specs.declared.ends.RingOut.{RingOut}
 use Rattle.member_ring.specs.declared.ends.RingIn.{RingIn}
 use Rattle.member_ring.specs.Ends.{out_passed, in_passed}

@@ -1,20 +1,19 @@
 -- Where the items of a kind stand, and what is kept of what has landed.
-use Rattle.std.proofs.Common.{◌≡◌, ℕ, zero, suc, ◌+◌, ◌<◌, ◌≤◌, nat_lt, Bool, true, false, List, [], ◌∷◌, ◌++◌, map, length, take, drop, slice_get, get_or, if◌then◌else◌, All, Option, Some, None, option_map, inl, inr, refl, sym, ◌∙◌, ap, subst, arith, append_assoc}
+use Rattle.std.proofs.Common.{◌≡◌, ℕ, zero, suc, ◌+◌, ◌<◌, ◌≤◌, nat_lt, Bool, true, false, List, [], ◌∷◌, ◌++◌, length, take, drop, slice_get, get_or, if◌then◌else◌, All, Option, Some, None, option_map, inl, inr, refl, sym, ◌∙◌, ap, subst, arith, append_assoc}
 use Rattle.std.proofs.lemmas.Bool.{cases_Bool, cases_lt, ltb-true}
-use Rattle.std.proofs.lemmas.List.{take-append-drop, append_cancel_left, get_or_append_left, get_or-append-add, length-append, length-drop, length-map, drop_more, get_or-take, get_or-drop, get_or_default, length-take-le}
+use Rattle.std.proofs.lemmas.List.{get_or_append_left, get_or-append-add, length-append, length-map}
 use Rattle.std.proofs.lemmas.List.Elements.{All-cons, All-append, All-head, All-tail}
-use Rattle.std.proofs.lemmas.Option.{slice_get-map, slice_get_within, slice_get-get_or, slice_get_past, get_or_from_slice_get}
 use Rattle.session_model.specs.declared.script.Item.{Item}
 use Rattle.session_model.specs.declared.script.ItemKind.{ItemKind}
 use Rattle.session_model.specs.declared.script.ItemKind.TheVariants.{Frame, Add, Remove}
-use Rattle.session_model.specs.Counts.{Due, due_of, dues_of, frame_dues, command_dues}
+use Rattle.session_model.specs.Counts.{due_of, dues_of, frame_dues, command_dues}
 use Rattle.report_text.specs.declared.report.Refusal.{Refusal}
 use Rattle.walk_law.specs.Landed.{is_client, IsPlaced}
 use Rattle.walk_law.proofs.LandLaws.{Ahead}
 use Rattle.walk_parts.specs.Place.{is_frame, is_command, place_of}
 use Rattle.group_lock.specs.Item.{bare, bare_kind, bare_items}
 use Rattle.std.specs.List.Sorted.{IsNonDecreasing}
-use Rattle.group_lock.specs.Landed.{Landed, none_landed, next_place, there_at, next_number, due_in, due_at, AreBefore, AreAfter, AreInOrder, AreOthers, AreOfLanded, IsLanded}
+use Rattle.group_lock.specs.Landed.{Landed, none_landed, next_place, next_number, due_in, due_at, AreBefore, AreAfter, AreInOrder, AreOthers, AreOfLanded, IsLanded}
 
 -- ---- items without the octets of frames
 bare-due : (due : ℕ) (kind : ItemKind) → due_of due (bare_kind kind) ≡ due_of due kind

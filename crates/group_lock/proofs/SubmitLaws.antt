@@ -1,6 +1,5 @@
 -- An item that lands leaves a group bound to its session.
 use Rattle.std.proofs.Common.{◌≡◌, ℕ, zero, suc, ◌+◌, ◌-◌, ◌<◌, ◌≤◌, nat_lt, nat_le, not, ◌&&◌, Bool, true, false, if◌then◌else◌, List, [], ◌∷◌, ◌++◌, map, filter, fold, take, drop, length, slice_get, get_or, All, Option, Some, None, is_none, option_map, inl, inr, refl, sym, ◌∙◌, ap, subst, arith, append_assoc, length-append}
-use Rattle.std.specs.List.{flat_map}
 use Rattle.std.proofs.Math.Logic.{∥∥₁_map, ∥∥₁_elim}
 use Rattle.std.proofs.Props.{props}
 use Rattle.std.proofs.lemmas.Bool.{cases_Bool, ltb-false, eqb-true}
@@ -19,7 +18,7 @@ use Rattle.group_lock.specs.Session.{refusal_by, refusals_by, accepted_frames_by
 use Rattle.session_model.specs.Table.{Told}
 use Rattle.group_lock.proofs.InsertLaws.{IsInserted, landed-frame, landed-command}
 use Rattle.std.proofs.lemmas.List.{length-map, length-drop, get_or-drop}
-use Rattle.std.proofs.lemmas.List.Sums.{sum_by-drop_more, sum_by-take-le}
+use Rattle.std.proofs.lemmas.List.Sums.{sum_by-drop_more}
 use Rattle.std.proofs.lemmas.Option.{slice_get-get_or, get_or_from_slice_get}
 use Rattle.line_law.proofs.ListLaws.{take-next}
 use Rattle.session_model.specs.declared.script.Item.{Item}
@@ -28,7 +27,7 @@ use Rattle.session_model.specs.declared.script.ItemKind.TheVariants.{Frame, Add,
 use Rattle.session_model.specs.declared.table.Command.{Command}
 use Rattle.session_model.specs.declared.table.Command.TheVariants.{Add as add, Remove as remove}
 use Rattle.session_model.specs.Scenario.{Scenario, Order, Offer, order_of, offer_of, orders_of, offers_of, scenario_of, steps_in, lands_at, comes_at}
-use Rattle.session_model.specs.Source.{Source, asked_all, refusal, after}
+use Rattle.session_model.specs.Source.{Source, asked_all, refusal}
 use Rattle.session_model.specs.Client.{Stream, stream_before, frame_refusal, refusal_while, offered}
 use Rattle.session_model.specs.Course.{Course}
 use Rattle.session_model.specs.Journal.{with_items}
@@ -36,13 +35,13 @@ use Rattle.session_model.specs.Counts.{Counts, dues_of, frame_dues, command_dues
 use Rattle.session_law.proofs.AlikeLaws.{Alike, alike-after, alike-stream}
 use Rattle.report_text.specs.declared.report.Refusal.TheVariants.{Frame as frame_refused, Command as command_refused}
 use Rattle.source_core.specs.Terminal.{Terminal}
-use Rattle.source_core.specs.Given.{ComesAlike, Stands as HasMade}
+use Rattle.source_core.specs.Given.{Stands as HasMade}
 use Rattle.source_core.proofs.LandedLaws.{alike-landed, first-alike}
 use Rattle.walk_law.specs.Landed.{landed_from, landed_items, landed_scenario, kind_refusal, source_met, IsOfferAt, IsOrderAt}
 use Rattle.walk_law.proofs.LandLaws.{frame-dues, command-dues, offer-at, order-at}
 use Rattle.walk_parts.specs.Place.{is_frame, is_command, place_of}
 use Rattle.group_lock.specs.declared.group.GroupState.{GroupState}
-use Rattle.group_lock.specs.Item.{bare, bare_items, size_of as octet_count}
+use Rattle.group_lock.specs.Item.{bare, size_of as octet_count}
 use Rattle.group_lock.specs.Journal.{entry_of, items_in, fits}
 use Rattle.std.specs.Global.{Vec}
 use Rattle.std.proofs.lemmas.List.{append-nil, map_push}

@@ -1,11 +1,11 @@
 -- What came of a tick, by its answer.
-use Rattle.std.proofs.Common.{◌≡◌, ◌≢◌, ℕ, ◌+◌, ◌<◌, ◌≤◌, ◌↔◌, Bool, true, false, if◌then◌else◌, List, [], ◌∷◌, ◌++◌, slice_get, Option, Some, None, inl, inr, refl, sym, ◌∙◌, ap, subst, arith}
+use Rattle.std.proofs.Common.{◌≡◌, ◌≢◌, ℕ, ◌+◌, ◌<◌, ◌≤◌, ◌↔◌, false, if◌then◌else◌, List, [], ◌∷◌, ◌++◌, Some, None, inl, refl, sym, ◌∙◌, ap, subst, arith}
 use mathlib.Core.List.{IsPrefix}
 use Rattle.session_model.specs.Scenario.{Scenario}
 use Rattle.std.specs.Global.{Vec}
 use Rattle.vc_cell.specs.declared.Container.{Container}
 use Rattle.member_ring.specs.declared.ends.RingOut.{RingOut}
-use Rattle.member_ring.specs.Ends.{out_passed, in_passed, in_misses, SameOut, SameIn}
+use Rattle.member_ring.specs.Ends.{out_passed, in_passed, in_misses, SameIn}
 use Rattle.member_ring.proofs.EndLaws.{out-then}
 use Rattle.source_core.specs.Terminal.{Terminal, needed}
 use Rattle.session_model.specs.declared.script.Item.{Item}
@@ -18,10 +18,10 @@ use Rattle.std.proofs.lemmas.Option.{slice_get_within}
 use Rattle.group_lock.specs.declared.answer.TickAnswer.{TickAnswer}
 use Rattle.group_lock.specs.declared.answer.TickAnswer.TheVariants.{Ticked, Held, TxFull, BackMissing, Done}
 use Rattle.group_lock.specs.declared.group.GroupState.{GroupState}
-use Rattle.group_lock.specs.Journal.{Setting, journal_scenario}
+use Rattle.group_lock.specs.Journal.{journal_scenario}
 use Rattle.group_lock.specs.Inbox.{told_taken}
 use Rattle.group_lock.specs.Rings.{SameOuts, HasLooked, HaveLooked, IsFirstFull}
-use Rattle.group_lock.specs.Group.{lost_of, items_of, frames_of, commands_of, journal_of, lines_of, lag_of, size_of, SameScript, SameLanded, ticks_of, total_of, taken_of, source_of, inbox_of, held_of, replay_of, is_ticked, IsFreeToTick, IsMissing, ArePushedOf, NothingPushed}
+use Rattle.group_lock.specs.Group.{lost_of, items_of, frames_of, commands_of, journal_of, lines_of, lag_of, size_of, SameScript, SameLanded, ticks_of, total_of, taken_of, source_of, inbox_of, held_of, replay_of, is_ticked, IsFreeToTick, IsMissing, ArePushedOf}
 use Rattle.group_lock.specs.Calls.{Ticks, Comes, Looks, Makes}
 use Rattle.group_lock.proofs.KeepLaws.{there-at}
 use Rattle.group_lock.proofs.GroupLaws.{stands-of}

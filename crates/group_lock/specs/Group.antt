@@ -1,6 +1,5 @@
 -- What contracts say of a group.
-use Rattle.std.specs.Prelude.{◌≡◌, ◌≢◌, ℕ, ◌+◌, ◌<◌, ◌==◌, not, nat_lt, Bool, true, false, if◌then◌else◌, List, [], ◌∷◌, ◌++◌, length, slice_get, Option, Some, None, option_map}
-use Rattle.std.specs.Option.{is_some}
+use Rattle.std.specs.Prelude.{◌≡◌, ℕ, ◌+◌, ◌<◌, ◌==◌, not, nat_lt, Bool, true, false, if◌then◌else◌, List, [], ◌∷◌, ◌++◌, length, slice_get, Option, Some, None, option_map}
 use Rattle.outside_io.specs.Faults.{one_more}
 use Rattle.vc_cell.specs.declared.Container.{Container}
 use Rattle.vc_cell.specs.declared.BackCell.{BackCell}
@@ -9,16 +8,14 @@ use Rattle.session_model.specs.declared.script.ItemKind.{ItemKind}
 use Rattle.session_model.specs.declared.script.Script.{Script}
 use Rattle.session_model.specs.Scenario.{Scenario, offers_of, orders_of}
 use Rattle.session_model.specs.Table.{Told}
-use Rattle.session_model.specs.Course.{Course}
 use Rattle.session_model.specs.Sent.{container_of}
 use Rattle.session_model.specs.Counts.{dues_of, held}
 use Rattle.report_text.specs.declared.report.Refusal.{Refusal}
 use Rattle.report_text.specs.declared.report.Totals.{Totals}
 use Rattle.member_ring.specs.declared.ends.RingOut.{RingOut}
-use Rattle.member_ring.specs.declared.ends.RingIn.{RingIn}
-use Rattle.member_ring.specs.Ends.{out_passed, in_passed, in_misses}
+use Rattle.member_ring.specs.Ends.{out_passed, in_misses}
 use Rattle.source_core.specs.Terminal.{Terminal, needed}
-use Rattle.source_core.specs.Given.{Stands as HasMade, stream_now, course_now}
+use Rattle.source_core.specs.Given.{Stands as HasMade}
 use Rattle.walk_law.specs.Landed.{Numbered, is_client, kind_refusal}
 use Rattle.group_lock.specs.declared.answer.SubmitFault.{SubmitFault}
 use Rattle.group_lock.specs.declared.answer.SubmitFault.TheVariants.{NotNext, Early, JournalFull}
@@ -26,10 +23,9 @@ use Rattle.group_lock.specs.declared.answer.TickAnswer.{TickAnswer}
 use Rattle.group_lock.specs.declared.answer.TickAnswer.TheVariants.{Ticked, Held, TxFull, BackMissing, Done}
 use Rattle.group_lock.specs.Item.{bare_items, size_of as octet_count}
 use Rattle.group_lock.specs.Lands.{with_kind}
-use Rattle.group_lock.specs.Answer.{fault_of, has_landed}
-use Rattle.group_lock.specs.Journal.{Journal, entry_of, items_in, fits, IsLegal}
-use Rattle.group_lock.specs.Landed.{Landed, next_number, due_at}
-use Rattle.group_lock.specs.Inbox.{Inbox}
+use Rattle.group_lock.specs.Answer.{fault_of}
+use Rattle.group_lock.specs.Journal.{entry_of, items_in, fits, IsLegal}
+use Rattle.group_lock.specs.Landed.{next_number, due_at}
 use Rattle.group_lock.specs.Parts.{Parts, parts, scenario_in, told_in_parts, AreSent, AreDue}
 use Rattle.group_lock.specs.declared.group.GroupState.{GroupState}
 

@@ -1,12 +1,11 @@
 -- The journal of what a group has accepted, and the session of that alone.
-use Rattle.std.specs.Prelude.{◌≡◌, ℕ, ◌&&◌, nat_lt, nat_le, Bool, true, List, [], ◌∷◌, map, take, replicate, slice_get, Option, Some, None}
+use Rattle.std.specs.Prelude.{◌≡◌, ℕ, ◌&&◌, nat_lt, nat_le, Bool, List, [], map, take, replicate, slice_get, Option, Some, None}
 use Rattle.session_model.specs.declared.script.Item.{Item}
 use Rattle.session_model.specs.declared.script.ItemKind.{ItemKind}
 use Rattle.session_model.specs.Scenario.{Scenario, offers_of, orders_of}
 use Rattle.session_model.specs.Table.{Told}
 use Rattle.walk_law.specs.Landed.{Numbered, kind_refusal}
 use Rattle.group_lock.specs.Item.{size_of}
-use Rattle.group_lock.specs.declared.answer.SubmitFault.{SubmitFault}
 
 -- an accepted item, with the number of ticks made when it landed
 abbrev pub entry_of : ℕ → ℕ → ItemKind → Numbered

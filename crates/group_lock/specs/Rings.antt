@@ -1,12 +1,12 @@
 -- What a tick does to the ends of the rings of a group.
-use Rattle.std.specs.Prelude.{◌≡◌, ◌⊎◌, ℕ, ◌+◌, ◌<◌, ◌≤◌, List, [], ◌∷◌, ◌++◌, length, slice_get, Option, Some}
+use Rattle.std.specs.Prelude.{◌≡◌, ◌⊎◌, ℕ, ◌<◌, ◌≤◌, List, [], ◌∷◌, ◌++◌, length, slice_get, Some}
 use mathlib.Core.List.{IsPrefix}
 use Rattle.outside_io.specs.Faults.{one_more}
 use Rattle.vc_cell.specs.declared.Container.{Container}
 use Rattle.vc_cell.specs.declared.BackCell.{BackCell}
 use Rattle.member_ring.specs.declared.ends.RingOut.{RingOut}
 use Rattle.member_ring.specs.declared.ends.RingIn.{RingIn}
-use Rattle.member_ring.specs.Ends.{out_passed, out_free, out_misses, in_passed, in_items, SameOut, SameIn}
+use Rattle.member_ring.specs.Ends.{out_passed, out_free, out_misses, in_passed, SameOut, SameIn}
 use Rattle.group_lock.specs.Inbox.{Inbox, HasCome}
 
 -- ---- lists of ends, by place
