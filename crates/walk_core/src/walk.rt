@@ -230,6 +230,7 @@ impl Walk {
             (told_before self.now.script self.now.counts.ticks) (steps_in self.now.counts.ticks) }
         ensures table { result.now.source.table
             ≡ table_in self.now.script self.now.counts.ticks }
+        ensures steps { result.now.steps ≡ steps_in self.now.counts.ticks }
     {
         self.source.table()
     }
