@@ -1,10 +1,10 @@
 -- What is told of a walk that is traced, as it goes on.
-use Rattle.std.proofs.Common.{◌≡◌, ℕ, zero, suc, ◌+◌, ◌-◌, ◌*◌, ◌/◌, ◌%◌, ◌<◌, ◌≤◌, nat_lt, inl, inr, ◌==◌, get_or, slice_get, Bool, true, false, not, List, [], ◌∷◌, ◌++◌, take, drop, replicate, length, Option, Some, None, Result, Ok, Err, OnOk, refl, sym, ◌∙◌, ap, arith, subst, append_assoc, append-nil}
+use Rattle.std.proofs.Common.{◌≡◌, ℕ, zero, suc, ◌+◌, ◌-◌, ◌*◌, ◌<◌, ◌≤◌, nat_lt, inl, inr, ◌==◌, Bool, true, false, not, List, [], ◌∷◌, ◌++◌, take, replicate, length, Option, Some, Result, Ok, Err, OnOk, refl, sym, ◌∙◌, ap, arith, subst, append_assoc, append-nil}
 use Rattle.std.specs.List.{flat_map, range_with_len}
 use Rattle.std.proofs.lemmas.Bool.{lt-ltb}
 use Rattle.std.proofs.lemmas.Grind.{flat_map-append}
 use Rattle.outside_io.specs.Transfer.{Appends, AppendsPart}
-use Rattle.outside_io.proofs.Parts.{Appends-then, AppendsPart-then, AppendsPart-longer}
+use Rattle.outside_io.proofs.Parts.{AppendsPart-longer}
 use Rattle.session_model.specs.declared.script.Script.{Script}
 use Rattle.session_model.specs.declared.script.EventLine.{EventLine}
 use Rattle.session_model.specs.declared.walk.Event.{Event}
@@ -32,7 +32,7 @@ use Rattle.walk_core.specs.declared.moved.StepNote.{StepNote}
 use Rattle.trace_core.specs.StepText.{step_text}
 use Rattle.vcat_walk.specs.Ended.{StopsBoth}
 use Rattle.vcat_walk.specs.Texts.{counts_in, decision_text, decisions_text, walk_text}
-use Rattle.vcat_walk.specs.Trace.{TellsAll, TellsPart, IsTold}
+use Rattle.vcat_walk.specs.Trace.{TellsPart, IsTold}
 use Rattle.vcat_walk.proofs.CountLaws.{Moves, step-moves, round-moves, replicate-last}
 
 -- ---- the lines of decision steps
@@ -242,11 +242,6 @@ lines-start plan s (line ∷ lines) = refl
 pub some-lines : (n : ℕ) → false ≡ (n == 0) → 0 < n
 some-lines zero e = absurd cc
 some-lines (suc n) e = omega arith
-
-pub line-at : {X : Type 0} (xs : List X) (k : ℕ) (d : X) → k < length xs → slice_get xs k ≡ Some (get_or xs k d)
-line-at [] k d low = absurd (omega arith)
-line-at (x ∷ xs) zero d low = refl
-line-at (x ∷ xs) (suc k) d low = line-at xs k d (omega arith)
 
 pub on-ok : {T E P : Type 0} (r : Result T E) → P → OnOk r P
 on-ok (Ok x) p = p

@@ -113,7 +113,10 @@ fn drain_sums(walk: &mut Walk) -> SumOut
         ≡ octet_count (delivered_of walk.old.script walk.new.counts.rows) }
     ensures total { result.total ≡ octet_sum (delivered_of walk.old.script walk.new.counts.rows) }
 {
-    let mut sums = SumOut { octets: 0, total: 0 };
+    let mut sums = SumOut {
+        octets: 0,
+        total: 0,
+    };
     walk.drain(&mut sums);
     sums
 }

@@ -84,12 +84,7 @@ fn is_step(before: u32, now: u32) -> bool
 }
 
 /// Writes the line of the decision step that was made since a number of ticks, where one was.
-fn tell_since<E: ByteSink>(
-    walk: &Walk,
-    ticks: u32,
-    lines: u8,
-    notes: &mut E,
-) -> Result<(), Failed>
+fn tell_since<E: ByteSink>(walk: &Walk, ticks: u32, lines: u8, notes: &mut E) -> Result<(), Failed>
     requires few { lines ≤ 128 }
     requires lines { lines ≡ walk.now.script.config.lines }
     requires least { ticks ≤ walk.now.counts.ticks }
@@ -412,12 +407,14 @@ pub fn trace<S: ByteSource, K: ByteSink, E: ByteSink>(
     let Ok(mut walk) = Walk::new(alloc, script) else {
         return stopped(Stop::Memory);
     };
-    let stop = match write_trace(&mut walk, lines.as_slice(), size, out, notes) {
-        Ok(()) => None,
-        Err(Failed) => Some(Stop::Write),
-    };
-    Ended {
-        stop,
-        walk: Some(walk),
+    match write_trace(&mut walk, lines.as_slice(), size, out, notes) {
+        Ok(()) => Ended {
+            stop: None,
+            walk: Some(walk),
+        },
+        Err(Failed) => Ended {
+            stop: Some(Stop::Write),
+            walk: Some(walk),
+        },
     }
 }

@@ -1,5 +1,5 @@
 -- All rows are summed up.
-use Rattle.std.proofs.Common.{ℕ, [], sym, ◌∙◌, ap, subst, arith}
+use Rattle.std.proofs.Common.{[], sym, ◌∙◌, ap, subst, arith}
 use Rattle.session_model.specs.Counts.{Counts}
 use Rattle.walk_law.specs.Delivered.{delivered_of}
 use Rattle.walk_core.specs.Moved.{delivered_since}

@@ -1,10 +1,9 @@
 -- The walk of the load drains, and its lines are written or a write fails.
-use Rattle.std.proofs.Common.{◌≡◌, ℕ, List, Option, Some, None, sym, ◌∙◌, ap, subst}
+use Rattle.std.proofs.Common.{◌≡◌, ℕ, List, Some, None, sym, ◌∙◌, ap, subst}
 use Rattle.outside_io.specs.Transfer.{Appends, AppendsPart}
 use Rattle.session_model.specs.declared.script.Script.{Script}
 use Rattle.session_model.specs.Counts.{begin}
 use Rattle.walk_law.specs.Walk.{walk_plan}
-use Rattle.vcat_walk.specs.declared.stop.Stop.{Stop}
 use Rattle.vcat_walk.specs.declared.stop.Stop.TheVariants.{Write}
 use Rattle.vcat_walk.specs.Stop.{IsLate, done, cut, short}
 use Rattle.vcat_walk.proofs.MakeLaws.{lines-are}

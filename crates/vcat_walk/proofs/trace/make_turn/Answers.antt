@@ -1,5 +1,5 @@
 -- An event or a round, as the walk tells.
-use Rattle.std.proofs.Common.{◌≡◌, sym, ◌∙◌, ap, subst}
+use Rattle.std.proofs.Common.{◌≡◌, sym, ◌∙◌, subst}
 use Rattle.session_model.specs.Counts.{run}
 use Rattle.walk_law.specs.Walk.{walk_plan}
 use Rattle.vcat_walk.specs.Trace.{events_of}

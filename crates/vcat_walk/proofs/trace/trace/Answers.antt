@@ -1,20 +1,17 @@
 -- A script is read, its walk is traced, and its texts are written or a write fails.
-use Rattle.std.proofs.Common.{◌≡◌, ℕ, List, Option, Some, None, sym, ◌∙◌, ap, subst}
-use Rattle.outside_io.specs.Transfer.{Appends}
+use Rattle.std.proofs.Common.{Option, sym, ◌∙◌, ap, subst}
 use Rattle.session_model.specs.declared.script.Script.{Script}
 use Rattle.session_model.specs.Counts.{begin}
 use Rattle.session_model.specs.Valid.{IsValid}
 use Rattle.walk_law.specs.Walk.{walk_plan}
 use Rattle.vcat_walk.specs.declared.stop.Stop.{Stop}
 use Rattle.vcat_walk.specs.declared.stop.Stop.TheVariants.{Usage, NotHex, Write, Memory}
-use Rattle.vcat_walk.specs.Ended.{StopsBoth}
 use Rattle.vcat_walk.specs.Stop.{ReadsScript}
-use Rattle.vcat_walk.specs.Texts.{counts_in, walk_text, trace_text}
+use Rattle.vcat_walk.specs.Texts.{walk_text, trace_text}
 use Rattle.vcat_walk.proofs.StopLaws.{reads-late}
 use Rattle.vcat_walk.proofs.WriteLaws.{writes-walk, hands-back}
-use Rattle.vcat_walk.proofs.EndLaws.{writes-trace, stops-in-trace, not-run, same-stop}
+use Rattle.vcat_walk.proofs.EndLaws.{writes-trace, stops-in-trace, fails-once, not-run, same-stop}
 use Rattle.vcat_walk.proofs.trace.trace.Goals as goal
-use Rattle.vcat_walk.proofs.trace.trace.Goals.{in-Ok-write_trace, in-Err-write_trace}
 
 -- ---- nothing was read, or no script
 pub returns-in-Err-clause-reads : goal.returns-in-Err-clause-reads
@@ -30,6 +27,9 @@ returns-in-Err-clause-hex g c number hex = c.in-Err.ensures.causes.2 number (sam
 
 pub returns-in-Err-clause-part : goal.returns-in-Err-clause-part
 returns-in-Err-clause-part g c stopped = absurd (c.in-Err.ensures.causes.1 (same-stop c.in-Err.stop Write (sym c.stopped.ensures.stop ∙ stopped)))
+
+pub returns-in-Err-clause-write_failed : goal.returns-in-Err-clause-write_failed
+returns-in-Err-clause-write_failed g c stopped = absurd (c.in-Err.ensures.causes.1 (same-stop c.in-Err.stop Write (sym c.stopped.ensures.stop ∙ stopped)))
 
 pub returns-in-Err-clause-handed : goal.returns-in-Err-clause-handed
 returns-in-Err-clause-handed g c run = absurd (not-run c.stopped.result.stop c.in-Err.stop c.stopped.ensures.stop c.in-Err.ensures.causes.1 run)
@@ -58,40 +58,39 @@ write_trace-requires-clause-valid g c = subst IsValid (sym c.in-Ok-new.ensures.s
 pub write_trace-requires-clause-begun : goal.write_trace-requires-clause-begun
 write_trace-requires-clause-begun g c = c.in-Ok-new.ensures.counts ∙ ap (λ (s : Script). begin (walk_plan s)) (sym c.in-Ok-new.ensures.script)
 
+pub returns-in-Ok-write_trace-clause-walked : goal.returns-in-Ok-write_trace-clause-walked
+returns-in-Ok-write_trace-clause-walked g c e =
+    writes-walk g.K.ByteSink.written g.K.ByteSink.faults (g.S.ByteSource.left c.args.script.now) c.in-Ok.script c.in-Ok-new.walk.script c.args.out.now c.write_trace.new.out
+    c.in-Ok-new.ensures.script c.in-Ok.ensures.script c.in-Ok-write_trace.ensures.walked
+
+pub returns-in-Ok-write_trace-clause-traced : goal.returns-in-Ok-write_trace-clause-traced
+returns-in-Ok-write_trace-clause-traced g c e =
+    writes-trace g.E.ByteSink.written g.E.ByteSink.faults (g.S.ByteSource.left c.args.script.now) c.in-Ok.script c.in-Ok-new.walk.script c.args.notes.now c.write_trace.new.notes
+    c.in-Ok-new.ensures.script c.in-Ok.ensures.script c.in-Ok-write_trace.ensures.traced
+
+pub returns-in-Ok-write_trace-clause-handed : goal.returns-in-Ok-write_trace-clause-handed
+returns-in-Ok-write_trace-clause-handed g c e =
+    hands-back (g.S.ByteSource.left c.args.script.now) c.in-Ok.script c.in-Ok-new.walk.script c.write_trace.new.walk c.in-Ok-new.ensures.script c.in-Ok.ensures.script
+    c.write_trace.ensures.script c.write_trace.ensures.counts
+
+pub returns-in-Ok-write_trace-clause-write_quiet : goal.returns-in-Ok-write_trace-clause-write_quiet
+returns-in-Ok-write_trace-clause-write_quiet g c e = (c.in-Ok-write_trace.ensures.walked.quiet, c.in-Ok-write_trace.ensures.traced.quiet)
+
+-- ---- a write has failed
 pub returns-clause-reads : goal.returns-clause-reads
-returns-clause-reads g c =
-    let P : Option Stop → Type 0 = λ stop. ReadsScript g.S.ByteSource.left g.S.ByteSource.faults c.args.script.now c.read_whole_script.new.source stop in
-    elim c.match-write_trace.branch [
-      | in-Ok-write_trace w ↦ subst P (sym w.stop-is) c.in-Ok.ensures.done
-      | in-Err-write_trace w ↦ subst P (sym w.stop-is) (reads-late g.S.ByteSource.left g.S.ByteSource.faults c.args.script.now c.read_whole_script.new.source c.in-Ok.ensures.done).0
-    ]
-
-pub returns-clause-walked : goal.returns-clause-walked
-returns-clause-walked g c none = elim c.match-write_trace.branch [
-  | in-Ok-write_trace w ↦
-      writes-walk g.K.ByteSink.written g.K.ByteSink.faults (g.S.ByteSource.left c.args.script.now) c.in-Ok.script c.args.out.now c.write_trace.new.out c.in-Ok.ensures.script
-      (subst (λ (s : Script). Appends g.K.ByteSink.written g.K.ByteSink.faults c.args.out.now c.write_trace.new.out (walk_text s)) c.in-Ok-new.ensures.script w.in-Ok-write_trace.ensures.walked)
-  | in-Err-write_trace w ↦ absurd (let e : None ≡ Some Write = sym none ∙ w.stop-is in cc)
-]
-
-pub returns-clause-traced : goal.returns-clause-traced
-returns-clause-traced g c none = elim c.match-write_trace.branch [
-  | in-Ok-write_trace w ↦
-      writes-trace g.E.ByteSink.written g.E.ByteSink.faults (g.S.ByteSource.left c.args.script.now) c.in-Ok.script c.args.notes.now c.write_trace.new.notes c.in-Ok.ensures.script
-      (subst (λ (s : Script). Appends g.E.ByteSink.written g.E.ByteSink.faults c.args.notes.now c.write_trace.new.notes (trace_text s)) c.in-Ok-new.ensures.script w.in-Ok-write_trace.ensures.traced)
-  | in-Err-write_trace w ↦ absurd (let e : None ≡ Some Write = sym none ∙ w.stop-is in cc)
-]
+returns-clause-reads g c = (reads-late g.S.ByteSource.left g.S.ByteSource.faults c.args.script.now c.read_whole_script.new.source c.in-Ok.ensures.done).0
 
 pub returns-clause-part : goal.returns-clause-part
-returns-clause-part g c stopped = elim c.match-write_trace.branch [
-  | in-Ok-write_trace w ↦ absurd (let e : Some Write ≡ None = sym stopped ∙ w.stop-is in cc)
-  | in-Err-write_trace w ↦
-      stops-in-trace g.K.ByteSink.written g.K.ByteSink.faults c.args.out.now c.write_trace.new.out g.E.ByteSink.written g.E.ByteSink.faults c.args.notes.now c.write_trace.new.notes (g.S.ByteSource.left c.args.script.now) c.in-Ok.script c.in-Ok.ensures.script
-      (subst (λ (s : Script). StopsBoth g.K.ByteSink.written g.K.ByteSink.faults c.args.out.now c.write_trace.new.out (walk_text s) g.E.ByteSink.written g.E.ByteSink.faults c.args.notes.now c.write_trace.new.notes (trace_text s))
-      c.in-Ok-new.ensures.script w.in-Err-write_trace.ensures.err)
-]
+returns-clause-part g c e =
+    stops-in-trace g.K.ByteSink.written g.K.ByteSink.faults c.args.out.now c.write_trace.new.out g.E.ByteSink.written g.E.ByteSink.faults c.args.notes.now c.write_trace.new.notes (g.S.ByteSource.left c.args.script.now) c.in-Ok.script c.in-Ok-new.walk.script
+    c.in-Ok-new.ensures.script c.in-Ok.ensures.script c.in-Err-write_trace.ensures.err
 
 pub returns-clause-handed : goal.returns-clause-handed
-returns-clause-handed g c run =
-    hands-back (g.S.ByteSource.left c.args.script.now) c.in-Ok.script c.write_trace.new.walk c.in-Ok.ensures.script (c.write_trace.ensures.script ∙ c.in-Ok-new.ensures.script)
-    (c.write_trace.ensures.counts ∙ ap counts_in c.in-Ok-new.ensures.script)
+returns-clause-handed g c e =
+    hands-back (g.S.ByteSource.left c.args.script.now) c.in-Ok.script c.in-Ok-new.walk.script c.write_trace.new.walk c.in-Ok-new.ensures.script c.in-Ok.ensures.script
+    c.write_trace.ensures.script c.write_trace.ensures.counts
+
+pub returns-clause-write_failed : goal.returns-clause-write_failed
+returns-clause-write_failed g c e =
+    let script = c.in-Ok-new.walk.script in
+    fails-once g.K.ByteSink.written g.K.ByteSink.faults c.args.out.now c.write_trace.new.out g.E.ByteSink.written g.E.ByteSink.faults c.args.notes.now c.write_trace.new.notes (walk_text script) (trace_text script) c.in-Err-write_trace.ensures.err

@@ -1,5 +1,5 @@
 -- One event line more.
-use Rattle.std.proofs.Common.{◌≡◌, ℕ, take, length, get_or, refl, sym, ◌∙◌, ap, subst}
+use Rattle.std.proofs.Common.{◌≡◌, take, length, get_or, refl, sym, ◌∙◌, ap, subst}
 use Rattle.std.proofs.lemmas.Bool.{eqb-true}
 use Rattle.std.proofs.lemmas.List.{take_all}
 use Rattle.session_model.specs.declared.script.EventLine.{EventLine}
@@ -9,7 +9,8 @@ use Rattle.session_model.specs.Counts.{Counts, begin, run_line, run_lines, walke
 use Rattle.walk_law.specs.Walk.{walk_plan, IsWalked}
 use Rattle.walk_law.proofs.WalkLaws.{begins-walked}
 use Rattle.vcat_walk.proofs.CountLaws.{lines-last, lines-some, lines-no}
-use Rattle.vcat_walk.proofs.TraceLaws.{lines-start, lines-walked, some-lines, line-at}
+use Rattle.vcat_walk.proofs.RunLaws.{there}
+use Rattle.vcat_walk.proofs.TraceLaws.{lines-start, lines-walked, some-lines}
 use Rattle.vcat_walk.proofs.trace.trace_lines.Goals as goal
 
 pub trace_drain-requires-clause-walked : goal.trace_drain-requires-clause-walked
@@ -49,7 +50,7 @@ loop-line-preserved g c =
     record {
       script = c.trace_line_of-over.ensures.script ∙ inv.script;
       counts = c.trace_line_of-over.ensures.counts ∙ ap (λ (s : Script). run_line (walk_plan s) c.loop-line.walk.counts line) inv.script
-          ∙ ap (λ (s : Counts). run_line plan s line) inv.counts ∙ sym (lines-last plan (begin plan) lines k line (line-at lines k (Client 0) c.loop-line-test.true));
+          ∙ ap (λ (s : Counts). run_line plan s line) inv.counts ∙ sym (lines-last plan (begin plan) lines k line (there lines k (Client 0) c.loop-line-test.true));
       told = λ start first told. c.trace_line_of-over.ensures.told start first (inv.told start first told);
     }
 

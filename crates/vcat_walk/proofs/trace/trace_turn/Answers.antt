@@ -1,5 +1,5 @@
 -- A turn is told, or nothing more is.
-use Rattle.std.proofs.Common.{◌≡◌, ◌≤◌, ◌+◌, sym, ◌∙◌, ap, arith}
+use Rattle.std.proofs.Common.{sym, ◌∙◌, ap, arith}
 use Rattle.session_model.specs.declared.script.Script.{Script}
 use Rattle.report_text.specs.declared.report.Totals.{Totals}
 use Rattle.vcat_walk.proofs.TraceLaws.{told-silent, turn-told}

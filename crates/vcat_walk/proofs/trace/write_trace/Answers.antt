@@ -56,7 +56,8 @@ returns-clause-err g c =
     let last = (c.write_rest.ensures start (got_texts (delivered_of c.trace_lines.new.walk.script c.trace_lines.new.walk.counts.rows)) told.gives).0 in
     let named = c.finish-back.ensures.name ∙ last ∙ c.new-got.ensures.name in
     let trace = appends-all g.E.ByteSink.written g.E.ByteSink.faults c.args.notes.now c.trace_lines.new.notes (trace_text script) (trace-told g.K.ByteSink.written g.K.ByteSink.faults g.E.ByteSink.written g.E.ByteSink.faults c.args.out.now c.args.notes.now script c.new-got.result c.trace_lines.new.out c.trace_lines.new.notes c.trace_lines.new.walk c.trace_lines.ensures.script c.trace_lines.ensures.counts told) in
-    let end = on_err_weaker c.finish-back.result.1 (λ part. inl (part, trace)) (c.finish-back.ensures.err c.args.out.now (walk_text script) has) in
+    let end : OnErr c.finish-back.result.1 (StopsBoth g.K.ByteSink.written g.K.ByteSink.faults c.args.out.now c.finish-back.result.0.now (walk_text script) g.E.ByteSink.written g.E.ByteSink.faults c.args.notes.now c.trace_lines.new.notes (trace_text script)) =
+    on_err_weaker c.finish-back.result.1 (λ part. inl (part, trace)) (c.finish-back.ensures.err c.args.out.now (walk_text script) has) in
     let k : OnErr c.finish-back.result.1 (StopsBoth g.K.ByteSink.written g.K.ByteSink.faults c.args.out.now c.take_back-2.new.out (walk_text script) g.E.ByteSink.written g.E.ByteSink.faults c.args.notes.now c.trace_lines.new.notes (trace_text script)) =
     subst (λ now. OnErr c.finish-back.result.1 (StopsBoth g.K.ByteSink.written g.K.ByteSink.faults c.args.out.now now (walk_text script) g.E.ByteSink.written g.E.ByteSink.faults c.args.notes.now c.trace_lines.new.notes (trace_text script)))
     (sym c.take_back-2.ensures) end in
