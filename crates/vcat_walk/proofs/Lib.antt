@@ -9,3 +9,4 @@ pub mod RunLaws
 pub mod WriteLaws
 pub mod StopLaws
 pub mod WordLaws
+pub mod StatusLaws

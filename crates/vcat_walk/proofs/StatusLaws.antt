@@ -1,0 +1,165 @@
+-- Which cause a status tells.
+use Rattle.std.proofs.Common.{◌≡◌, ◌≢◌, ◌⊎◌, ℕ, Option, Some, None, refl, inl, inr, arith}
+use Rattle.script_read.specs.declared.fault.LineKind.{LineKind}
+use Rattle.script_read.specs.declared.fault.ScriptFault.{ScriptFault}
+use Rattle.script_read.specs.declared.fault.ScriptFault.TheVariants.{Line, Slip, Spread, Lag}
+use Rattle.script_read.specs.declared.fault.ScriptFault.TheVariants as fault
+use Rattle.vcat_walk.specs.declared.stop.Stop.{Stop}
+use Rattle.vcat_walk.specs.declared.stop.Stop.TheVariants.{Usage, Read, TooLong, Fault, NotHex, Write, Memory}
+use Rattle.vcat_walk.specs.Ended.{HasRead, HasRunAt, IsLimit}
+use Rattle.vcat_walk.specs.Stop.{HasReadAll, HasRun, status_at}
+
+pub is-done : (stop : Option Stop) → status_at stop ≡ 0 → stop ≡ None
+is-done None e = refl
+is-done (Some Usage) e = absurd (omega (arith, e))
+is-done (Some Read) e = absurd (omega (arith, e))
+is-done (Some Write) e = absurd (omega (arith, e))
+is-done (Some (NotHex n)) e = absurd (omega (arith, e))
+is-done (Some (Fault (Line n k))) e = absurd (omega (arith, e))
+is-done (Some (Fault (Slip l w))) e = absurd (omega (arith, e))
+is-done (Some (Fault (Spread a b c d))) e = absurd (omega (arith, e))
+is-done (Some (Fault (Lag a b))) e = absurd (omega (arith, e))
+is-done (Some (Fault fault.Memory)) e = absurd (omega (arith, e))
+is-done (Some Memory) e = absurd (omega (arith, e))
+is-done (Some TooLong) e = absurd (omega (arith, e))
+
+pub is-usage : (stop : Option Stop) → status_at stop ≡ 2 → stop ≡ Some Usage
+is-usage None e = absurd (omega (arith, e))
+is-usage (Some Usage) e = refl
+is-usage (Some Read) e = absurd (omega (arith, e))
+is-usage (Some Write) e = absurd (omega (arith, e))
+is-usage (Some (NotHex n)) e = absurd (omega (arith, e))
+is-usage (Some (Fault (Line n k))) e = absurd (omega (arith, e))
+is-usage (Some (Fault (Slip l w))) e = absurd (omega (arith, e))
+is-usage (Some (Fault (Spread a b c d))) e = absurd (omega (arith, e))
+is-usage (Some (Fault (Lag a b))) e = absurd (omega (arith, e))
+is-usage (Some (Fault fault.Memory)) e = absurd (omega (arith, e))
+is-usage (Some Memory) e = absurd (omega (arith, e))
+is-usage (Some TooLong) e = absurd (omega (arith, e))
+
+pub is-read : (stop : Option Stop) → status_at stop ≡ 3 → stop ≡ Some Read
+is-read None e = absurd (omega (arith, e))
+is-read (Some Usage) e = absurd (omega (arith, e))
+is-read (Some Read) e = refl
+is-read (Some Write) e = absurd (omega (arith, e))
+is-read (Some (NotHex n)) e = absurd (omega (arith, e))
+is-read (Some (Fault (Line n k))) e = absurd (omega (arith, e))
+is-read (Some (Fault (Slip l w))) e = absurd (omega (arith, e))
+is-read (Some (Fault (Spread a b c d))) e = absurd (omega (arith, e))
+is-read (Some (Fault (Lag a b))) e = absurd (omega (arith, e))
+is-read (Some (Fault fault.Memory)) e = absurd (omega (arith, e))
+is-read (Some Memory) e = absurd (omega (arith, e))
+is-read (Some TooLong) e = absurd (omega (arith, e))
+
+pub is-write : (stop : Option Stop) → status_at stop ≡ 4 → stop ≡ Some Write
+is-write None e = absurd (omega (arith, e))
+is-write (Some Usage) e = absurd (omega (arith, e))
+is-write (Some Read) e = absurd (omega (arith, e))
+is-write (Some Write) e = refl
+is-write (Some (NotHex n)) e = absurd (omega (arith, e))
+is-write (Some (Fault (Line n k))) e = absurd (omega (arith, e))
+is-write (Some (Fault (Slip l w))) e = absurd (omega (arith, e))
+is-write (Some (Fault (Spread a b c d))) e = absurd (omega (arith, e))
+is-write (Some (Fault (Lag a b))) e = absurd (omega (arith, e))
+is-write (Some (Fault fault.Memory)) e = absurd (omega (arith, e))
+is-write (Some Memory) e = absurd (omega (arith, e))
+is-write (Some TooLong) e = absurd (omega (arith, e))
+
+pub is-line : (stop : Option Stop) → status_at stop ≡ 5 → ((number : ℕ) × (kind : LineKind) × (stop ≡ Some (Fault (Line number kind)))) ⊎ ((number : ℕ) × (stop ≡ Some (NotHex number)))
+is-line None e = absurd (omega (arith, e))
+is-line (Some Usage) e = absurd (omega (arith, e))
+is-line (Some Read) e = absurd (omega (arith, e))
+is-line (Some Write) e = absurd (omega (arith, e))
+is-line (Some (NotHex n)) e = inr (n, refl)
+is-line (Some (Fault (Line n k))) e = inl (n, k, refl)
+is-line (Some (Fault (Slip l w))) e = absurd (omega (arith, e))
+is-line (Some (Fault (Spread a b c d))) e = absurd (omega (arith, e))
+is-line (Some (Fault (Lag a b))) e = absurd (omega (arith, e))
+is-line (Some (Fault fault.Memory)) e = absurd (omega (arith, e))
+is-line (Some Memory) e = absurd (omega (arith, e))
+is-line (Some TooLong) e = absurd (omega (arith, e))
+
+pub is-limit : (stop : Option Stop) → status_at stop ≡ 6 → (fault : ScriptFault) × IsLimit fault × (stop ≡ Some (Fault fault))
+is-limit None e = absurd (omega (arith, e))
+is-limit (Some Usage) e = absurd (omega (arith, e))
+is-limit (Some Read) e = absurd (omega (arith, e))
+is-limit (Some Write) e = absurd (omega (arith, e))
+is-limit (Some (NotHex n)) e = absurd (omega (arith, e))
+is-limit (Some (Fault (Line n k))) e = absurd (omega (arith, e))
+is-limit (Some (Fault (Slip l w))) e = ((Slip l w), tt, refl)
+is-limit (Some (Fault (Spread a b c d))) e = ((Spread a b c d), tt, refl)
+is-limit (Some (Fault (Lag a b))) e = ((Lag a b), tt, refl)
+is-limit (Some (Fault fault.Memory)) e = absurd (omega (arith, e))
+is-limit (Some Memory) e = absurd (omega (arith, e))
+is-limit (Some TooLong) e = absurd (omega (arith, e))
+
+pub is-memory : (stop : Option Stop) → status_at stop ≡ 7 → (stop ≡ Some Memory) ⊎ (stop ≡ Some (Fault fault.Memory))
+is-memory None e = absurd (omega (arith, e))
+is-memory (Some Usage) e = absurd (omega (arith, e))
+is-memory (Some Read) e = absurd (omega (arith, e))
+is-memory (Some Write) e = absurd (omega (arith, e))
+is-memory (Some (NotHex n)) e = absurd (omega (arith, e))
+is-memory (Some (Fault (Line n k))) e = absurd (omega (arith, e))
+is-memory (Some (Fault (Slip l w))) e = absurd (omega (arith, e))
+is-memory (Some (Fault (Spread a b c d))) e = absurd (omega (arith, e))
+is-memory (Some (Fault (Lag a b))) e = absurd (omega (arith, e))
+is-memory (Some (Fault fault.Memory)) e = inr refl
+is-memory (Some Memory) e = inl refl
+is-memory (Some TooLong) e = absurd (omega (arith, e))
+
+pub is-long : (stop : Option Stop) → status_at stop ≡ 8 → stop ≡ Some TooLong
+is-long None e = absurd (omega (arith, e))
+is-long (Some Usage) e = absurd (omega (arith, e))
+is-long (Some Read) e = absurd (omega (arith, e))
+is-long (Some Write) e = absurd (omega (arith, e))
+is-long (Some (NotHex n)) e = absurd (omega (arith, e))
+is-long (Some (Fault (Line n k))) e = absurd (omega (arith, e))
+is-long (Some (Fault (Slip l w))) e = absurd (omega (arith, e))
+is-long (Some (Fault (Spread a b c d))) e = absurd (omega (arith, e))
+is-long (Some (Fault (Lag a b))) e = absurd (omega (arith, e))
+is-long (Some (Fault fault.Memory)) e = absurd (omega (arith, e))
+is-long (Some Memory) e = absurd (omega (arith, e))
+is-long (Some TooLong) e = refl
+
+pub has-run : (stop : Option Stop) → HasRunAt (status_at stop) → HasRun stop
+has-run None e = tt
+has-run (Some Usage) e = elim e [ inl a ↦ absurd (omega (arith, a)) | inr a ↦ absurd (omega (arith, a)) ]
+has-run (Some Read) e = elim e [ inl a ↦ absurd (omega (arith, a)) | inr a ↦ absurd (omega (arith, a)) ]
+has-run (Some Write) e = tt
+has-run (Some (NotHex n)) e = elim e [ inl a ↦ absurd (omega (arith, a)) | inr a ↦ absurd (omega (arith, a)) ]
+has-run (Some (Fault (Line n k))) e = elim e [ inl a ↦ absurd (omega (arith, a)) | inr a ↦ absurd (omega (arith, a)) ]
+has-run (Some (Fault (Slip l w))) e = elim e [ inl a ↦ absurd (omega (arith, a)) | inr a ↦ absurd (omega (arith, a)) ]
+has-run (Some (Fault (Spread a b c d))) e = elim e [ inl a ↦ absurd (omega (arith, a)) | inr a ↦ absurd (omega (arith, a)) ]
+has-run (Some (Fault (Lag a b))) e = elim e [ inl a ↦ absurd (omega (arith, a)) | inr a ↦ absurd (omega (arith, a)) ]
+has-run (Some (Fault fault.Memory)) e = elim e [ inl a ↦ absurd (omega (arith, a)) | inr a ↦ absurd (omega (arith, a)) ]
+has-run (Some Memory) e = elim e [ inl a ↦ absurd (omega (arith, a)) | inr a ↦ absurd (omega (arith, a)) ]
+has-run (Some TooLong) e = elim e [ inl a ↦ absurd (omega (arith, a)) | inr a ↦ absurd (omega (arith, a)) ]
+
+pub has-read : (stop : Option Stop) → HasRead (status_at stop) → HasReadAll stop
+has-read None e = tt
+has-read (Some Usage) e = elim e [ inl a ↦ absurd (omega (arith, a)) | inr x ↦ elim x [ inl a ↦ absurd (omega (arith, a)) | inr y ↦ elim y [ inl a ↦ absurd (omega (arith, a)) | inr a ↦ absurd (omega (arith, a)) ] ] ]
+has-read (Some Read) e = elim e [ inl a ↦ absurd (omega (arith, a)) | inr x ↦ elim x [ inl a ↦ absurd (omega (arith, a)) | inr y ↦ elim y [ inl a ↦ absurd (omega (arith, a)) | inr a ↦ absurd (omega (arith, a)) ] ] ]
+has-read (Some Write) e = tt
+has-read (Some (NotHex n)) e = tt
+has-read (Some (Fault (Line n k))) e = tt
+has-read (Some (Fault (Slip l w))) e = tt
+has-read (Some (Fault (Spread a b c d))) e = tt
+has-read (Some (Fault (Lag a b))) e = tt
+has-read (Some (Fault fault.Memory)) e = tt
+has-read (Some Memory) e = elim e [ inl a ↦ absurd (omega (arith, a)) | inr x ↦ elim x [ inl a ↦ absurd (omega (arith, a)) | inr y ↦ elim y [ inl a ↦ absurd (omega (arith, a)) | inr a ↦ absurd (omega (arith, a)) ] ] ]
+has-read (Some TooLong) e = elim e [ inl a ↦ absurd (omega (arith, a)) | inr x ↦ elim x [ inl a ↦ absurd (omega (arith, a)) | inr y ↦ elim y [ inl a ↦ absurd (omega (arith, a)) | inr a ↦ absurd (omega (arith, a)) ] ] ]
+
+pub not-run : (stop : Option Stop) → status_at stop ≢ 0 → status_at stop ≢ 4 → ¬ HasRun stop
+not-run None a b = λ h. a refl
+not-run (Some Usage) a b = λ h. h
+not-run (Some Read) a b = λ h. h
+not-run (Some Write) a b = λ h. b refl
+not-run (Some (NotHex n)) a b = λ h. h
+not-run (Some (Fault (Line n k))) a b = λ h. h
+not-run (Some (Fault (Slip l w))) a b = λ h. h
+not-run (Some (Fault (Spread a b c d))) a b = λ h. h
+not-run (Some (Fault (Lag a b))) a b = λ h. h
+not-run (Some (Fault fault.Memory)) a b = λ h. h
+not-run (Some Memory) a b = λ h. h
+not-run (Some TooLong) a b = λ h. h
+
