@@ -8,5 +8,5 @@ pub mod CountLaws
 pub mod RunLaws
 pub mod WriteLaws
 pub mod StopLaws
-pub mod WordLaws
 pub mod StatusLaws
+pub mod TopLaws

@@ -150,16 +150,16 @@ has-read (Some Memory) e = elim e [ inl a ↦ absurd (omega (arith, a)) | inr x 
 has-read (Some TooLong) e = elim e [ inl a ↦ absurd (omega (arith, a)) | inr x ↦ elim x [ inl a ↦ absurd (omega (arith, a)) | inr y ↦ elim y [ inl a ↦ absurd (omega (arith, a)) | inr a ↦ absurd (omega (arith, a)) ] ] ]
 
 pub not-run : (stop : Option Stop) → status_at stop ≢ 0 → status_at stop ≢ 4 → ¬ HasRun stop
-not-run None a b = λ h. a refl
-not-run (Some Usage) a b = λ h. h
-not-run (Some Read) a b = λ h. h
-not-run (Some Write) a b = λ h. b refl
-not-run (Some (NotHex n)) a b = λ h. h
-not-run (Some (Fault (Line n k))) a b = λ h. h
-not-run (Some (Fault (Slip l w))) a b = λ h. h
-not-run (Some (Fault (Spread a b c d))) a b = λ h. h
-not-run (Some (Fault (Lag a b))) a b = λ h. h
-not-run (Some (Fault fault.Memory)) a b = λ h. h
-not-run (Some Memory) a b = λ h. h
-not-run (Some TooLong) a b = λ h. h
+not-run None x y = λ h. x refl
+not-run (Some Usage) x y = λ h. h
+not-run (Some Read) x y = λ h. h
+not-run (Some Write) x y = λ h. y refl
+not-run (Some (NotHex n)) x y = λ h. h
+not-run (Some (Fault (Line n k))) x y = λ h. h
+not-run (Some (Fault (Slip l w))) x y = λ h. h
+not-run (Some (Fault (Spread a b c d))) x y = λ h. h
+not-run (Some (Fault (Lag a b))) x y = λ h. h
+not-run (Some (Fault fault.Memory)) x y = λ h. h
+not-run (Some Memory) x y = λ h. h
+not-run (Some TooLong) x y = λ h. h
 
