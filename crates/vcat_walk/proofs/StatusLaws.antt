@@ -162,4 +162,3 @@ not-run (Some (Fault (Lag a b))) x y = λ h. h
 not-run (Some (Fault fault.Memory)) x y = λ h. h
 not-run (Some Memory) x y = λ h. h
 not-run (Some TooLong) x y = λ h. h
-

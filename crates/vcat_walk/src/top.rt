@@ -1,5 +1,5 @@
 //! The program as a call: words, an input and two outputs in, a status and a walk out.
-ghost use Rattle.std.specs.Prelude.{◌≡◌, ◌≢◌, ◌⊎◌, ℕ, ◌<◌, ◌≤◌, ◌↔◌, length, IsTrue, IfSome, Some, None, Ok, Err, codes};
+ghost use Rattle.std.specs.Prelude.{◌≡◌, ◌≢◌, ◌⊎◌, ℕ, ◌<◌, ◌≤◌, ◌↔◌, length, IsTrue, IfSome, IsSome, IfOk, OnErr, Some, None, Ok, Err, codes};
 ghost use Rattle.std.specs.Io.KnownBytes.{IsAtEnd};
 ghost use Rattle.outside_io.specs.Faults.{one_more};
 ghost use Rattle.outside_io.specs.Transfer.{Appends, AppendsPart, Tells};
@@ -25,7 +25,7 @@ use crate::walk::{stopped, walk};
 use cmd_words::{Command, Program, WordFault, read_words};
 use outside_io::{ByteSink, ByteSource};
 use script_read::ScriptFault;
-use std::alloc::Global;
+use std::alloc::{AllocError, Global};
 use walk_core::Walk;
 
 /// How a call of the program ended.
@@ -136,7 +136,10 @@ pub fn walk_top<S: ByteSource, K: ByteSink, E: ByteSink>(
     ensures told_long { result.status ≡ 8 →
         Tells E.written E.faults notes.old notes.new (codes "fault: too long\n") }
 {
-    match read_command(words) {
+    let Ok(command) = read_command(alloc, words) else {
+        return end_without_memory(notes);
+    };
+    match command {
         Some(Command::Walk { trace: false }) => finish(walk(alloc, script, out), notes),
         Some(Command::Walk { trace: true }) => {
             let ended = trace(alloc, script, out, notes);
@@ -158,14 +161,25 @@ pub fn walk_top<S: ByteSource, K: ByteSink, E: ByteSink>(
     }
 }
 
-/// The command that the words are, where they are one.
-fn read_command(words: &[String]) -> Option<Command>
-    ensures { result ≡ command_in words.now }
+/// The command that the words are, where they are one. Memory may be short only where they are.
+fn read_command(alloc: Global, words: &[String]) -> Result<Option<Command>, AllocError>
+    ensures command { IfOk result (λ command. command ≡ command_in words.now) }
+    ensures memory { OnErr result (IsSome (command_in words.now)) }
 {
-    match read_words(words, Program::Walk) {
-        Ok(command) => Some(command),
-        Err(WordFault::Usage) => None,
+    match read_words(alloc, words, Program::Walk) {
+        Ok(command) => Ok(Some(command)),
+        Err(WordFault::Usage) => Ok(None),
+        Err(WordFault::Memory) => Err(AllocError),
     }
+}
+
+/// Says on `notes` that memory is short.
+fn end_without_memory<E: ByteSink>(notes: &mut E) -> WalkEnd
+    ensures status { result.status ≡ 7 }
+    ensures walk { result.walk ≡ None }
+    ensures told { Tells E.written E.faults notes.old notes.new (codes "fault: no memory\n") }
+{
+    finish(stopped(Stop::Memory), notes)
 }
 
 /// Says on `notes` why a command stopped, where it did, and gives the status.
