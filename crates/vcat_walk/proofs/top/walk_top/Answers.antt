@@ -93,7 +93,8 @@ returns-in-Some-Decode-clause-told_hex g c runs at =
 
 pub returns-in-Some-Make-clause-usage : goal.returns-in-Some-Make-clause-usage
 returns-in-Some-Make-clause-usage g c =
-    let one : command_in c.args.words.now ≡ Some (Make c.in-Some-Make.number c.in-Some-Make.lines c.in-Some-Make.ticks) = cc in
+    let made : c.in-Some-Make.field-0 ≡ Make c.in-Some-Make.number c.in-Some-Make.lines c.in-Some-Make.ticks = cc in
+    let one : command_in c.args.words.now ≡ Some (Make c.in-Some-Make.number c.in-Some-Make.lines c.in-Some-Make.ticks) = sym c.in-Ok.ensures.command ∙ c.in-Some-Make.is ∙ ap Some made in
     (λ at. absurd (late-no c.make.result.stop c.finish-in-Some-Make.result.status 2 c.make.ensures.stops c.finish-in-Some-Make.ensures.status at (omega arith) (inl (omega arith))), λ none. absurd (let e : Some (Make c.in-Some-Make.number c.in-Some-Make.lines c.in-Some-Make.ticks) ≡ None = sym one ∙ none in cc))
 
 pub returns-in-Some-Make-clause-long : goal.returns-in-Some-Make-clause-long
@@ -131,19 +132,22 @@ returns-in-Some-Make-clause-write_failed g c at =
 
 pub returns-in-Some-Make-clause-made : goal.returns-in-Some-Make-clause-made
 returns-in-Some-Make-clause-made g c number lines ticks is at =
-    let one : command_in c.args.words.now ≡ Some (Make c.in-Some-Make.number c.in-Some-Make.lines c.in-Some-Make.ticks) = cc in
+    let made : c.in-Some-Make.field-0 ≡ Make c.in-Some-Make.number c.in-Some-Make.lines c.in-Some-Make.ticks = cc in
+    let one : command_in c.args.words.now ≡ Some (Make c.in-Some-Make.number c.in-Some-Make.lines c.in-Some-Make.ticks) = sym c.in-Ok.ensures.command ∙ c.in-Some-Make.is ∙ ap Some made in
     same-load (λ n l t. Appends g.K.ByteSink.written g.K.ByteSink.faults c.args.out.now c.make.new.out (make_text n l t)) (command_in c.args.words.now)
     c.in-Some-Make.number c.in-Some-Make.lines c.in-Some-Make.ticks number lines ticks one is (c.make.ensures.made (is-done c.make.result.stop (sym c.finish-in-Some-Make.ensures.status ∙ at)))
 
 pub returns-in-Some-Make-clause-made_part : goal.returns-in-Some-Make-clause-made_part
 returns-in-Some-Make-clause-made_part g c number lines ticks is at =
-    let one : command_in c.args.words.now ≡ Some (Make c.in-Some-Make.number c.in-Some-Make.lines c.in-Some-Make.ticks) = cc in
+    let made : c.in-Some-Make.field-0 ≡ Make c.in-Some-Make.number c.in-Some-Make.lines c.in-Some-Make.ticks = cc in
+    let one : command_in c.args.words.now ≡ Some (Make c.in-Some-Make.number c.in-Some-Make.lines c.in-Some-Make.ticks) = sym c.in-Ok.ensures.command ∙ c.in-Some-Make.is ∙ ap Some made in
     same-load (λ n l t. AppendsPart g.K.ByteSink.written g.K.ByteSink.faults c.args.out.now c.make.new.out (make_text n l t)) (command_in c.args.words.now)
     c.in-Some-Make.number c.in-Some-Make.lines c.in-Some-Make.ticks number lines ticks one is (c.make.ensures.part (is-write c.make.result.stop (sym c.finish-in-Some-Make.ensures.status ∙ at)))
 
 pub returns-in-Some-Make-clause-handed_made : goal.returns-in-Some-Make-clause-handed_made
 returns-in-Some-Make-clause-handed_made g c number lines ticks is at =
-    let one : command_in c.args.words.now ≡ Some (Make c.in-Some-Make.number c.in-Some-Make.lines c.in-Some-Make.ticks) = cc in
+    let made : c.in-Some-Make.field-0 ≡ Make c.in-Some-Make.number c.in-Some-Make.lines c.in-Some-Make.ticks = cc in
+    let one : command_in c.args.words.now ≡ Some (Make c.in-Some-Make.number c.in-Some-Make.lines c.in-Some-Make.ticks) = sym c.in-Ok.ensures.command ∙ c.in-Some-Make.is ∙ ap Some made in
     same-load (λ n l t. IsWalkOf (load n l t) c.finish-in-Some-Make.result.walk) (command_in c.args.words.now) c.in-Some-Make.number c.in-Some-Make.lines c.in-Some-Make.ticks number lines ticks one is
     (let P : Option Walked → Type 0 = λ walk. IsWalkOf (load c.in-Some-Make.number c.in-Some-Make.lines c.in-Some-Make.ticks) walk in
     subst P (sym c.finish-in-Some-Make.ensures.walk) (c.make.ensures.handed (run-by c.make.result.stop c.finish-in-Some-Make.result.status c.finish-in-Some-Make.ensures.status at)))
