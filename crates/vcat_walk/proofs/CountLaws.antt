@@ -1,5 +1,5 @@
 -- How far an event, a round and the event lines of a script move the counts of a walk.
-use Rattle.std.proofs.Common.{◌≡◌, ℕ, zero, suc, ◌+◌, ◌-◌, ◌<◌, ◌≤◌, ◌&&◌, ◌⊎◌, nat_le, nat_lt, inl, inr, List, [], ◌∷◌, ◌++◌, length, replicate, take, slice_get, Option, Some, None, refl, sym, ◌∙◌, ap, arith, subst}
+use Rattle.std.proofs.Common.{◌≡◌, ℕ, zero, suc, ◌+◌, ◌<◌, ◌≤◌, ◌&&◌, nat_le, nat_lt, inl, inr, List, [], ◌∷◌, ◌++◌, length, replicate, take, slice_get, Option, Some, None, refl, ◌∙◌, ap, arith}
 use Rattle.std.specs.List.{flat_map}
 use Rattle.std.proofs.lemmas.Bool.{cases_Bool}
 use Rattle.std.proofs.lemmas.Grind.{flat_map-append}
@@ -9,7 +9,7 @@ use Rattle.session_model.specs.declared.script.EventLine.TheVariants.{Client, Op
 use Rattle.session_model.specs.declared.script.EventLine.TheVariants as line
 use Rattle.session_model.specs.declared.walk.Event.{Event}
 use Rattle.session_model.specs.declared.walk.Event.TheVariants.{Accept, Command, Tick, Carry, Back, Take}
-use Rattle.session_model.specs.Counts.{LinePath, LineCounts, Plan, Counts, in_send, in_receive, in_return, held, full, is_missing, tick_full, tick_held, tick, carry_at, back, pop_lines, take_popped, take_row, is_back_full, land_due, frame_dues, command_dues, step, run, carries_from, round, begin, sum_delays, bound, drain, run_line, run_lines, walked}
+use Rattle.session_model.specs.Counts.{LinePath, LineCounts, Plan, Counts, in_send, in_receive, in_return, held, full, is_missing, tick_full, tick_held, tick, carry_at, back, pop_lines, take_popped, take_row, is_back_full, land_due, frame_dues, command_dues, step, run, carries_from, round, begin, bound, drain, run_line, run_lines, walked}
 use Rattle.progress_law.proofs.ReachLaws.{run-append}
 
 -- the same rows and ticks

@@ -1,23 +1,21 @@
 -- What events make of a walk, one after the other.
-use Rattle.std.proofs.Common.{◌≡◌, ℕ, zero, suc, ◌+◌, ◌<◌, ◌≤◌, List, [], ◌∷◌, ◌++◌, length, replicate, take, slice_get, get_or, Option, Some, refl, sym, ◌∙◌, ap, arith, subst, append_assoc, append-nil}
+use Rattle.std.proofs.Common.{◌≡◌, ℕ, zero, suc, ◌+◌, ◌<◌, ◌≤◌, List, [], ◌∷◌, ◌++◌, length, replicate, take, slice_get, get_or, Some, refl, sym, ◌∙◌, ap, arith, subst, append_assoc, append-nil}
 use Rattle.session_model.specs.declared.script.Script.{Script}
 use Rattle.session_model.specs.declared.walk.Event.{Event}
-use Rattle.session_model.specs.declared.walk.Event.TheVariants.{Carry}
 use Rattle.session_model.specs.declared.script.EventLine.{EventLine}
 use Rattle.session_model.specs.declared.script.EventLine.TheVariants.{Round}
-use Rattle.session_model.specs.Counts.{Plan, Counts, sum_delays, begin, step, run, round, drain, bound, run_line, run_lines, walked}
+use Rattle.session_model.specs.Counts.{Plan, Counts, begin, step, run, round, drain, bound, run_line, run_lines, walked}
 use Rattle.progress_law.proofs.ReachLaws.{run-none}
 use Rattle.std.proofs.lemmas.List.{take_all}
 use Rattle.session_model.specs.Valid.{IsValid}
 use Rattle.sink_core.specs.Start.{Start}
 use Rattle.walk_law.specs.Walk.{walk_plan}
-use Rattle.walk_law.specs.Delivered.{delivered_of}
 use Rattle.walk_law.proofs.PlanLaws.{has-paths, valid-walks}
 use Rattle.walk_core.specs.Moved.{Walked, GivesRows, delivered_since}
 use Rattle.walk_core.proofs.RoundLaws.{since-then, since-none}
 use Rattle.vcat_walk.specs.Run.{RunsTo}
 use Rattle.vcat_walk.specs.Texts.{counts_in}
-use Rattle.vcat_walk.proofs.CountLaws.{Rises, rises-then, step-moves, run-rises, line-rises, lines-rises, run-last, rounds-last, lines-none, lines-last, lines-some, lines-no}
+use Rattle.vcat_walk.proofs.CountLaws.{Rises, step-moves, run-rises, line-rises, lines-rises, run-last, rounds-last, lines-none, lines-last, lines-some, lines-no}
 
 -- a line that a script has is one of its plan's
 pub line-there : (script : Script) (m : ℕ) → IsValid script → m < script.config.lines → m < length (walk_plan script).paths

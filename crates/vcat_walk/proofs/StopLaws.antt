@@ -1,7 +1,7 @@
 -- What reading says of an input, once more than reading has come.
-use Rattle.std.proofs.Common.{◌≡◌, ℕ, List, Option, Some, None}
-use Rattle.vcat_walk.specs.declared.stop.Stop.TheVariants.{Read, TooLong, Fault, Write, Memory}
-use Rattle.vcat_walk.specs.Stop.{IsLate, done, cut, short, ReadsInput, ReadsScript}
+use Rattle.std.proofs.Common.{ℕ, List, Option, Some, None}
+use Rattle.vcat_walk.specs.declared.stop.Stop.TheVariants.{Write, Memory}
+use Rattle.vcat_walk.specs.Stop.{ReadsScript}
 
 pub reads-late : {S : Type 0} (left : S → Option (List ℕ)) (faults : S → ℕ) (old new : S) → ReadsScript left faults old new None
     → (ReadsScript left faults old new (Some Write)) × (ReadsScript left faults old new (Some Memory))

@@ -1,8 +1,7 @@
 -- What the status of a command says of it.
-use Rattle.std.proofs.Common.{◌≡◌, ◌≢◌, ◌⊎◌, ℕ, ◌<◌, ◌≤◌, List, [], ◌∷◌, ◌++◌, length, map, Option, Some, None, IfSome, Ok, Err, refl, sym, ◌∙◌, ap, subst, inl, inr, arith}
-use Rattle.std.specs.Io.KnownBytes.{IsAtEnd}
+use Rattle.std.proofs.Common.{◌≡◌, ◌≢◌, ◌⊎◌, ℕ, ◌<◌, List, [], ◌∷◌, ◌++◌, length, map, Option, Some, None, IfSome, Ok, Err, refl, sym, ◌∙◌, ap, subst, inl, inr, arith}
 use Rattle.outside_io.specs.Faults.{one_more}
-use Rattle.outside_io.specs.Transfer.{Appends, AppendsPart, Tells}
+use Rattle.outside_io.specs.Transfer.{Tells}
 use Rattle.script_read.specs.declared.fault.LineKind.{LineKind}
 use Rattle.script_read.specs.declared.fault.ScriptFault.{ScriptFault}
 use Rattle.script_read.specs.declared.fault.ScriptFault.TheVariants.{Line}
@@ -13,7 +12,7 @@ use Rattle.vcat_walk.specs.declared.stop.Stop.{Stop}
 use Rattle.vcat_walk.specs.declared.stop.Stop.TheVariants.{Usage, Read, TooLong, Fault, NotHex, Write, Memory}
 use Rattle.vcat_walk.specs.HexLines.{IsFirstFault, IsHexText, line_octets}
 use Rattle.vcat_walk.specs.Ended.{most_octets, HasRead, HasRunAt, Rises, IsLimit, IsGoodScript, IsGoodHex}
-use Rattle.vcat_walk.specs.Stop.{HasReadAll, HasRun, status_at, note_of, IsLate, done, cut, short, ReadsInput, ReadsScript}
+use Rattle.vcat_walk.specs.Stop.{HasReadAll, HasRun, status_at, IsLate, done, cut, short}
 use Rattle.vcat_walk.proofs.StatusLaws.{is-line, is-limit, has-run, has-read}
 
 pub rises-by : (old new : ℕ) → new ≡ one_more old → Rises old new

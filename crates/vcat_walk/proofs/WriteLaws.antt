@@ -1,5 +1,5 @@
 -- What a walk that was begun anew writes.
-use Rattle.std.proofs.Common.{◌≡◌, ℕ, List, [], ◌∷◌, ◌++◌, length, drop, Option, Some, None, IfSome, Ok, refl, sym, ◌∙◌, ap, subst}
+use Rattle.std.proofs.Common.{◌≡◌, ℕ, List, [], ◌∷◌, ◌++◌, length, drop, Option, Some, None, IfSome, Ok, refl, ◌∙◌, ap, subst}
 use Rattle.outside_io.specs.Transfer.{Appends, AppendsPart}
 use Rattle.session_model.specs.declared.script.Script.{Script}
 use Rattle.session_model.specs.SessionStream.{rows_of}
@@ -18,7 +18,7 @@ use Rattle.script_read.specs.Script.{script_of}
 use Rattle.got_out.specs.declared.got.GotOut.{GotOut}
 use Rattle.got_out.specs.Told.{HasText}
 use Rattle.vcat_walk.specs.Texts.{counts_in, walk_text}
-use Rattle.vcat_walk.specs.Ended.{IsWalkOf, HandsBack, WritesWalk, WritesWalkPart}
+use Rattle.vcat_walk.specs.Ended.{HandsBack, WritesWalk, WritesWalkPart}
 
 none-delivered : (script : Script) → delivered_of script 0 ≡ []
 unfolding rows_of segments_on delineate_within hunt_within

@@ -1,11 +1,10 @@
 -- How the program ends: its statuses, what it writes at each, and the walk that it hands back. `written` and `faults` are what a sink
 -- tells of its octets, where it tells them, and its count of faults.
-use Rattle.std.specs.Prelude.{◌≡◌, ◌⊎◌, ℕ, ◌≤◌, length, ◌==◌, ◌||◌, Bool, List, Option, Some, None, Ok, Err}
+use Rattle.std.specs.Prelude.{◌≡◌, ◌⊎◌, ℕ, ◌≤◌, length, ◌==◌, ◌||◌, Bool, List, Option, Some, Ok}
 use Rattle.outside_io.specs.Faults.{one_more}
 use Rattle.outside_io.specs.Transfer.{Appends, AppendsPart}
 use Rattle.session_model.specs.declared.script.Script.{Script}
 use Rattle.session_model.specs.DecodeText.{decoded_text}
-use Rattle.script_read.specs.declared.fault.LineKind.{LineKind}
 use Rattle.script_read.specs.declared.fault.ScriptFault.{ScriptFault}
 use Rattle.script_read.specs.declared.fault.ScriptFault.TheVariants.{Line, Slip, Spread, Lag, Memory}
 use Rattle.script_read.specs.Script.{script_of}

@@ -2,7 +2,7 @@
 use Rattle.std.specs.Prelude.{ℕ, ◌+◌, ◌*◌, List, ◌++◌, codes, decimal}
 use Rattle.std.specs.List.{flat_map, range_with_len}
 use Rattle.session_model.specs.declared.script.Script.{Script}
-use Rattle.session_model.specs.Scenario.{scenario_of, steps_in}
+use Rattle.session_model.specs.Scenario.{steps_in}
 use Rattle.session_model.specs.Counts.{Counts, walked}
 use Rattle.walk_law.specs.Walk.{walk_plan}
 use Rattle.walk_law.specs.Report.{report_of}

@@ -26,10 +26,12 @@ fn take_h4<K: ByteSink>(
 ) -> Result<u64, Failed>
     requires { decoder.old.given < 4294967295 }
     ensures given { decoder.new.given ≡ decoder.old.given + 1 }
-    ensures stands { (before : List ℕ) → Stands decoder.old before → Stands decoder.new (before ++ h4 ∷ []) }
+    ensures stands { (before : List ℕ) → Stands decoder.old before →
+        Stands decoder.new (before ++ h4 ∷ []) }
     ensures ok { (before : List ℕ) (start : K) (packets : ℕ) → Stands decoder.old before →
         HasLines K.written K.faults before start out.old packets →
-        IfOk result (λ n. HasLines K.written K.faults (before ++ h4 ∷ []) start out.new (packets + n)) }
+        IfOk result (λ n. HasLines K.written K.faults (before ++ h4 ∷ [])
+        start out.new (packets + n)) }
     ensures err { (before : List ℕ) (start : K) (packets : ℕ) → Stands decoder.old before →
         HasLines K.written K.faults before start out.old packets →
         OnErr result (HasLinesPart K.written K.faults (before ++ h4 ∷ []) start out.new) }

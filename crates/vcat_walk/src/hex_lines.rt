@@ -42,7 +42,8 @@ fn without_return(line: &[u8]) -> &[u8]
 /// The first line of a text without its end, and what stands behind it.
 fn next_line(text: &[u8]) -> Option<(&[u8], &[u8])>
     ensures some { IfSome result (λ parts. lines text.now ≡ parts.0.now ∷ lines parts.1.now) }
-    ensures shorter { IfSome result (λ parts. length parts.0.now + length parts.1.now ≤ length text.now) }
+    ensures shorter { IfSome result (λ parts. length parts.0.now + length parts.1.now
+        ≤ length text.now) }
     ensures moves { IfSome result (λ parts. length parts.1.now < length text.now) }
     ensures none { IfNone result (lines text.now ≡ []) }
 {
@@ -93,7 +94,8 @@ fn take_line(line: &[u8], octets: &mut Vec<u8>) -> Result<(), NotHex>
     ensures ok { OnOk result ((part : List ℕ) × (line_octets line.now ≡ Some part)
         × (octets.new.items ≡ octets.old.items ++ part)) }
     ensures err { OnErr result (line_octets line.now ≡ None) }
-    ensures short { OnOk result (2 * vec_len octets.new ≤ 2 * vec_len octets.old + length line.now) }
+    ensures short { OnOk result (2 * vec_len octets.new
+        ≤ 2 * vec_len octets.old + length line.now) }
     ensures capacity { vec_capacity octets.old ≤ vec_capacity octets.new }
 {
     match trim(line) {
@@ -107,7 +109,8 @@ pub fn read_octets(alloc: Global, text: &[u8]) -> Result<Vec<u8>, HexLinesFault>
     requires { length text.now ≤ 67108864 }
     ensures octets { IfOk result (λ octets. IsHexText text.now octets.items) }
     ensures short { IfOk result (λ octets. 2 * vec_len octets ≤ length text.now) }
-    ensures line { (number : ℕ) → result ≡ Err (HexLinesFault.Line number) → IsFirstFault text.now number }
+    ensures line { (number : ℕ) → result ≡ Err (HexLinesFault.Line number) →
+        IsFirstFault text.now number }
 {
     let Ok(mut octets) = Vec::with_capacity(alloc, text.len() / 2) else {
         return Err(HexLinesFault::Memory);

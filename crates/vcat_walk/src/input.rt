@@ -20,9 +20,12 @@ pub const MOST: usize = 67_108_864;
 pub fn read_input<S: ByteSource>(alloc: Global, source: &mut S) -> Result<Vec<u8>, Stop>
     ensures whole { IfOk result (λ text. GivesAll S.left source.old source.new text.items) }
     ensures fits { IfOk result (λ text. vec_len text ≤ most_octets) }
-    ensures causes { IfErr result (λ stop. (stop ≡ Stop.Read) ⊎ ((stop ≡ Stop.TooLong) ⊎ (stop ≡ Stop.Memory))) }
-    ensures long { result ≡ Err Stop.TooLong → IfSome (S.left source.old) (λ text. most_octets < length text) }
-    ensures read_failed { result ≡ Err Stop.Read → S.faults source.new ≡ one_more (S.faults source.old) }
+    ensures causes { IfErr result (λ stop. (stop ≡ Stop.Read) ⊎ ((stop ≡ Stop.TooLong)
+        ⊎ (stop ≡ Stop.Memory))) }
+    ensures long { result ≡ Err Stop.TooLong → IfSome (S.left source.old)
+        (λ text. most_octets < length text) }
+    ensures read_failed { result ≡ Err Stop.Read →
+        S.faults source.new ≡ one_more (S.faults source.old) }
     ensures read_quiet { result ≢ Err Stop.Read → S.faults source.new ≡ S.faults source.old }
 {
     match read_all(alloc, source, MOST) {
@@ -35,7 +38,8 @@ pub fn read_input<S: ByteSource>(alloc: Global, source: &mut S) -> Result<Vec<u8
 
 /// Reads the script that an input says.
 pub fn read_whole_script<S: ByteSource>(alloc: Global, source: &mut S) -> Result<Script, Stop>
-    ensures script { IfOk result (λ script. IfSome (S.left source.old) (λ text. script_of text ≡ Ok script)) }
+    ensures script { IfOk result (λ script. IfSome (S.left source.old)
+        (λ text. script_of text ≡ Ok script)) }
     ensures valid { IfOk result IsValid }
     ensures done { OnOk result (ReadsScript S.left S.faults source.old source.new None) }
     ensures stopped { IfErr result (λ stop.

@@ -61,7 +61,8 @@ pub fn walk_top<S: ByteSource, K: ByteSink, E: ByteSink>(
     // Which status comes. What is said of the input's octets presumes that the source tells them.
     ensures known { IsTrue (is_status result.status) }
     ensures usage { (result.status ≡ 2) ↔ (command_in words.now ≡ None) }
-    ensures long { result.status ≡ 8 → IfSome (S.left script.old) (λ text. most_octets < length text) }
+    ensures long { result.status ≡ 8 → IfSome (S.left script.old)
+        (λ text. most_octets < length text) }
     ensures fits { ReadsInput words.now → HasRead result.status →
         IfSome (S.left script.old) (λ text. length text ≤ most_octets) }
     ensures limits { result.status ≡ 6 → RunsScript words.now }
@@ -69,11 +70,15 @@ pub fn walk_top<S: ByteSource, K: ByteSink, E: ByteSink>(
     ensures reading { (result.status ≡ 3) ⊎ (result.status ≡ 8) → ReadsInput words.now }
 
     // A good input is answered with all that is to be written, or with want of memory, where no fault comes.
-    ensures complete_script { RunsScript words.now → IfSome (S.left script.old) (λ text. IsGoodScript text →
-        (result.status ≡ 0) ⊎ ((result.status ≡ 7) ⊎ (Rises (S.faults script.old) (S.faults script.new)
-        ⊎ (Rises (K.faults out.old) (K.faults out.new) ⊎ Rises (E.faults notes.old) (E.faults notes.new))))) }
+    ensures complete_script { RunsScript words.now → IfSome (S.left script.old)
+        (λ text. IsGoodScript text →
+        (result.status ≡ 0) ⊎ ((result.status ≡ 7)
+        ⊎ (Rises (S.faults script.old) (S.faults script.new)
+        ⊎ (Rises (K.faults out.old) (K.faults out.new)
+        ⊎ Rises (E.faults notes.old) (E.faults notes.new))))) }
     ensures complete_hex { IsDecode words.now → IfSome (S.left script.old) (λ text. IsGoodHex text →
-        (result.status ≡ 0) ⊎ ((result.status ≡ 7) ⊎ (Rises (S.faults script.old) (S.faults script.new)
+        (result.status ≡ 0) ⊎ ((result.status ≡ 7)
+        ⊎ (Rises (S.faults script.old) (S.faults script.new)
         ⊎ Rises (K.faults out.old) (K.faults out.new)))) }
     ensures complete_make { (number lines ticks : ℕ) → IsMake words.now number lines ticks →
         (result.status ≡ 0) ⊎ ((result.status ≡ 7) ⊎ Rises (K.faults out.old) (K.faults out.new)) }
@@ -96,9 +101,11 @@ pub fn walk_top<S: ByteSource, K: ByteSink, E: ByteSink>(
         IfSome (S.left script.old) (WritesPackets K.written K.faults out.old out.new) }
     ensures decoded_part { IsDecode words.now → result.status ≡ 4 →
         IfSome (S.left script.old) (WritesPacketsPart K.written K.faults out.old out.new) }
-    ensures made { (number lines ticks : ℕ) → IsMake words.now number lines ticks → result.status ≡ 0 →
+    ensures made { (number lines ticks : ℕ) → IsMake words.now number lines ticks →
+        result.status ≡ 0 →
         Appends K.written K.faults out.old out.new (make_text number lines ticks) }
-    ensures made_part { (number lines ticks : ℕ) → IsMake words.now number lines ticks → result.status ≡ 4 →
+    ensures made_part { (number lines ticks : ℕ) → IsMake words.now number lines ticks →
+        result.status ≡ 4 →
         AppendsPart K.written K.faults out.old out.new (make_text number lines ticks) }
     ensures nothing { result.status ≢ 0 → result.status ≢ 4 → out.new ≡ out.old }
 
@@ -114,10 +121,12 @@ pub fn walk_top<S: ByteSource, K: ByteSink, E: ByteSink>(
     ensures quiet { (¬ IsTrace words.now) → result.status ≡ 0 → notes.new ≡ notes.old }
     ensures traced { IsTrace words.now → result.status ≡ 0 →
         IfSome (S.left script.old) (WritesTrace E.written E.faults notes.old notes.new) }
-    ensures traced_part { IsTrace words.now → result.status ≡ 4 → (told : E) × IfSome (S.left script.old)
+    ensures traced_part { IsTrace words.now → result.status ≡ 4 → (told : E)
+        × IfSome (S.left script.old)
         (StopsInTrace K.written K.faults out.old out.new E.written E.faults notes.old told)
         × Tells E.written E.faults told notes.new (codes "fault: write failed\n") }
-    ensures told_usage { result.status ≡ 2 → Tells E.written E.faults notes.old notes.new usage_text }
+    ensures told_usage { result.status ≡ 2 → Tells
+        E.written E.faults notes.old notes.new usage_text }
     ensures told_read { result.status ≡ 3 →
         Tells E.written E.faults notes.old notes.new (codes "fault: read failed\n") }
     ensures told_write { (¬ IsTrace words.now) → result.status ≡ 4 →

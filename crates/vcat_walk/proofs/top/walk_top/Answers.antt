@@ -1,12 +1,10 @@
 -- Arm by arm, by the cause that the status tells.
-use Rattle.std.proofs.Common.{◌≡◌, ◌≢◌, ◌⊎◌, ℕ, ◌≤◌, ◌<◌, List, length, Option, Some, None, IfSome, Ok, Err, refl, sym, ◌∙◌, ap, subst, inl, inr, arith, map}
-use Rattle.std.specs.Prelude.{string_bytes}
+use Rattle.std.proofs.Common.{◌≡◌, ◌⊎◌, ℕ, Option, Some, None, IfSome, Err, sym, ◌∙◌, ap, subst, inl, inr, arith}
 use Rattle.outside_io.specs.Transfer.{Appends, AppendsPart, Tells}
 use Rattle.script_read.specs.declared.fault.LineKind.TheVariants.{Hex}
 use Rattle.script_read.specs.declared.fault.ScriptFault.{ScriptFault}
 use Rattle.script_read.specs.Script.{script_of}
-use Rattle.cmd_words.specs.declared.command.Command.{Command}
-use Rattle.cmd_words.specs.declared.command.Command.TheVariants.{Walk, Decode, Make, Run}
+use Rattle.cmd_words.specs.declared.command.Command.TheVariants.{Make}
 use Rattle.make_load.specs.Load.{load}
 use Rattle.walk_core.specs.Moved.{Walked}
 use Rattle.vcat_walk.specs.declared.stop.Stop.{Stop}
@@ -15,7 +13,7 @@ use Rattle.vcat_walk.specs.HexLines.{IsFirstFault}
 use Rattle.vcat_walk.specs.Words.{command_in}
 use Rattle.vcat_walk.specs.Texts.{line_text, fault_text}
 use Rattle.vcat_walk.specs.Make.{make_text}
-use Rattle.vcat_walk.specs.Ended.{Rises, IsLimit, IsWalkOf, HandsBack}
+use Rattle.vcat_walk.specs.Ended.{Rises, IsWalkOf, HandsBack}
 use Rattle.vcat_walk.specs.Stop.{note_of}
 use Rattle.vcat_walk.proofs.StatusLaws.{is-done, is-write, not-run}
 use Rattle.vcat_walk.proofs.TopLaws.{rises-by, rises-told, run-by, read-by, line-told, limit-told, hex-told, complete-script, complete-hex, late-is, late-no, same-load}
