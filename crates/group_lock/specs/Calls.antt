@@ -1,0 +1,50 @@
+-- What a call of a group does, as a whole.
+use Rattle.std.specs.Prelude.{◌≡◌, ◌≢◌, ℕ, ◌+◌, ◌<◌, ◌≤◌, ◌↔◌, Bool, true, false, if◌then◌else◌, List, ◌++◌, Option, Some}
+use mathlib.Core.List.{IsPrefix}
+use Rattle.session_model.specs.declared.script.ItemKind.{ItemKind}
+use Rattle.session_model.specs.Scenario.{Scenario}
+use Rattle.session_model.specs.Table.{Told}
+use Rattle.member_ring.specs.Ends.{in_passed, SameIn}
+use Rattle.source_core.specs.Given.{Stands as HasMade}
+use Rattle.walk_law.specs.Landed.{IsPlaced, refused_by}
+use Rattle.group_lock.specs.declared.answer.SubmitFault.{SubmitFault}
+use Rattle.group_lock.specs.declared.answer.TickAnswer.{TickAnswer}
+use Rattle.group_lock.specs.declared.answer.TickAnswer.TheVariants.{Ticked, Held, TxFull, BackMissing, Done}
+use Rattle.group_lock.specs.Answer.{has_landed, refusal_told}
+use Rattle.group_lock.specs.Rings.{SameOuts, IsFirstFull}
+use Rattle.group_lock.specs.declared.group.GroupState.{GroupState}
+use Rattle.group_lock.specs.Group.{SameScript, ticks_of, total_of, journal_of, refusals_of, taken_of, source_of, replay_of, Stands, fault_in, entries_by, HasCounted, LeavesRoom, with_landed, SameRings, SameLanded, is_ticked, held_of, IsFreeToTick, IsMissing, ArePushedOf, NothingPushed}
+
+-- an item was handed in, which isn't accepted for this fault, or is accepted
+pub record Submits (a b : GroupState) (number : ℕ) (kind : ItemKind) (fault : Option SubmitFault) : Type 0 where
+  pub fault : fault ≡ fault_in a number kind
+  pub unchanged : has_landed fault ≡ false → b ≡ a
+  pub landed : HasCounted a b kind (has_landed fault)
+  pub journal : journal_of b ≡ journal_of a ++ entries_by fault number (ticks_of a) kind
+  pub room : LeavesRoom a b kind fault
+  pub refusals : IsPlaced number (refused_by number (refusal_told fault)) (refusals_of a) (refusals_of b)
+  pub script : SameScript a b
+  pub rings : SameRings a b
+  pub made : (scenario : Scenario) (cells : List (Option Told)) → HasMade (source_of a) scenario cells →
+      HasMade (source_of b) (with_landed scenario (ticks_of a) kind (has_landed fault)) cells
+  pub stands : Stands b
+
+-- a tick was tried
+pub record Ticks (a b : GroupState) (answer : TickAnswer) : Type 0 where
+  pub done : (answer ≡ Done) ↔ (total_of a ≤ ticks_of a)
+  pub held : (item : ℕ) → (answer ≡ Held item) ↔ ((ticks_of a < total_of a) × (held_of a ≡ Some item))
+  pub goes : answer ≢ Done → ((item : ℕ) → answer ≢ Held item) → IsFreeToTick a
+  pub full : (line : ℕ) → answer ≡ TxFull line → IsFirstFull a.tx.items b.tx.items line
+  pub missing : (packet : ℕ) → answer ≡ BackMissing packet → IsMissing packet a b
+  pub ticks : ticks_of b ≡ ticks_of a + (if is_ticked answer then 1 else 0)
+  pub pushed : answer ≡ Ticked → ArePushedOf (replay_of a) a b
+  pub rest : answer ≢ Ticked → NothingPushed a b
+  pub source : answer ≢ Ticked → source_of b ≡ source_of a
+  pub script : SameScript a b
+  pub landed : SameLanded a b
+  pub sends : SameOuts a.tx.items b.tx.items
+  pub returns : SameIn a.back b.back
+  pub received : IsPrefix (in_passed a.back) (in_passed b.back)
+  pub made : (scenario : Scenario) → HasMade (source_of a) scenario (taken_of a) → HasMade (source_of b) scenario (taken_of b)
+  pub alike : (scenario : Scenario) → answer ≡ Ticked → HasMade (source_of a) scenario (taken_of a) → ArePushedOf scenario a b
+  pub stands : Stands b

@@ -1,0 +1,74 @@
+-- What has landed in a group.
+use Rattle.std.specs.Prelude.{◌≡◌, ℕ, ◌+◌, ◌<◌, ◌≤◌, nat_lt, Bool, true, false, if◌then◌else◌, List, [], length, slice_get, All, Option, Some, None}
+use Rattle.std.specs.List.Sorted.{IsNonDecreasing}
+use Rattle.session_model.specs.declared.script.Item.{Item}
+use Rattle.session_model.specs.Counts.{dues_of, frame_dues, command_dues}
+use Rattle.report_text.specs.declared.report.Refusal.{Refusal}
+use Rattle.walk_law.specs.Landed.{is_client}
+use Rattle.walk_parts.specs.Place.{is_frame, is_command, place_of}
+
+-- the items, without the octets of frames; how many frames and commands have landed; the items that were refused, in their order, and why
+pub record Landed : Type 0 where
+  pub items : List Item
+  pub frames : ℕ
+  pub commands : ℕ
+  pub refusals : List (ℕ × Refusal)
+
+abbrev pub none_landed : List Item → Landed
+none_landed items = record { items = items; frames = 0; commands = 0; refusals = [] }
+
+-- ---- what lands next
+-- the place of the next frame, or of the next command; the number of items where there is none
+abbrev pub next_place : Landed → Bool → ℕ
+next_place landed true = place_of is_frame landed.frames landed.items
+next_place landed false = place_of is_command landed.commands landed.items
+
+abbrev pub there_at : ℕ → List Item → Option ℕ
+there_at place items = if nat_lt place (length items) then Some place else None
+
+-- the number of the next frame, or of the next command, where there is one
+abbrev pub next_number : Landed → Bool → Option ℕ
+next_number landed frame = there_at (next_place landed frame) landed.items
+
+abbrev pub due_in : Option Item → ℕ
+due_in None = 0
+due_in (Some item) = item.due
+
+-- after how many ticks an item lands
+abbrev pub due_at : List Item → ℕ → ℕ
+due_at items number = due_in (slice_get items number)
+
+-- ---- refusals by item
+abbrev pub AreBefore : ℕ → List (ℕ × Refusal) → Type 0
+AreBefore number refusals = All (λ (refused : ℕ × Refusal). refused.0 < number) refusals
+
+abbrev pub AreAfter : ℕ → List (ℕ × Refusal) → Type 0
+AreAfter number refusals = All (λ (refused : ℕ × Refusal). number < refused.0) refusals
+
+-- they stand in the order of the items, each item once
+abbrev pub AreInOrder : List (ℕ × Refusal) → Type 0
+AreInOrder refusals = (i j : ℕ) (one other : ℕ × Refusal) → i < j → slice_get refusals i ≡ Some one → slice_get refusals j ≡ Some other → one.0 < other.0
+
+-- they are of items other than this one
+pub record AreOthers (number : ℕ) (refusals : List (ℕ × Refusal)) : Type 0 where
+  pub order : AreInOrder refusals
+  pub other : (i : ℕ) (one : ℕ × Refusal) → slice_get refusals i ≡ Some one → one.0 ≡ number → ⊥
+
+-- each is of an item that has landed
+abbrev pub AreOfLanded : Landed → Type 0
+AreOfLanded landed = (i : ℕ) (one : ℕ × Refusal) (item : Item) → slice_get landed.refusals i ≡ Some one → slice_get landed.items one.0 ≡ Some item →
+    one.0 < next_place landed (is_client item.kind)
+
+-- what is kept of it: the places of the next frame and the next command, and room for a refusal of each item
+pub record IsLanded (landed : Landed) (frame command room : ℕ) : Type 0 where
+  pub frame : frame ≡ next_place landed true
+  pub command : command ≡ next_place landed false
+  pub few : length landed.items ≤ 67108864
+  pub frames : IsNonDecreasing (frame_dues (dues_of landed.items))
+  pub commands : IsNonDecreasing (command_dues (dues_of landed.items))
+  pub most_frames : landed.frames ≤ length (frame_dues (dues_of landed.items))
+  pub most_commands : landed.commands ≤ length (command_dues (dues_of landed.items))
+  pub order : AreInOrder landed.refusals
+  pub landed : AreOfLanded landed
+  pub refused : length landed.refusals ≤ landed.frames + landed.commands
+  pub room : length landed.items ≤ room

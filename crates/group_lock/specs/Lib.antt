@@ -1,0 +1,12 @@
+pub mod Item
+pub mod Answer
+pub mod Journal
+pub mod Entries
+pub mod Landed
+pub mod Lands
+pub mod Inbox
+pub mod Rings
+pub mod Parts
+pub mod Group
+pub mod Calls
+pub mod Session

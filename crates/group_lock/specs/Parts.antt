@@ -1,0 +1,80 @@
+-- The parts of a group, and what is true of them whenever the lock is free.
+use Rattle.std.specs.Prelude.{◌≡◌, ℕ, ◌+◌, ◌<◌, ◌≤◌, List, length, slice_get, Option, Some}
+use Rattle.vc_cell.specs.declared.Container.{Container}
+use Rattle.vc_cell.specs.declared.BackCell.{BackCell}
+use Rattle.session_model.specs.declared.script.Item.{Item}
+use Rattle.session_model.specs.Scenario.{Scenario}
+use Rattle.session_model.specs.Table.{Told}
+use Rattle.session_model.specs.Sent.{containers_of}
+use Rattle.session_model.specs.Counts.{dues_of, frame_dues, command_dues, used_in}
+use Rattle.member_ring.specs.declared.ends.RingOut.{RingOut}
+use Rattle.member_ring.specs.declared.ends.RingIn.{RingIn}
+use Rattle.member_ring.specs.Ends.{out_passed, in_passed}
+use Rattle.source_core.specs.Terminal.{Terminal}
+use Rattle.source_core.specs.Given.{Stands as HasMade}
+use Rattle.walk_law.specs.Landed.{Numbered}
+use Rattle.group_lock.specs.Journal.{Journal, Setting, journal_scenario, IsLegal}
+use Rattle.group_lock.specs.Landed.{Landed, due_at}
+use Rattle.group_lock.specs.Inbox.{Inbox, told_taken, HasCome}
+
+-- the source; how many ticks there are; what has landed; the journal; the inbox; the send rings and the return ring
+pub record Parts : Type 0 where
+  pub source : Terminal
+  pub total : ℕ
+  pub landed : Landed
+  pub journal : Journal
+  pub inbox : Inbox
+  pub tx : List (RingOut Container)
+  pub back : RingIn BackCell
+
+abbrev pub parts : Terminal → ℕ → Landed → Journal → Inbox → List (RingOut Container) → RingIn BackCell → Parts
+parts source total landed journal inbox tx back =
+    record { source = source; total = total; landed = landed; journal = journal; inbox = inbox; tx = tx; back = back }
+
+abbrev pub setting_in : Parts → Setting
+setting_in at = record {
+  lines = at.source.lines;
+  lag = at.source.lag;
+  ticks = at.total;
+  size = at.source.size;
+  lost = at.inbox.lost;
+}
+
+-- the session of the journal
+abbrev pub scenario_in : Parts → Scenario
+scenario_in at = journal_scenario (setting_in at) at.journal.entries
+
+-- what the return cells tell that the decision steps have taken
+abbrev pub told_in_parts : Parts → List (Option Told)
+told_in_parts at = told_taken at.inbox.lost at.source.lag at.source.ticks (in_passed at.back)
+
+-- each line was sent its containers of the first frames of a session, and no more
+abbrev pub AreSent : Scenario → List (Option Told) → ℕ → List (RingOut Container) → Type 0
+AreSent scenario cells ticks ends =
+    (m : ℕ) (out : RingOut Container) → slice_get ends m ≡ Some out → out_passed out ≡ containers_of scenario cells m ticks
+
+-- each entry landed after as many ticks as its item is due
+abbrev pub AreDue : List Item → List Numbered → Type 0
+AreDue items entries = (i : ℕ) (entry : Numbered) → slice_get entries i ≡ Some entry → entry.item.due ≡ due_at items entry.number
+
+-- the next item of a kind, where there is one, isn't due before these ticks
+abbrev pub WaitsFrom : ℕ → List ℕ → ℕ → Type 0
+WaitsFrom ticks dues landed = (due : ℕ) → slice_get dues landed ≡ Some due → ticks ≤ due
+
+-- the source was given the journal, and its containers were sent; the inbox holds the rest of the return cells. There is a place for a
+-- container of each line
+pub record Keeps (at : Parts) (places : ℕ) : Type 0 where
+  pub total : at.total ≤ 1000000
+  pub ticks : at.source.ticks ≤ at.total
+  pub lines : at.source.lines ≤ 128
+  pub lag : at.source.lag ≤ 512
+  pub places : places ≡ at.source.lines
+  pub rings : length at.tx ≡ at.source.lines
+  pub room : at.inbox.room ≡ at.source.lag + 1
+  pub come : HasCome at.inbox (in_passed at.back) (used_in at.source.lag at.source.ticks)
+  pub made : ∥ HasMade at.source (scenario_in at) (told_in_parts at) ∥₁
+  pub sent : AreSent (scenario_in at) (told_in_parts at) at.source.ticks at.tx
+  pub legal : IsLegal (scenario_in at) (told_in_parts at) at.journal.entries
+  pub due : AreDue at.landed.items at.journal.entries
+  pub frames : WaitsFrom at.source.ticks (frame_dues (dues_of at.landed.items)) at.landed.frames
+  pub commands : WaitsFrom at.source.ticks (command_dues (dues_of at.landed.items)) at.landed.commands

@@ -1,0 +1,85 @@
+-- A group of a script over its rings: what is known of it whenever the lock is free.
+use Rattle.std.specs.Prelude.{◌≡◌, ℕ, ◌+◌, ◌≤◌, List, [], ◌∷◌, drop, length, slice_get, take, sum_by, Option, Some, filter, not, ◌&&◌, is_none}
+use Rattle.std.specs.List.{flat_map}
+use Rattle.vc_cell.specs.declared.Container.{Container}
+use Rattle.vc_cell.specs.declared.BackCell.{BackCell}
+use Rattle.session_model.specs.declared.script.Script.{Script}
+use Rattle.session_model.specs.declared.script.Item.{Item}
+use Rattle.session_model.specs.declared.script.ItemKind.{ItemKind}
+use Rattle.session_model.specs.Scenario.{Offer, scenario_of, offers_of, orders_of}
+use Rattle.session_model.specs.Table.{Told}
+use Rattle.session_model.specs.Counts.{Counts}
+use Rattle.report_text.specs.declared.report.Refusal.{Refusal}
+use Rattle.member_ring.specs.declared.ends.RingOut.{RingOut}
+use Rattle.member_ring.specs.declared.ends.RingIn.{RingIn}
+use Rattle.source_core.specs.Given.{Stands as HasMade}
+use Rattle.walk_law.specs.Landed.{Numbered, is_client, landed_items, landed_scenario, kind_refusal, refused_by}
+use Rattle.group_lock.specs.Journal.{items_in}
+use Rattle.group_lock.specs.Rings.{SameOuts, SameIns}
+use Rattle.group_lock.specs.Parts.{AreSent}
+use Rattle.group_lock.specs.declared.group.GroupState.{GroupState}
+use Rattle.group_lock.specs.Group.{IsOf, ticks_of, frames_of, commands_of, journal_of, slots_of, bytes_of, refusals_of, taken_of, source_of}
+
+-- how many ticks were made and items have landed
+abbrev pub counts_of : GroupState → Counts
+counts_of g = record {
+  ticks = ticks_of g;
+  frames = frames_of g;
+  commands = commands_of g;
+  lines = [];
+  rows = 0;
+  backs = 0;
+}
+
+-- ---- the items of a script, where its return cells tell this
+-- why an item is refused, where it is
+abbrev pub refusal_by : Script → List (Option Told) → Numbered → Option Refusal
+refusal_by script cells item =
+    kind_refusal (scenario_of script) cells item.item.due (take item.number script.items) item.item.kind
+
+-- of items those that are refused, in their order, and why
+abbrev pub refusals_by : Script → List (Option Told) → List Numbered → List (ℕ × Refusal)
+refusals_by script cells items = flat_map (λ item. refused_by item.number (refusal_by script cells item)) items
+
+-- those that are accepted
+abbrev pub accepted_frames_by : Script → List (Option Told) → List Numbered → List Numbered
+accepted_frames_by script cells items = filter (λ item. is_client item.item.kind && is_none (refusal_by script cells item)) items
+
+abbrev pub accepted_commands_by : Script → List (Option Told) → List Numbered → List Numbered
+accepted_commands_by script cells items = filter (λ item. not (is_client item.item.kind) && is_none (refusal_by script cells item)) items
+
+-- how many octets some frames have
+abbrev pub octets_in : List Offer → ℕ
+octets_in offers = sum_by (λ (offer : Offer). length offer.frame) offers
+
+-- ---- the group
+-- an item that is handed in is the one of its number in the script, where there is one
+abbrev pub IsItemOf : Script → ℕ → ItemKind → Type 0
+IsItemOf script number kind = (item : Item) → slice_get script.items number ≡ Some item → kind ≡ item.kind
+
+-- each entry is the item of its number
+abbrev pub AreItemsOf : Script → List Numbered → Type 0
+AreItemsOf script entries = (i : ℕ) (entry : Numbered) → slice_get entries i ≡ Some entry → slice_get script.items entry.number ≡ Some entry.item
+
+-- there is room in the journal for all items that haven't landed
+pub record HasRoom (script : Script) (g : GroupState) : Type 0 where
+  pub entries : length script.items ≤ frames_of g + commands_of g + slots_of g
+  pub octets : octets_in (drop (frames_of g) (offers_of script.items)) ≤ bytes_of g
+
+-- what has come of the script so far: the entries and the refusals are those of its items that have landed, by the return cells that decision
+-- steps have taken; and each send ring has passed the script's containers of the frames made
+pub record HasLandedOf (script : Script) (g : GroupState) : Type 0 where
+  pub entries : AreItemsOf script (journal_of g)
+  pub refusals : refusals_of g ≡ refusals_by script (taken_of g) (landed_items script (counts_of g))
+  pub frames : length (offers_of (items_in (journal_of g))) ≡ length (accepted_frames_by script (taken_of g) (landed_items script (counts_of g)))
+  pub commands : length (orders_of (items_in (journal_of g))) ≡ length (accepted_commands_by script (taken_of g) (landed_items script (counts_of g)))
+  pub sent : AreSent (scenario_of script) (taken_of g) (ticks_of g) g.tx.items
+  pub made : ∥ HasMade (source_of g) (landed_scenario script (counts_of g)) (taken_of g) ∥₁
+
+-- a group is bound to a script and to the ends of its rings as they were made
+pub record IsBound (script : Script) (tx : List (RingOut Container)) (back : List (RingIn BackCell)) (g : GroupState) : Type 0 where
+  pub script : IsOf script g
+  pub sends : SameOuts tx g.tx.items
+  pub returns : SameIns back (g.back ∷ [])
+  pub room : HasRoom script g
+  pub landed : HasLandedOf script g

@@ -1,0 +1,310 @@
+//! A group: its source, the ends of its rings, what has landed, and the journal of what was accepted.
+
+ghost use Rattle.std.specs.Prelude.{◌≡◌, List, Option, length, IsSome};
+ghost use Rattle.session_model.specs.Scenario.{Scenario};
+ghost use Rattle.session_model.specs.Table.{Told};
+ghost use Rattle.source_core.specs.Terminal.{SameKind};
+ghost use Rattle.source_core.specs.Given.{Stands as HasMade};
+ghost use Rattle.group_lock.specs.Item.{kind_of};
+ghost use Rattle.group_lock.specs.Lands.{met_by, with_kind};
+ghost use Rattle.group_lock.specs.Parts.{parts, Keeps};
+
+use crate::answer::{SubmitFault, TickAnswer, refused};
+use crate::inbox::Inbox;
+use crate::item::ItemRef;
+use crate::journal::Journal;
+use crate::landing::Landing;
+use crate::sends::{first_full, push_frame, take_cells};
+use member_ring::{RingIn, RingOut};
+use report_text::{Refusal, Totals};
+use session_model::{Item, Script};
+use source_core::SourceCore;
+use std::alloc::{AllocError, Global};
+use vc_cell::{BackCell, Container, PAYLOAD};
+
+/// What stands in a place before the first container.
+const EMPTY: Container = Container {
+    h4: 0,
+    payload: [0; PAYLOAD],
+};
+
+/// A group. It takes the client's frames and the operator's commands in the order of its script, each kind by itself, and makes a frame
+/// at each tick; what is due at a tick lands before it. Only its making takes memory.
+#[derive(Drop)]
+pub struct GroupState {
+    source: SourceCore,
+    /// How many ticks there are.
+    total: u32,
+    landing: Landing,
+    journal: Journal,
+    inbox: Inbox,
+    /// Places for the containers of a frame.
+    frame: Vec<Container>,
+    /// Where it pushes the containers of each line.
+    pub tx: Vec<RingOut<Container>>,
+    /// Where it pops return cells.
+    pub back: RingIn<BackCell>,
+    ghost keeps: { Keeps (parts source total landing journal inbox tx.items back) (length frame.items) },
+}
+
+impl GroupState {
+    ghost use Rattle.std.specs.Prelude.{◌≡◌, ◌≢◌, ℕ, ◌+◌, ◌<◌, ◌≤◌, ◌↔◌, true, false, if◌then◌else◌, List, [], ◌∷◌, ◌++◌, length, Option, Some, None, option_map, IsSome, IfOk};
+    ghost use mathlib.Core.List.{IsPrefix};
+    ghost use Rattle.session_model.specs.Valid.{IsValid};
+    ghost use Rattle.session_model.specs.Scenario.{Scenario};
+    ghost use Rattle.session_model.specs.Table.{Told};
+    ghost use Rattle.session_model.specs.Accepted.{refusal_in};
+    ghost use Rattle.member_ring.specs.Ends.{in_passed, SameIn};
+    ghost use Rattle.source_core.specs.Terminal.{needed};
+    ghost use Rattle.source_core.specs.Given.{Stands as HasMade, IsFresh};
+    ghost use Rattle.walk_law.specs.Landed.{IsPlaced, refused_by};
+    ghost use Rattle.group_lock.specs.Item.{kind_of};
+    ghost use Rattle.group_lock.specs.Answer.{fault_of, has_landed, refusal_told};
+    ghost use Rattle.group_lock.specs.Journal.{fits};
+    ghost use Rattle.group_lock.specs.Landed.{due_at};
+    ghost use Rattle.group_lock.specs.Lands.{with_kind};
+    ghost use Rattle.group_lock.specs.Rings.{AreUnused, AreFree, SameOuts, IsFirstFull};
+    ghost use Rattle.group_lock.specs.Group.{parts_of, lines_of, lag_of, size_of, IsOf, SameScript, ticks_of, total_of, items_of, frames_of, commands_of, journal_of, slots_of, bytes_of, refusals_of, inbox_of, taken_of, source_of, totals_of, replay_of, Stands, next_of, refusal_of, fault_in, entries_by, HasCounted, LeavesRoom, with_landed, SameRings, SameLanded, is_ticked, held_of, IsFreeToTick, IsMissing, ArePushedOf, NothingPushed};
+
+    /// A group of a script, over a fresh send ring for each line and a fresh return ring, with room for so many entries of the journal
+    /// and so many octets of frames.
+    pub fn new(
+        alloc: Global,
+        script: &Script,
+        entries: u32,
+        bytes: u64,
+        tx: Vec<RingOut<Container>>,
+        back: RingIn<BackCell>,
+    ) -> Result<GroupState, AllocError>
+        requires script { IsValid script.now }
+        requires rings { length tx.items ≡ script.now.config.lines }
+        requires sends { AreUnused tx.items }
+        requires returns { in_passed back ≡ [] }
+        ensures script { IfOk result (λ g. IsOf script.now g) }
+        ensures ticks { IfOk result (λ g. ticks_of g ≡ 0) }
+        ensures landed { IfOk result (λ g. (frames_of g ≡ 0) × (commands_of g ≡ 0)) }
+        ensures journal { IfOk result (λ g. journal_of g ≡ []) }
+        ensures room { IfOk result (λ g. (slots_of g ≡ entries) × (bytes_of g ≡ bytes)) }
+        ensures refusals { IfOk result (λ g. refusals_of g ≡ []) }
+        ensures inbox { IfOk result (λ g. inbox_of g ≡ []) }
+        ensures ends { IfOk result (λ g. (g.tx ≡ tx) × (g.back ≡ back)) }
+        ensures made { IfOk result (λ g. (scenario : Scenario) →
+            IsFresh scenario (lines_of g) (lag_of g) (size_of g) →
+            HasMade (source_of g) scenario []) }
+        ensures stands { IfOk result (λ g. Stands g) }
+    {
+        let config = &script.config;
+        let source = SourceCore::new(alloc, config.lines, config.lag, config.size)?;
+        let landing = Landing::new(alloc, items_of(script))?;
+        let journal = Journal::new(alloc, entries, bytes)?;
+        let inbox = Inbox::new(alloc, lost_of(script), config.lag)?;
+        let frame = vec![in alloc; EMPTY; usize::from(config.lines)]?;
+        Ok(GroupState {
+            source,
+            total: config.ticks,
+            landing,
+            journal,
+            inbox,
+            frame,
+            tx,
+            back,
+        })
+    }
+
+    /// What came of it so far, in numbers. Rows and delivered frames are counted elsewhere.
+    pub fn totals(&self) -> Totals
+        ensures { result ≡ totals_of self.now }
+    {
+        Totals {
+            ticks: self.source.ticks(),
+            taken: 0,
+            frames: self.journal.frames(),
+            commands: self.journal.commands(),
+            refused: self.landing.refused(),
+            got: 0,
+        }
+    }
+
+    /// The items that were refused, in the order of the script.
+    pub fn refusals(&self) -> &[(u32, Refusal)]
+        ensures { result.now ≡ refusals_of self.now }
+    {
+        self.landing.refusals()
+    }
+
+    /// Lands an item, of this number in the script. Of each kind, the client's frames and the operator's commands, the next one lands, once
+    /// it is due. One that is refused has landed, and its refusal is kept; each other fault changes nothing.
+    pub fn submit(&mut self, number: u32, item: ItemRef) -> Result<(), SubmitFault>
+        ensures fault { refusal_in result ≡ fault_in self.old number (kind_of item.entry) }
+        ensures unchanged { has_landed (refusal_in result) ≡ false → self.new ≡ self.old }
+        ensures landed { HasCounted self.old self.new (kind_of item.entry)
+            (has_landed (refusal_in result)) }
+        ensures journal { journal_of self.new ≡ journal_of self.old
+            ++ entries_by (refusal_in result) number (ticks_of self.old) (kind_of item.entry) }
+        ensures room { LeavesRoom self.old self.new (kind_of item.entry) (refusal_in result) }
+        ensures refusals { IsPlaced number (refused_by number (refusal_told (refusal_in result)))
+            (refusals_of self.old) (refusals_of self.new) }
+        ensures script { SameScript self.old self.new }
+        ensures rings { SameRings self.old self.new }
+        ensures made { (scenario : Scenario) (cells : List (Option Told)) →
+            HasMade (source_of self.old) scenario cells → HasMade (source_of self.new)
+            (with_landed scenario (ticks_of self.old) (kind_of item.entry)
+            (has_landed (refusal_in result))) cells }
+        ensures stands { Stands self.new }
+    {
+        let next = self.landing.next(item.is_frame());
+        if next != Some(number) {
+            return Err(SubmitFault::NotNext { next });
+        }
+        let now = self.source.ticks();
+        if now < self.landing.due(item.is_frame(), number) {
+            return Err(SubmitFault::Early { now });
+        }
+        if !self.journal.has_room(item) {
+            let entries = self.journal.slots();
+            let bytes = self.journal.bytes();
+            return Err(SubmitFault::JournalFull { entries, bytes });
+        }
+        self.land(number, item)
+    }
+
+    /// Moves return cells into the inbox, until a look finds none or the inbox is full. Then it makes the next frame, a container for each
+    /// line, where ticks are left, no item that is due waits, each send ring has a slot, and the return cell is there that the tick needs,
+    /// if it needs one. The first of these that fails is told, and then nothing is made.
+    pub fn tick(&mut self) -> TickAnswer
+        ensures done { (result ≡ TickAnswer.Done) ↔ (total_of self.old ≤ ticks_of self.old) }
+        ensures held { (item : ℕ) → (result ≡ TickAnswer.Held item) ↔
+            ((ticks_of self.old < total_of self.old) × (held_of self.old ≡ Some item)) }
+        ensures goes { result ≢ TickAnswer.Done → ((item : ℕ) → result ≢ TickAnswer.Held item) →
+            IsFreeToTick self.old }
+        ensures full { (line : ℕ) → result ≡ TickAnswer.TxFull line →
+            IsFirstFull self.old.tx.items self.new.tx.items line }
+        ensures missing { (packet : ℕ) → result ≡ TickAnswer.BackMissing packet →
+            IsMissing packet self.old self.new }
+        ensures ticks { ticks_of self.new
+            ≡ ticks_of self.old + (if is_ticked result then 1 else 0) }
+        ensures pushed { result ≡ TickAnswer.Ticked →
+            ArePushedOf (replay_of self.old) self.old self.new }
+        ensures rest { result ≢ TickAnswer.Ticked → NothingPushed self.old self.new }
+        ensures source { result ≢ TickAnswer.Ticked → source_of self.new ≡ source_of self.old }
+        ensures script { SameScript self.old self.new }
+        ensures landed { SameLanded self.old self.new }
+        ensures sends { SameOuts self.old.tx.items self.new.tx.items }
+        ensures returns { SameIn self.old.back self.new.back }
+        ensures received { IsPrefix (in_passed self.old.back) (in_passed self.new.back) }
+        ensures made { (scenario : Scenario) →
+            HasMade (source_of self.old) scenario (taken_of self.old) →
+            HasMade (source_of self.new) scenario (taken_of self.new) }
+        ensures alike { (scenario : Scenario) → result ≡ TickAnswer.Ticked →
+            HasMade (source_of self.old) scenario (taken_of self.old) →
+            ArePushedOf scenario self.old self.new }
+        ensures stands { Stands self.new }
+    {
+        take_cells(&mut self.inbox, &mut self.back);
+        let ticks = self.source.ticks();
+        if ticks >= self.total {
+            return TickAnswer::Done;
+        }
+        if let Some(item) = self.landing.held(ticks) {
+            return TickAnswer::Held { item };
+        }
+        if let Some(line) = first_full(&mut self.tx) {
+            return TickAnswer::TxFull { line };
+        }
+        if let Some(packet) = self.source.needs_back() {
+            if self.inbox.is_empty() {
+                return TickAnswer::BackMissing { packet };
+            }
+        }
+        self.make_frame();
+        TickAnswer::Ticked
+    }
+
+    /// Lands an item that is the next of its kind, is due, and has room in the journal.
+    fn land(&mut self, number: u32, item: ItemRef) -> Result<(), SubmitFault>
+        requires next { next_of self.old (kind_of item.entry) ≡ Some number }
+        requires due { due_at (items_of self.old) number ≤ ticks_of self.old }
+        requires room { fits (parts_of self.old).journal (kind_of item.entry) ≡ true }
+        ensures fault { refusal_in result
+            ≡ option_map fault_of (refusal_of self.old (kind_of item.entry)) }
+        ensures landed { HasCounted self.old self.new (kind_of item.entry) true }
+        ensures journal { journal_of self.new ≡ journal_of self.old
+            ++ entries_by (refusal_in result) number (ticks_of self.old) (kind_of item.entry) }
+        ensures room { LeavesRoom self.old self.new (kind_of item.entry) (refusal_in result) }
+        ensures refusals { IsPlaced number (refused_by number (refusal_told (refusal_in result)))
+            (refusals_of self.old) (refusals_of self.new) }
+        ensures script { SameScript self.old self.new }
+        ensures rings { SameRings self.old self.new }
+        ensures made { (scenario : Scenario) (cells : List (Option Told)) →
+            HasMade (source_of self.old) scenario cells → HasMade (source_of self.new)
+            (with_kind scenario (ticks_of self.old) (kind_of item.entry)) cells }
+    {
+        let why = give(&mut self.source, item);
+        self.landing.land(item.is_frame(), number, why);
+        match why {
+            Some(why) => Err(refused(why)),
+            None => {
+                self.journal.push(number, self.source.ticks(), item);
+                Ok(())
+            }
+        }
+    }
+
+    /// Makes the next frame, for which the send rings have slots and the return cell is there that it needs.
+    fn make_frame(&mut self)
+        requires left { ticks_of self.old < total_of self.old }
+        requires held { held_of self.old ≡ None }
+        requires free { AreFree self.old.tx.items }
+        requires cell { IsSome (needed (source_of self.old)) → inbox_of self.old ≢ [] }
+        ensures ticks { ticks_of self.new ≡ ticks_of self.old + 1 }
+        ensures script { SameScript self.old self.new }
+        ensures landed { SameLanded self.old self.new }
+        ensures ends { SameOuts self.old.tx.items self.new.tx.items }
+        ensures back { self.new.back ≡ self.old.back }
+        ensures made { (scenario : Scenario) →
+            HasMade (source_of self.old) scenario (taken_of self.old) →
+            HasMade (source_of self.new) scenario (taken_of self.new) }
+        ensures alike { (scenario : Scenario) →
+            HasMade (source_of self.old) scenario (taken_of self.old) →
+            ArePushedOf scenario self.old self.new }
+    {
+        let back = if self.source.needs_back().is_some() {
+            self.inbox.take()
+        } else {
+            None
+        };
+        self.source.tick(back, &mut self.frame);
+        push_frame(&mut self.tx, &self.frame);
+    }
+}
+
+/// Gives an item to the source, and answers why it is refused, where it is. Then nothing changes.
+fn give(source: &mut SourceCore, item: ItemRef) -> Option<Refusal>
+    ensures met { result ≡ met_by source.old (kind_of item.entry) }
+    ensures unchanged { IsSome result → source.new ≡ source.old }
+    ensures stands { (scenario : Scenario) (cells : List (Option Told)) →
+        HasMade source.old scenario cells →
+        HasMade source.new (with_kind scenario source.old.ticks (kind_of item.entry)) cells }
+    ensures ticks { source.new.ticks ≡ source.old.ticks }
+    ensures kind { SameKind source.new source.old }
+{
+    match item {
+        ItemRef::Frame(octets) => source.accept(octets).err().map(Refusal::Frame),
+        ItemRef::Add(line) => source.add(line).err().map(Refusal::Command),
+        ItemRef::Remove(line) => source.remove(line).err().map(Refusal::Command),
+    }
+}
+
+/// The items of a script.
+fn items_of(script: &Script) -> &[Item]
+    ensures { result.now ≡ script.now.items }
+{
+    &script.items.0
+}
+
+/// The return windows of a script.
+fn lost_of(script: &Script) -> &[(u32, u32)]
+    ensures { result.now ≡ script.now.config.lost }
+{
+    &script.config.lost.0
+}

@@ -1,0 +1,38 @@
+//! What lands, as it is handed in.
+
+/// An item that is handed in.
+#[derive(Clone, Copy, Debug)]
+pub enum ItemRef<'a> {
+    /// The client sends this Ethernet frame.
+    Frame(&'a [u8]),
+    /// The operator adds a line to the group.
+    Add(u8),
+    /// The operator removes a line from the group.
+    Remove(u8),
+}
+
+impl ItemRef<'_> {
+    ghost use Rattle.std.specs.Prelude.{◌≡◌};
+    ghost use Rattle.walk_law.specs.Landed.{is_client};
+    ghost use Rattle.group_lock.specs.Item.{kind_of, size_of};
+
+    /// Whether it is the client's.
+    pub(crate) fn is_frame(self) -> bool
+        ensures { result ≡ is_client (kind_of self.entry) }
+    {
+        match self {
+            ItemRef::Frame(_) => true,
+            ItemRef::Add(_) | ItemRef::Remove(_) => false,
+        }
+    }
+
+    /// How many octets it has.
+    pub(crate) fn len(self) -> usize
+        ensures { result ≡ size_of (kind_of self.entry) }
+    {
+        match self {
+            ItemRef::Frame(octets) => octets.len(),
+            ItemRef::Add(_) | ItemRef::Remove(_) => 0,
+        }
+    }
+}

@@ -1,0 +1,54 @@
+//! What a tick does to the ends of the rings of a group.
+
+ghost use Rattle.std.specs.Prelude.{◌≡◌, ◌<◌, ◌≤◌, ◌+◌, [], length, MatchOption, All};
+ghost use Rattle.vc_cell.specs.declared.Container.{Container};
+ghost use Rattle.outside_io.specs.Faults.{one_more};
+ghost use Rattle.member_ring.specs.Ends.{in_passed, in_misses};
+ghost use Rattle.group_lock.specs.Inbox.{HasCome};
+ghost use Rattle.group_lock.specs.Rings.{AreFree, IsFirstFull, HaveLooked, ArePushed, HasMoved};
+
+use crate::inbox::Inbox;
+use member_ring::{RingIn, RingOut};
+use vc_cell::{BackCell, Container};
+
+/// Moves return cells into the inbox until a look finds none, or the inbox is full.
+pub(crate) fn take_cells(inbox: &mut Inbox, back: &mut RingIn<BackCell>)
+    requires room { length inbox.old.cells ≤ inbox.old.room }
+    requires few { inbox.old.come + inbox.old.room < 4294967295 }
+    ensures moved { HasMoved inbox.old inbox.new back.old back.new }
+    ensures missed { inbox.new.cells ≡ [] → 0 < inbox.old.room →
+        in_misses back.new ≡ one_more (in_misses back.old) }
+{
+    while !inbox.is_full() {
+        if !back.ready() {
+            return;
+        }
+        inbox.put(back.pop());
+    }
+}
+
+/// The first line whose send ring has no free slot, as far as looks tell.
+pub(crate) fn first_full(tx: &mut Vec<RingOut<Container>>) -> Option<u8>
+    requires { length tx.old.items ≤ 128 }
+    ensures looked { HaveLooked tx.old.items tx.new.items }
+    ensures full { MatchOption result (AreFree tx.new.items)
+        (λ line. IsFirstFull tx.old.items tx.new.items line) }
+{
+    for m in 0..tx.len() {
+        if !tx[m].ready() {
+            return Some(m as u8);
+        }
+    }
+    None
+}
+
+/// Pushes a frame, a container for each line.
+pub(crate) fn push_frame(tx: &mut Vec<RingOut<Container>>, frame: &[Container])
+    requires places { length frame.now ≡ length tx.old.items }
+    requires free { AreFree tx.old.items }
+    ensures { ArePushed frame.now tx.old.items tx.new.items }
+{
+    for m in 0..tx.len() {
+        tx[m].push(frame[m]);
+    }
+}
