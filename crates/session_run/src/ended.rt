@@ -1,0 +1,16 @@
+//! What a session leaves.
+
+use group_lock::GroupState;
+use member_ring::LineWorker;
+use sink_worker::SinkWorker;
+
+/// The parts of a session that has ended, with both ends of each ring.
+#[derive(Drop)]
+pub struct Ended {
+    /// The group, which has made all ticks.
+    pub group: GroupState,
+    /// The workers of the lines, in the order of the lines.
+    pub lines: Vec<LineWorker>,
+    /// The worker of the sink, which has taken all rows.
+    pub sink: SinkWorker,
+}
