@@ -1,5 +1,5 @@
 //! A worker that carries the containers of a line from ring to ring.
-ghost use Rattle.std.specs.Prelude.{◌≡◌, ◌<◌, ◌++◌};
+ghost use Rattle.std.specs.Prelude.{◌≡◌, ◌+◌, ◌<◌, ◌≤◌, ◌++◌};
 ghost use Rattle.line_core.specs.Line.{Stands, path_cells};
 ghost use Rattle.line_core.specs.Carry.{carry_cells};
 ghost use Rattle.member_ring.specs.Ends.{out_passed, out_free, out_misses, in_passed, SameOut};
@@ -44,6 +44,8 @@ pub struct LineWorker {
     pub producer: RingOut<Cell>,
     ghost stands: { Stands core (calls_on core (in_passed consumer)) },
     ghost sent: { out_passed producer ≡ path_cells (calls_on core (in_passed consumer)) },
+    pub ghost order: { 0 < core.flushed → core.pushed ≡ core.total },
+    pub ghost flushes: { core.flushed ≤ core.delay + 1 },
 }
 
 impl LineWorker {

@@ -20,6 +20,8 @@ invariant_of-self-2 c =
       stands = subst (Stands c.flush_to-carry.new.self) next stands;
       sent = c.send.ensures.sent ∙ ap (λ l. l ++ carry_cells c.flush_to-carry.result c.flush_to-carry.new.out) (c.ready.ensures.passed ∙ old.sent)
           ∙ sym (c.flush_to-carry.ensures.cells calls old.stands) ∙ ap path_cells next;
+      order = λ some. let counts = c.flush_to-carry.ensures.counts in omega (arith, c.requires.pushed, counts.pushed, counts.total);
+      flushes = let counts = c.flush_to-carry.ensures.counts in omega (arith, c.requires.runs, counts.flushed, counts.delay);
     }
 
 pub returns-clause-later : goal.returns-clause-later

@@ -1,5 +1,5 @@
 -- Nothing was received, and the path has no cell yet.
-use Rattle.std.proofs.Common.{◌≡◌, sym, ◌∙◌, ap, subst}
+use Rattle.std.proofs.Common.{◌≡◌, sym, ◌∙◌, ap, subst, arith}
 use Rattle.line_core.specs.Line.{Stands, opened, path_cells}
 use Rattle.member_ring.specs.Ends.{in_passed}
 use Rattle.member_ring.specs.Calls.{calls_on}
@@ -14,4 +14,6 @@ invariant_of-result c =
     record {
       stands = subst (Stands line) calls c.requires.core;
       sent = c.requires.producer ∙ sym (opened-path line.delay line.windows line.total) ∙ ap path_cells calls;
+      order = λ some. absurd (omega (arith, some, c.requires.core.flushed));
+      flushes = omega (arith, c.requires.core.flushed);
     }

@@ -21,6 +21,8 @@ invariant_of-self-2 c =
       stands = subst (Stands c.push_from-carry.new.self) next stands;
       sent = c.send.ensures.sent ∙ ap (λ l. l ++ carry_cells c.push_from-carry.result c.push_from-carry.new.out) (c.ready-2.ensures.passed ∙ old.sent)
           ∙ sym (c.push_from-carry.ensures.cells calls old.stands) ∙ ap path_cells next;
+      order = λ some. absurd (let counts = c.push_from-carry.ensures.counts in let before = old.order in omega (arith, some, before, counts.flushed, c.requires));
+      flushes = let counts = c.push_from-carry.ensures.counts in omega (arith, old.flushes, counts.flushed, counts.delay);
     }
 
 pub returns-clause-later : goal.returns-clause-later

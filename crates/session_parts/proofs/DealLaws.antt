@@ -74,3 +74,14 @@ module _ {A S : Type 0} (items : S → List A) (test : ℕ → A → Bool) where
       was-there [] m was within is = absurd (omega arith)
       was-there (y ∷ ys) zero was within is = ap Some (sym is)
       was-there (y ∷ ys) (suc m) was within is = was-there ys m was (omega arith) is
+
+-- ---- a worker is taken back
+module _ {A S : Type 0} (items : S → List A) (test : ℕ → A → Bool) (R : A → A → Type 0) where
+  pub back-step : (shares : List S) (i : ℕ) (now : S) (past : List A) (x : A) → i < length shares → AllZip R (filter (test i) past) (items now) →
+      ((w : ℕ) → (w ≡ i → ⊥) → test w x ≡ false) →
+      ((w : ℕ) (share : S) → slice_get shares w ≡ Some share → AllZip R (filter (test w) (past ++ x ∷ [])) (items share)) →
+      (w : ℕ) (share : S) → slice_get (set shares i now) w ≡ Some share → AllZip R (filter (test w) past) (items share)
+  back-step shares i now past x within mine others back w share e = elim (set-found shares i w now share within e) [
+    | inl (same, is) ↦ rw (same, is) mine
+    | inr (other, is) ↦ subst (λ l. AllZip R l (items share)) (filter-without (test w) past x (others w other)) (back w share is)
+  ]

@@ -2,7 +2,7 @@
 ghost use Rattle.std.specs.Prelude.{◌≡◌, ◌+◌, ◌<◌, ◌≤◌, List, [], ◌∷◌, ◌++◌, length, vec_len};
 ghost use Rattle.std.specs.Vec.{vec_capacity};
 ghost use Rattle.member_ring.specs.declared.worker.LineWorker.{LineWorker};
-ghost use Rattle.session_run.specs.Lines.{AreNumbered, AreDealt, AreBack, AreLater, HaveRoom};
+ghost use Rattle.session_parts.specs.Lines.{AreNumbered, AreDealt, AreBack, AreLater, HaveRoom};
 
 use member_ring::LineWorker;
 

@@ -1,0 +1,2 @@
+pub mod DealLaws
+pub mod CollectLaws

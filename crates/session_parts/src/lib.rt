@@ -1,0 +1,4 @@
+//! The parts of a session that need no group.
+#![tactic(auto)]
+
+mod deal;
