@@ -1,2 +1,3 @@
 pub mod DealLaws
 pub mod CollectLaws
+pub mod ZipLaws

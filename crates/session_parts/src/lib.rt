@@ -2,3 +2,4 @@
 #![tactic(auto)]
 
 mod deal;
+mod line_thread;
