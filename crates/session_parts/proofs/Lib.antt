@@ -1,3 +1,7 @@
 pub mod DealLaws
 pub mod CollectLaws
 pub mod ZipLaws
+pub mod RunLaws
+pub mod PairLaws
+pub mod EndedLaws
+pub mod SessionLaws

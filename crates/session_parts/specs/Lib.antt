@@ -1,2 +1,5 @@
 pub mod Lines
 pub mod Held
+pub mod Duty
+pub mod Laid
+pub mod Session

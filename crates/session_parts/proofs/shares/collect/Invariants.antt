@@ -4,7 +4,7 @@ use Rattle.std.specs.Prelude.{reverse}
 use Rattle.std.specs.Vec.{vec_capacity}
 use Rattle.member_ring.specs.declared.worker.LineWorker.{LineWorker}
 use Rattle.session_parts.specs.Lines.{AreNumbered, AreBack, AreLater}
-use Rattle.session_parts.proofs.deal.collect.Given as goal
+use Rattle.session_parts.proofs.shares.collect.Given as goal
 
 abbrev pub invariant-loop-line : goal.invariant-loop-line
 invariant-loop-line l = record {

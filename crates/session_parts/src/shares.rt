@@ -7,7 +7,7 @@ ghost use Rattle.session_parts.specs.Lines.{AreNumbered, AreDealt, AreBack, AreL
 use member_ring::LineWorker;
 
 /// Deals the workers of all lines: share `w` of `n` gets those of the lines `m` with `m mod n = w`.
-pub(crate) fn deal(lines: Vec<LineWorker>, shares: Vec<Vec<LineWorker>>) -> Vec<Vec<LineWorker>>
+pub fn deal(lines: Vec<LineWorker>, shares: Vec<Vec<LineWorker>>) -> Vec<Vec<LineWorker>>
     requires some { 0 < vec_len shares }
     requires numbers { AreNumbered 0 lines.items }
     requires room { HaveRoom (vec_len lines) shares.items }
@@ -38,7 +38,7 @@ fn take_last(share: &mut Vec<LineWorker>, lines: &mut Vec<LineWorker>)
 }
 
 /// Brings the workers of so many lines back into the order of the lines.
-pub(crate) fn collect(
+pub fn collect(
     shares: Vec<Vec<LineWorker>>,
     count: usize,
     room: Vec<LineWorker>,

@@ -3,7 +3,7 @@ use Rattle.std.proofs.Common.{◌≡◌, ℕ, suc, ◌+◌, ◌-◌, ◌%◌, �
 use Rattle.std.specs.Prelude.{reverse}
 use Rattle.session_parts.specs.Lines.{AreNumbered, AreBack, AreLater}
 use Rattle.session_parts.proofs.CollectLaws.{taken-back}
-use Rattle.session_parts.proofs.deal.collect.Goals as goal
+use Rattle.session_parts.proofs.shares.collect.Goals as goal
 
 pub loop-line-preserved : goal.loop-line-preserved
 loop-line-preserved c =

@@ -10,7 +10,7 @@ use Rattle.member_ring.specs.declared.worker.LineWorker.{LineWorker}
 use Rattle.member_ring.specs.Worker.{number_of}
 use Rattle.session_parts.specs.Lines.{AreNumbered, share_of}
 use Rattle.session_parts.proofs.DealLaws.{dealt-step, set-found}
-use Rattle.session_parts.proofs.deal.deal.Goals as goal
+use Rattle.session_parts.proofs.shares.deal.Goals as goal
 
 numbered-rest : (from next : ℕ) (first : LineWorker) (rest all : List LineWorker) → all ≡ first ∷ rest → next ≡ from + 1 → AreNumbered from all → AreNumbered next rest
 numbered-rest from next first rest all is more numbered k worker there =
