@@ -5,3 +5,4 @@ pub mod RunLaws
 pub mod PairLaws
 pub mod EndedLaws
 pub mod SessionLaws
+pub mod OpenLaws

@@ -38,7 +38,7 @@ use Rattle.member_ring.specs.declared.ends.RingOut.{RingOut}
 use Rattle.member_ring.specs.declared.ends.RingIn.{RingIn}
 use Rattle.member_ring.specs.Ends.{out_passed, in_passed, in_items}
 use Rattle.member_ring.specs.declared.worker.LineWorker.{LineWorker}
-use Rattle.session_parts.specs.Session.{IsLineOf, IsGathered, session_backs}
+use Rattle.session_parts.specs.Session.{IsGathered, session_backs}
 use Rattle.session_parts.proofs.EndedLaws.{HasCarried, line-carried, whole-prefix, backs-are}
 
 some-of : {X Y : Type 0} (f : X → Y) (o : Option X) (y : Y) → option_map f o ≡ Some y → (x : X) × (o ≡ Some x) × (f x ≡ y)
@@ -100,8 +100,7 @@ module _ (script : Script) (returns : List (Option Told)) (tx : List (RingOut Co
   }
 
 -- ---- the sink, where the source was told what it said
-module _ (script : Script) (valid : IsValid script) (n : ℕ) (own : List (List Cell)) (course : IsCourse (scenario_of script) script.config.ticks n own)
-    (decided : (t : ℕ) → t < script.config.ticks → AreDecidedAt own t) where
+module _ (script : Script) (valid : IsValid script) (n : ℕ) (own : List (List Cell)) (course : IsCourse (scenario_of script) script.config.ticks n own) where
   can : CanWalk script
   can = valid-walks script valid
 
@@ -113,16 +112,16 @@ module _ (script : Script) (valid : IsValid script) (n : ℕ) (own : List (List 
       same-range (container_of (scenario_of script) (told_of (scenario_of script) own n) m) (container_of (scenario_of script) (session_cells (scenario_of script)) m) script.config.ticks
       (course-containers (scenario_of script) script.config.ticks n own (has-lines script can) lag course m)
 
-  pub frames-session : given_frames script.config.size own script.config.ticks ≡ delivered_of script script.config.ticks
-  frames-session =
+  pub frames-session : ((t : ℕ) → t < script.config.ticks → AreDecidedAt own t) → given_frames script.config.size own script.config.ticks ≡ delivered_of script script.config.ticks
+  frames-session decided =
       session-frames (scenario_of script) (session_cells (scenario_of script)) own script.config.ticks
       (λ t low. course-rows (scenario_of script) script.config.ticks n own (has-lines script can) lag course t low (decided t low))
 
   packet-low : (ticks k : ℕ) → k < (ticks - 8) / 16 → 16 * k + 23 < ticks
   packet-low ticks k low = omega (arith, low)
 
-  pub backs-session : backs own script.config.ticks ≡ session_backs script
-  backs-session =
+  pub backs-session : ((t : ℕ) → t < script.config.ticks → AreDecidedAt own t) → backs own script.config.ticks ≡ session_backs script
+  backs-session decided =
       backs-are own script.config.ticks
       ∙ same-range (λ k. Nibbles (packet_nibbles (return_at own k))) (λ k. Nibbles (packet_nibbles (said_packet script k))) (packets_in script.config.ticks)
       (λ k low.

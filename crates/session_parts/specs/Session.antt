@@ -1,5 +1,5 @@
 -- A session that has ended, by the lists that its rings have passed.
-use Rattle.std.specs.Prelude.{◌≡◌, ℕ, ◌+◌, ◌<◌, List, [], ◌++◌, map, length, slice_get, slice_index_or, Option, Some}
+use Rattle.std.specs.Prelude.{◌≡◌, ℕ, ◌+◌, ◌<◌, List, [], ◌++◌, map, length, slice_get, Option, Some}
 use Rattle.std.specs.List.{range_with_len}
 use Rattle.vc_cell.specs.declared.Container.{Container}
 use Rattle.vc_cell.specs.declared.Cell.{Cell}
@@ -18,17 +18,10 @@ use Rattle.member_ring.specs.declared.ends.RingOut.{RingOut}
 use Rattle.member_ring.specs.declared.ends.RingIn.{RingIn}
 use Rattle.member_ring.specs.Ends.{out_passed, in_passed, in_items}
 use Rattle.member_ring.specs.declared.worker.LineWorker.{LineWorker}
-use Rattle.member_ring.specs.Worker.{number_of, delay_of, windows_of, total_of}
 use Rattle.sink_worker.specs.declared.worker.SinkWorker.{SinkWorker}
 use Rattle.sink_worker.specs.Worker.{cells_of, taken_of, got_of}
 use Rattle.session_parts.specs.Laid.{AreDone}
-
--- a worker is that of line m of a script
-pub record IsLineOf (script : Script) (m : ℕ) (worker : LineWorker) : Type 0 where
-  pub number : number_of worker ≡ m
-  pub delay : delay_of worker ≡ delay_on script m
-  pub windows : windows_of worker ≡ slice_index_or script.config.windows m []
-  pub total : total_of worker ≡ script.config.ticks
+use Rattle.session_parts.specs.Opened.{IsLineOf}
 
 -- ---- what the ends of all rings say once they were laid beside each other, where the source was told these return cells
 pub record IsGathered (script : Script) (returns : List (Option Told)) (tx : List (RingOut Container)) (workers : List LineWorker) (rx : List (RingIn Cell)) : Type 0 where
@@ -36,7 +29,7 @@ pub record IsGathered (script : Script) (returns : List (Option Told)) (tx : Lis
   pub workers_count : length workers ≡ script.config.lines
   pub rx_count : length rx ≡ script.config.lines
   pub sent : (m : ℕ) (out : RingOut Container) → slice_get tx m ≡ Some out → out_passed out ≡ containers_of (scenario_of script) returns m script.config.ticks
-  pub lines : (m : ℕ) (worker : LineWorker) → slice_get workers m ≡ Some worker → IsLineOf script m worker
+  pub lines : (m : ℕ) (worker : LineWorker) → slice_get workers m ≡ Some worker → IsLineOf script.config m worker
   pub done : AreDone workers
   pub sends : (m : ℕ) (out : RingOut Container) (worker : LineWorker) → slice_get tx m ≡ Some out → slice_get workers m ≡ Some worker →
       in_passed worker.consumer ++ in_items worker.consumer ≡ out_passed out
@@ -50,7 +43,7 @@ session_backs script = map (λ k. Nibbles (packet_nibbles (said_packet script k)
 
 -- the worker of line m received all containers of the session on that line, and sent all cells of its path
 pub record IsLineEnded (script : Script) (m : ℕ) (worker : LineWorker) : Type 0 where
-  pub line : IsLineOf script m worker
+  pub line : IsLineOf script.config m worker
   pub received : in_passed worker.consumer ≡ sent_on (scenario_of script) m
   pub sent : out_passed worker.producer ≡ line_cells script m
 

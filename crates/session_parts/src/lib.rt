@@ -2,12 +2,16 @@
 //! calling thread; and the ends of rings are laid beside each other at the end. Begin with `start_shares` and `Duty`.
 #![tactic(auto)]
 
-mod shares;
 mod duty;
+mod laws;
 mod lay;
 mod line_thread;
+mod open;
+mod shares;
 
+pub use open::{OpenedLines, open_lines};
 pub use shares::{collect, deal};
 pub use duty::{Duty, SinkDuty, Turned, take_back};
+pub use laws::{ended_law, gathered_law};
 pub use lay::{carry_all, lay_receives, lay_sends};
 pub use line_thread::{Held, Kept, serve_all_here, start_shares, take_all_back};
