@@ -16,17 +16,17 @@ use Rattle.group_lock.specs.declared.group.GroupState.{GroupState}
 use Rattle.group_lock.specs.Group.{SameScript, ticks_of, total_of, journal_of, refusals_of, taken_of, source_of, replay_of, Stands, fault_in, entries_by, HasCounted, LeavesRoom, with_landed, SameRings, SameLanded, is_ticked, held_of, IsFreeToTick, IsMissing, ArePushedOf, NothingPushed}
 
 -- an item was handed in, which isn't accepted for this fault, or is accepted
-pub record Submits (a b : GroupState) (number : ℕ) (kind : ItemKind) (fault : Option SubmitFault) : Type 0 where
-  pub fault : fault ≡ fault_in a number kind
-  pub unchanged : has_landed fault ≡ false → b ≡ a
-  pub landed : HasCounted a b kind (has_landed fault)
-  pub journal : journal_of b ≡ journal_of a ++ entries_by fault number (ticks_of a) kind
-  pub room : LeavesRoom a b kind fault
-  pub refusals : IsPlaced number (refused_by number (refusal_told fault)) (refusals_of a) (refusals_of b)
+pub record Submits (a b : GroupState) (number : ℕ) (kind : ItemKind) (answer : Option SubmitFault) : Type 0 where
+  pub fault : answer ≡ fault_in a number kind
+  pub unchanged : has_landed answer ≡ false → b ≡ a
+  pub landed : HasCounted a b kind (has_landed answer)
+  pub journal : journal_of b ≡ journal_of a ++ entries_by answer number (ticks_of a) kind
+  pub room : LeavesRoom a b kind answer
+  pub refusals : IsPlaced number (refused_by number (refusal_told answer)) (refusals_of a) (refusals_of b)
   pub script : SameScript a b
   pub rings : SameRings a b
   pub made : (scenario : Scenario) (cells : List (Option Told)) → HasMade (source_of a) scenario cells →
-      HasMade (source_of b) (with_landed scenario (ticks_of a) kind (has_landed fault)) cells
+      HasMade (source_of b) (with_landed scenario (ticks_of a) kind (has_landed answer)) cells
   pub stands : Stands b
 
 -- a tick was tried

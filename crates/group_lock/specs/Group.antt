@@ -24,7 +24,7 @@ use Rattle.group_lock.specs.declared.answer.SubmitFault.{SubmitFault}
 use Rattle.group_lock.specs.declared.answer.SubmitFault.TheVariants.{NotNext, Early, JournalFull}
 use Rattle.group_lock.specs.declared.answer.TickAnswer.{TickAnswer}
 use Rattle.group_lock.specs.declared.answer.TickAnswer.TheVariants.{Ticked, Held, TxFull, BackMissing, Done}
-use Rattle.group_lock.specs.Item.{bare_items, size_of as octets_of}
+use Rattle.group_lock.specs.Item.{bare_items, size_of as octet_count}
 use Rattle.group_lock.specs.Lands.{with_kind}
 use Rattle.group_lock.specs.Answer.{fault_of, has_landed}
 use Rattle.group_lock.specs.Journal.{Journal, entry_of, items_in, fits, IsLegal}
@@ -182,7 +182,7 @@ room_for (Some fault) n = 0
 
 pub record LeavesRoom (a b : GroupState) (kind : ItemKind) (fault : Option SubmitFault) : Type 0 where
   pub slots : slots_of b + room_for fault 1 ≡ slots_of a
-  pub bytes : bytes_of b + room_for fault (octets_of kind) ≡ bytes_of a
+  pub bytes : bytes_of b + room_for fault (octet_count kind) ≡ bytes_of a
 
 -- a session in which it lands too, where it does
 abbrev pub with_landed : Scenario → ℕ → ItemKind → Bool → Scenario

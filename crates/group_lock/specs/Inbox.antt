@@ -42,5 +42,5 @@ with_come inbox cell = record inbox { cells = inbox.cells ++ come_by (is_lost_in
 -- the inbox holds what has come of these received cells, but the first ones, which were taken
 pub record HasCome (inbox : Inbox) (received : List BackCell) (used : ℕ) : Type 0 where
   pub come : inbox.come ≡ length received
-  pub used : used ≤ length received
+  pub within : used ≤ length received
   pub cells : inbox.cells ≡ drop used (come_from inbox.lost 0 received)

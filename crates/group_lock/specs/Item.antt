@@ -12,6 +12,12 @@ kind_of (frame_ref octets) = Frame octets.now
 kind_of (add_ref line) = Add line
 kind_of (remove_ref line) = Remove line
 
+-- the octets of a frame; a command has none
+abbrev pub octets_of : ItemKind → List ℕ
+octets_of (Frame octets) = octets
+octets_of (Add line) = []
+octets_of (Remove line) = []
+
 -- how many octets it has
 abbrev pub size_of : ItemKind → ℕ
 size_of (Frame octets) = length octets

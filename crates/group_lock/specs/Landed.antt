@@ -1,5 +1,5 @@
 -- What has landed in a group.
-use Rattle.std.specs.Prelude.{◌≡◌, ℕ, ◌+◌, ◌<◌, ◌≤◌, nat_lt, Bool, true, false, if◌then◌else◌, List, [], length, slice_get, All, Option, Some, None}
+use Rattle.std.specs.Prelude.{◌≡◌, ℕ, ◌+◌, ◌<◌, ◌≤◌, nat_lt, Bool, true, false, if◌then◌else◌, List, [], ◌∷◌, length, slice_get, All, Option, Some, None}
 use Rattle.std.specs.List.Sorted.{IsNonDecreasing}
 use Rattle.session_model.specs.declared.script.Item.{Item}
 use Rattle.session_model.specs.Counts.{dues_of, frame_dues, command_dues}
@@ -46,29 +46,30 @@ abbrev pub AreAfter : ℕ → List (ℕ × Refusal) → Type 0
 AreAfter number refusals = All (λ (refused : ℕ × Refusal). number < refused.0) refusals
 
 -- they stand in the order of the items, each item once
-abbrev pub AreInOrder : List (ℕ × Refusal) → Type 0
-AreInOrder refusals = (i j : ℕ) (one other : ℕ × Refusal) → i < j → slice_get refusals i ≡ Some one → slice_get refusals j ≡ Some other → one.0 < other.0
+unfoldable pub AreInOrder : List (ℕ × Refusal) → Type 0
+AreInOrder [] = Unit {0}
+AreInOrder (refused ∷ refusals) = AreAfter refused.0 refusals × AreInOrder refusals
 
 -- they are of items other than this one
 pub record AreOthers (number : ℕ) (refusals : List (ℕ × Refusal)) : Type 0 where
   pub order : AreInOrder refusals
-  pub other : (i : ℕ) (one : ℕ × Refusal) → slice_get refusals i ≡ Some one → one.0 ≡ number → ⊥
+  pub other : All (λ (refused : ℕ × Refusal). refused.0 ≡ number → ⊥) refusals
 
 -- each is of an item that has landed
 abbrev pub AreOfLanded : Landed → Type 0
-AreOfLanded landed = (i : ℕ) (one : ℕ × Refusal) (item : Item) → slice_get landed.refusals i ≡ Some one → slice_get landed.items one.0 ≡ Some item →
-    one.0 < next_place landed (is_client item.kind)
+AreOfLanded landed = All (λ (refused : ℕ × Refusal). (item : Item) → slice_get landed.items refused.0 ≡ Some item →
+    refused.0 < next_place landed (is_client item.kind)) landed.refusals
 
 -- what is kept of it: the places of the next frame and the next command, and room for a refusal of each item
-pub record IsLanded (landed : Landed) (frame command room : ℕ) : Type 0 where
-  pub frame : frame ≡ next_place landed true
-  pub command : command ≡ next_place landed false
+pub record IsLanded (landed : Landed) (next_frame next_command space : ℕ) : Type 0 where
+  pub frame : next_frame ≡ next_place landed true
+  pub command : next_command ≡ next_place landed false
   pub few : length landed.items ≤ 67108864
   pub frames : IsNonDecreasing (frame_dues (dues_of landed.items))
   pub commands : IsNonDecreasing (command_dues (dues_of landed.items))
   pub most_frames : landed.frames ≤ length (frame_dues (dues_of landed.items))
   pub most_commands : landed.commands ≤ length (command_dues (dues_of landed.items))
   pub order : AreInOrder landed.refusals
-  pub landed : AreOfLanded landed
+  pub of_landed : AreOfLanded landed
   pub refused : length landed.refusals ≤ landed.frames + landed.commands
-  pub room : length landed.items ≤ room
+  pub room : length landed.items ≤ space

@@ -6,13 +6,14 @@ use Rattle.session_model.specs.declared.script.Item.{Item}
 use Rattle.session_model.specs.Scenario.{Scenario}
 use Rattle.session_model.specs.Table.{Told}
 use Rattle.session_model.specs.Sent.{containers_of}
-use Rattle.session_model.specs.Counts.{dues_of, frame_dues, command_dues, used_in}
+use Rattle.session_model.specs.Counts.{dues_of, used_in}
 use Rattle.member_ring.specs.declared.ends.RingOut.{RingOut}
 use Rattle.member_ring.specs.declared.ends.RingIn.{RingIn}
 use Rattle.member_ring.specs.Ends.{out_passed, in_passed}
 use Rattle.source_core.specs.Terminal.{Terminal}
 use Rattle.source_core.specs.Given.{Stands as HasMade}
 use Rattle.walk_law.specs.Landed.{Numbered}
+use Rattle.walk_law.proofs.LandLaws.{Ahead}
 use Rattle.group_lock.specs.Journal.{Journal, Setting, journal_scenario, IsLegal}
 use Rattle.group_lock.specs.Landed.{Landed, due_at}
 use Rattle.group_lock.specs.Inbox.{Inbox, told_taken, HasCome}
@@ -57,18 +58,18 @@ AreSent scenario cells ticks ends =
 abbrev pub AreDue : List Item → List Numbered → Type 0
 AreDue items entries = (i : ℕ) (entry : Numbered) → slice_get entries i ≡ Some entry → entry.item.due ≡ due_at items entry.number
 
--- the next item of a kind, where there is one, isn't due before these ticks
-abbrev pub WaitsFrom : ℕ → List ℕ → ℕ → Type 0
-WaitsFrom ticks dues landed = (due : ℕ) → slice_get dues landed ≡ Some due → ticks ≤ due
+-- each entry landed after no more ticks than these
+abbrev pub ArePast : ℕ → List Numbered → Type 0
+ArePast ticks entries = (i : ℕ) (entry : Numbered) → slice_get entries i ≡ Some entry → entry.item.due ≤ ticks
 
 -- the source was given the journal, and its containers were sent; the inbox holds the rest of the return cells. There is a place for a
 -- container of each line
-pub record Keeps (at : Parts) (places : ℕ) : Type 0 where
+pub record Keeps (at : Parts) (size : ℕ) : Type 0 where
   pub total : at.total ≤ 1000000
   pub ticks : at.source.ticks ≤ at.total
   pub lines : at.source.lines ≤ 128
   pub lag : at.source.lag ≤ 512
-  pub places : places ≡ at.source.lines
+  pub places : size ≡ at.source.lines
   pub rings : length at.tx ≡ at.source.lines
   pub room : at.inbox.room ≡ at.source.lag + 1
   pub come : HasCome at.inbox (in_passed at.back) (used_in at.source.lag at.source.ticks)
@@ -76,5 +77,5 @@ pub record Keeps (at : Parts) (places : ℕ) : Type 0 where
   pub sent : AreSent (scenario_in at) (told_in_parts at) at.source.ticks at.tx
   pub legal : IsLegal (scenario_in at) (told_in_parts at) at.journal.entries
   pub due : AreDue at.landed.items at.journal.entries
-  pub frames : WaitsFrom at.source.ticks (frame_dues (dues_of at.landed.items)) at.landed.frames
-  pub commands : WaitsFrom at.source.ticks (command_dues (dues_of at.landed.items)) at.landed.commands
+  pub past : ArePast at.source.ticks at.journal.entries
+  pub ahead : Ahead (dues_of at.landed.items) at.source.ticks at.landed.frames at.landed.commands

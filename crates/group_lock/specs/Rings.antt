@@ -1,5 +1,5 @@
 -- What a tick does to the ends of the rings of a group.
-use Rattle.std.specs.Prelude.{◌≡◌, ℕ, ◌+◌, ◌<◌, ◌≤◌, List, [], ◌∷◌, ◌++◌, length, slice_get, Option, Some}
+use Rattle.std.specs.Prelude.{◌≡◌, ◌⊎◌, ℕ, ◌+◌, ◌<◌, ◌≤◌, List, [], ◌∷◌, ◌++◌, length, slice_get, Option, Some}
 use mathlib.Core.List.{IsPrefix}
 use Rattle.outside_io.specs.Faults.{one_more}
 use Rattle.vc_cell.specs.declared.Container.{Container}
@@ -32,7 +32,7 @@ pub record HasLooked (old new : RingOut Container) : Type 0 where
   pub same : SameOut old new
   pub passed : out_passed new ≡ out_passed old
   pub free : out_free old ≤ out_free new
-  pub misses : out_misses old ≤ out_misses new
+  pub misses : (out_misses new ≡ out_misses old) ⊎ (out_misses new ≡ one_more (out_misses old))
 
 pub record HaveLooked (a b : List (RingOut Container)) : Type 0 where
   pub count : length b ≡ length a

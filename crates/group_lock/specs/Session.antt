@@ -78,7 +78,7 @@ pub record HasLandedOf (script : Script) (g : GroupState) : Type 0 where
 
 -- a group is bound to a script and to the ends of its rings as they were made
 pub record IsBound (script : Script) (tx : List (RingOut Container)) (back : List (RingIn BackCell)) (g : GroupState) : Type 0 where
-  pub script : IsOf script g
+  pub of_script : IsOf script g
   pub sends : SameOuts tx g.tx.items
   pub returns : SameIns back (g.back ∷ [])
   pub room : HasRoom script g

@@ -68,7 +68,7 @@ impl<Y: Session> BoundGroup<Y> {
 
     /// Lands an item, which is the one of this number in the session's script, as `GroupState::submit` does. The journal has room for it.
     pub fn submit(&mut self, number: u32, item: ItemRef) -> Result<(), SubmitFault>
-        requires { IsItemOf Y.script number (kind_of item.entry) }
+        requires { IsItemOf Y.script number (kind_of item) }
         ensures submits { Submits self.old.state self.new.state number (kind_of item.entry)
             (refusal_in result) }
         ensures room { is_full (refusal_in result) ≡ false }

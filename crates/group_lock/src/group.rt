@@ -222,9 +222,9 @@ impl GroupState {
 
     /// Lands an item that is the next of its kind, is due, and has room in the journal.
     fn land(&mut self, number: u32, item: ItemRef) -> Result<(), SubmitFault>
-        requires next { next_of self.old (kind_of item.entry) ≡ Some number }
+        requires next { next_of self.old (kind_of item) ≡ Some number }
         requires due { due_at (items_of self.old) number ≤ ticks_of self.old }
-        requires room { fits (parts_of self.old).journal (kind_of item.entry) ≡ true }
+        requires room { fits (parts_of self.old).journal (kind_of item) ≡ true }
         ensures fault { refusal_in result
             ≡ option_map fault_of (refusal_of self.old (kind_of item.entry)) }
         ensures landed { HasCounted self.old self.new (kind_of item.entry) true }

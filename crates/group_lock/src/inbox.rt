@@ -2,7 +2,7 @@
 
 ghost use Rattle.std.specs.Prelude.{◌≡◌, ◌<◌, ◌≤◌, ◌+◌, ◌↔◌, [], ◌∷◌, ◌++◌, length, drop, slice_get, IfOk, IsTrue};
 ghost use Rattle.walk_parts.specs.Return.{is_lost_in};
-ghost use Rattle.group_lock.specs.Inbox.{Inbox as Kept, empty_inbox, with_come, come_by};
+ghost use Rattle.group_lock.specs.Inbox.{empty_inbox, with_come};
 
 use circular_buffer::HeapCircularBuffer;
 use std::alloc::{AllocError, Global};

@@ -12,7 +12,7 @@ pub enum ItemRef<'a> {
 }
 
 impl ItemRef<'_> {
-    ghost use Rattle.std.specs.Prelude.{◌≡◌};
+    ghost use Rattle.std.specs.Prelude.{◌≡◌, if◌then◌else◌};
     ghost use Rattle.walk_law.specs.Landed.{is_client};
     ghost use Rattle.group_lock.specs.Item.{kind_of, size_of};
 
@@ -23,6 +23,16 @@ impl ItemRef<'_> {
         match self {
             ItemRef::Frame(_) => true,
             ItemRef::Add(_) | ItemRef::Remove(_) => false,
+        }
+    }
+
+    /// How many frames it is.
+    pub(crate) fn frames(self) -> u32
+        ensures { result ≡ (if is_client (kind_of self.entry) then 1 else 0) }
+    {
+        match self {
+            ItemRef::Frame(_) => 1,
+            ItemRef::Add(_) | ItemRef::Remove(_) => 0,
         }
     }
 

@@ -1,9 +1,11 @@
 //! The journal of what a group has accepted.
 
-ghost use Rattle.std.specs.Prelude.{◌≡◌, ◌+◌, ◌-◌, ◌≤◌, ◌<◌, ◌&&◌, nat_le, [], ◌∷◌, ◌++◌, length, IfOk};
+ghost use Rattle.std.specs.Prelude.{◌≡◌, ◌+◌, ◌≤◌, ◌<◌, [], ◌∷◌, ◌++◌, length, IfOk};
 ghost use Rattle.session_model.specs.Scenario.{offers_of, orders_of};
-ghost use Rattle.group_lock.specs.Item.{kind_of, size_of};
-ghost use Rattle.group_lock.specs.Journal.{Journal as Kept, items_in, entry_of, fits};
+ghost use Rattle.std.specs.Vec.{vec_capacity};
+ghost use Rattle.group_lock.specs.Item.{kind_of, size_of, octets_of};
+ghost use Rattle.group_lock.specs.Journal.{items_in, entry_of, fits};
+ghost use Rattle.group_lock.specs.Entries.{kind_in, IsThere};
 
 use crate::item::ItemRef;
 use std::alloc::{AllocError, Global};
@@ -34,9 +36,8 @@ pub(crate) struct Journal {
     /// How many entries and octets are left.
     slots: u32,
     bytes: u64,
-    /// How many entries are frames, and how many commands.
+    /// How many entries are frames.
     frames: u32,
-    commands: u32,
 }
 
 impl Model for Journal {
@@ -49,7 +50,7 @@ impl Model for Journal {
 
     ghost view = { λ j. record { entries = entries_in j.octets.items j.entries.items; slots = j.slots; bytes = j.bytes } };
 
-    ghost invariant = { λ j. AreEntries j.octets.items j.entries.items j.slots j.bytes (vec_capacity j.entries) (vec_capacity j.octets) j.frames j.commands };
+    ghost invariant = { λ j. AreEntries j.octets.items j.entries.items j.slots j.bytes (vec_capacity j.entries) (vec_capacity j.octets) j.frames };
 }
 
 impl Journal {
@@ -64,7 +65,6 @@ impl Journal {
             slots,
             bytes,
             frames: 0,
-            commands: 0,
         })
     }
 
@@ -93,7 +93,7 @@ impl Journal {
     pub(crate) fn commands(&self) -> u32
         ensures { result ≡ length (orders_of (items_in self.now.entries)) }
     {
-        self.commands
+        self.entries.len() as u32 - self.frames
     }
 
     /// Whether an item has room.
@@ -106,34 +106,39 @@ impl Journal {
     /// Takes an item that has landed after so many ticks, and has room.
     pub(crate) fn push(&mut self, number: u32, ticks: u32, item: ItemRef)
         requires slots { 0 < self.old.slots }
-        requires bytes { size_of (kind_of item.entry) ≤ self.old.bytes }
+        requires bytes { size_of (kind_of item) ≤ self.old.bytes }
         ensures entries { self.new.entries
             ≡ self.old.entries ++ entry_of number ticks (kind_of item.entry) ∷ [] }
         ensures slots { self.new.slots + 1 ≡ self.old.slots }
         ensures bytes { self.new.bytes + size_of (kind_of item.entry) ≡ self.old.bytes }
     {
-        let from = self.octets.len();
-        let what = match item {
-            ItemRef::Frame(octets) => {
-                let _room_was_reserved = self.octets.extend_from_slice(octets);
-                self.bytes -= octets.len() as u64;
-                self.frames += 1;
-                Entered::Frame(from, from + octets.len())
-            }
-            ItemRef::Add(line) => {
-                self.commands += 1;
-                Entered::Add(line)
-            }
-            ItemRef::Remove(line) => {
-                self.commands += 1;
-                Entered::Remove(line)
-            }
-        };
+        let what = enter(&mut self.octets, item);
         self.entries.push_reserved(Entry {
             number,
             ticks,
             what,
         });
         self.slots -= 1;
+        self.bytes -= item.len() as u64;
+        self.frames += item.frames();
+    }
+}
+
+/// Keeps the octets of an item behind those of others.
+fn enter(kept: &mut Vec<u8>, item: ItemRef) -> Entered
+    requires { length kept.old.items + size_of (kind_of item) ≤ vec_capacity kept.old }
+    ensures octets { kept.new.items ≡ kept.old.items ++ octets_of (kind_of item.entry) }
+    ensures kind { kind_in kept.new.items result ≡ kind_of item.entry }
+    ensures there { IsThere (length kept.new.items) result }
+    ensures room { vec_capacity kept.old ≤ vec_capacity kept.new }
+{
+    match item {
+        ItemRef::Frame(octets) => {
+            let from = kept.len();
+            let _room_was_reserved = kept.extend_from_slice(octets);
+            Entered::Frame(from, kept.len())
+        }
+        ItemRef::Add(line) => Entered::Add(line),
+        ItemRef::Remove(line) => Entered::Remove(line),
     }
 }

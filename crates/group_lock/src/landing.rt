@@ -1,12 +1,12 @@
 //! What lands next in a group, and what was refused.
 
-ghost use Rattle.std.specs.Prelude.{◌≡◌, ◌<◌, ◌≤◌, ◌+◌, if◌then◌else◌, [], ◌∷◌, length, take, drop, Some, IsSome, IfOk};
+ghost use Rattle.std.specs.Prelude.{◌≡◌, ◌<◌, ◌≤◌, ◌+◌, if◌then◌else◌, [], ◌∷◌, length, take, drop, Some, IfOk};
 ghost use Rattle.std.specs.List.Sorted.{IsNonDecreasing};
 ghost use Rattle.std.specs.Vec.{vec_capacity};
 ghost use Rattle.session_model.specs.Counts.{dues_of, frame_dues, command_dues, held};
 ghost use Rattle.walk_law.specs.Landed.{IsPlaced, refused_by};
 ghost use Rattle.group_lock.specs.Item.{bare, bare_items};
-ghost use Rattle.group_lock.specs.Landed.{none_landed, next_number, due_at, AreOthers, AreBefore, AreAfter};
+ghost use Rattle.group_lock.specs.Landed.{none_landed, next_place, next_number, due_at, AreOthers, AreBefore, AreAfter};
 
 use report_text::Refusal;
 use session_model::{Item, ItemKind, Octets};
@@ -119,24 +119,27 @@ impl Landing {
 
     /// Goes on to the frame after the next one, or to the command after it.
     fn pass(&mut self, frame: bool)
-        requires { IsSome (next_number self.old frame) }
+        requires { next_place self.old frame < length self.old.items }
         ensures items { self.new.items ≡ self.old.items }
         ensures frames { self.new.frames ≡ self.old.frames + (if frame then 1 else 0) }
         ensures commands { self.new.commands ≡ self.old.commands + (if frame then 0 else 1) }
         ensures refusals { self.new.refusals ≡ self.old.refusals }
+        ensures passed { next_place self.old frame < next_place self.new frame }
+        ensures fewer { length self.new.refusals < self.new.frames + self.new.commands }
+        ensures others { AreOthers (next_place self.old frame) self.new.refusals }
     {
         if frame {
-            self.frames += 1;
             self.frame = next_frame(&self.items, self.frame + 1);
+            self.frames += 1;
         } else {
-            self.commands += 1;
             self.command = next_command(&self.items, self.command + 1);
+            self.commands += 1;
         }
     }
 
     /// The place of the next frame, or of the next command.
     fn place(&self, frame: bool) -> usize
-        ensures { result ≡ (if frame then self.now.frame else self.now.command) }
+        ensures { result ≡ next_place self.now frame }
     {
         if frame { self.frame } else { self.command }
     }

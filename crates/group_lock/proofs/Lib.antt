@@ -1,0 +1,5 @@
+pub mod CellLaws
+pub mod AlikeLaws
+pub mod PlaceLaws
+pub mod RingLaws
+pub mod EntryLaws

@@ -1,0 +1,377 @@
+-- Where the items of a kind stand, and what is kept of what has landed.
+use Rattle.std.proofs.Common.{◌≡◌, ℕ, zero, suc, ◌+◌, ◌<◌, ◌≤◌, nat_lt, Bool, true, false, List, [], ◌∷◌, ◌++◌, map, length, take, drop, slice_get, get_or, if◌then◌else◌, All, Option, Some, None, option_map, inl, inr, refl, sym, ◌∙◌, ap, subst, arith, append_assoc}
+use Rattle.std.proofs.lemmas.Bool.{cases_Bool, cases_lt, ltb-true}
+use Rattle.std.proofs.lemmas.List.{take-append-drop, append_cancel_left, get_or_append_left, get_or-append-add, length-append, length-drop, length-map, drop_more, get_or-take, get_or-drop, get_or_default, length-take-le}
+use Rattle.std.proofs.lemmas.List.Elements.{All-cons, All-append, All-head, All-tail}
+use Rattle.std.proofs.lemmas.Option.{slice_get-map, slice_get_within, slice_get-get_or, slice_get_past, get_or_from_slice_get}
+use Rattle.session_model.specs.declared.script.Item.{Item}
+use Rattle.session_model.specs.declared.script.ItemKind.{ItemKind}
+use Rattle.session_model.specs.declared.script.ItemKind.TheVariants.{Frame, Add, Remove}
+use Rattle.session_model.specs.Counts.{Due, due_of, dues_of, frame_dues, command_dues}
+use Rattle.report_text.specs.declared.report.Refusal.{Refusal}
+use Rattle.walk_law.specs.Landed.{is_client, IsPlaced}
+use Rattle.walk_parts.specs.Place.{is_frame, is_command, place_of}
+use Rattle.group_lock.specs.Item.{bare, bare_kind, bare_items}
+use Rattle.std.specs.List.Sorted.{IsNonDecreasing}
+use Rattle.group_lock.specs.Landed.{Landed, none_landed, next_place, there_at, next_number, due_in, due_at, AreBefore, AreAfter, AreInOrder, AreOthers, AreOfLanded, IsLanded}
+
+-- ---- items without the octets of frames
+bare-due : (due : ℕ) (kind : ItemKind) → due_of due (bare_kind kind) ≡ due_of due kind
+bare-due due (Frame octets) = refl
+bare-due due (Add line) = refl
+bare-due due (Remove line) = refl
+
+pub bare-dues : (items : List Item) → dues_of (bare_items items) ≡ dues_of items
+bare-dues [] = refl
+bare-dues (item ∷ items) = ap (λ first. first ∷ dues_of (bare_items items)) (bare-due item.due item.kind) ∙ ap (λ rest. due_of item.due item.kind ∷ rest) (bare-dues items)
+
+-- a test that doesn't see octets
+pub bare-place : (is : ItemKind → Bool) → ((kind : ItemKind) → is (bare_kind kind) ≡ is kind) → (k : ℕ) (items : List Item) → place_of is k (bare_items items) ≡ place_of is k items
+unfolding place_of
+bare-place is blind k [] = refl
+bare-place is blind zero (item ∷ items) =
+    ap (λ b. if b then 0 else suc (place_of is zero (bare_items items))) (blind item.kind)
+    ∙ ap (λ n. if is item.kind then 0 else suc n) (bare-place is blind zero items)
+bare-place is blind (suc k) (item ∷ items) =
+    ap (λ b. if b then suc (place_of is k (bare_items items)) else suc (place_of is (suc k) (bare_items items))) (blind item.kind)
+    ∙ ap (λ n. if is item.kind then suc n else suc (place_of is (suc k) (bare_items items))) (bare-place is blind k items)
+    ∙ ap (λ n. if is item.kind then suc (place_of is k items) else suc n) (bare-place is blind (suc k) items)
+
+pub frame-blind : (kind : ItemKind) → is_frame (bare_kind kind) ≡ is_frame kind
+frame-blind (Frame octets) = refl
+frame-blind (Add line) = refl
+frame-blind (Remove line) = refl
+
+pub command-blind : (kind : ItemKind) → is_command (bare_kind kind) ≡ is_command kind
+command-blind (Frame octets) = refl
+command-blind (Add line) = refl
+command-blind (Remove line) = refl
+
+-- ---- where the next item of a kind stands
+-- the next place is the first after it
+next-suc : (is : ItemKind → Bool) (items : List Item) (k : ℕ) → place_of is k items < length items →
+    place_of is (suc k) items ≡ suc (place_of is k items) + place_of is 0 (drop (suc (place_of is k items)) items)
+unfolding place_of
+next-suc is [] k there = absurd (omega arith)
+next-suc is (first ∷ items) zero there =
+    elim (cases_Bool (is first.kind)) [
+      | inl e ↦ rw e (let f : suc (place_of is 0 items) ≡ 1 + place_of is 0 items = omega arith in f)
+      | inr e ↦
+          let low : suc (place_of is 0 items) < suc (length items) = rw e at there in
+          let rest = next-suc is items zero (omega arith) in
+          rw e (let f : suc (place_of is 1 items) ≡ suc (suc (place_of is 0 items)) + place_of is 0 (drop (suc (place_of is 0 items)) items) = omega (arith, rest) in f)
+    ]
+next-suc is (first ∷ items) (suc k) there =
+    elim (cases_Bool (is first.kind)) [
+      | inl e ↦
+          let low : suc (place_of is k items) < suc (length items) = rw e at there in
+          let rest = next-suc is items k (omega arith) in
+          rw e (let f : suc (place_of is (suc k) items) ≡ suc (suc (place_of is k items)) + place_of is 0 (drop (suc (place_of is k items)) items) = omega (arith, rest) in f)
+      | inr e ↦
+          let low : suc (place_of is (suc k) items) < suc (length items) = rw e at there in
+          let rest = next-suc is items (suc k) (omega arith) in
+          rw e (let f : suc (place_of is (suc (suc k)) items) ≡ suc (suc (place_of is (suc k) items)) + place_of is 0 (drop (suc (place_of is (suc k) items)) items) = omega (arith, rest) in f)
+    ]
+
+pub place-next : (is : ItemKind → Bool) (items : List Item) (k i : ℕ) → i ≡ place_of is k items → i < length items →
+    (i + 1) + place_of is 0 (drop (i + 1) items) ≡ place_of is (k + 1) items
+place-next is items k i at there =
+    let rest = next-suc is items k (omega arith) in
+    let up : i + 1 ≡ suc (place_of is k items) = omega (arith, at) in
+    ap (λ n. n + place_of is 0 (drop n items)) up ∙ sym rest ∙ ap (λ n. place_of is n items) (let e : suc k ≡ k + 1 = omega arith in e)
+
+-- so many items of a kind are before its place
+frames-by : (due : ℕ) (kind : ItemKind) (items : List Item) (k : ℕ) → ((k : ℕ) → place_of is_frame k items < length items → k < length (frame_dues (dues_of items))) →
+    place_of is_frame k (record { due = due; kind = kind } ∷ items) < suc (length items) → k < length (frame_dues (due_of due kind ∷ dues_of items))
+unfolding place_of frame_dues
+frames-by due (Frame octets) items zero rest there = omega arith
+frames-by due (Frame octets) items (suc k) rest there = let more = rest k (omega arith) in omega arith
+frames-by due (Add line) items zero rest there = rest zero (omega arith)
+frames-by due (Add line) items (suc k) rest there = rest (suc k) (omega arith)
+frames-by due (Remove line) items zero rest there = rest zero (omega arith)
+frames-by due (Remove line) items (suc k) rest there = rest (suc k) (omega arith)
+
+few-frames : (items : List Item) (k : ℕ) → place_of is_frame k items < length items → k < length (frame_dues (dues_of items))
+unfolding place_of frame_dues
+few-frames [] k there = absurd (omega arith)
+few-frames (item ∷ items) k there = frames-by item.due item.kind items k (few-frames items) there
+
+commands-by : (due : ℕ) (kind : ItemKind) (items : List Item) (k : ℕ) → ((k : ℕ) → place_of is_command k items < length items → k < length (command_dues (dues_of items))) →
+    place_of is_command k (record { due = due; kind = kind } ∷ items) < suc (length items) → k < length (command_dues (due_of due kind ∷ dues_of items))
+unfolding place_of command_dues
+commands-by due (Frame octets) items zero rest there = rest zero (omega arith)
+commands-by due (Frame octets) items (suc k) rest there = rest (suc k) (omega arith)
+commands-by due (Add line) items zero rest there = omega arith
+commands-by due (Add line) items (suc k) rest there = let more = rest k (omega arith) in omega arith
+commands-by due (Remove line) items zero rest there = omega arith
+commands-by due (Remove line) items (suc k) rest there = let more = rest k (omega arith) in omega arith
+
+few-commands : (items : List Item) (k : ℕ) → place_of is_command k items < length items → k < length (command_dues (dues_of items))
+unfolding place_of command_dues
+few-commands [] k there = absurd (omega arith)
+few-commands (item ∷ items) k there = commands-by item.due item.kind items k (few-commands items) there
+
+-- all items are frames and commands
+dues-by : (due : ℕ) (kind : ItemKind) (items : List Item) → length (frame_dues (dues_of items)) + length (command_dues (dues_of items)) ≡ length items →
+    length (frame_dues (due_of due kind ∷ dues_of items)) + length (command_dues (due_of due kind ∷ dues_of items)) ≡ suc (length items)
+unfolding frame_dues command_dues
+dues-by due (Frame octets) items rest = omega (arith, rest)
+dues-by due (Add line) items rest = omega (arith, rest)
+dues-by due (Remove line) items rest = omega (arith, rest)
+
+pub all-dues : (items : List Item) → length (frame_dues (dues_of items)) + length (command_dues (dues_of items)) ≡ length items
+unfolding frame_dues command_dues
+all-dues [] = refl
+all-dues (item ∷ items) = dues-by item.due item.kind items (all-dues items)
+
+-- ---- an item has landed
+pub number-there : (landed : Landed) (frame : Bool) (number : ℕ) → next_number landed frame ≡ Some number → (number ≡ next_place landed frame) × (number < length landed.items)
+number-there landed frame number e =
+    elim (cases_Bool (nat_lt (next_place landed frame) (length landed.items))) [
+      | inl low ↦
+          let f : Some (next_place landed frame) ≡ Some number = rw low at e in
+          let same : next_place landed frame ≡ number = cc in
+          let inside = ltb-true (next_place landed frame) (length landed.items) low in
+          (sym same, omega arith)
+      | inr none ↦ absurd (let f : None ≡ Some number = rw none at e in cc)
+    ]
+
+pub frame-landed : (landed : Landed) (frame command space next : ℕ) → IsLanded landed frame command space → frame < length landed.items →
+    next ≡ (frame + 1) + place_of is_frame 0 (drop (frame + 1) landed.items) → IsLanded (record landed { frames = landed.frames + 1 }) next command space
+frame-landed landed frame command space next is there at =
+    let place = is.frame in
+    let same = place-next is_frame landed.items landed.frames frame is.frame there in
+    let few = few-frames landed.items landed.frames (omega arith) in
+    let refused = is.refused in
+    record {
+      frame = at ∙ same;
+      command = is.command;
+      few = is.few;
+      frames = is.frames;
+      commands = is.commands;
+      most_frames = omega arith;
+      most_commands = is.most_commands;
+      order = is.order;
+      of_landed = λ k d inside item found. later (is_client item.kind) (get_or landed.refusals k d).0 (is.of_landed k d inside item found);
+      refused = omega arith;
+      room = is.room;
+    }
+  where
+    later : (client : Bool) (number : ℕ) → number < next_place landed client → number < next_place (record landed { frames = landed.frames + 1 }) client
+    later true number low =
+        let place = is.frame in
+        let same = place-next is_frame landed.items landed.frames frame is.frame there in
+        omega arith
+    later false number low = low
+
+pub command-landed : (landed : Landed) (frame command space next : ℕ) → IsLanded landed frame command space → command < length landed.items →
+    next ≡ (command + 1) + place_of is_command 0 (drop (command + 1) landed.items) → IsLanded (record landed { commands = landed.commands + 1 }) frame next space
+command-landed landed frame command space next is there at =
+    let place = is.command in
+    let same = place-next is_command landed.items landed.commands command is.command there in
+    let few = few-commands landed.items landed.commands (omega arith) in
+    let refused = is.refused in
+    record {
+      frame = is.frame;
+      command = at ∙ same;
+      few = is.few;
+      frames = is.frames;
+      commands = is.commands;
+      most_frames = is.most_frames;
+      most_commands = omega arith;
+      order = is.order;
+      of_landed = λ k d inside item found. later (is_client item.kind) (get_or landed.refusals k d).0 (is.of_landed k d inside item found);
+      refused = omega arith;
+      room = is.room;
+    }
+  where
+    later : (client : Bool) (number : ℕ) → number < next_place landed client → number < next_place (record landed { commands = landed.commands + 1 }) client
+    later true number low = low
+    later false number low =
+        let place = is.command in
+        let same = place-next is_command landed.items landed.commands command is.command there in
+        omega arith
+
+-- ---- refusals in order
+all-left : {X : Type 0} (P : X → Type 0) (xs ys : List X) → All P (xs ++ ys) → All P xs
+all-left P xs ys all k d inside =
+    let long = length-append xs ys in
+    subst P (get_or_append_left xs ys d k inside) (all k d (omega arith))
+
+all-right : {X : Type 0} (P : X → Type 0) (xs ys : List X) → All P (xs ++ ys) → All P ys
+all-right P xs ys all k d inside =
+    let long = length-append xs ys in
+    subst P (get_or-append-add xs ys k d) (all (length xs + k) d (omega arith))
+
+pub order-put : (number : ℕ) (why : Refusal) (front back : List (ℕ × Refusal)) → AreInOrder (front ++ back) → AreBefore number front → AreAfter number back →
+    AreInOrder (front ++ (number, why) ∷ back)
+unfolding AreInOrder
+order-put number why [] back order before after = (after, order)
+order-put number why (first ∷ front) back order before after =
+    let After = λ (refused : ℕ × Refusal). first.0 < refused.0 in (
+      All-append After front ((number, why) ∷ back) (all-left After front back order.0)
+      (All-cons After (number, why) back (All-head (λ (refused : ℕ × Refusal). refused.0 < number) first front before) (all-right After front back order.0)),
+      order-put number why front back order.1 (All-tail (λ (refused : ℕ × Refusal). refused.0 < number) first front before) after,
+    )
+
+-- where one of them is before a number, so are all before it
+pub before-place : (number : ℕ) (refusals : List (ℕ × Refusal)) (place : ℕ) (d : ℕ × Refusal) → AreInOrder refusals → place < length refusals → (get_or refusals place d).0 < number →
+    AreBefore number (take (suc place) refusals)
+unfolding AreInOrder
+before-place number [] place d order inside low = absurd (omega arith)
+before-place number (first ∷ refusals) zero d order inside low = All-cons (λ (refused : ℕ × Refusal). refused.0 < number) first [] low (λ k e none. absurd (omega arith))
+before-place number (first ∷ refusals) (suc place) d order inside low =
+    let after = order.0 place d (omega arith) in
+    All-cons (λ (refused : ℕ × Refusal). refused.0 < number) first (take (suc place) refusals) (omega arith)
+    (before-place number refusals place d order.1 (omega arith) low)
+
+-- the refusal of the item that has just landed is put among them
+pub refusal-landed : (landed : Landed) (frame command space : ℕ) (number : ℕ) (why : Refusal) (now : List (ℕ × Refusal)) → IsLanded landed frame command space →
+    IsPlaced number ((number, why) ∷ []) landed.refusals now → length landed.refusals < landed.frames + landed.commands →
+    ((item : Item) → slice_get landed.items number ≡ Some item → number < next_place landed (is_client item.kind)) →
+    IsLanded (record landed { refusals = now }) frame command space
+refusal-landed landed frame command space number why now is placed more passed =
+    let own : List (ℕ × Refusal) = (number, why) ∷ [] in
+    let same : now ≡ placed.front ++ (number, why) ∷ placed.back = placed.is_so ∙ append_assoc placed.front own placed.back in
+    let long = ap length placed.was_so ∙ length-append placed.front placed.back in
+    let size = ap length same ∙ length-append placed.front ((number, why) ∷ placed.back) in
+    let Landed_of = λ (refused : ℕ × Refusal). (item : Item) → slice_get landed.items refused.0 ≡ Some item → refused.0 < next_place landed (is_client item.kind) in
+    let all : All Landed_of (placed.front ++ placed.back) = subst (All Landed_of) placed.was_so is.of_landed in
+    record {
+      frame = is.frame;
+      command = is.command;
+      few = is.few;
+      frames = is.frames;
+      commands = is.commands;
+      most_frames = is.most_frames;
+      most_commands = is.most_commands;
+      order = subst AreInOrder (sym same) (order-put number why placed.front placed.back (subst AreInOrder placed.was_so is.order) placed.before placed.after);
+      of_landed = subst (All Landed_of) (sym same)
+          (All-append Landed_of placed.front ((number, why) ∷ placed.back) (all-left Landed_of placed.front placed.back all)
+          (All-cons Landed_of (number, why) placed.back passed (all-right Landed_of placed.front placed.back all)));
+      refused = omega arith;
+      room = is.room;
+    }
+
+-- the next item isn't refused yet
+pub next-fresh : (landed : Landed) (frame : Bool) (number : ℕ) (item : Item) → AreOfLanded landed → number ≡ next_place landed frame → slice_get landed.items number ≡ Some item →
+    is_client item.kind ≡ frame → All (λ (refused : ℕ × Refusal). refused.0 ≡ number → ⊥) landed.refusals
+next-fresh landed frame number item of_landed at there kind k d inside same =
+    let low = of_landed k d inside item (ap (slice_get landed.items) same ∙ there) in
+    let next : next_place landed (is_client item.kind) ≡ next_place landed frame = ap (next_place landed) kind in
+    omega arith
+
+pub place-kind : (is : ItemKind → Bool) (items : List Item) (k : ℕ) (item : Item) → slice_get items (place_of is k items) ≡ Some item → is item.kind ≡ true
+unfolding place_of
+place-kind is [] k item there = absurd cc
+place-kind is (first ∷ items) zero item there =
+    elim (cases_Bool (is first.kind)) [
+      | inl e ↦ (let f : Some first ≡ Some item = rw e at there in let same : first ≡ item = cc in ap (λ (i : Item). is i.kind) (sym same) ∙ e)
+      | inr e ↦ place-kind is items zero item (rw e at there)
+    ]
+place-kind is (first ∷ items) (suc k) item there =
+    elim (cases_Bool (is first.kind)) [
+      | inl e ↦ place-kind is items k item (rw e at there)
+      | inr e ↦ place-kind is items (suc k) item (rw e at there)
+    ]
+
+client-frame : (kind : ItemKind) → is_frame kind ≡ true → is_client kind ≡ true
+client-frame (Frame octets) is = refl
+client-frame (Add line) is = absurd cc
+client-frame (Remove line) is = absurd cc
+
+operator-command : (kind : ItemKind) → is_command kind ≡ true → is_client kind ≡ false
+operator-command (Frame octets) is = absurd cc
+operator-command (Add line) is = refl
+operator-command (Remove line) is = refl
+
+-- the next item of a kind is of the kind
+pub next-kind : (landed : Landed) (frame : Bool) (item : Item) → slice_get landed.items (next_place landed frame) ≡ Some item → is_client item.kind ≡ frame
+next-kind landed true item there = client-frame item.kind (place-kind is_frame landed.items landed.frames item there)
+next-kind landed false item there = operator-command item.kind (place-kind is_command landed.items landed.commands item there)
+
+-- nothing has landed
+pub none-yet : (items copy : List Item) (frame command space : ℕ) → copy ≡ bare_items items → length items ≤ 67108864 → IsNonDecreasing (frame_dues (dues_of items)) → IsNonDecreasing (command_dues (dues_of items)) →
+    frame ≡ 0 + place_of is_frame 0 copy → command ≡ 0 + place_of is_command 0 copy → space ≡ length copy → IsLanded (none_landed copy) frame command space
+unfolding AreInOrder
+none-yet items copy frame command space same few frames commands first second room =
+    let long = ap length same ∙ length-map items bare in
+    let dues : dues_of copy ≡ dues_of items = ap dues_of same ∙ bare-dues items in
+    record {
+      frame = omega arith;
+      command = omega arith;
+      few = omega arith;
+      frames = subst (λ l. IsNonDecreasing (frame_dues l)) (sym dues) frames;
+      commands = subst (λ l. IsNonDecreasing (command_dues l)) (sym dues) commands;
+      most_frames = omega arith;
+      most_commands = omega arith;
+      order = tt;
+      of_landed = λ k d inside. absurd (omega arith);
+      refused = omega arith;
+      room = omega arith;
+    }
+
+-- where no item is refused, the refusals are as they were, before and after it
+pub none-put : (number : ℕ) (refusals : List (ℕ × Refusal)) → AreInOrder refusals → All (λ (refused : ℕ × Refusal). refused.0 ≡ number → ⊥) refusals → IsPlaced number [] refusals refusals
+unfolding AreInOrder
+none-put number [] order others = record { front = []; back = []; was_so = refl; is_so = refl; before = λ k d inside. absurd (omega arith); after = λ k d inside. absurd (omega arith) }
+none-put number (first ∷ refusals) order others =
+    let other = others 0 first (omega arith) in
+    elim (cases_lt first.0 number) [
+      | inl low ↦
+          let rest = none-put number refusals order.1 (λ k d inside. others (suc k) d (omega arith)) in
+          record {
+            front = first ∷ rest.front;
+            back = rest.back;
+            was_so = ap (λ l. first ∷ l) rest.was_so;
+            is_so = ap (λ l. first ∷ l) rest.is_so;
+            before = All-cons (λ (refused : ℕ × Refusal). refused.0 < number) first rest.front low rest.before;
+            after = rest.after;
+          }
+      | inr high ↦ record {
+        front = [];
+        back = first ∷ refusals;
+        was_so = refl;
+        is_so = refl;
+        before = λ k d inside. absurd (omega arith);
+        after = All-cons (λ (refused : ℕ × Refusal). number < refused.0) first refusals (more first.0 number high other)
+            (λ k d inside. let low = order.0 k d inside in let here = more first.0 number high other in omega arith);
+      }
+    ]
+  where
+    more : (a b : ℕ) → b ≤ a → (a ≡ b → ⊥) → b < a
+    more a b low other = omega arith
+
+-- the next item isn't refused yet: it has no refusal, and there is room for one
+pub fresh-next : (landed : Landed) (frame command space : ℕ) (client : Bool) → IsLanded landed frame command space → next_place landed client < length landed.items →
+    AreOthers (next_place landed client) landed.refusals
+fresh-next landed frame command space client is there =
+    let (item, here) = item-at landed.items (next_place landed client) there in
+    record { order = is.order; other = next-fresh landed client (next_place landed client) item is.of_landed refl here (next-kind landed client item here) }
+  where
+    item-at : (items : List Item) (i : ℕ) → i < length items → (item : Item) × (slice_get items i ≡ Some item)
+    item-at [] i low = absurd (omega arith)
+    item-at (item ∷ items) zero low = (item, refl)
+    item-at (item ∷ items) (suc i) low = item-at items i (omega arith)
+
+pub next-later : (landed : Landed) (client : Bool) → next_place landed client < length landed.items →
+    next_place landed client < next_place (record landed { frames = landed.frames + (if client then 1 else 0); commands = landed.commands + (if client then 0 else 1) }) client
+next-later landed true there =
+    let same = place-next is_frame landed.items landed.frames (place_of is_frame landed.frames landed.items) refl there in omega arith
+next-later landed false there =
+    let same = place-next is_command landed.items landed.commands (place_of is_command landed.commands landed.items) refl there in omega arith
+
+pub wider : (landed : Landed) (frame command space more : ℕ) → space ≤ more → IsLanded landed frame command space → IsLanded landed frame command more
+wider landed frame command space more low is = record {
+  frame = is.frame;
+  command = is.command;
+  few = is.few;
+  frames = is.frames;
+  commands = is.commands;
+  most_frames = is.most_frames;
+  most_commands = is.most_commands;
+  order = is.order;
+  of_landed = is.of_landed;
+  refused = is.refused;
+  room = let room = is.room in omega arith;
+}

@@ -1,0 +1,41 @@
+-- One more line was pushed its container.
+use Rattle.std.proofs.Common.{◌≡◌, ℕ, ◌+◌, ◌<◌, [], ◌∷◌, ◌++◌, length, slice_get, slice_set, Some, inl, inr, refl, sym, ◌∙◌, ap, subst, arith}
+use Rattle.std.proofs.lemmas.Bool.{cases_eq}
+use Rattle.std.proofs.lemmas.Option.{slice_get_read, slice_get_within, get_or_from_slice_get}
+use Rattle.vc_cell.specs.declared.Container.{Container}
+use Rattle.realign_core.proofs.GatherLaws.{set-here, set-other, length-slice_set}
+use Rattle.member_ring.specs.declared.ends.RingOut.{RingOut}
+use Rattle.member_ring.specs.Ends.{out_passed}
+use Rattle.group_lock.specs.Rings.{IsPushed}
+use Rattle.group_lock.proofs.sends.push_frame.Goals as goal
+
+pub loop-m-preserved : goal.loop-m-preserved
+loop-m-preserved c =
+    let i = c.loop-m in
+    let was = c.index_mut.result.now in
+    let is = c.push.new.self in
+    let at = slice_get_read i.tx.items (length i.tx.items) i.m was refl (omega arith) c.index_mut.ensures.value in
+    let e = c.push.ensures in
+    record {
+      count = length-slice_set i.tx.items i.m is ∙ i.invariant.count;
+      each = λ k container old new low frame here there. elim (cases_eq k i.m) [
+        | inl same ↦
+            let now : new ≡ is = set-here i.tx.items i.m is new (sym (ap (slice_get (slice_set i.tx.items i.m is)) same) ∙ there) in
+            let first : Some was ≡ Some old = sym at ∙ i.invariant.rest i.m (omega arith) ∙ ap (slice_get c.args.tx.now.items) (sym same) ∙ here in
+            let before : was ≡ old = cc in
+            let item = get_or_from_slice_get c.args.frame.now i.m container _ (ap (slice_get c.args.frame.now) (sym same) ∙ frame) in
+            let pushed : IsPushed container was is = record { same = e.same; passed = e.passed ∙ ap (λ x. out_passed was ++ x ∷ []) item; misses = e.quiet } in
+            subst (IsPushed container old) (sym now) (subst (λ (o : RingOut Container). IsPushed container o is) before pushed)
+        | inr other ↦ i.invariant.each k container old new (omega arith) frame here (sym (set-other i.tx.items i.m k is other) ∙ there)
+      ];
+      rest = λ k low. set-other i.tx.items i.m k is (λ (same : k ≡ i.m). let h : ⊥ = omega arith in h) ∙ i.invariant.rest k (omega arith);
+    }
+
+pub returns : goal.returns
+returns c = record {
+  count = c.loop-m.invariant.count;
+  each = λ m container old new frame here there.
+      let inside = slice_get_within c.args.tx.now.items m old here in
+      let count = c.loop-m.invariant.count in
+      c.loop-m.invariant.each m container old new (omega arith) frame here there;
+}

@@ -1,0 +1,45 @@
+-- One more return cell is moved.
+use Rattle.std.proofs.Common.{◌≡◌, ℕ, ◌+◌, ◌-◌, ◌<◌, ◌≤◌, List, [], ◌∷◌, ◌++◌, length, true, false, refl, sym, ◌∙◌, ap, subst, arith, append_assoc}
+use Rattle.std.proofs.lemmas.List.{length_push}
+use Rattle.vc_cell.specs.declared.BackCell.{BackCell}
+use Rattle.member_ring.specs.declared.ends.RingIn.{RingIn}
+use Rattle.member_ring.specs.Ends.{in_passed, SameIn}
+use Rattle.member_ring.proofs.EndLaws.{in-then}
+use Rattle.walk_parts.specs.Return.{is_lost_in}
+use Rattle.group_lock.specs.Inbox.{Inbox, come_by, with_come, HasCome}
+use Rattle.group_lock.specs.Rings.{HasMoved}
+use Rattle.group_lock.proofs.CellLaws.{come-put}
+use Rattle.group_lock.proofs.RingLaws.{less}
+use Rattle.group_lock.proofs.sends.take_cells.Goals as goal
+
+moved-one : (first was is : Inbox) (start old new : RingIn BackCell) (cell : BackCell) → HasMoved first was start old → is ≡ with_come was cell → length was.cells < was.room →
+    SameIn old new → in_passed new ≡ in_passed old ++ cell ∷ [] → HasMoved first is start new
+moved-one first was is start old new cell moved put low same passed =
+    let size : length is.cells ≡ length was.cells + 1 = ap (λ (i : Inbox). length i.cells) put ∙ length_push was.cells (come_by (is_lost_in was.lost was.come) cell) in
+    let room : is.room ≡ was.room = ap (λ (i : Inbox). i.room) put in
+    record {
+      lost = ap (λ (i : Inbox). i.lost) put ∙ moved.lost;
+      room = room ∙ moved.room;
+      within = λ fits. omega arith;
+      same = in-then start old new moved.same same;
+      received = (moved.received.0 ++ cell ∷ [], sym (append_assoc (in_passed start) moved.received.0 (cell ∷ [])) ∙ ap (λ l. l ++ cell ∷ []) moved.received.1 ∙ sym passed);
+      come = λ used has. subst (λ (i : Inbox). HasCome i (in_passed new) used) (sym put)
+          (subst (λ l. HasCome (with_come was cell) l used) (sym passed) (come-put was (in_passed old) used cell (moved.come used has)));
+    }
+
+pub loop-back-preserved : goal.loop-back-preserved
+loop-back-preserved c =
+    let i = c.loop-back in
+    let low = less (length i.inbox.cells) i.inbox.room i.invariant.within (λ (full : i.inbox.room ≡ length i.inbox.cells). let is = c.is_full.ensures.1 full in let no = c.loop-back-test.true in absurd cc) in
+    let size : length c.put.new.self.cells ≡ length i.inbox.cells + 1 = ap (λ (x : Inbox). length x.cells) c.put.ensures ∙ length_push i.inbox.cells (come_by (is_lost_in i.inbox.lost i.inbox.come) c.pop.result) in
+    let room : c.put.new.self.room ≡ i.inbox.room = ap (λ (x : Inbox). x.room) c.put.ensures in
+    let come : c.put.new.self.come ≡ i.inbox.come + 1 = ap (λ (x : Inbox). x.come) c.put.ensures in
+    let few = i.invariant.few in
+    record {
+      moved = moved-one c.args.inbox.now i.inbox c.put.new.self c.args.back.now i.back c.pop.new.self c.pop.result i.invariant.moved c.put.ensures low
+          (in-then i.back c.ready.new.self c.pop.new.self c.ready.ensures.same c.pop.ensures.same)
+          (c.pop.ensures.passed ∙ ap (λ l. l ++ c.pop.result ∷ []) c.ready.ensures.passed);
+      within = omega arith;
+      few = omega arith;
+      quiet = c.pop.ensures.quiet ∙ c.ready.ensures.quiet c.if-not-ready.false ∙ i.invariant.quiet;
+    }
