@@ -10,6 +10,7 @@ use Rattle.session_model.specs.declared.script.ItemKind.TheVariants.{Frame, Add,
 use Rattle.session_model.specs.Counts.{Due, due_of, dues_of, frame_dues, command_dues}
 use Rattle.report_text.specs.declared.report.Refusal.{Refusal}
 use Rattle.walk_law.specs.Landed.{is_client, IsPlaced}
+use Rattle.walk_law.proofs.LandLaws.{Ahead}
 use Rattle.walk_parts.specs.Place.{is_frame, is_command, place_of}
 use Rattle.group_lock.specs.Item.{bare, bare_kind, bare_items}
 use Rattle.std.specs.List.Sorted.{IsNonDecreasing}
@@ -342,17 +343,17 @@ none-put number (first ∷ refusals) order others =
     more : (a b : ℕ) → b ≤ a → (a ≡ b → ⊥) → b < a
     more a b low other = omega arith
 
+item-there : (items : List Item) (i : ℕ) → i < length items → (item : Item) × (slice_get items i ≡ Some item)
+item-there [] i low = absurd (omega arith)
+item-there (item ∷ items) zero low = (item, refl)
+item-there (item ∷ items) (suc i) low = item-there items i (omega arith)
+
 -- the next item isn't refused yet: it has no refusal, and there is room for one
 pub fresh-next : (landed : Landed) (frame command space : ℕ) (client : Bool) → IsLanded landed frame command space → next_place landed client < length landed.items →
     AreOthers (next_place landed client) landed.refusals
 fresh-next landed frame command space client is there =
-    let (item, here) = item-at landed.items (next_place landed client) there in
+    let (item, here) = item-there landed.items (next_place landed client) there in
     record { order = is.order; other = next-fresh landed client (next_place landed client) item is.of_landed refl here (next-kind landed client item here) }
-  where
-    item-at : (items : List Item) (i : ℕ) → i < length items → (item : Item) × (slice_get items i ≡ Some item)
-    item-at [] i low = absurd (omega arith)
-    item-at (item ∷ items) zero low = (item, refl)
-    item-at (item ∷ items) (suc i) low = item-at items i (omega arith)
 
 pub next-later : (landed : Landed) (client : Bool) → next_place landed client < length landed.items →
     next_place landed client < next_place (record landed { frames = landed.frames + (if client then 1 else 0); commands = landed.commands + (if client then 0 else 1) }) client
@@ -375,3 +376,54 @@ wider landed frame command space more low is = record {
   refused = is.refused;
   room = let room = is.room in omega arith;
 }
+
+-- ---- when the next item of a kind is due
+abbrev due_found : List Item → ℕ → Option ℕ
+due_found items i = option_map (λ (item : Item). item.due) (slice_get items i)
+
+frame-due_by : (due : ℕ) (kind : ItemKind) (items : List Item) (k : ℕ) → ((k : ℕ) → slice_get (frame_dues (dues_of items)) k ≡ due_found items (place_of is_frame k items)) →
+    slice_get (frame_dues (due_of due kind ∷ dues_of items)) k ≡ due_found (record { due = due; kind = kind } ∷ items) (place_of is_frame k (record { due = due; kind = kind } ∷ items))
+unfolding frame_dues place_of
+frame-due_by due (Frame octets) items zero rest = refl
+frame-due_by due (Frame octets) items (suc k) rest = rest k
+frame-due_by due (Add line) items zero rest = rest zero
+frame-due_by due (Add line) items (suc k) rest = rest (suc k)
+frame-due_by due (Remove line) items zero rest = rest zero
+frame-due_by due (Remove line) items (suc k) rest = rest (suc k)
+
+frame-due : (items : List Item) (k : ℕ) → slice_get (frame_dues (dues_of items)) k ≡ due_found items (place_of is_frame k items)
+unfolding frame_dues place_of
+frame-due [] k = refl
+frame-due (item ∷ items) k = frame-due_by item.due item.kind items k (frame-due items)
+
+command-due_by : (due : ℕ) (kind : ItemKind) (items : List Item) (k : ℕ) → ((k : ℕ) → slice_get (command_dues (dues_of items)) k ≡ due_found items (place_of is_command k items)) →
+    slice_get (command_dues (due_of due kind ∷ dues_of items)) k ≡ due_found (record { due = due; kind = kind } ∷ items) (place_of is_command k (record { due = due; kind = kind } ∷ items))
+unfolding command_dues place_of
+command-due_by due (Frame octets) items zero rest = rest zero
+command-due_by due (Frame octets) items (suc k) rest = rest (suc k)
+command-due_by due (Add line) items zero rest = refl
+command-due_by due (Add line) items (suc k) rest = rest k
+command-due_by due (Remove line) items zero rest = refl
+command-due_by due (Remove line) items (suc k) rest = rest k
+
+command-due : (items : List Item) (k : ℕ) → slice_get (command_dues (dues_of items)) k ≡ due_found items (place_of is_command k items)
+unfolding command_dues place_of
+command-due [] k = refl
+command-due (item ∷ items) k = command-due_by item.due item.kind items k (command-due items)
+
+-- it isn't due before the ticks made, where what hasn't landed isn't
+pub next-due : (landed : Landed) (client : Bool) (number ticks : ℕ) → next_number landed client ≡ Some number → Ahead (dues_of landed.items) ticks landed.frames landed.commands →
+    ticks ≤ due_at landed.items number
+next-due landed client number ticks e ahead =
+    let (at, there) = number-there landed client number e in
+    let (item, here) = item-there landed.items number there in
+    let late = by_kind client at item here in
+    let same : due_at landed.items number ≡ item.due = ap due_in here in
+    omega arith
+  where
+    by_kind : (client : Bool) → number ≡ next_place landed client → (item : Item) → slice_get landed.items number ≡ Some item → ticks ≤ item.due
+    by_kind true at item here =
+        ahead.of_frames landed.frames item.due (omega arith) (frame-due landed.items landed.frames ∙ ap (due_found landed.items) (sym at) ∙ ap (option_map (λ (item : Item). item.due)) here)
+    by_kind false at item here =
+        ahead.of_commands landed.commands item.due (omega arith) (command-due landed.items landed.commands ∙ ap (due_found landed.items) (sym at) ∙ ap (option_map (λ (item : Item). item.due)) here)
+

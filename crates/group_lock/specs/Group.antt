@@ -131,12 +131,11 @@ totals_of g = record {
 abbrev pub replay_of : GroupState → Scenario
 replay_of g = scenario_in (parts_of g)
 
--- the journal is legal, and the source holds what it leads to: the frames that wait, the table and the commands; each send ring has passed the
--- containers of the frames made; and each entry landed when it was due
+-- the journal is legal, and the source stands where it leads; each send ring has passed the containers of the frames made; and each entry
+-- landed when it was due
 pub record Stands (g : GroupState) : Type 0 where
   pub legal : IsLegal (replay_of g) (taken_of g) (journal_of g)
-  pub waiting : (source_of g).queue.waiting ≡ (stream_now (replay_of g) (taken_of g) (ticks_of g)).waiting
-  pub table : (source_of g).table ≡ course_now (replay_of g) (taken_of g) (ticks_of g)
+  pub made : ∥ HasMade (source_of g) (replay_of g) (taken_of g) ∥₁
   pub sent : AreSent (replay_of g) (taken_of g) (ticks_of g) g.tx.items
   pub due : AreDue (items_of g) (journal_of g)
 

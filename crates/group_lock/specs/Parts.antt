@@ -72,6 +72,7 @@ pub record Keeps (at : Parts) (size : ℕ) : Type 0 where
   pub places : size ≡ at.source.lines
   pub rings : length at.tx ≡ at.source.lines
   pub room : at.inbox.room ≡ at.source.lag + 1
+  pub fits : length at.inbox.cells ≤ at.inbox.room
   pub come : HasCome at.inbox (in_passed at.back) (used_in at.source.lag at.source.ticks)
   pub made : ∥ HasMade at.source (scenario_in at) (told_in_parts at) ∥₁
   pub sent : AreSent (scenario_in at) (told_in_parts at) at.source.ticks at.tx

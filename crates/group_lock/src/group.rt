@@ -1,10 +1,11 @@
 //! A group: its source, the ends of its rings, what has landed, and the journal of what was accepted.
 
-ghost use Rattle.std.specs.Prelude.{◌≡◌, List, Option, length, IsSome};
+ghost use Rattle.std.specs.Prelude.{◌≡◌, ◌↔◌, ◌+◌, ◌<◌, if◌then◌else◌, List, Option, None, length, drop, slice_get, IsSome};
 ghost use Rattle.session_model.specs.Scenario.{Scenario};
 ghost use Rattle.session_model.specs.Table.{Told};
-ghost use Rattle.source_core.specs.Terminal.{SameKind};
-ghost use Rattle.source_core.specs.Given.{Stands as HasMade};
+ghost use Rattle.session_model.specs.Sent.{frame_of};
+ghost use Rattle.source_core.specs.Terminal.{SameKind, needed};
+ghost use Rattle.source_core.specs.Given.{with_cell, Stands as HasMade};
 ghost use Rattle.group_lock.specs.Item.{kind_of};
 ghost use Rattle.group_lock.specs.Lands.{met_by, with_kind};
 ghost use Rattle.group_lock.specs.Parts.{parts, Keeps};
@@ -48,23 +49,17 @@ pub struct GroupState {
 }
 
 impl GroupState {
-    ghost use Rattle.std.specs.Prelude.{◌≡◌, ◌≢◌, ℕ, ◌+◌, ◌<◌, ◌≤◌, ◌↔◌, true, false, if◌then◌else◌, List, [], ◌∷◌, ◌++◌, length, Option, Some, None, option_map, IsSome, IfOk};
-    ghost use mathlib.Core.List.{IsPrefix};
+    ghost use Rattle.std.specs.Prelude.{◌≡◌, ◌≢◌, ◌<◌, ◌≤◌, true, [], length, Some, None, IsSome, IfOk, MatchOption};
+    ghost use Rattle.outside_io.specs.Faults.{one_more};
     ghost use Rattle.session_model.specs.Valid.{IsValid};
-    ghost use Rattle.session_model.specs.Scenario.{Scenario};
-    ghost use Rattle.session_model.specs.Table.{Told};
     ghost use Rattle.session_model.specs.Accepted.{refusal_in};
-    ghost use Rattle.member_ring.specs.Ends.{in_passed, SameIn};
-    ghost use Rattle.source_core.specs.Terminal.{needed};
-    ghost use Rattle.source_core.specs.Given.{Stands as HasMade, IsFresh};
-    ghost use Rattle.walk_law.specs.Landed.{IsPlaced, refused_by};
-    ghost use Rattle.group_lock.specs.Item.{kind_of};
-    ghost use Rattle.group_lock.specs.Answer.{fault_of, has_landed, refusal_told};
+    ghost use Rattle.member_ring.specs.Ends.{in_passed, in_misses};
+    ghost use Rattle.source_core.specs.Given.{IsFresh};
     ghost use Rattle.group_lock.specs.Journal.{fits};
     ghost use Rattle.group_lock.specs.Landed.{due_at};
-    ghost use Rattle.group_lock.specs.Lands.{with_kind};
-    ghost use Rattle.group_lock.specs.Rings.{AreUnused, AreFree, SameOuts, IsFirstFull};
-    ghost use Rattle.group_lock.specs.Group.{parts_of, lines_of, lag_of, size_of, IsOf, SameScript, ticks_of, total_of, items_of, frames_of, commands_of, journal_of, slots_of, bytes_of, refusals_of, inbox_of, taken_of, source_of, totals_of, replay_of, Stands, next_of, refusal_of, fault_in, entries_by, HasCounted, LeavesRoom, with_landed, SameRings, SameLanded, is_ticked, held_of, IsFreeToTick, IsMissing, ArePushedOf, NothingPushed};
+    ghost use Rattle.group_lock.specs.Rings.{AreUnused, AreFree, IsFirstFull};
+    ghost use Rattle.group_lock.specs.Group.{parts_of, lines_of, lag_of, size_of, IsOf, ticks_of, total_of, items_of, frames_of, commands_of, journal_of, slots_of, bytes_of, refusals_of, inbox_of, source_of, totals_of, next_of, held_of};
+    ghost use Rattle.group_lock.specs.Calls.{Submits, Ticks, Comes, Looks, Makes};
 
     /// A group of a script, over a fresh send ring for each line and a fresh return ring, with room for so many entries of the journal
     /// and so many octets of frames.
@@ -91,7 +86,6 @@ impl GroupState {
         ensures made { IfOk result (λ g. (scenario : Scenario) →
             IsFresh scenario (lines_of g) (lag_of g) (size_of g) →
             HasMade (source_of g) scenario []) }
-        ensures stands { IfOk result (λ g. Stands g) }
     {
         let config = &script.config;
         let source = SourceCore::new(alloc, config.lines, config.lag, config.size)?;
@@ -135,22 +129,7 @@ impl GroupState {
     /// Lands an item, of this number in the script. Of each kind, the client's frames and the operator's commands, the next one lands, once
     /// it is due. One that is refused has landed, and its refusal is kept; each other fault changes nothing.
     pub fn submit(&mut self, number: u32, item: ItemRef) -> Result<(), SubmitFault>
-        ensures fault { refusal_in result ≡ fault_in self.old number (kind_of item.entry) }
-        ensures unchanged { has_landed (refusal_in result) ≡ false → self.new ≡ self.old }
-        ensures landed { HasCounted self.old self.new (kind_of item.entry)
-            (has_landed (refusal_in result)) }
-        ensures journal { journal_of self.new ≡ journal_of self.old
-            ++ entries_by (refusal_in result) number (ticks_of self.old) (kind_of item.entry) }
-        ensures room { LeavesRoom self.old self.new (kind_of item.entry) (refusal_in result) }
-        ensures refusals { IsPlaced number (refused_by number (refusal_told (refusal_in result)))
-            (refusals_of self.old) (refusals_of self.new) }
-        ensures script { SameScript self.old self.new }
-        ensures rings { SameRings self.old self.new }
-        ensures made { (scenario : Scenario) (cells : List (Option Told)) →
-            HasMade (source_of self.old) scenario cells → HasMade (source_of self.new)
-            (with_landed scenario (ticks_of self.old) (kind_of item.entry)
-            (has_landed (refusal_in result))) cells }
-        ensures stands { Stands self.new }
+        ensures { Submits self.old self.new number (kind_of item.entry) (refusal_in result) }
     {
         let next = self.landing.next(item.is_frame());
         if next != Some(number) {
@@ -172,35 +151,9 @@ impl GroupState {
     /// line, where ticks are left, no item that is due waits, each send ring has a slot, and the return cell is there that the tick needs,
     /// if it needs one. The first of these that fails is told, and then nothing is made.
     pub fn tick(&mut self) -> TickAnswer
-        ensures done { (result ≡ TickAnswer.Done) ↔ (total_of self.old ≤ ticks_of self.old) }
-        ensures held { (item : ℕ) → (result ≡ TickAnswer.Held item) ↔
-            ((ticks_of self.old < total_of self.old) × (held_of self.old ≡ Some item)) }
-        ensures goes { result ≢ TickAnswer.Done → ((item : ℕ) → result ≢ TickAnswer.Held item) →
-            IsFreeToTick self.old }
-        ensures full { (line : ℕ) → result ≡ TickAnswer.TxFull line →
-            IsFirstFull self.old.tx.items self.new.tx.items line }
-        ensures missing { (packet : ℕ) → result ≡ TickAnswer.BackMissing packet →
-            IsMissing packet self.old self.new }
-        ensures ticks { ticks_of self.new
-            ≡ ticks_of self.old + (if is_ticked result then 1 else 0) }
-        ensures pushed { result ≡ TickAnswer.Ticked →
-            ArePushedOf (replay_of self.old) self.old self.new }
-        ensures rest { result ≢ TickAnswer.Ticked → NothingPushed self.old self.new }
-        ensures source { result ≢ TickAnswer.Ticked → source_of self.new ≡ source_of self.old }
-        ensures script { SameScript self.old self.new }
-        ensures landed { SameLanded self.old self.new }
-        ensures sends { SameOuts self.old.tx.items self.new.tx.items }
-        ensures returns { SameIn self.old.back self.new.back }
-        ensures received { IsPrefix (in_passed self.old.back) (in_passed self.new.back) }
-        ensures made { (scenario : Scenario) →
-            HasMade (source_of self.old) scenario (taken_of self.old) →
-            HasMade (source_of self.new) scenario (taken_of self.new) }
-        ensures alike { (scenario : Scenario) → result ≡ TickAnswer.Ticked →
-            HasMade (source_of self.old) scenario (taken_of self.old) →
-            ArePushedOf scenario self.old self.new }
-        ensures stands { Stands self.new }
+        ensures { Ticks self.old self.new result }
     {
-        take_cells(&mut self.inbox, &mut self.back);
+        self.come();
         let ticks = self.source.ticks();
         if ticks >= self.total {
             return TickAnswer::Done;
@@ -208,7 +161,7 @@ impl GroupState {
         if let Some(item) = self.landing.held(ticks) {
             return TickAnswer::Held { item };
         }
-        if let Some(line) = first_full(&mut self.tx) {
+        if let Some(line) = self.look() {
             return TickAnswer::TxFull { line };
         }
         if let Some(packet) = self.source.needs_back() {
@@ -225,19 +178,7 @@ impl GroupState {
         requires next { next_of self.old (kind_of item) ≡ Some number }
         requires due { due_at (items_of self.old) number ≤ ticks_of self.old }
         requires room { fits (parts_of self.old).journal (kind_of item) ≡ true }
-        ensures fault { refusal_in result
-            ≡ option_map fault_of (refusal_of self.old (kind_of item.entry)) }
-        ensures landed { HasCounted self.old self.new (kind_of item.entry) true }
-        ensures journal { journal_of self.new ≡ journal_of self.old
-            ++ entries_by (refusal_in result) number (ticks_of self.old) (kind_of item.entry) }
-        ensures room { LeavesRoom self.old self.new (kind_of item.entry) (refusal_in result) }
-        ensures refusals { IsPlaced number (refused_by number (refusal_told (refusal_in result)))
-            (refusals_of self.old) (refusals_of self.new) }
-        ensures script { SameScript self.old self.new }
-        ensures rings { SameRings self.old self.new }
-        ensures made { (scenario : Scenario) (cells : List (Option Told)) →
-            HasMade (source_of self.old) scenario cells → HasMade (source_of self.new)
-            (with_kind scenario (ticks_of self.old) (kind_of item.entry)) cells }
+        ensures { Submits self.old self.new number (kind_of item.entry) (refusal_in result) }
     {
         let why = give(&mut self.source, item);
         self.landing.land(item.is_frame(), number, why);
@@ -250,30 +191,35 @@ impl GroupState {
         }
     }
 
+    /// Moves return cells into the inbox.
+    fn come(&mut self)
+        ensures comes { Comes self.old self.new }
+        ensures missed { inbox_of self.new ≡ [] →
+            in_misses self.new.back ≡ one_more (in_misses self.old.back) }
+    {
+        take_cells(&mut self.inbox, &mut self.back);
+    }
+
+    /// Looks for a slot in each send ring, up to the first that has none.
+    fn look(&mut self) -> Option<u8>
+        ensures looks { Looks self.old self.new }
+        ensures full { MatchOption result (AreFree self.new.tx.items)
+            (λ line. IsFirstFull self.old.tx.items self.new.tx.items line) }
+    {
+        first_full(&mut self.tx)
+    }
+
     /// Makes the next frame, for which the send rings have slots and the return cell is there that it needs.
     fn make_frame(&mut self)
         requires left { ticks_of self.old < total_of self.old }
         requires held { held_of self.old ≡ None }
         requires free { AreFree self.old.tx.items }
         requires cell { IsSome (needed (source_of self.old)) → inbox_of self.old ≢ [] }
-        ensures ticks { ticks_of self.new ≡ ticks_of self.old + 1 }
-        ensures script { SameScript self.old self.new }
-        ensures landed { SameLanded self.old self.new }
-        ensures ends { SameOuts self.old.tx.items self.new.tx.items }
-        ensures back { self.new.back ≡ self.old.back }
-        ensures made { (scenario : Scenario) →
-            HasMade (source_of self.old) scenario (taken_of self.old) →
-            HasMade (source_of self.new) scenario (taken_of self.new) }
-        ensures alike { (scenario : Scenario) →
-            HasMade (source_of self.old) scenario (taken_of self.old) →
-            ArePushedOf scenario self.old self.new }
+        ensures { Makes self.old self.new }
     {
-        let back = if self.source.needs_back().is_some() {
-            self.inbox.take()
-        } else {
-            None
-        };
-        self.source.tick(back, &mut self.frame);
+        let needed = self.source.needs_back().is_some();
+        let back = take_needed(&mut self.inbox, needed);
+        fill(&mut self.source, back, &mut self.frame);
         push_frame(&mut self.tx, &self.frame);
     }
 }
@@ -293,6 +239,32 @@ fn give(source: &mut SourceCore, item: ItemRef) -> Option<Refusal>
         ItemRef::Add(line) => source.add(line).err().map(Refusal::Command),
         ItemRef::Remove(line) => source.remove(line).err().map(Refusal::Command),
     }
+}
+
+/// Gives the first return cell of the inbox, where it is needed.
+fn take_needed(inbox: &mut Inbox, needed: bool) -> Option<BackCell>
+    ensures cell { result ≡ (if needed then slice_get inbox.old.cells 0 else None) }
+    ensures rest { inbox.new ≡ record inbox.old {
+        cells = if needed then drop 1 inbox.old.cells else inbox.old.cells } }
+{
+    if needed { inbox.take() } else { None }
+}
+
+/// Makes the next frame, a container for each line.
+fn fill(source: &mut SourceCore, back: Option<BackCell>, frame: &mut Vec<Container>)
+    requires places { length frame.old.items ≡ source.old.lines }
+    requires back { IsSome back ↔ IsSome (needed source.old) }
+    requires few { source.old.ticks < 4294967295 }
+    ensures stands { (scenario : Scenario) (cells : List (Option Told)) →
+        HasMade source.old scenario cells → HasMade source.new scenario (with_cell cells back) }
+    ensures frame { (scenario : Scenario) (cells : List (Option Told)) →
+        HasMade source.old scenario cells →
+        frame.new.items ≡ frame_of scenario (with_cell cells back) source.old.ticks }
+    ensures places { length frame.new.items ≡ length frame.old.items }
+    ensures ticks { source.new.ticks ≡ source.old.ticks + 1 }
+    ensures kind { SameKind source.new source.old }
+{
+    source.tick(back, frame);
 }
 
 /// The items of a script.

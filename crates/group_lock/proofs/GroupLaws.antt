@@ -1,0 +1,173 @@
+-- What contracts say of a group, by its parts.
+use Rattle.std.proofs.Common.{◌≡◌, ℕ, ◌+◌, ◌<◌, ◌≤◌, ◌==◌, nat_lt, not, Bool, true, false, if◌then◌else◌, List, [], ◌∷◌, ◌++◌, Option, Some, None, option_map, refl, sym, ◌∙◌, ap, subst, arith}
+use Rattle.std.proofs.Math.Logic.{∥∥₁_elim}
+use Rattle.std.proofs.Props.{props}
+use Rattle.std.proofs.lemmas.Bool.Decides.{nat_tests}
+use Rattle.std.proofs.lemmas.List.{append-nil}
+use Rattle.session_model.specs.declared.script.ItemKind.{ItemKind}
+use Rattle.session_model.specs.Scenario.{Scenario}
+use Rattle.session_model.specs.Table.{Told}
+use Rattle.report_text.specs.declared.report.Refusal.{Refusal}
+use Rattle.report_text.specs.declared.report.Refusal.TheVariants.{Frame as frame_refused, Command as command_refused}
+use Rattle.source_core.specs.Given.{Stands as HasMade}
+use Rattle.walk_law.specs.Landed.{is_client, IsPlaced, refused_by}
+use Rattle.group_lock.specs.declared.answer.SubmitFault.{SubmitFault}
+use Rattle.group_lock.specs.declared.answer.SubmitFault.TheVariants.{NotNext, Early, JournalFull}
+use Rattle.group_lock.specs.declared.group.GroupState.{GroupState}
+use Rattle.group_lock.specs.Item.{size_of as octet_count}
+use Rattle.group_lock.specs.Answer.{fault_of, has_landed, refusal_told}
+use Rattle.group_lock.specs.Journal.{entry_of, fits}
+use Rattle.group_lock.specs.Landed.{due_at}
+use Rattle.group_lock.specs.Lands.{met_by, with_kind}
+use Rattle.group_lock.specs.Parts.{setting_in}
+use Rattle.group_lock.specs.Group.{parts_of, Stands, SameScript, SameRings, SameLanded, items_of, frames_of, commands_of, journal_of, slots_of, bytes_of, refusals_of, taken_of, source_of, ticks_of, next_of, refusal_of, is_number, fault_in, counted_by, HasCounted, with_landed}
+use Rattle.group_lock.specs.Calls.{Submits}
+use Rattle.group_lock.proofs.AlikeLaws.{met-journal}
+
+pub stands-of : (g : GroupState) → Stands g
+stands-of g = record { legal = g.keeps.legal; made = g.keeps.made; sent = g.keeps.sent; due = g.keeps.due }
+
+pub script-same : (g : GroupState) → SameScript g g
+script-same g = record { lines = refl; lag = refl; size = refl; total = refl; lost = refl; items = refl }
+
+-- ---- why an item isn't accepted, by the tests in their order
+abbrev fault_by : Option ℕ → ℕ → ℕ → ℕ → Bool → ℕ → ℕ → Option SubmitFault → Option SubmitFault
+fault_by next number ticks due fits slots bytes rest =
+    if not (is_number next number) then Some (NotNext next)
+    else if nat_lt ticks due then Some (Early ticks)
+    else if not fits then Some (JournalFull slots bytes)
+    else rest
+
+same-number : (number : ℕ) → is_number (Some number) number ≡ true
+same-number number = grind (arith, nat_tests)
+
+not-early : (ticks due : ℕ) → due ≤ ticks → nat_lt ticks due ≡ false
+not-early ticks due low = grind (arith, nat_tests, low)
+
+is-early : (ticks due : ℕ) → ticks < due → nat_lt ticks due ≡ true
+is-early ticks due low = grind (arith, nat_tests, low)
+
+other-number : (next : Option ℕ) (number : ℕ) → (next ≡ Some number → ⊥) → is_number next number ≡ false
+other-number None number other = refl
+other-number (Some n) number other = grind (arith, nat_tests, (λ (e : n ≡ number). other (ap Some e)))
+
+pub fault-next : (next : Option ℕ) (number ticks due : ℕ) (fits : Bool) (slots bytes : ℕ) (rest : Option SubmitFault) → (next ≡ Some number → ⊥) →
+    Some (NotNext next) ≡ fault_by next number ticks due fits slots bytes rest
+fault-next next number ticks due fits slots bytes rest other = rw (other-number next number other) refl
+
+pub fault-early : (next : Option ℕ) (number ticks due : ℕ) (fits : Bool) (slots bytes : ℕ) (rest : Option SubmitFault) → next ≡ Some number → ticks < due →
+    Some (Early ticks) ≡ fault_by next number ticks due fits slots bytes rest
+fault-early next number ticks due fits slots bytes rest is low =
+    subst (λ n. Some (Early ticks) ≡ fault_by n number ticks due fits slots bytes rest) (sym is) (rw (same-number number, is-early ticks due low) refl)
+
+pub fault-full : (next : Option ℕ) (number ticks due : ℕ) (fits : Bool) (slots bytes : ℕ) (rest : Option SubmitFault) → next ≡ Some number → due ≤ ticks → fits ≡ false →
+    Some (JournalFull slots bytes) ≡ fault_by next number ticks due fits slots bytes rest
+fault-full next number ticks due fits slots bytes rest is low full =
+    subst (λ n. Some (JournalFull slots bytes) ≡ fault_by n number ticks due fits slots bytes rest) (sym is) (rw (same-number number, not-early ticks due low, full) refl)
+
+pub fault-rest : (next : Option ℕ) (number ticks due : ℕ) (fits : Bool) (slots bytes : ℕ) (rest : Option SubmitFault) → next ≡ Some number → due ≤ ticks → fits ≡ true →
+    rest ≡ fault_by next number ticks due fits slots bytes rest
+fault-rest next number ticks due fits slots bytes rest is low there =
+    subst (λ n. rest ≡ fault_by n number ticks due fits slots bytes rest) (sym is) (rw (same-number number, not-early ticks due low, there) refl)
+
+-- ---- what has landed is counted
+pub counted-frame : (client : Bool) → (if client then 1 else 0) ≡ counted_by client true
+counted-frame true = refl
+counted-frame false = refl
+
+pub counted-command : (client : Bool) → (if client then 0 else 1) ≡ counted_by (not client) true
+counted-command true = refl
+counted-command false = refl
+
+counted-none : (client : Bool) → counted_by client false ≡ 0
+counted-none true = refl
+counted-none false = refl
+
+-- a fault by which nothing has landed
+pub submits-none : (g : GroupState) (number : ℕ) (kind : ItemKind) (fault : SubmitFault) → has_landed (Some fault) ≡ false → Some fault ≡ fault_in g number kind → Submits g g number kind (Some fault)
+submits-none g number kind fault none is = record {
+  fault = is;
+  unchanged = λ e. refl;
+  landed = subst (HasCounted g g kind) (sym none) (record {
+    frames = (let e = counted-none (is_client kind) in omega arith);
+    commands = (let e = counted-none (not (is_client kind)) in omega arith);
+  });
+  journal = sym (append-nil _);
+  room = record { slots = omega arith; bytes = omega arith };
+  refusals = λ landed. absurd (let e : true ≡ false = sym landed ∙ none in cc);
+  script = script-same g;
+  rings = record { ticks = refl; inbox = refl; tx = refl; back = refl };
+  made = λ scenario cells has. subst (λ b. HasMade (g.source) (with_landed scenario (ticks_of g) kind b) cells) (sym none) has;
+  stands = stands-of g;
+}
+
+-- what the source says of an item is what the session of the journal says
+pub refused-is : (g : GroupState) (kind : ItemKind) → met_by (source_of g) kind ≡ refusal_of g kind
+refused-is g kind = ∥∥₁_elim g.keeps.made (hlevel props) (λ made. met-journal (source_of g) (setting_in (parts_of g)) (journal_of g) (taken_of g) kind made)
+
+-- what is asked of an item before the source is asked
+pub record Asks (g : GroupState) (number : ℕ) (kind : ItemKind) : Type 0 where
+  pub next : next_of g kind ≡ Some number
+  pub due : due_at (items_of g) number ≤ ticks_of g
+  pub room : fits (parts_of g).journal kind ≡ true
+
+fault-asked : (g : GroupState) (number : ℕ) (kind : ItemKind) → Asks g number kind → option_map fault_of (refusal_of g kind) ≡ fault_in g number kind
+fault-asked g number kind asks =
+    fault-rest (next_of g kind) number (ticks_of g) (due_at (items_of g) number) (fits (parts_of g).journal kind) (slots_of g) (bytes_of g) (option_map fault_of (refusal_of g kind)) asks.next asks.due asks.room
+
+-- what an item that has landed leaves
+pub record Lands (a b : GroupState) (number : ℕ) (kind : ItemKind) (why : Option Refusal) : Type 0 where
+  pub is : why ≡ refusal_of a kind
+  pub frames : frames_of b ≡ frames_of a + (if is_client kind then 1 else 0)
+  pub commands : commands_of b ≡ commands_of a + (if is_client kind then 0 else 1)
+  pub refusals : IsPlaced number (refused_by number why) (refusals_of a) (refusals_of b)
+  pub script : SameScript a b
+  pub rings : SameRings a b
+  pub made : (scenario : Scenario) (cells : List (Option Told)) → HasMade (source_of a) scenario cells → HasMade (source_of b) (with_kind scenario (ticks_of a) kind) cells
+
+counted : (a b : GroupState) (number : ℕ) (kind : ItemKind) (why : Option Refusal) → Lands a b number kind why → HasCounted a b kind true
+counted a b number kind why lands = record {
+  frames = lands.frames ∙ ap (λ n. frames_of a + n) (counted-frame (is_client kind));
+  commands = lands.commands ∙ ap (λ n. commands_of a + n) (counted-command (is_client kind));
+}
+
+pub submits-accepted : (a b : GroupState) (number : ℕ) (kind : ItemKind) → Asks a number kind → Lands a b number kind None →
+    journal_of b ≡ journal_of a ++ entry_of number (ticks_of a) kind ∷ [] → slots_of b + 1 ≡ slots_of a → bytes_of b + octet_count kind ≡ bytes_of a → Submits a b number kind None
+submits-accepted a b number kind asks lands journal slots bytes = record {
+  fault = ap (option_map fault_of) lands.is ∙ fault-asked a number kind asks;
+  unchanged = λ e. absurd cc;
+  landed = counted a b number kind None lands;
+  journal = journal;
+  room = record { slots = slots; bytes = bytes };
+  refusals = λ landed. lands.refusals;
+  script = lands.script;
+  rings = lands.rings;
+  made = lands.made;
+  stands = stands-of b;
+}
+
+landed-fault : (why : Refusal) → has_landed (Some (fault_of why)) ≡ true
+landed-fault (frame_refused fault) = refl
+landed-fault (command_refused fault) = refl
+
+told-fault : (why : Refusal) → refusal_told (Some (fault_of why)) ≡ Some why
+told-fault (frame_refused fault) = refl
+told-fault (command_refused fault) = refl
+
+pub submits-refused : (a b : GroupState) (number : ℕ) (kind : ItemKind) (why : Refusal) (fault : SubmitFault) → fault ≡ fault_of why → Asks a number kind → Lands a b number kind (Some why) →
+    journal_of b ≡ journal_of a → slots_of b ≡ slots_of a → bytes_of b ≡ bytes_of a → Submits a b number kind (Some fault)
+submits-refused a b number kind why fault is asks lands journal slots bytes =
+    let yes : has_landed (Some fault) ≡ true = ap (λ (f : SubmitFault). has_landed (Some f)) is ∙ landed-fault why in
+    let told : Some why ≡ refusal_told (Some fault) = sym (ap (λ (f : SubmitFault). refusal_told (Some f)) is ∙ told-fault why) in
+    record {
+      fault = ap Some is ∙ ap (option_map fault_of) lands.is ∙ fault-asked a number kind asks;
+      unchanged = λ e. absurd (let f : true ≡ false = sym yes ∙ e in cc);
+      landed = subst (HasCounted a b kind) (sym yes) (counted a b number kind (Some why) lands);
+      journal = journal ∙ sym (append-nil (journal_of a));
+      room = record { slots = omega arith; bytes = omega arith };
+      refusals = λ landed. subst (λ (w : Option Refusal). IsPlaced number (refused_by number w) (refusals_of a) (refusals_of b)) told lands.refusals;
+      script = lands.script;
+      rings = lands.rings;
+      made = λ scenario cells has. subst (λ b_. HasMade (source_of b) (with_landed scenario (ticks_of a) kind b_) cells) (sym yes) (lands.made scenario cells has);
+      stands = stands-of b;
+    }

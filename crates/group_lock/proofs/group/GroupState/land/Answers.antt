@@ -1,0 +1,65 @@
+-- An item has landed: the source has it, and it is counted; it is in the journal, or its refusal is kept.
+use Rattle.std.proofs.Common.{◌≡◌, ℕ, ◌+◌, if◌then◌else◌, List, [], ◌∷◌, ◌++◌, Option, Some, None, refl, sym, ◌∙◌, ap, subst, arith}
+use Rattle.report_text.specs.declared.report.Refusal.{Refusal}
+use Rattle.walk_law.specs.Landed.{is_client, IsPlaced, refused_by}
+use Rattle.group_lock.specs.Item.{kind_of}
+use Rattle.group_lock.specs.Journal.{entry_of}
+use Rattle.group_lock.specs.Landed.{due_at}
+use Rattle.group_lock.specs.Group.{refusals_of}
+use Rattle.group_lock.proofs.PlaceLaws.{next-due}
+use Rattle.group_lock.proofs.KeepLaws.{keeps-accepted, keeps-refused}
+use Rattle.group_lock.proofs.GroupLaws.{refused-is, submits-accepted, submits-refused}
+use Rattle.group_lock.proofs.group.GroupState.land.Goals as goal
+
+pub returns-in-None : goal.returns-in-None
+returns-in-None c =
+    let g = c.args.self.now in
+    let kind = kind_of c.args.item in
+    let e = c.give-why.ensures in
+    let l = c.land.ensures in
+    submits-accepted g _ c.args.number kind (record { next = c.requires.next; due = c.requires.due; room = c.requires.room })
+    (record {
+      is = sym c.in-None.is ∙ e.met ∙ refused-is g kind;
+      frames = l.frames ∙ ap (λ b. g.landing.frames + (if b then 1 else 0)) c.is_frame.ensures;
+      commands = l.commands ∙ ap (λ b. g.landing.commands + (if b then 0 else 1)) c.is_frame.ensures;
+      refusals = subst (λ (w : Option Refusal). IsPlaced c.args.number (refused_by c.args.number w) g.landing.refusals c.land.new.self.refusals) c.in-None.is l.refusals;
+      script = record { lines = e.kind.lines; lag = e.kind.lag; size = e.kind.size; total = refl; lost = refl; items = l.items };
+      rings = record { ticks = e.ticks; inbox = refl; tx = refl; back = refl };
+      made = e.stands;
+    })
+    (c.push.ensures.entries ∙ ap (λ n. g.journal.entries ++ entry_of c.args.number n kind ∷ []) (c.ticks.ensures ∙ e.ticks))
+    c.push.ensures.slots c.push.ensures.bytes
+
+pub returns-in-Some : goal.returns-in-Some
+returns-in-Some c =
+    let g = c.args.self.now in
+    let kind = kind_of c.args.item in
+    let e = c.give-why.ensures in
+    let l = c.land.ensures in
+    submits-refused g _ c.args.number kind c.in-Some.why c.refused.result c.refused.ensures (record { next = c.requires.next; due = c.requires.due; room = c.requires.room })
+    (record {
+      is = sym c.in-Some.is ∙ e.met ∙ refused-is g kind;
+      frames = l.frames ∙ ap (λ b. g.landing.frames + (if b then 1 else 0)) c.is_frame.ensures;
+      commands = l.commands ∙ ap (λ b. g.landing.commands + (if b then 0 else 1)) c.is_frame.ensures;
+      refusals = subst (λ (w : Option Refusal). IsPlaced c.args.number (refused_by c.args.number w) g.landing.refusals c.land.new.self.refusals) c.in-Some.is l.refusals;
+      script = record { lines = e.kind.lines; lag = e.kind.lag; size = e.kind.size; total = refl; lost = refl; items = l.items };
+      rings = record { ticks = e.ticks; inbox = refl; tx = refl; back = refl };
+      made = e.stands;
+    })
+    refl refl refl
+
+pub invariant_of-self-in-None : goal.invariant_of-self-in-None
+invariant_of-self-in-None c =
+    let g = c.args.self.now in
+    let kind = kind_of c.args.item in
+    let e = c.give-why.ensures in
+    let l = c.land.ensures in
+    let frames = l.frames in
+    let commands = l.commands in
+    let due = c.requires.due in
+    let late = next-due g.landing (is_client kind) c.args.number g.source.ticks c.requires.next g.keeps.ahead in
+    record {
+      keeps = keeps-accepted _ _ c.give-why.new.source c.land.new.self c.push.new.self c.args.number kind g.keeps l.items (omega arith) (omega arith)
+          (c.push.ensures.entries ∙ ap (λ n. g.journal.entries ++ entry_of c.args.number n kind ∷ []) (c.ticks.ensures ∙ e.ticks)) e.ticks e.kind e.stands
+          (sym (refused-is g kind) ∙ sym e.met ∙ c.in-None.is) (omega arith);
+    }
