@@ -1,34 +1,21 @@
 //! All threads of a session, side by side.
+ghost use Rattle.std.specs.Prelude.{◌≡◌, ◌≤◌, [], List, vec_len};
+ghost use Rattle.std.specs.Global.{Vec};
+ghost use Rattle.std.specs.Vec.{vec_capacity};
+ghost use Rattle.member_ring.specs.declared.worker.LineWorker.{LineWorker};
+ghost use Rattle.session_parts.specs.Duty.{Begun};
+ghost use Rattle.session_parts.specs.Lines.{SharesLater};
+ghost use Rattle.session_parts.specs.Held.{AreHeldOf};
 
-use crate::duty::{Duty, Turned};
-use crate::line_thread::{Held, serve_here, start_shares, take_all_back};
+use crate::room::Flags;
 use crate::turns::{Turns, bring, tick, tick_on};
 use group_lock::{BoundGroup, Session};
 use member_ring::{Gate, LineWorker, Who};
-use session_model::Script;
+use session_parts::{Duty, Held, Turned, serve_all_here, start_shares, take_all_back};
+use std::sync::atomic::AtomicBool;
 use std::sync::{Mutex, Wait};
-use std::sync::atomic::{AtomicBool, Ordering};
 use std::thread;
 use std::thread::{JoinHandle, Scope, Threads};
-
-/// The flags that tell threads to end: that of client and operator, that of the source, and one for each share of lines.
-#[derive(Drop)]
-pub(crate) struct Flags {
-    pub(crate) items: AtomicBool,
-    pub(crate) source: AtomicBool,
-    pub(crate) lines: Vec<AtomicBool>,
-}
-
-impl Flags {
-    /// Tells all threads to end.
-    fn raise(&self) {
-        self.items.store(true, Ordering::SeqCst);
-        self.source.store(true, Ordering::SeqCst);
-        for stop in self.lines.iter() {
-            stop.store(true, Ordering::SeqCst);
-        }
-    }
-}
 
 /// Who brings items: a thread, or the calling thread where none could be started.
 #[derive(Drop)]
@@ -59,13 +46,12 @@ fn start_bringer<'s, 'e, Y: Session, R: Wait + Sync, G: Gate>(
     gate: &'s G,
     lock: &'s Mutex<BoundGroup<Y>>,
     stop: &'s AtomicBool,
-    script: &'s Script,
-    who: Who,
+    turns: Turns<'s, Y>,
 ) -> Bringer<'s, Y> {
-    let turns = Turns::new(script, who);
+    let own = turns.again();
     match scope.spawn(move || bring(rt, gate, lock, stop, turns)) {
         Ok(child) => Bringer::There(child),
-        Err(_) => Bringer::Here(Turns::new(script, who)),
+        Err(_) => Bringer::Here(own),
     }
 }
 
@@ -131,24 +117,61 @@ fn serve<Y: Session, R: Wait, G: Gate, D: Duty>(
     lock: &Mutex<BoundGroup<Y>>,
     duty: D,
     hands: &mut Hands<'_, Y>,
-    held: Vec<Held>,
-) -> (D, Vec<Held>) {
+    held: &mut Vec<Held>,
+) -> D
+    ensures duty { (begun : Begun) → D.stands_for duty begun → D.stands_for result begun }
+    ensures held { (shares : List (Vec LineWorker)) → AreHeldOf shares held.old.items →
+        AreHeldOf shares held.new.items }
+{
     let mut duty = duty;
-    let mut held = held;
     for _ in rt.forever() {
-        let turned = duty.turn(gate);
+        gate.pass(Who::Sink);
+        let turned = duty.turn();
         if turned == Turned::Over {
-            return (duty, held);
+            return duty;
         }
-        hands.turn(rt, gate, lock);
-        for share in held.iter_mut() {
-            serve_here(share, gate);
-        }
-        if turned == Turned::Waits {
+        if turned == Turned::Moved {
+            gate.moved(Who::Sink);
+        } else {
             thread::yield_now();
         }
+        hands.turn(rt, gate, lock);
+        serve_all_here(held, gate);
     }
     unreachable!()
+}
+
+/// Starts all threads in a scope, does the duty of the calling thread, tells the threads to end, and joins them.
+fn run_threads<'s, 'e, Y: Session, R: Threads + Wait + Sync, G: Gate, D: Duty>(
+    scope: &'s Scope<'s, &'e ()>,
+    rt: &'s R,
+    gate: &'s G,
+    lock: &'s Mutex<BoundGroup<Y>>,
+    flags: &'s Flags,
+    client: Turns<'s, Y>,
+    operator: Turns<'s, Y>,
+    shares: Vec<Vec<LineWorker>>,
+    held: Vec<Held>,
+    back: Vec<Vec<LineWorker>>,
+    duty: D,
+) -> (D, Vec<Vec<LineWorker>>)
+    requires stops { vec_len shares ≤ vec_len flags.now.lines }
+    requires held { (held.items ≡ []) × (vec_len shares ≤ vec_capacity held) }
+    requires back { (back.items ≡ []) × (vec_len shares ≤ vec_capacity back) }
+    ensures duty { (begun : Begun) → D.stands_for duty begun → D.stands_for result.0 begun }
+    ensures shares { SharesLater shares.items result.1.items }
+{
+    let mut hands = Hands {
+        client: start_bringer(scope, rt, gate, lock, &flags.items, client),
+        operator: start_bringer(scope, rt, gate, lock, &flags.items, operator),
+        source: start_source(scope, rt, gate, lock, &flags.source),
+    };
+    let mut held = start_shares(scope, rt, gate, flags.lines.as_slice(), shares, held);
+    let duty = serve(rt, gate, lock, duty, &mut hands, &mut held);
+    flags.raise();
+    let shares = take_all_back(rt, held, back);
+    hands.join(rt);
+    (duty, shares)
 }
 
 /// Runs client, operator, source and line threads beside a duty of the calling thread, until that is over, and joins them.
@@ -157,23 +180,32 @@ pub(crate) fn side_by_side<'x, Y: Session, R: Threads + Wait + Sync, G: Gate, D:
     gate: &'x G,
     lock: &'x Mutex<BoundGroup<Y>>,
     flags: &'x Flags,
-    script: &'x Script,
+    client: Turns<'x, Y>,
+    operator: Turns<'x, Y>,
     shares: Vec<Vec<LineWorker>>,
     held: Vec<Held>,
     back: Vec<Vec<LineWorker>>,
     duty: D,
-) -> (D, Vec<Vec<LineWorker>>) {
-    thread::scope(thread::scope_env(), rt, |scope| {
-        let mut hands = Hands {
-            client: start_bringer(scope, rt, gate, lock, &flags.items, script, Who::Client),
-            operator: start_bringer(scope, rt, gate, lock, &flags.items, script, Who::Operator),
-            source: start_source(scope, rt, gate, lock, &flags.source),
-        };
-        let held = start_shares(scope, rt, gate, flags.lines.as_slice(), shares, held);
-        let (duty, held) = serve(rt, gate, lock, duty, &mut hands, held);
-        flags.raise();
-        let shares = take_all_back(rt, held, back);
-        hands.join(rt);
-        (duty, shares)
-    })
+) -> (D, Vec<Vec<LineWorker>>)
+    requires stops { vec_len shares ≤ vec_len flags.now.lines }
+    requires held { (held.items ≡ []) × (vec_len shares ≤ vec_capacity held) }
+    requires back { (back.items ≡ []) × (vec_len shares ≤ vec_capacity back) }
+    ensures duty { (begun : Begun) → D.stands_for duty begun → D.stands_for result.0 begun }
+    ensures shares { SharesLater shares.items result.1.items }
+{
+    thread::scope(
+        thread::scope_env(),
+        rt,
+        |scope| -> (D, Vec<Vec<LineWorker>>)
+            requires stops { vec_len shares ≤ vec_len flags.now.lines }
+            requires held { (held.items ≡ []) × (vec_len shares ≤ vec_capacity held) }
+            requires back { (back.items ≡ []) × (vec_len shares ≤ vec_capacity back) }
+            ensures duty { (begun : Begun) → D.stands_for duty begun → D.stands_for result.0 begun }
+            ensures shares { SharesLater shares.items result.1.items }
+        {
+            run_threads(
+                scope, rt, gate, lock, flags, client, operator, shares, held, back, duty,
+            )
+        },
+    )
 }
