@@ -169,7 +169,7 @@ at-range f n m low =
 pub container-in : (scenario : Scenario) (cells : List (Option Told)) (m t : ℕ) → m < length scenario.windows → slice_get (frame_of scenario cells t) m ≡ Some (container_of scenario cells m t)
 container-in scenario cells m t low = at-range (λ line. container_of scenario cells line t) (length scenario.windows) m low
 
-container-alike : (one : Scenario) (a : List (Option Told)) (other : Scenario) (b : List (Option Told)) (n m t : ℕ) → Alike one a other b n → m < length one.windows → t < n →
+pub container-alike : (one : Scenario) (a : List (Option Told)) (other : Scenario) (b : List (Option Told)) (n m t : ℕ) → Alike one a other b n → m < length one.windows → t < n →
     container_of one a m t ≡ container_of other b m t
 container-alike one a other b n m t alike low before =
     let same = alike.lines in

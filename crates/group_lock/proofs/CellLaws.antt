@@ -129,6 +129,7 @@ takes inbox next received lag ticks cell has there first left =
         subst (λ (i : Inbox). Takes inbox i received lag ticks cell) (sym (left ∙ ap (λ b. record inbox { cells = rest_for b inbox.cells }) needs))
         (subst (λ (c : Option BackCell). Takes inbox inbox received lag ticks c) (sym (first ∙ ap (λ b. cell_for b inbox.cells) needs))
         (takes-none inbox received lag ticks has same needs))
+
     some : used_in lag (ticks + 1) ≡ used_in lag ticks + 1 → is_some (needed_at lag ticks) ≡ true → Takes inbox next received lag ticks cell
     some more needs =
         let (one, e) = head-there inbox.cells (there needs) in

@@ -31,7 +31,7 @@ pub script-same : (g : GroupState) → SameScript g g
 script-same g = record { lines = refl; lag = refl; size = refl; total = refl; lost = refl; items = refl }
 
 -- ---- why an item isn't accepted, by the tests in their order
-abbrev fault_by : Option ℕ → ℕ → ℕ → ℕ → Bool → ℕ → ℕ → Option SubmitFault → Option SubmitFault
+abbrev pub fault_by : Option ℕ → ℕ → ℕ → ℕ → Bool → ℕ → ℕ → Option SubmitFault → Option SubmitFault
 fault_by next number ticks due fits slots bytes rest =
     if not (is_number next number) then Some (NotNext next)
     else if nat_lt ticks due then Some (Early ticks)
@@ -114,6 +114,19 @@ pub record Asks (g : GroupState) (number : ℕ) (kind : ItemKind) : Type 0 where
 fault-asked : (g : GroupState) (number : ℕ) (kind : ItemKind) → Asks g number kind → option_map fault_of (refusal_of g kind) ≡ fault_in g number kind
 fault-asked g number kind asks =
     fault-rest (next_of g kind) number (ticks_of g) (due_at (items_of g) number) (fits (parts_of g).journal kind) (slots_of g) (bytes_of g) (option_map fault_of (refusal_of g kind)) asks.next asks.due asks.room
+
+pub asked-next : (g : GroupState) (number : ℕ) (kind : ItemKind) → (next_of g kind ≡ Some number → ⊥) → Some (NotNext (next_of g kind)) ≡ fault_in g number kind
+asked-next g number kind other =
+    fault-next (next_of g kind) number (ticks_of g) (due_at (items_of g) number) (fits (parts_of g).journal kind) (slots_of g) (bytes_of g) (option_map fault_of (refusal_of g kind)) other
+
+pub asked-early : (g : GroupState) (number : ℕ) (kind : ItemKind) → next_of g kind ≡ Some number → ticks_of g < due_at (items_of g) number → Some (Early (ticks_of g)) ≡ fault_in g number kind
+asked-early g number kind next low =
+    fault-early (next_of g kind) number (ticks_of g) (due_at (items_of g) number) (fits (parts_of g).journal kind) (slots_of g) (bytes_of g) (option_map fault_of (refusal_of g kind)) next low
+
+pub asked-full : (g : GroupState) (number : ℕ) (kind : ItemKind) → next_of g kind ≡ Some number → due_at (items_of g) number ≤ ticks_of g → fits (parts_of g).journal kind ≡ false →
+    Some (JournalFull (slots_of g) (bytes_of g)) ≡ fault_in g number kind
+asked-full g number kind next low full =
+    fault-full (next_of g kind) number (ticks_of g) (due_at (items_of g) number) (fits (parts_of g).journal kind) (slots_of g) (bytes_of g) (option_map fault_of (refusal_of g kind)) next low full
 
 -- what an item that has landed leaves
 pub record Lands (a b : GroupState) (number : ℕ) (kind : ItemKind) (why : Option Refusal) : Type 0 where

@@ -6,3 +6,7 @@ pub mod EntryLaws
 pub mod HeldLaws
 pub mod KeepLaws
 pub mod GroupLaws
+pub mod TickLaws
+pub mod InsertLaws
+pub mod BoundLaws
+pub mod SubmitLaws

@@ -194,12 +194,12 @@ command-landed landed frame command space next is there at =
         omega arith
 
 -- ---- refusals in order
-all-left : {X : Type 0} (P : X → Type 0) (xs ys : List X) → All P (xs ++ ys) → All P xs
+pub all-left : {X : Type 0} (P : X → Type 0) (xs ys : List X) → All P (xs ++ ys) → All P xs
 all-left P xs ys all k d inside =
     let long = length-append xs ys in
     subst P (get_or_append_left xs ys d k inside) (all k d (omega arith))
 
-all-right : {X : Type 0} (P : X → Type 0) (xs ys : List X) → All P (xs ++ ys) → All P ys
+pub all-right : {X : Type 0} (P : X → Type 0) (xs ys : List X) → All P (xs ++ ys) → All P ys
 all-right P xs ys all k d inside =
     let long = length-append xs ys in
     subst P (get_or-append-add xs ys k d) (all (length xs + k) d (omega arith))
@@ -211,7 +211,7 @@ order-put number why [] back order before after = (after, order)
 order-put number why (first ∷ front) back order before after =
     let After = λ (refused : ℕ × Refusal). first.0 < refused.0 in (
       All-append After front ((number, why) ∷ back) (all-left After front back order.0)
-      (All-cons After (number, why) back (All-head (λ (refused : ℕ × Refusal). refused.0 < number) first front before) (all-right After front back order.0)),
+          (All-cons After (number, why) back (All-head (λ (refused : ℕ × Refusal). refused.0 < number) first front before) (all-right After front back order.0)),
       order-put number why front back order.1 (All-tail (λ (refused : ℕ × Refusal). refused.0 < number) first front before) after,
     )
 
@@ -343,7 +343,7 @@ none-put number (first ∷ refusals) order others =
     more : (a b : ℕ) → b ≤ a → (a ≡ b → ⊥) → b < a
     more a b low other = omega arith
 
-item-there : (items : List Item) (i : ℕ) → i < length items → (item : Item) × (slice_get items i ≡ Some item)
+pub item-there : (items : List Item) (i : ℕ) → i < length items → (item : Item) × (slice_get items i ≡ Some item)
 item-there [] i low = absurd (omega arith)
 item-there (item ∷ items) zero low = (item, refl)
 item-there (item ∷ items) (suc i) low = item-there items i (omega arith)
@@ -426,4 +426,3 @@ next-due landed client number ticks e ahead =
         ahead.of_frames landed.frames item.due (omega arith) (frame-due landed.items landed.frames ∙ ap (due_found landed.items) (sym at) ∙ ap (option_map (λ (item : Item). item.due)) here)
     by_kind false at item here =
         ahead.of_commands landed.commands item.due (omega arith) (command-due landed.items landed.commands ∙ ap (due_found landed.items) (sym at) ∙ ap (option_map (λ (item : Item). item.due)) here)
-

@@ -16,7 +16,7 @@ use Rattle.source_core.specs.Given.{Stands as HasMade}
 use Rattle.walk_law.specs.Landed.{Numbered, is_client, landed_items, landed_scenario, kind_refusal, refused_by}
 use Rattle.group_lock.specs.Journal.{items_in}
 use Rattle.group_lock.specs.Rings.{SameOuts, SameIns}
-use Rattle.group_lock.specs.Parts.{AreSent}
+use Rattle.group_lock.specs.Parts.{AreSent, ArePast}
 use Rattle.group_lock.specs.declared.group.GroupState.{GroupState}
 use Rattle.group_lock.specs.Group.{IsOf, ticks_of, frames_of, commands_of, journal_of, slots_of, bytes_of, refusals_of, taken_of, source_of}
 
@@ -63,13 +63,14 @@ AreItemsOf script entries = (i : ℕ) (entry : Numbered) → slice_get entries i
 
 -- there is room in the journal for all items that haven't landed
 pub record HasRoom (script : Script) (g : GroupState) : Type 0 where
-  pub entries : length script.items ≤ frames_of g + commands_of g + slots_of g
+  pub entries : length (drop (frames_of g) (offers_of script.items)) + length (drop (commands_of g) (orders_of script.items)) ≤ slots_of g
   pub octets : octets_in (drop (frames_of g) (offers_of script.items)) ≤ bytes_of g
 
 -- what has come of the script so far: the entries and the refusals are those of its items that have landed, by the return cells that decision
 -- steps have taken; and each send ring has passed the script's containers of the frames made
 pub record HasLandedOf (script : Script) (g : GroupState) : Type 0 where
   pub entries : AreItemsOf script (journal_of g)
+  pub past : ArePast (ticks_of g) (landed_items script (counts_of g))
   pub refusals : refusals_of g ≡ refusals_by script (taken_of g) (landed_items script (counts_of g))
   pub frames : length (offers_of (items_in (journal_of g))) ≡ length (accepted_frames_by script (taken_of g) (landed_items script (counts_of g)))
   pub commands : length (orders_of (items_in (journal_of g))) ≡ length (accepted_commands_by script (taken_of g) (landed_items script (counts_of g)))

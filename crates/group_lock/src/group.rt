@@ -245,7 +245,8 @@ fn give(source: &mut SourceCore, item: ItemRef) -> Option<Refusal>
 fn take_needed(inbox: &mut Inbox, needed: bool) -> Option<BackCell>
     ensures cell { result ≡ (if needed then slice_get inbox.old.cells 0 else None) }
     ensures rest { inbox.new ≡ record inbox.old {
-        cells = if needed then drop 1 inbox.old.cells else inbox.old.cells } }
+      cells = if needed then drop 1 inbox.old.cells else inbox.old.cells;
+    } }
 {
     if needed { inbox.take() } else { None }
 }

@@ -1,5 +1,5 @@
 -- The loop ends where the refusal before the place is of an item before this one.
-use Rattle.std.proofs.Common.{◌≡◌, ℕ, suc, ◌-◌, ◌<◌, ◌≤◌, take, get_or, subst, arith}
+use Rattle.std.proofs.Common.{◌≡◌, ℕ, suc, ◌-◌, ◌<◌, ◌≤◌, take, subst, arith}
 use Rattle.group_lock.specs.Landed.{AreBefore}
 use Rattle.group_lock.proofs.PlaceLaws.{before-place}
 use Rattle.group_lock.proofs.landing.place_among.Goals as goal

@@ -1,5 +1,5 @@
 -- The refusals from the place on are of items behind it.
-use Rattle.std.proofs.Common.{ℕ, ◌≤◌, length, drop}
+use Rattle.std.proofs.Common.{◌≤◌, length, drop}
 use Rattle.group_lock.specs.Landed.{AreAfter}
 use Rattle.group_lock.proofs.landing.place_among.Given as goal
 

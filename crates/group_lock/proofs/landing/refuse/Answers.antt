@@ -1,5 +1,5 @@
 -- The refusal is inserted at its place.
-use Rattle.std.proofs.Common.{◌≡◌, ℕ, List, [], ◌∷◌, ◌++◌, take, drop, if◌then◌else◌, Bool, true, false, refl, sym, ◌∙◌, ap, subst, append_assoc, rules}
+use Rattle.std.proofs.Common.{◌≡◌, ℕ, List, [], ◌∷◌, take, drop, if◌then◌else◌, Bool, true, sym, ◌∙◌, ap, subst, append_assoc, rules}
 use Rattle.std.specs.Result.{is_ok}
 use Rattle.std.specs.List.{insert}
 use Rattle.std.proofs.lemmas.List.{take-append-drop}

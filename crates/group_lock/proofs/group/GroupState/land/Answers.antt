@@ -1,13 +1,11 @@
 -- An item has landed: the source has it, and it is counted; it is in the journal, or its refusal is kept.
-use Rattle.std.proofs.Common.{◌≡◌, ℕ, ◌+◌, if◌then◌else◌, List, [], ◌∷◌, ◌++◌, Option, Some, None, refl, sym, ◌∙◌, ap, subst, arith}
+use Rattle.std.proofs.Common.{◌+◌, if◌then◌else◌, [], ◌∷◌, ◌++◌, Option, refl, sym, ◌∙◌, ap, subst, arith}
 use Rattle.report_text.specs.declared.report.Refusal.{Refusal}
 use Rattle.walk_law.specs.Landed.{is_client, IsPlaced, refused_by}
 use Rattle.group_lock.specs.Item.{kind_of}
 use Rattle.group_lock.specs.Journal.{entry_of}
-use Rattle.group_lock.specs.Landed.{due_at}
-use Rattle.group_lock.specs.Group.{refusals_of}
 use Rattle.group_lock.proofs.PlaceLaws.{next-due}
-use Rattle.group_lock.proofs.KeepLaws.{keeps-accepted, keeps-refused}
+use Rattle.group_lock.proofs.KeepLaws.{keeps-accepted}
 use Rattle.group_lock.proofs.GroupLaws.{refused-is, submits-accepted, submits-refused}
 use Rattle.group_lock.proofs.group.GroupState.land.Goals as goal
 

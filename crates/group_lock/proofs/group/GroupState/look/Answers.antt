@@ -1,5 +1,5 @@
 -- Send rings were looked at.
-use Rattle.std.proofs.Common.{refl, arith, ◌≤◌, length}
+use Rattle.std.proofs.Common.{refl, arith}
 use Rattle.group_lock.proofs.KeepLaws.{keeps-looked}
 use Rattle.group_lock.proofs.group.GroupState.look.Goals as goal
 

@@ -1,5 +1,5 @@
 -- A frame was made, and pushed.
-use Rattle.std.proofs.Common.{◌≡◌, ◌∙◌, ap, sym, refl, subst, arith, length}
+use Rattle.std.proofs.Common.{◌∙◌, ap, sym, refl, subst, arith, length}
 use Rattle.std.specs.Option.{is_some}
 use Rattle.group_lock.proofs.KeepLaws.{nonempty, takes-by, made-by, keeps-made, pushed-made, own-pushed, same-ends, told-made}
 use Rattle.source_core.specs.Given.{Stands as HasMade}

@@ -1,9 +1,7 @@
 -- Nothing has come of the group yet.
-use Rattle.std.proofs.Common.{◌≡◌, ℕ, length, sym, ◌∙◌, ap, subst, arith, rules}
+use Rattle.std.proofs.Common.{◌≡◌, length, sym, ◌∙◌, ap, subst, arith, rules}
 use Rattle.std.specs.List.Sorted.{IsNonDecreasing}
-use Rattle.session_model.specs.Scenario.{Scenario}
 use Rattle.session_model.specs.Counts.{dues_of, frame_dues, command_dues}
-use Rattle.source_core.specs.Given.{IsFresh, Stands as HasMade}
 use Rattle.group_lock.specs.Journal.{Journal}
 use Rattle.group_lock.specs.Inbox.{Inbox, empty_inbox}
 use Rattle.group_lock.specs.Parts.{Parts, parts}

@@ -1,6 +1,6 @@
 -- Each entry is a frame or a command.
 use Rattle.std.proofs.Common.{◌≡◌, ◌-◌, length, ◌∙◌, ap, arith}
-use Rattle.session_model.specs.Scenario.{offers_of, orders_of}
+use Rattle.session_model.specs.Scenario.{orders_of}
 use Rattle.group_lock.specs.Journal.{Journal, items_in}
 use Rattle.group_lock.specs.Entries.{entries_in}
 use Rattle.group_lock.proofs.EntryLaws.{entries-kinds}

@@ -3,7 +3,7 @@ use Rattle.std.proofs.Common.{◌≡◌, ℕ, ◌+◌, ◌-◌, ◌<◌, ◌≤�
 use Rattle.std.specs.Vec.{vec_capacity}
 use Rattle.session_model.specs.declared.script.ItemKind.{ItemKind}
 use Rattle.session_model.specs.declared.script.ItemKind.TheVariants.{Frame, Add, Remove}
-use Rattle.walk_law.specs.Landed.{Numbered, is_client}
+use Rattle.walk_law.specs.Landed.{is_client}
 use Rattle.group_lock.specs.declared.journal.Entry.{Entry}
 use Rattle.group_lock.specs.Item.{kind_of, size_of, octets_of}
 use Rattle.group_lock.specs.Journal.{Journal, entry_of}

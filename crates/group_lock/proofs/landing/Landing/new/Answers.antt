@@ -1,5 +1,5 @@
 -- Nothing has landed yet.
-use Rattle.std.proofs.Common.{◌≡◌, ℕ, ◌+◌, List, [], length, sym, ◌∙◌, ap, subst, arith}
+use Rattle.std.proofs.Common.{ℕ, ◌+◌, List, sym, ◌∙◌, ap, subst, arith}
 use Rattle.std.specs.Vec.{vec_capacity}
 use Rattle.report_text.specs.declared.report.Refusal.{Refusal}
 use Rattle.walk_parts.specs.Place.{is_frame, is_command, place_of}

@@ -1,6 +1,5 @@
 -- The next item of a kind has landed.
-use Rattle.std.proofs.Common.{ℕ, ◌+◌, ◌<◌, length, drop, true, false, sym, ◌∙◌, ap, subst, arith}
-use Rattle.session_model.specs.declared.script.Item.{Item}
+use Rattle.std.proofs.Common.{◌+◌, ◌<◌, length, drop, true, false, sym, ◌∙◌, ap, subst, arith}
 use Rattle.walk_parts.specs.Place.{is_frame, is_command, place_of}
 use Rattle.std.specs.Vec.{vec_capacity}
 use Rattle.group_lock.specs.Landed.{Landed, next_place, AreOthers, IsLanded}
