@@ -41,8 +41,9 @@ fn new_shares(alloc: Global, count: u8, lines: usize) -> Result<Vec<Vec<LineWork
     ensures count { IfOk result (λ shares. vec_len shares ≡ count) }
     ensures room { IfOk result (λ shares. HaveRoom lines shares.items) }
 {
-    let mut shares = Vec::with_capacity(alloc, usize::from(count))?;
-    for _ in 0..count {
+    let count = usize::from(count);
+    let mut shares = Vec::with_capacity(alloc, count)?;
+    while shares.len() < count {
         shares.push(Vec::with_capacity(alloc, lines)?)?;
     }
     Ok(shares)
@@ -52,8 +53,9 @@ fn new_shares(alloc: Global, count: u8, lines: usize) -> Result<Vec<Vec<LineWork
 pub(crate) fn new_flags(alloc: Global, count: u8) -> Result<Flags, AllocError>
     ensures { IfOk result (λ flags. vec_len flags.lines ≡ count) }
 {
-    let mut lines = Vec::with_capacity(alloc, usize::from(count))?;
-    for _ in 0..count {
+    let count = usize::from(count);
+    let mut lines = Vec::with_capacity(alloc, count)?;
+    while lines.len() < count {
         lines.push(AtomicBool::new(false))?;
     }
     Ok(Flags {

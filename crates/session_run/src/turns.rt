@@ -1,5 +1,5 @@
 //! The turns of client, operator and source, each with one call of the group.
-ghost use Rattle.std.specs.Prelude.{◌≡◌, ◌≤◌, IsTrue};
+ghost use Rattle.std.specs.Prelude.{◌≡◌, ◌≤◌, length, IsTrue};
 ghost use Rattle.group_lock.specs.Item.{kind_of};
 ghost use Rattle.group_lock.specs.Group.{total_of, ticks_of};
 
