@@ -1,7 +1,6 @@
 -- The last worker of a share is that of the next line, last line first.
-use Rattle.std.proofs.Common.{◌≡◌, ℕ, suc, ◌+◌, ◌%◌, ◌==◌, ◌<◌, true, false, List, [], ◌∷◌, ◌++◌, length, filter, get_or, take, drop, slice_get, Some, refl, sym, ◌∙◌, ap, subst, arith}
+use Rattle.std.proofs.Common.{◌≡◌, ℕ, suc, ◌%◌, ◌==◌, ◌<◌, true, false, List, [], ◌∷◌, ◌++◌, length, get_or, take, drop, refl, sym, ◌∙◌, ap, subst, arith}
 use Rattle.std.specs.Prelude.{reverse}
-use Rattle.std.specs.List.{AllZip}
 use Rattle.std.proofs.Math.ListN.{set}
 use Rattle.std.proofs.Math.Seq.{drop-cons}
 use Rattle.std.proofs.lemmas.Bool.Decides.{nat_tests}
@@ -43,8 +42,8 @@ taken-back workers m n place shares own now lines after within numbers is inside
     drop-cons workers m x within ∙ ap (λ (w : LineWorker). w ∷ drop (suc m) workers) (get_or_from_slice_get workers m x x found) in
     let turned : reverse after ≡ last ∷ reverse lines = ap reverse moved.1 ∙ reverse-append lines (last ∷ []) in (
       back-step (λ (share : Vec LineWorker). share.items) (λ w (worker : LineWorker). number_of worker % n == w) IsLater shares place now (take m workers) x inside
-      (subst (AreLater (share_of n place (take m workers))) (sym moved.0) all)
-      (λ w other. test-false (number_of x % n) w (λ e. other (sym e ∙ ap (λ (k : ℕ). k % n) number ∙ sym is)))
-      back,
+          (subst (AreLater (share_of n place (take m workers))) (sym moved.0) all)
+          (λ w other. test-false (number_of x % n) w (λ e. other (sym e ∙ ap (λ (k : ℕ). k % n) number ∙ sym is)))
+          back,
       subst (λ l. AreLater l (reverse after)) (sym first) (subst (AreLater (x ∷ drop (suc m) workers)) (sym turned) (one, had.1)),
     )

@@ -71,22 +71,22 @@ opened-more config n tx workers rx out worker into are unused fresh line send re
   ];
   sends = λ m one other there here. elim (get-last tx out m one there) [
     | inl before ↦ elim (get-last workers worker m other here) [
-        | inl before' ↦ are.sends m one other before before'
-        | inr (at, is) ↦ absurd (beyond tx m n one before (at ∙ are.workers_count) are.tx_count)
-      ]
+      | inl before' ↦ are.sends m one other before before'
+      | inr (at, is) ↦ absurd (beyond tx m n one before (at ∙ are.workers_count) are.tx_count)
+    ]
     | inr (at, is) ↦ elim (get-last workers worker m other here) [
-        | inl before' ↦ absurd (beyond workers m n other before' (at ∙ are.tx_count) are.workers_count)
-        | inr (at', is') ↦ subst (λ (a : RingOut Container). AreEnds a other.consumer) (sym is) (subst (λ (b : LineWorker). AreEnds out b.consumer) (sym is') send)
-      ]
+      | inl before' ↦ absurd (beyond workers m n other before' (at ∙ are.tx_count) are.workers_count)
+      | inr (at', is') ↦ subst (λ (a : RingOut Container). AreEnds a other.consumer) (sym is) (subst (λ (b : LineWorker). AreEnds out b.consumer) (sym is') send)
+    ]
   ];
   receives = λ m one other there here. elim (get-last workers worker m one there) [
     | inl before ↦ elim (get-last rx into m other here) [
-        | inl before' ↦ are.receives m one other before before'
-        | inr (at, is) ↦ absurd (beyond workers m n one before (at ∙ are.rx_count) are.workers_count)
-      ]
+      | inl before' ↦ are.receives m one other before before'
+      | inr (at, is) ↦ absurd (beyond workers m n one before (at ∙ are.rx_count) are.workers_count)
+    ]
     | inr (at, is) ↦ elim (get-last rx into m other here) [
-        | inl before' ↦ absurd (beyond rx m n other before' (at ∙ are.workers_count) are.rx_count)
-        | inr (at', is') ↦ subst (λ (a : LineWorker). AreEnds a.producer other) (sym is) (subst (λ (b : RingIn Cell). AreEnds worker.producer b) (sym is') receive)
-      ]
+      | inl before' ↦ absurd (beyond rx m n other before' (at ∙ are.workers_count) are.rx_count)
+      | inr (at', is') ↦ subst (λ (a : LineWorker). AreEnds a.producer other) (sym is) (subst (λ (b : RingIn Cell). AreEnds worker.producer b) (sym is') receive)
+    ]
   ];
 }

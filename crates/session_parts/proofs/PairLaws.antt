@@ -1,5 +1,5 @@
 -- One pair more of two lists is laid beside each other.
-use Rattle.std.proofs.Common.{◌≡◌, ◌⊎◌, inl, inr, ℕ, zero, suc, ◌+◌, ◌<◌, ◌≤◌, List, [], ◌∷◌, length, get_or, slice_get, Some, refl, sym, ◌∙◌, ap, subst, arith}
+use Rattle.std.proofs.Common.{◌≡◌, inl, inr, ℕ, zero, suc, ◌+◌, ◌<◌, List, [], ◌∷◌, length, get_or, slice_get, Some, refl, sym, ◌∙◌, ap, arith}
 use Rattle.std.proofs.Math.ListN.{set}
 use Rattle.session_parts.specs.Laid.{PairsBelow}
 use Rattle.session_parts.proofs.DealLaws.{set-found}
@@ -37,12 +37,12 @@ module _ {A B : Type 0} (R : A → B → A → B → Type 0) where
     second_count = set-size bs' n b' ∙ below.second_count;
     each = λ m x y x' y' low was was' now now'. elim (set-found as' n m a' x' first now) [
       | inl (at, is) ↦ elim (set-found bs' n m b' y' second now') [
-          | inl (at', is') ↦
-              let from : x ≡ a = some-is x a (sym was ∙ sym (below.first_rest m (omega (arith, at))) ∙ ap (slice_get as') at ∙ was-there as' n a first is_a) in
-              let from' : y ≡ b = some-is y b (sym was' ∙ sym (below.second_rest m (omega (arith, at))) ∙ ap (slice_get bs') at ∙ was-there bs' n b second is_b) in
-              rw (from, from', is, is') laid
-          | inr (other, is') ↦ absurd (other at)
-        ]
+        | inl (at', is') ↦
+            let from : x ≡ a = some-is x a (sym was ∙ sym (below.first_rest m (omega (arith, at))) ∙ ap (slice_get as') at ∙ was-there as' n a first is_a) in
+            let from' : y ≡ b = some-is y b (sym was' ∙ sym (below.second_rest m (omega (arith, at))) ∙ ap (slice_get bs') at ∙ was-there bs' n b second is_b) in
+            rw (from, from', is, is') laid
+        | inr (other, is') ↦ absurd (other at)
+      ]
       | inr (other, is) ↦ below.each m x y x' y' (below-it m low other) was was' is (sym (set-other bs' n m b' other) ∙ now')
     ];
     first_rest = λ m low. set-other as' n m a' (λ e. absurd (omega (arith, e, low))) ∙ below.first_rest m (omega (arith, low));

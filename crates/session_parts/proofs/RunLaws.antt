@@ -1,7 +1,7 @@
 -- A sink that has run goes on for a burst.
-use Rattle.std.proofs.Common.{◌≡◌, ℕ, Bool, true, false, List, ◌++◌, Option, refl, sym, ◌∙◌, ap, subst}
+use Rattle.std.proofs.Common.{◌≡◌, ℕ, Bool, true, false, List, ◌++◌, Option, sym, ◌∙◌, ap, subst}
 use Rattle.std.proofs.lemmas.Grind.{flat_map-append}
-use Rattle.outside_io.specs.Transfer.{Appends, AppendsPart}
+use Rattle.outside_io.specs.Transfer.{AppendsPart}
 use Rattle.outside_io.proofs.Parts.{Appends-then, AppendsPart-then, AppendsPart-longer}
 use Rattle.report_text.specs.Report.{got_text, got_texts}
 use Rattle.sink_core.specs.Given.{given_frames, added_frames}

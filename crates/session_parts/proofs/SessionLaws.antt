@@ -1,12 +1,10 @@
 -- What the ends of all rings say is the session of the script.
-use Rattle.std.proofs.Common.{◌≡◌, ℕ, suc, ◌+◌, ◌*◌, ◌-◌, ◌/◌, ◌<◌, ◌≤◌, min, List, [], ◌∷◌, ◌++◌, length, map, slice_get, slice_index_or, Option, Some, None, refl, sym, ◌∙◌, ap, subst, arith}
-use Rattle.std.specs.List.{range_with_len}
+use Rattle.std.proofs.Common.{◌≡◌, ℕ, ◌+◌, ◌*◌, ◌-◌, ◌/◌, ◌<◌, List, [], ◌++◌, length, slice_get, slice_index_or, Option, Some, None, refl, sym, ◌∙◌, ap, arith}
 use Rattle.std.specs.Option.{option_map}
 use Rattle.std.proofs.lemmas.List.{length-map}
 use Rattle.std.proofs.lemmas.Option.{slice_get-map, slice_get_within}
 use Rattle.vc_cell.specs.declared.Container.{Container}
 use Rattle.vc_cell.specs.declared.Cell.{Cell}
-use Rattle.vc_cell.specs.declared.BackCell.{BackCell}
 use Rattle.vc_cell.specs.declared.BackCell.TheVariants.{Packet as Nibbles}
 use Rattle.session_model.specs.Packet.{packet_nibbles}
 use Rattle.session_model.specs.declared.window.Window.{Window}
@@ -14,9 +12,9 @@ use Rattle.session_model.specs.declared.script.Script.{Script}
 use Rattle.session_model.specs.Valid.{IsValid}
 use Rattle.session_model.specs.Damage.{carried}
 use Rattle.session_model.specs.Path.{cells}
-use Rattle.session_model.specs.Scenario.{scenario_of, packets, packets_in, steps_in}
+use Rattle.session_model.specs.Scenario.{scenario_of, packets_in}
 use Rattle.session_model.specs.Table.{Told}
-use Rattle.session_model.specs.Back.{session_cells, cells_before}
+use Rattle.session_model.specs.Back.{session_cells}
 use Rattle.session_model.specs.Sent.{containers_of, container_of}
 use Rattle.session_model.specs.Rows.{return_at}
 use Rattle.line_law.specs.StableRows.{AreDecidedAt}
@@ -27,7 +25,7 @@ use Rattle.terminal_law.proofs.ListLaws.{same-range}
 use Rattle.terminal_law.proofs.SentLaws.{containers-size}
 use Rattle.terminal_law.proofs.LoopLaws.{course-containers, course-rows, course-packet}
 use Rattle.walk_law.specs.Walk.{CanWalk, sent_on}
-use Rattle.walk_law.specs.Rings.{delay_on, line_cells, said_packet}
+use Rattle.walk_law.specs.Rings.{delay_on, said_packet}
 use Rattle.walk_law.specs.Delivered.{delivered_of}
 use Rattle.walk_law.proofs.PlanLaws.{has-lines, valid-walks}
 use Rattle.walk_law.proofs.ReturnLaws.{packet-is}
@@ -39,7 +37,7 @@ use Rattle.member_ring.specs.declared.ends.RingIn.{RingIn}
 use Rattle.member_ring.specs.Ends.{out_passed, in_passed, in_items}
 use Rattle.member_ring.specs.declared.worker.LineWorker.{LineWorker}
 use Rattle.session_parts.specs.Session.{IsGathered, session_backs}
-use Rattle.session_parts.proofs.EndedLaws.{HasCarried, line-carried, whole-prefix, backs-are}
+use Rattle.session_parts.proofs.EndedLaws.{line-carried, whole-prefix, backs-are}
 
 some-of : {X Y : Type 0} (f : X → Y) (o : Option X) (y : Y) → option_map f o ≡ Some y → (x : X) × (o ≡ Some x) × (f x ≡ y)
 some-of f (Some x) y e = (x, refl, (let h : Some (f x) ≡ Some y = e in cc))
@@ -125,6 +123,6 @@ module _ (script : Script) (valid : IsValid script) (n : ℕ) (own : List (List 
       backs-are own script.config.ticks
       ∙ same-range (λ k. Nibbles (packet_nibbles (return_at own k))) (λ k. Nibbles (packet_nibbles (said_packet script k))) (packets_in script.config.ticks)
       (λ k low.
-          let last = packet-low script.config.ticks k low in
-          ap (λ packet. Nibbles (packet_nibbles packet))
-          (course-packet (scenario_of script) script.config.ticks n own (has-lines script can) lag course k last (decided (16 * k + 23) last) ∙ sym (packet-is script can k last)))
+      let last = packet-low script.config.ticks k low in
+      ap (λ packet. Nibbles (packet_nibbles packet))
+      (course-packet (scenario_of script) script.config.ticks n own (has-lines script can) lag course k last (decided (16 * k + 23) last) ∙ sym (packet-is script can k last)))

@@ -1,5 +1,5 @@
 -- What a sink has written since its session began.
-use Rattle.std.specs.Prelude.{◌≡◌, ℕ}
+use Rattle.std.specs.Prelude.{ℕ}
 use Rattle.report_text.specs.Report.{got_texts}
 use Rattle.sink_core.specs.Given.{given_frames}
 use Rattle.sink_worker.specs.Told.{Seen, Told}

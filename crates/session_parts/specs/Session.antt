@@ -1,5 +1,5 @@
 -- A session that has ended, by the lists that its rings have passed.
-use Rattle.std.specs.Prelude.{◌≡◌, ℕ, ◌+◌, ◌<◌, List, [], ◌++◌, map, length, slice_get, Option, Some}
+use Rattle.std.specs.Prelude.{◌≡◌, ℕ, ◌<◌, List, ◌++◌, map, length, slice_get, Option, Some}
 use Rattle.std.specs.List.{range_with_len}
 use Rattle.vc_cell.specs.declared.Container.{Container}
 use Rattle.vc_cell.specs.declared.Cell.{Cell}
@@ -12,7 +12,7 @@ use Rattle.session_model.specs.Table.{Told}
 use Rattle.session_model.specs.Sent.{containers_of}
 use Rattle.line_law.specs.StableRows.{AreDecidedAt}
 use Rattle.walk_law.specs.Walk.{sent_on}
-use Rattle.walk_law.specs.Rings.{delay_on, line_cells, said_packet}
+use Rattle.walk_law.specs.Rings.{line_cells, said_packet}
 use Rattle.walk_law.specs.Delivered.{delivered_of}
 use Rattle.member_ring.specs.declared.ends.RingOut.{RingOut}
 use Rattle.member_ring.specs.declared.ends.RingIn.{RingIn}

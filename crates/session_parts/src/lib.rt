@@ -9,9 +9,9 @@ mod line_thread;
 mod open;
 mod shares;
 
-pub use open::{OpenedLines, open_lines};
-pub use shares::{collect, deal};
 pub use duty::{Duty, SinkDuty, Turned, take_back};
 pub use laws::{ended_law, gathered_law};
 pub use lay::{carry_all, lay_receives, lay_sends};
 pub use line_thread::{Held, Kept, serve_all_here, start_shares, take_all_back};
+pub use open::{OpenedLines, open_lines};
+pub use shares::{collect, deal};

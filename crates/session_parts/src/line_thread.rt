@@ -76,7 +76,10 @@ fn start_share<'s, 'e, R: Wait + Sync, G: Gate>(
 ) -> Held
     ensures { IsHeldOf workers.items result }
 {
-    match scope.spawn_with(Kept(Snapshot::of(&workers)), move || serve(rt, gate, stop, workers)) {
+    match scope.spawn_with(
+        Kept(Snapshot::of(&workers)),
+        move || serve(rt, gate, stop, workers),
+    ) {
         Ok(child) => Held::There(child),
         Err(refused) => {
             stop.store(true, Ordering::SeqCst);

@@ -38,11 +38,7 @@ fn take_last(share: &mut Vec<LineWorker>, lines: &mut Vec<LineWorker>)
 }
 
 /// Brings the workers of so many lines back into the order of the lines.
-pub fn collect(
-    shares: Vec<Vec<LineWorker>>,
-    count: usize,
-    room: Vec<LineWorker>,
-) -> Vec<LineWorker>
+pub fn collect(shares: Vec<Vec<LineWorker>>, count: usize, room: Vec<LineWorker>) -> Vec<LineWorker>
     requires some { 0 < vec_len shares }
     requires room { (room.items ≡ []) × (count ≤ vec_capacity room) }
     ensures { (workers : List LineWorker) → length workers ≡ count → AreNumbered 0 workers →

@@ -22,10 +22,13 @@ loop-share-preserved g c =
       room = c.push_reserved.ensures.capacity ∙ before.room;
       each = λ given held.
           let (rest, holds, grows) = before.each given held in
-          let (share, others, is, one, all) = zip-first (λ (share : Vec LineWorker) (one : Held). IsHeldOf share.items one) rest c.in-Some.share left (subst (AreHeldOf rest) steps.0 holds) in
-          (others, all, λ (future : List (Vec LineWorker)) later.
-              subst (SharesLater given) (sym (ap (λ l. l ++ future) c.push_reserved.ensures.items ∙ append_assoc old (taken ∷ []) future))
-              (grows (taken ∷ future) (subst (λ l. SharesLater l (taken ∷ future)) (sym is) (c.take_back.ensures share.items one, later))));
+          let (share, others, is, one, all) = zip-first (λ (share : Vec LineWorker) (one : Held). IsHeldOf share.items one) rest c.in-Some.share left (subst (AreHeldOf rest) steps.0 holds) in (
+            others,
+            all,
+            λ (future : List (Vec LineWorker)) later.
+                subst (SharesLater given) (sym (ap (λ l. l ++ future) c.push_reserved.ensures.items ∙ append_assoc old (taken ∷ []) future))
+                (grows (taken ∷ future) (subst (λ l. SharesLater l (taken ∷ future)) (sym is) (c.take_back.ensures share.items one, later))),
+          );
     }
 
 pub returns : goal.returns

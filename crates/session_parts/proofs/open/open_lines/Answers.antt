@@ -1,9 +1,7 @@
 -- A line is opened over fresh rings.
-use Rattle.std.proofs.Common.{◌≡◌, ◌+◌, ◌++◌, ◌∷◌, [], ℕ, refl, sym, ◌∙◌, ap, subst, slice_index_or}
-use Rattle.member_ring.specs.declared.ends.RingIn.{RingIn}
+use Rattle.std.proofs.Common.{◌≡◌, [], ℕ, sym, ◌∙◌, ap, subst, slice_index_or}
 use Rattle.member_ring.specs.declared.ends.RingOut.{RingOut}
 use Rattle.member_ring.specs.Ends.{AreEnds}
-use Rattle.vc_cell.specs.declared.Container.{Container}
 use Rattle.vc_cell.specs.declared.Cell.{Cell}
 use Rattle.session_parts.proofs.OpenLaws.{none-opened, opened-more, opened-own}
 use Rattle.session_parts.proofs.open.open_lines.Goals as goal

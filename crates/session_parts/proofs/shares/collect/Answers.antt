@@ -1,7 +1,7 @@
 -- The last worker of a share is that of the next line.
-use Rattle.std.proofs.Common.{◌≡◌, ℕ, suc, ◌+◌, ◌-◌, ◌%◌, ◌<◌, length, vec_len, take, drop, refl, sym, ◌∙◌, ap, subst, arith}
+use Rattle.std.proofs.Common.{◌≡◌, ℕ, suc, ◌-◌, ◌%◌, ◌<◌, length, vec_len, take, drop, sym, ◌∙◌, ap, subst, arith}
 use Rattle.std.specs.Prelude.{reverse}
-use Rattle.session_parts.specs.Lines.{AreNumbered, AreBack, AreLater}
+use Rattle.session_parts.specs.Lines.{AreBack, AreLater}
 use Rattle.session_parts.proofs.CollectLaws.{taken-back}
 use Rattle.session_parts.proofs.shares.collect.Goals as goal
 

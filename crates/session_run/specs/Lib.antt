@@ -1,3 +1,0 @@
-pub mod Octets
-pub mod Room
-pub mod Course
