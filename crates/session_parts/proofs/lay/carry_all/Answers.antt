@@ -1,0 +1,57 @@
+-- A worker that was done before its burst is as it was.
+use Rattle.std.proofs.Common.{◌≡◌, inl, inr, ℕ, ◌+◌, ◌<◌, length, sym, ◌∙◌, subst, ap, arith}
+use Rattle.std.specs.Prelude.{Contains}
+use Rattle.std.proofs.lemmas.List.{with_items_is}
+use Rattle.std.proofs.lemmas.Option.{slice_get_within}
+use Rattle.vc_cell.specs.declared.Cell.TheVariants.{End}
+use Rattle.member_ring.specs.declared.worker.LineWorker.{LineWorker}
+use Rattle.member_ring.specs.Ends.{out_passed}
+use Rattle.member_ring.specs.Worker.{IsLater}
+use Rattle.member_ring.proofs.LaterLaws.{later-refl, later-then}
+use Rattle.session_parts.specs.Lines.{AreLater}
+use Rattle.session_parts.specs.Laid.{AreDone}
+use Rattle.session_parts.proofs.ZipLaws.{zip-refl, zip-set}
+use Rattle.session_parts.proofs.DealLaws.{set-found}
+use Rattle.session_parts.proofs.lay.carry_all.Goals as goal
+use Rattle.session_parts.proofs.lay.carry_all.Goals.{then-not-carry_one, else-not-carry_one}
+
+below-it : (m n : ℕ) → m < n + 1 → (m ≡ n → ⊥) → m < n
+below-it m n low other = omega (arith, low, other)
+
+pub loop-worker-init : goal.loop-worker-init
+loop-worker-init g c = record {
+  later = subst (AreLater c.args.workers.now.items) (sym c.deref_mut-worker-items.ensures.value) (zip-refl IsLater later-refl c.args.workers.now.items);
+  done = λ yes m worker low there. absurd (omega (arith, low));
+}
+
+pub loop-worker-preserved : goal.loop-worker-preserved
+loop-worker-preserved g c =
+    let before = c.loop-worker.invariant in
+    let items = c.loop-worker.worker-items in
+    let i = c.loop-worker.worker-index in
+    record {
+      later = zip-set IsLater c.args.workers.now.items items i c.worker-item.result c.carry_one.new.worker
+          (omega (arith, c.loop-worker-test.true, c.loop-worker.auto.worker-items)) (λ x later. later-then x _ c.carry_one.new.worker later c.carry_one.ensures.later) before.later;
+      done = elim c.if-not-carry_one.branch [
+        | then-not-carry_one w ↦ λ yes. absurd (let no' = w.done-is in cc)
+        | else-not-carry_one w ↦ λ yes m worker low there.
+            elim (set-found items i m c.carry_one.new.worker worker (omega (arith, c.loop-worker-test.true, c.loop-worker.auto.worker-items)) there) [
+              | inl (at, is) ↦ subst (λ (one : LineWorker). Contains (out_passed one.producer) End) (sym is) (c.carry_one.ensures.done w.if-not-carry_one.false)
+              | inr (other, is) ↦ before.done (sym w.done-is ∙ yes) m worker (below-it m i low other) is
+            ]
+      ];
+    }
+
+pub returns-clause-later : goal.returns-clause-later
+returns-clause-later g c =
+    let v = c.args.workers.now in
+    let items = c.loop-worker.worker-items in
+    subst (AreLater v.items) (sym (with_items_is v items (omega (arith, c.loop-worker.auto.worker-items, ap (length {A = LineWorker}) c.deref_mut-worker-items.ensures.value, v.ok.0)))) c.loop-worker.invariant.later
+
+pub returns-clause-done : goal.returns-clause-done
+returns-clause-done g c = λ yes.
+    let v = c.args.workers.now in
+    let items = c.loop-worker.worker-items in
+    subst AreDone (sym (with_items_is v items (omega (arith, c.loop-worker.auto.worker-items, ap (length {A = LineWorker}) c.deref_mut-worker-items.ensures.value, v.ok.0))))
+    (λ m worker there. c.loop-worker.invariant.done yes m worker
+    (let inside = slice_get_within items m worker there in omega (arith, inside, c.loop-worker-test.false, c.loop-worker.auto.worker-items)) there)

@@ -1,0 +1,23 @@
+-- One after the other is served where it is here.
+use Rattle.std.proofs.Common.{sym, subst, ap, length, arith}
+use Rattle.std.proofs.lemmas.List.{with_items_is}
+use Rattle.std.specs.Global.{Vec}
+use Rattle.member_ring.specs.declared.worker.LineWorker.{LineWorker}
+use Rattle.session_parts.specs.declared.line_thread.Held.{Held}
+use Rattle.session_parts.specs.Held.{IsHeldOf, AreHeldOf}
+use Rattle.session_parts.proofs.ZipLaws.{zip-set}
+use Rattle.session_parts.proofs.line_thread.serve_all_here.Goals as goal
+
+pub loop-share-init : goal.loop-share-init
+loop-share-init g c = λ shares held. subst (AreHeldOf shares) (sym c.deref_mut-share-items.ensures.value) held
+
+pub loop-share-preserved : goal.loop-share-preserved
+loop-share-preserved g c = λ shares held.
+    zip-set (λ (share : Vec LineWorker) (one : Held). IsHeldOf share.items one) shares c.loop-share.share-items c.loop-share.share-index c.share-item.result c.serve_here.new.held
+    (omega (arith, c.loop-share-test.true, c.loop-share.auto.share-items)) (λ share one. c.serve_here.ensures share.items one) (c.loop-share.invariant shares held)
+
+pub returns : goal.returns
+returns g c = λ shares held.
+    let v = c.args.held.now in
+    let items = c.loop-share.share-items in
+    subst (AreHeldOf shares) (sym (with_items_is v items (omega (arith, c.loop-share.auto.share-items, ap (length {A = Held}) c.deref_mut-share-items.ensures.value, v.ok.0)))) (c.loop-share.invariant shares held)

@@ -1,0 +1,10 @@
+-- Workers that are here are later.
+use Rattle.std.proofs.Common.{subst}
+use Rattle.member_ring.specs.Worker.{IsLater}
+use Rattle.member_ring.proofs.LaterLaws.{later-then}
+use Rattle.session_parts.proofs.ZipLaws.{zip-then}
+use Rattle.session_parts.specs.Held.{IsHeldOf}
+use Rattle.session_parts.proofs.line_thread.serve_here.Goals as goal
+
+pub returns-in-Here : goal.returns-in-Here
+returns-in-Here g c = λ workers held. zip-then IsLater later-then _ _ _ (let h = subst (IsHeldOf workers) c.in-Here.is held in h) c.serve_once.ensures

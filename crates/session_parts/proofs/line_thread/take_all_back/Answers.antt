@@ -1,0 +1,40 @@
+-- The first of the shares that are still held is taken back.
+use Rattle.std.proofs.Common.{◌≡◌, List, [], ◌∷◌, ◌++◌, length, sym, ◌∙◌, ap, subst, arith, rules, append_assoc}
+use Rattle.std.proofs.lemmas.List.{append-nil, nil_from_length}
+use Rattle.std.specs.Global.{Vec}
+use Rattle.std.specs.Vec.Iter.{into_iter_items}
+use Rattle.member_ring.specs.declared.worker.LineWorker.{LineWorker}
+use Rattle.session_parts.specs.declared.line_thread.Held.{Held}
+use Rattle.session_parts.specs.Lines.{SharesLater}
+use Rattle.session_parts.specs.Held.{IsHeldOf, AreHeldOf}
+use Rattle.session_parts.proofs.ZipLaws.{zip-first, zip-none}
+use Rattle.session_parts.proofs.line_thread.take_all_back.Goals as goal
+
+pub loop-share-preserved : goal.loop-share-preserved
+loop-share-preserved g c =
+    let before = c.loop-share.invariant in
+    let steps = c.in-Some.ensures.steps in
+    let taken = c.take_back.result in
+    let left = into_iter_items c.next.new.self in
+    let old = c.loop-share.shares.items in
+    record {
+      count = omega (arith, before.count, steps.1, c.push_reserved.ensures.len);
+      room = c.push_reserved.ensures.capacity ∙ before.room;
+      each = λ given held.
+          let (rest, holds, grows) = before.each given held in
+          let (share, others, is, one, all) = zip-first (λ (share : Vec LineWorker) (one : Held). IsHeldOf share.items one) rest c.in-Some.share left (subst (AreHeldOf rest) steps.0 holds) in (
+            others,
+            all,
+            λ (future : List (Vec LineWorker)) later.
+                subst (SharesLater given) (sym (ap (λ l. l ++ future) c.push_reserved.ensures.items ∙ append_assoc old (taken ∷ []) future))
+                (grows (taken ∷ future) (subst (λ l. SharesLater l (taken ∷ future)) (sym is) (c.take_back.ensures share.items one, later))),
+          );
+    }
+
+pub returns : goal.returns
+returns g c = λ given held.
+    let size : length (into_iter_items c.loop-share.share-iterator) ≡ 0 = search rules in
+    let none = nil_from_length (into_iter_items c.loop-share.share-iterator) size in
+    let (rest, holds, grows) = c.loop-share.invariant.each given held in
+    let over = zip-none (λ (share : Vec LineWorker) (one : Held). IsHeldOf share.items one) rest (subst (AreHeldOf rest) none holds) in
+    subst (SharesLater given) (append-nil c.loop-share.shares.items) (grows [] (subst (λ l. SharesLater l []) (sym over) tt))

@@ -1,0 +1,57 @@
+//! What the ends of all rings say of a session that has ended.
+ghost use Rattle.std.specs.Prelude.{◌≡◌, ℕ, ◌+◌, ◌<◌, List, slice_get, length, Option, Some};
+ghost use Rattle.vc_cell.specs.declared.Container.{Container};
+ghost use Rattle.vc_cell.specs.declared.Cell.{Cell};
+ghost use Rattle.session_model.specs.declared.script.Script.{Script};
+ghost use Rattle.session_model.specs.Valid.{IsValid};
+ghost use Rattle.session_model.specs.Scenario.{scenario_of};
+ghost use Rattle.session_model.specs.Table.{Told};
+ghost use Rattle.session_model.specs.Sent.{containers_of};
+ghost use Rattle.line_law.specs.StableRows.{AreDecidedAt};
+ghost use Rattle.terminal_law.specs.Lines.{given, ComeOf};
+ghost use Rattle.terminal_law.specs.Course.{told_of, IsCourse};
+ghost use Rattle.walk_law.specs.Walk.{sent_on};
+ghost use Rattle.walk_law.specs.Rings.{delay_on};
+ghost use Rattle.walk_law.specs.Delivered.{delivered_of};
+ghost use Rattle.sink_core.specs.Given.{given_frames};
+ghost use Rattle.sink_worker.specs.Received.{received, backs};
+ghost use Rattle.member_ring.specs.declared.ends.RingOut.{RingOut};
+ghost use Rattle.member_ring.specs.declared.ends.RingIn.{RingIn};
+ghost use Rattle.member_ring.specs.Ends.{out_passed, in_passed};
+ghost use Rattle.member_ring.specs.declared.worker.LineWorker.{LineWorker};
+ghost use Rattle.session_parts.specs.Session.{IsGathered, session_backs};
+
+/// Each line that has come to its end received all that was made for it and sent the cells of its path, and what the sink popped has come
+/// of it, whatever the source was told.
+pub fn gathered_law()
+    ensures lines { (script : Script) (returns : List (Option Told)) (tx : List (RingOut Container))
+        (workers : List LineWorker) (rx : List (RingIn Cell)) →
+        IsGathered script returns tx workers rx → (m : ℕ) (worker : LineWorker) →
+        slice_get workers m ≡ Some worker → (in_passed worker.consumer
+        ≡ containers_of (scenario_of script) returns m script.config.ticks)
+        × (out_passed worker.producer ≡ given (scenario_of script) returns m script.config.ticks
+        (delay_on script m) (script.config.ticks + delay_on script m + 1)) }
+    ensures come { (script : Script) (returns : List (Option Told)) (tx : List (RingOut Container))
+        (workers : List LineWorker) (rx : List (RingIn Cell)) →
+        IsGathered script returns tx workers rx →
+        length script.config.windows ≡ script.config.lines →
+        ComeOf (scenario_of script) returns script.config.ticks (received rx) }
+{}
+
+/// Where the source was told what the sink said by cells that decide all rows, what was made is the session's, and so are the frames of
+/// the rows and the return cells.
+pub fn ended_law()
+    ensures made { (script : Script) → IsValid script → (n : ℕ) (own : List (List Cell)) →
+        IsCourse (scenario_of script) script.config.ticks n own → (m : ℕ) →
+        containers_of (scenario_of script) (told_of (scenario_of script) own n) m
+        script.config.ticks ≡ sent_on (scenario_of script) m }
+    ensures frames { (script : Script) → IsValid script → (n : ℕ) (own : List (List Cell)) →
+        IsCourse (scenario_of script) script.config.ticks n own →
+        ((t : ℕ) → t < script.config.ticks → AreDecidedAt own t) →
+        given_frames script.config.size own script.config.ticks
+        ≡ delivered_of script script.config.ticks }
+    ensures backs { (script : Script) → IsValid script → (n : ℕ) (own : List (List Cell)) →
+        IsCourse (scenario_of script) script.config.ticks n own →
+        ((t : ℕ) → t < script.config.ticks → AreDecidedAt own t) →
+        backs own script.config.ticks ≡ session_backs script }
+{}

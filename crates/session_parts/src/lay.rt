@@ -1,0 +1,72 @@
+//! The last bursts of lines, and the ends of their rings beside each other.
+ghost use Rattle.std.specs.Prelude.{◌≡◌, length, IsTrue, Contains};
+ghost use Rattle.member_ring.specs.Ends.{AreEnds, out_passed};
+ghost use Rattle.member_ring.specs.Worker.{IsLater};
+ghost use Rattle.session_parts.specs.Lines.{AreLater};
+ghost use Rattle.session_parts.specs.Laid.{AreDone, AreSendEnds, AreReceiveEnds, IsSendLaid, IsReceiveLaid, AreSendsLaid, AreReceivesLaid};
+
+use member_ring::{Burst, Gate, LineWorker, RingIn, RingOut};
+use vc_cell::{Cell, Container};
+
+/// Makes a burst of a worker, and says whether it had come to its end before.
+fn carry_one<G: Gate>(worker: &mut LineWorker, gate: &G) -> bool
+    ensures later { IsLater worker.old worker.new }
+    ensures done { IsTrue result → Contains (out_passed worker.new.producer) Cell.End }
+{
+    match worker.burst(gate) {
+        Burst::Done => true,
+        Burst::Moved | Burst::Idle(_) => false,
+    }
+}
+
+/// Makes a burst of each worker, and says whether all of them had come to their end before.
+pub fn carry_all<G: Gate>(workers: &mut Vec<LineWorker>, gate: &G) -> bool
+    ensures later { AreLater workers.old.items workers.new.items }
+    ensures done { IsTrue result → AreDone workers.new.items }
+{
+    let mut done = true;
+    for worker in workers.iter_mut() {
+        if !carry_one(worker, gate) {
+            done = false;
+        }
+    }
+    done
+}
+
+/// Lays the ends of a send ring beside each other.
+fn lay_send(out: &mut RingOut<Container>, worker: &mut LineWorker)
+    requires { AreEnds out.old worker.old.consumer }
+    ensures { IsSendLaid out.old worker.old out.new worker.new }
+{
+    worker.consumer.beside(out);
+}
+
+/// Lays the ends of a receive ring beside each other.
+fn lay_receive(worker: &mut LineWorker, into: &mut RingIn<Cell>)
+    requires { AreEnds worker.old.producer into.old }
+    ensures { IsReceiveLaid worker.old into.old worker.new into.new }
+{
+    into.beside(&mut worker.producer);
+}
+
+/// Lays the ends of all send rings beside each other.
+pub fn lay_sends(tx: &mut Vec<RingOut<Container>>, workers: &mut Vec<LineWorker>)
+    requires count { length tx.old.items ≡ length workers.old.items }
+    requires ends { AreSendEnds tx.old.items workers.old.items }
+    ensures { AreSendsLaid tx.old.items workers.old.items tx.new.items workers.new.items }
+{
+    for m in 0..workers.len() {
+        lay_send(&mut tx[m], &mut workers[m]);
+    }
+}
+
+/// Lays the ends of all receive rings beside each other.
+pub fn lay_receives(workers: &mut Vec<LineWorker>, rx: &mut Vec<RingIn<Cell>>)
+    requires count { length rx.old.items ≡ length workers.old.items }
+    requires ends { AreReceiveEnds workers.old.items rx.old.items }
+    ensures { AreReceivesLaid workers.old.items rx.old.items workers.new.items rx.new.items }
+{
+    for m in 0..workers.len() {
+        lay_receive(&mut workers[m], &mut rx[m]);
+    }
+}

@@ -1,0 +1,17 @@
+//! The parts of a session that need no group: the workers of lines are dealt to line threads and come back; the sink is a duty of the
+//! calling thread; and the ends of rings are laid beside each other at the end. Begin with `start_shares` and `Duty`.
+#![tactic(auto)]
+
+mod duty;
+mod laws;
+mod lay;
+mod line_thread;
+mod open;
+mod shares;
+
+pub use duty::{Duty, SinkDuty, Turned, take_back};
+pub use laws::{ended_law, gathered_law};
+pub use lay::{carry_all, lay_receives, lay_sends};
+pub use line_thread::{Held, Kept, serve_all_here, start_shares, take_all_back};
+pub use open::{OpenedLines, open_lines};
+pub use shares::{collect, deal};
