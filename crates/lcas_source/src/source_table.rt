@@ -149,8 +149,8 @@ impl SourceTable {
         Ok(())
     }
 
-    /// The first cause for which a command is refused.
-    fn refusal(&self, command: Command) -> Option<CommandFault>
+    /// The first cause for which a command would be refused now; none where it would be taken.
+    pub fn refusal(&self, command: Command) -> Option<CommandFault>
         ensures { result ≡ refusal self.now.lines command self.now.source }
     {
         let lines = self.lines;

@@ -56,7 +56,7 @@ pub record IsNetwork (config : Config) : Type 0 where
 
 -- ---- the items and the event lines
 abbrev pub IsKind : ItemKind → Type 0
-IsKind (Frame octets) = IsWithin 1 65535 (length octets)
+IsKind (Frame octets) = IsWithin 1 65535 (length octets) × All (λ octet. octet < 256) octets
 IsKind (Add line) = line ≤ 255
 IsKind (Remove line) = line ≤ 255
 
