@@ -13,7 +13,6 @@ use Rattle.session_model.specs.declared.script.Script.{Script}
 use Rattle.session_model.specs.Damage.{slip_after, AreWindows}
 use Rattle.session_model.specs.Plan.{greatest, greatest_slip}
 use Rattle.session_model.specs.Valid.{IsItem, HasFailures, HasLosses, AreApart, AreItems, IsValid}
-use Rattle.script_read.specs.Octets.{HasOctets, HaveOctets}
 use Rattle.script_read.proofs.RowLaws.{All-none, rising-none, frames-append, commands-append}
 use Rattle.make_load.specs.Draws.{next, drawn, draws, after_draws}
 use Rattle.make_load.specs.Load.{length_of, frame_of, after_frame, addition, additions, frames, frame_count, load}
@@ -67,7 +66,7 @@ frame_fits : (ticks due state : ℕ) → due < ticks → IsItem ticks (record { 
 frame_fits ticks due state early =
     let size = length-draws (length_of state) 256 (next state) in
     let less : drawn (next state) 1455 < 1455 = mod_below (next state / 2 ^ 33) 1455 (omega arith) in
-    (early, (omega (arith, size), omega (arith, size, less)))
+    (early, ((omega (arith, size), omega (arith, size, less)), draws_below (length_of state) 256 (next state) (omega arith)))
 
 items_of : ℕ → ℕ → ℕ → List Item
 items_of number lines ticks = additions lines ++ frames (frame_count ticks) 0 (after_draws lines number)
@@ -209,10 +208,3 @@ valid_load number lines ticks few time =
 pub is_valid : (script : Script) (number lines ticks : ℕ) → (1 ≤ lines) × (lines ≤ 64) → (1 ≤ ticks) × (ticks ≤ 1000000)
     → script ≡ load number lines ticks → IsValid script
 is_valid script number lines ticks few time is = subst IsValid (sym is) (valid_load number lines ticks few time)
-
-pub have_octets : (script : Script) (number lines ticks : ℕ) → script ≡ load number lines ticks → HaveOctets script.items
-unfolding items_of
-have_octets script number lines ticks is =
-    subst (λ (s : Script). HaveOctets s.items) (sym is)
-    (all_items (λ (item : Item). HasOctets item.kind) number lines ticks (λ line within. tt)
-    (λ due state early. draws_below (length_of state) 256 (next state) (omega arith)))

@@ -1,7 +1,6 @@
 //! The script of a load.
 ghost use Rattle.std.specs.Prelude.{◌≡◌, ◌≤◌, ◌++◌, [], IfOk, OnOk, replicate};
 ghost use Rattle.session_model.specs.Valid.{IsValid, IsWithin};
-ghost use Rattle.script_read.specs.Octets.{HaveOctets};
 ghost use Rattle.make_load.specs.Draws.{after_draws};
 ghost use Rattle.make_load.specs.Load.{frame_of, after_frame, additions, frames, frame_count, load};
 
@@ -97,13 +96,12 @@ fn draw(alloc: Global, number: u64, lines: u8, ticks: u32) -> Result<Script, All
 /// The script that is drawn from a number, for 1 to 64 lines and 1 to 1,000,000 ticks: VC-4, rings of 64 cells, a lag of 4 packets, no
 /// failures and no event lines. Each line has a delay of up to 40 frames and is added at once. A frame of 64 to 1,518 octets is due at
 /// each eighth tick from 0 on.
-#[tactic(auto, using(crate::proofs::LoadLaws::is_valid, crate::proofs::LoadLaws::have_octets))]
+#[tactic(auto, using(crate::proofs::LoadLaws::is_valid))]
 pub fn make(alloc: Global, number: u64, lines: u8, ticks: u32) -> Result<Script, AllocError>
     requires lines { IsWithin 1 64 lines }
     requires ticks { IsWithin 1 1000000 ticks }
     ensures load { IfOk result (λ script. script ≡ load number lines ticks) }
     ensures valid { IfOk result IsValid }
-    ensures octets { IfOk result (λ script. HaveOctets script.items) }
 {
     draw(alloc, number, lines, ticks)
 }

@@ -1,14 +1,16 @@
 -- What lands of items: their due ticks, and their octets.
-use Rattle.std.proofs.Common.{◌≡◌, ℕ, zero, suc, ◌<◌, ◌≤◌, ◌^◌, List, [], ◌∷◌, ◌++◌, map, slice_index_or, ap, sym, subst, refl, arith, All}
+use Rattle.std.proofs.Common.{◌≡◌, ℕ, zero, suc, ◌<◌, ◌≤◌, List, [], ◌∷◌, ◌++◌, map, slice_index_or, ap, sym, subst, refl, arith, All}
 use Rattle.std.specs.List.Sorted.{IsNonDecreasing, IsNonDecreasingBy}
 use Rattle.std.proofs.lemmas.List.{length-map, get_or-map}
 use Rattle.std.proofs.lemmas.List.Elements.{All-append, All-cons}
 use Rattle.session_model.specs.declared.script.Item.{Item}
 use Rattle.session_model.specs.declared.script.ItemKind.{ItemKind}
 use Rattle.session_model.specs.declared.script.ItemKind.TheVariants.{Frame, Add, Remove}
-use Rattle.session_model.specs.Scenario.{Order, Offer, order_of, offer_of, orders_of, offers_of}
+use Rattle.session_model.specs.declared.script.Script.{Script}
+use Rattle.session_model.specs.Scenario.{Order, Offer, order_of, offer_of, orders_of, offers_of, scenario_of}
 use Rattle.session_model.specs.Counts.{due_of, dues_of, frame_dues, command_dues}
-use Rattle.script_read.specs.Octets.{HasOctets, HaveOctets}
+use Rattle.session_model.specs.Valid.{IsKind, IsItem, IsValid}
+use Rattle.loss_law.specs.Carried.{AreOctets}
 
 -- ---- due ticks
 one_order : (due : ℕ) (kind : ItemKind) (items : List Item) → map (λ (order : Order). order.due) (orders_of items) ≡ command_dues (dues_of items)
@@ -18,7 +20,7 @@ one_order due (Frame octets) items rest = rest
 one_order due (Add line) items rest = ap (λ (dues : List ℕ). due ∷ dues) rest
 one_order due (Remove line) items rest = ap (λ (dues : List ℕ). due ∷ dues) rest
 
-order_dues : (items : List Item) → map (λ (order : Order). order.due) (orders_of items) ≡ command_dues (dues_of items)
+pub order_dues : (items : List Item) → map (λ (order : Order). order.due) (orders_of items) ≡ command_dues (dues_of items)
 unfolding command_dues
 order_dues [] = refl
 order_dues (item ∷ items) = one_order item.due item.kind items (order_dues items)
@@ -30,7 +32,7 @@ one_offer due (Frame octets) items rest = ap (λ (dues : List ℕ). due ∷ dues
 one_offer due (Add line) items rest = rest
 one_offer due (Remove line) items rest = rest
 
-offer_dues : (items : List Item) → map (λ (offer : Offer). offer.due) (offers_of items) ≡ frame_dues (dues_of items)
+pub offer_dues : (items : List Item) → map (λ (offer : Offer). offer.due) (offers_of items) ≡ frame_dues (dues_of items)
 unfolding frame_dues
 offer_dues [] = refl
 offer_dues (item ∷ items) = one_offer item.due item.kind items (offer_dues items)
@@ -49,18 +51,21 @@ offers_rise items rise = rises_by (λ (offer : Offer). offer.due) (offers_of ite
 
 -- ---- octets
 abbrev IsOffer : Offer → Type 0
-IsOffer offer = All (λ octet. octet < 2 ^ 8) offer.frame
+IsOffer offer = All (λ octet. octet < 256) offer.frame
 
 none : All IsOffer []
-none i d within = absurd (omega (arith, within))
+none i d within = absurd (omega arith)
 
-one_frame : (due : ℕ) (kind : ItemKind) → HasOctets kind → All IsOffer (offer_of due kind)
-one_frame due (Frame octets) are = All-cons IsOffer (record { due = due; frame = octets }) [] are none
-one_frame due (Add line) are = none
-one_frame due (Remove line) are = none
+one_frame : (due : ℕ) (kind : ItemKind) → IsKind kind → All IsOffer (offer_of due kind)
+one_frame due (Frame octets) is = All-cons IsOffer (record { due = due; frame = octets }) [] is.1 none
+one_frame due (Add line) is = none
+one_frame due (Remove line) is = none
 
-pub offers_octets : (items : List Item) → HaveOctets items → All IsOffer (offers_of items)
-offers_octets [] are = none
-offers_octets (item ∷ items) are =
-    All-append IsOffer (offer_of item.due item.kind) (offers_of items) (one_frame item.due item.kind (are zero item (omega arith)))
-    (offers_octets items (λ i d within. are (suc i) d (omega (arith, within))))
+offers_octets : (ticks : ℕ) (items : List Item) → All (IsItem ticks) items → All IsOffer (offers_of items)
+offers_octets ticks [] are = none
+offers_octets ticks (item ∷ items) are =
+    All-append IsOffer (offer_of item.due item.kind) (offers_of items) (one_frame item.due item.kind (are zero item (omega arith)).1)
+    (offers_octets ticks items (λ i d within. are (suc i) d (omega arith)))
+
+pub are_octets : (script : Script) → IsValid script → AreOctets (scenario_of script)
+are_octets script valid = offers_octets script.config.ticks script.items valid.items.each

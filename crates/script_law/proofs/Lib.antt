@@ -1,1 +1,1 @@
-mod ItemLaws
+pub mod ItemLaws

@@ -14,7 +14,6 @@ use Rattle.script_read.specs.declared.draft.Statement.{Statement}
 use Rattle.script_read.specs.declared.draft.Statement.TheVariants as says
 use Rattle.script_read.specs.Statements.{windows_of, after, after_item, at_first}
 use Rattle.session_model.specs.Valid.{HasLosses, IsItem, AreItems, IsEvent, AreApart}
-use Rattle.script_read.specs.Octets.{HasOctets}
 use Rattle.script_read.specs.Drafts.{AreInOrder, AreFailures, HasConfig, IsDraft, IsNext, IsNextLost, Fits}
 use Rattle.script_read.proofs.RowLaws.{All-none, All-one, rising-none, rising-one, most-one, most-up, frames-one, commands-one, order-one, apart-one}
 
@@ -49,7 +48,6 @@ IsDraft-first = record {
   };
   no_items = λ at. refl;
   items = no_items 0;
-  octets = All-none _;
   frame_due = All-none _;
   command_due = All-none _;
   no_events = λ at. refl;
@@ -159,7 +157,6 @@ frame_after d due octets is fits =
       config = config_later d.next 7 d.config fits.0 (omega arith) is.config;
       no_items = λ at. absurd (omega (arith, at));
       items = one_frame d.config.ticks due d.items octets is.items (most-up _ d.frame_due due is.frame_due fits.3) fits.2;
-      octets = All-one (λ (item : Item). HasOctets item.kind) d.items it is.octets fits.4;
       frame_due = subst (All (λ n. n ≤ due)) (sym (frames-one d.items it)) (most-one _ d.frame_due due is.frame_due fits.3);
       command_due = subst (All (λ n. n ≤ d.command_due)) (sym (commands-one d.items it ∙ append-nil (command_dues (dues_of d.items)))) is.command_due;
       no_events = λ at. is.no_events fits.1;
@@ -176,12 +173,11 @@ one_command ticks items it kind are most is = record {
 }
 
 command_after : (d : Draft) (it : Item) → due_of it.due it.kind ≡ command_due it.due → IsDraft d → 6 ≤ d.next → d.next ≤ 7
-    → IsItem d.config.ticks it → d.command_due ≤ it.due → HasOctets it.kind → IsDraft (record d { next = 7; items = d.items ++ it ∷ []; command_due = it.due })
-command_after d it kind is low high fits later octets = record {
+    → IsItem d.config.ticks it → d.command_due ≤ it.due → IsDraft (record d { next = 7; items = d.items ++ it ∷ []; command_due = it.due })
+command_after d it kind is low high fits later = record {
   config = config_later d.next 7 d.config low (omega arith) is.config;
   no_items = λ at. absurd (omega (arith, at));
   items = one_command d.config.ticks d.items it kind is.items (most-up _ d.command_due it.due is.command_due later) fits;
-  octets = All-one (λ (item : Item). HasOctets item.kind) d.items it is.octets octets;
   frame_due = subst (All (λ n. n ≤ d.frame_due)) (sym (frames-command d.items it kind)) is.frame_due;
   command_due = subst (All (λ n. n ≤ it.due)) (sym (commands-command d.items it kind)) (most-one _ d.command_due it.due is.command_due later);
   no_events = λ at. is.no_events high;
@@ -191,8 +187,8 @@ command_after d it kind is low high fits later octets = record {
 item_after : (d : Draft) (due : ℕ) (kind : ItemKind) → IsDraft d → Fits d (says.Item (record { due = due; kind = kind }))
     → IsDraft (after_item d (record { due = due; kind = kind }) kind)
 item_after d due (item.Frame octets) is fits = frame_after d due octets is fits
-item_after d due (item.Add line) is fits = command_after d (record { due = due; kind = item.Add line }) refl is fits.0 fits.1 fits.2 fits.3 tt
-item_after d due (item.Remove line) is fits = command_after d (record { due = due; kind = item.Remove line }) refl is fits.0 fits.1 fits.2 fits.3 tt
+item_after d due (item.Add line) is fits = command_after d (record { due = due; kind = item.Add line }) refl is fits.0 fits.1 fits.2 fits.3
+item_after d due (item.Remove line) is fits = command_after d (record { due = due; kind = item.Remove line }) refl is fits.0 fits.1 fits.2 fits.3
 
 -- ---- the lines of the configuration
 container_after : (d : Draft) (n : ℕ) → IsDraft d → Fits d (says.Container n) → IsDraft (after d (says.Container n))
@@ -212,7 +208,6 @@ container_after d n is fits = record {
   });
   no_items = λ at. is.no_items (omega (arith, fits.0));
   items = is.items;
-  octets = is.octets;
   frame_due = is.frame_due;
   command_due = is.command_due;
   no_events = λ at. is.no_events (omega (arith, fits.0));
@@ -236,7 +231,6 @@ lines_after d n is fits = record {
   });
   no_items = λ at. is.no_items (omega (arith, fits.0));
   items = is.items;
-  octets = is.octets;
   frame_due = is.frame_due;
   command_due = is.command_due;
   no_events = λ at. is.no_events (omega (arith, fits.0));
@@ -260,7 +254,6 @@ delays_after d ns is fits = record {
   });
   no_items = λ at. is.no_items (omega (arith, fits.0));
   items = is.items;
-  octets = is.octets;
   frame_due = is.frame_due;
   command_due = is.command_due;
   no_events = λ at. is.no_events (omega (arith, fits.0));
@@ -284,7 +277,6 @@ ring_after d n is fits = record {
   });
   no_items = λ at. is.no_items (omega (arith, fits.0));
   items = is.items;
-  octets = is.octets;
   frame_due = is.frame_due;
   command_due = is.command_due;
   no_events = λ at. is.no_events (omega (arith, fits.0));
@@ -308,7 +300,6 @@ lag_after d n is fits = record {
   });
   no_items = λ at. is.no_items (omega (arith, fits.0));
   items = is.items;
-  octets = is.octets;
   frame_due = is.frame_due;
   command_due = is.command_due;
   no_events = λ at. is.no_events (omega (arith, fits.0));
@@ -336,7 +327,6 @@ ticks_after d n is fits = record {
   });
   no_items = λ at. is.no_items (omega (arith, fits.0));
   items = subst (AreItems n) (sym (is.no_items (omega (arith, fits.0)))) (no_items n);
-  octets = is.octets;
   frame_due = is.frame_due;
   command_due = is.command_due;
   no_events = λ at. is.no_events (omega (arith, fits.0));
@@ -356,7 +346,6 @@ IsDraft-after d (says.Fail m window) is fits = record {
   config = config_fail d m window is.config fits.0 fits.1;
   no_items = is.no_items;
   items = is.items;
-  octets = is.octets;
   frame_due = is.frame_due;
   command_due = is.command_due;
   no_events = is.no_events;
@@ -366,7 +355,6 @@ IsDraft-after d (says.Lost first end) is fits = record {
   config = config_lost d first end is.config fits.0 fits.1;
   no_items = is.no_items;
   items = is.items;
-  octets = is.octets;
   frame_due = is.frame_due;
   command_due = is.command_due;
   no_events = is.no_events;
@@ -377,7 +365,6 @@ IsDraft-after d (says.Event e) is fits = record {
   config = config_later d.next 8 d.config fits.0 (omega arith) is.config;
   no_items = λ at. absurd (omega (arith, at));
   items = is.items;
-  octets = is.octets;
   frame_due = is.frame_due;
   command_due = is.command_due;
   no_events = λ at. absurd (omega (arith, at));

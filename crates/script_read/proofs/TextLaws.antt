@@ -85,10 +85,3 @@ words_last line text n none same some lacks =
 
 pub words_nothing : (line text : List ℕ) → words text ≡ words line → length text ≡ 0 → words line ≡ []
 words_nothing line text same none = sym same ∙ ap (λ (t : List ℕ). words t) (nothing text none) ∙ words_none
-
--- the first octet of a text
-pub not_space : (text : List ℕ) (d : ℕ) → (slice_index_or text 0 d ≡ 32 → ⊥) → (c : ℕ) (more : List ℕ) → text ≡ c ∷ more → c ≢ 32
-not_space text d differs c more is at = differs (ap (λ (t : List ℕ). slice_index_or t 0 d) is ∙ at)
-
-pub no_first : (text : List ℕ) → length text ≡ 0 → (c : ℕ) (more : List ℕ) → text ≡ c ∷ more → c ≢ 32
-no_first text none c more is = absurd (let size : length text ≡ length (c ∷ more) = ap (λ (t : List ℕ). length t) is in omega arith)

@@ -18,7 +18,6 @@ use Rattle.script_read.specs.declared.draft.Draft.{Draft}
 use Rattle.script_read.specs.Words.{word_at}
 use Rattle.script_read.specs.Statements.{where_true, within, number_fault, fields_fault, size_of, size_fault, windows_of, last_end, last_lost}
 use Rattle.session_model.specs.Valid.{IsWithin, HasLosses, IsSize, IsItem, AreItems, IsEvent}
-use Rattle.script_read.specs.Octets.{HasOctets, HaveOctets}
 
 -- ---- faults
 -- a line that wasn't read has this fault, unless memory was short
@@ -76,7 +75,6 @@ pub record IsDraft (d : Draft) : Type 0 where
   pub config : HasConfig d.next d.config
   pub no_items : d.next ≤ 6 → d.items ≡ []
   pub items : AreItems d.config.ticks d.items
-  pub octets : HaveOctets d.items
   pub frame_due : All (λ due. due ≤ d.frame_due) (frame_dues (dues_of d.items))
   pub command_due : All (λ due. due ≤ d.command_due) (command_dues (dues_of d.items))
   pub no_events : d.next ≤ 7 → d.events ≡ []
@@ -115,5 +113,5 @@ Fits d (says.Lag n) = (d.next ≡ 4) × IsWithin 1 512 n
 Fits d (says.Ticks n) = (d.next ≡ 5) × IsWithin 1 1000000 n
 Fits d (says.Fail m window) = (d.next ≡ 6) × IsNext d m window
 Fits d (says.Lost first end) = (d.next ≡ 6) × IsNextLost d first end
-Fits d (says.Item it) = (6 ≤ d.next) × (d.next ≤ 7) × IsItem d.config.ticks it × (last_due d it.kind ≤ it.due) × HasOctets it.kind
+Fits d (says.Item it) = (6 ≤ d.next) × (d.next ≤ 7) × IsItem d.config.ticks it × (last_due d it.kind ≤ it.due)
 Fits d (says.Event e) = (6 ≤ d.next) × IsEvent d.config.lines e

@@ -3,5 +3,4 @@ pub mod Words
 pub mod Statements
 pub mod Script
 pub mod FirstFault
-pub mod Octets
 pub mod Drafts

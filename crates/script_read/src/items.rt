@@ -1,10 +1,9 @@
 //! The words of items and of event lines that name a line.
-ghost use Rattle.std.specs.Prelude.{◌≡◌, ◌≤◌, ◌<◌, ◌^◌, All, IfOk, IfErr, None, Some, length};
+ghost use Rattle.std.specs.Prelude.{◌≡◌, ◌≤◌, ◌<◌, All, IfOk, IfErr, None, Some, length};
 ghost use Rattle.hex.specs.Hex.{decode_of};
 ghost use Rattle.script_read.specs.Words.{words, number_at, octets_of};
 ghost use Rattle.script_read.specs.Statements.{rest_fault, said, octets_fault};
 ghost use Rattle.session_model.specs.Valid.{IsWithin, IsItem};
-ghost use Rattle.script_read.specs.Octets.{HasOctets};
 ghost use Rattle.script_read.specs.Drafts.{IsStop, IsDraft, last_due};
 
 use crate::draft::{Draft, Statement};
@@ -20,7 +19,7 @@ fn read_octets(alloc: Global, digits: &[u8]) -> Result<Octets, Stop>
     ensures ok { IfOk result (λ octets. (octets_fault (decode_of digits.now) ≡ None)
         × (octets ≡ octets_of digits.now)) }
     ensures fits { IfOk result (λ octets. IsWithin 1 65535 (length octets)) }
-    ensures octets { IfOk result (λ octets. All (λ octet. octet < 2 ^ 8) octets) }
+    ensures octets { IfOk result (λ octets. All (λ octet. octet < 256) octets) }
     ensures err { IfErr result (λ stop. IsStop stop (octets_fault (decode_of digits.now))) }
 {
     let mut octets = Vec::with_capacity(alloc, digits.len() / 2)?;
@@ -41,7 +40,6 @@ pub(crate) fn read_frame(alloc: Global, draft: &Draft, rest: &[u8]) -> Result<It
         × (Statement.Item item ≡ said Keyword.Frame (words rest.now))) }
     ensures fits { IfOk result (λ item. IsItem draft.now.config.ticks item) }
     ensures order { IfOk result (λ item. last_due draft.now item.kind ≤ item.due) }
-    ensures octets { IfOk result (λ item. HasOctets item.kind) }
     ensures err { IfErr result (λ stop.
         IsStop stop (rest_fault draft.now Keyword.Frame (words rest.now))) }
 {

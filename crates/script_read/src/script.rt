@@ -3,7 +3,6 @@ ghost use Rattle.std.specs.Prelude.{◌≡◌, ◌⊎◌, ◌≤◌, length, IfO
 ghost use Rattle.std.specs.Str.Lines.{lines};
 ghost use Rattle.script_read.specs.Statements.{at_first};
 ghost use Rattle.script_read.specs.Script.{script_of, script_in, draft_from};
-ghost use Rattle.script_read.specs.Octets.{HaveOctets};
 ghost use Rattle.script_read.specs.Drafts.{IsDraft, fault_at};
 ghost use Rattle.session_model.specs.Valid.{IsValid};
 
@@ -71,12 +70,11 @@ fn finished(draft: Draft) -> Script
 
 /// The script of a text of at most 67,108,864 octets. Else its first fault: that of the first faulty line, counted from 1; or, where
 /// no line has one, the first that fails of the tests of slips, spread and lag. Want of memory may come in place of any answer. What
-/// a script that is given meets is `IsValid`, and its frames have octets.
+/// a script that is given meets is `IsValid`.
 pub fn read_script(alloc: Global, text: &[u8]) -> Result<Script, ScriptFault>
     requires { length text.now ≤ 67108864 }
     ensures script { IfOk result (λ script. script_of text.now ≡ Ok script) }
     ensures valid { IfOk result IsValid }
-    ensures octets { IfOk result (λ script. HaveOctets script.items) }
     ensures fault { IfErr result (λ fault.
         (fault ≡ ScriptFault.Memory) ⊎ (script_of text.now ≡ Err fault)) }
 {

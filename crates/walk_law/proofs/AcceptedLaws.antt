@@ -1,10 +1,9 @@
 -- The frames that a session accepts are those of the items that aren't refused.
-use Rattle.std.proofs.Common.{◌≡◌, ℕ, zero, suc, ◌<◌, ◌≤◌, true, false, inl, inr, List, [], ◌∷◌, ◌++◌, map, filter, fold, take, length, slice_index_or, All, Option, Some, None, option_map, refl, sym, ◌∙◌, ap, ap₂, subst, arith, append_assoc, length-append}
+use Rattle.std.proofs.Common.{◌≡◌, ℕ, zero, suc, ◌<◌, ◌≤◌, true, false, inl, inr, List, [], ◌∷◌, ◌++◌, map, filter, fold, take, length, All, Option, Some, None, option_map, refl, sym, ◌∙◌, ap, ap₂, arith, append_assoc, length-append}
 use Rattle.std.specs.List.{flat_map}
-use Rattle.std.specs.List.Sorted.{IsNonDecreasing}
 use Rattle.std.proofs.lemmas.Bool.{cases_Bool}
 use Rattle.std.proofs.lemmas.Bool.Decides.{nat_tests}
-use Rattle.std.proofs.lemmas.List.{append-nil, length-map, map-append, take_at, get_or-map}
+use Rattle.std.proofs.lemmas.List.{append-nil, map-append, take_at}
 use Rattle.std.proofs.lemmas.List.Concat.{flat_map-append}
 use Rattle.std.proofs.lemmas.List.Elements.{filter-append, filter_passes}
 use Rattle.std.proofs.lemmas.List.Sums.{fold-append}
@@ -20,14 +19,14 @@ use Rattle.session_model.specs.Back.{session_cells}
 use Rattle.session_model.specs.Client.{Stream, frame_refusal, offered, stream_before}
 use Rattle.session_model.specs.Journal.{accepted_offers, offers_before, frames_before}
 use Rattle.session_model.specs.Valid.{IsItem, IsValid}
-use Rattle.session_law.specs.Landing.{AreOffersInOrder, landed, is_come}
+use Rattle.session_law.specs.Landing.{landed, is_come}
 use Rattle.session_law.proofs.LandingLaws.{comes_apart, offers_land}
 use Rattle.report_text.specs.declared.report.Refusal.{Refusal}
 use Rattle.report_text.specs.declared.report.Refusal.TheVariants.{Frame as frame_fault}
 use Rattle.loss_law.proofs.FilterLaws.{filter-skip, filter-keep}
 use Rattle.walk_law.specs.Landed.{Numbered, stream_met, kind_refusal, refusal_at}
 use Rattle.walk_law.specs.Promise.{numbered, frame_by, accepted_frames}
-use Rattle.walk_law.proofs.LandLaws.{frame-dues}
+use Rattle.script_law.proofs.ItemLaws.{offers_rise}
 
 -- ---- offers one after another
 -- a frame, where it isn't refused
@@ -172,21 +171,12 @@ all-come ticks (item ∷ items) each =
     filter-append (is_come ticks) (offers_by item) (offers_of items)
     ∙ ap₂ ◌++◌ (kind-comes ticks item.due item.kind (each 0 item (omega arith)).0) (all-come ticks items (λ k d inside. each (suc k) d (omega arith)))
 
-in-order : (offers : List Offer) → IsNonDecreasing (map (λ (offer : Offer). offer.due) offers) → AreOffersInOrder offers
-in-order offers order i j d low high =
-    let due_of = λ (offer : Offer). offer.due in
-    let size = length-map offers due_of in
-    let a = get_or-map due_of offers i d (due_of d) (omega arith) in
-    let b = get_or-map due_of offers j d (due_of d) high in
-    let both = order i j (due_of d) low (omega arith) in
-    subst (λ n. n ≤ due_of (slice_index_or offers j d)) a (subst (λ n. slice_index_or (map due_of offers) i (due_of d) ≤ n) b both)
-
 pub frames-accepted : (script : Script) → IsValid script → frames_before (scenario_of script) (session_cells (scenario_of script)) script.config.ticks ≡ accepted_frames script
 unfolding numbered
 frames-accepted script valid =
     let scenario : Scenario = scenario_of script in
     let cells : List (Option Told) = session_cells (scenario_of script) in
-    let sorted = in-order scenario.offers (subst IsNonDecreasing (frame-dues script.items) valid.items.frames) in
+    let sorted = offers_rise script.items valid.items.frames in
     sym (landed-judged scenario cells script.config.ticks)
     ∙ ap (judged scenario cells []) (offers_land scenario.offers script.config.ticks sorted ∙ all-come script.config.ticks script.items valid.items.each)
     ∙ sym (items-judged script script.items [] refl)

@@ -6,14 +6,13 @@ use Rattle.std.proofs.lemmas.List.{take_at}
 use Rattle.std.specs.List.{flat_map}
 use Rattle.vc_bits.proofs.LockLaws.{slice_get-append_seam}
 use Rattle.session_model.specs.declared.script.Item.{Item}
-use Rattle.session_model.specs.declared.script.ItemKind.{ItemKind}
-use Rattle.session_model.specs.declared.script.ItemKind.TheVariants.{Frame, Add, Remove}
 use Rattle.session_model.specs.declared.script.Script.{Script}
 use Rattle.session_model.specs.declared.walk.Event.{Event}
 use Rattle.session_model.specs.declared.walk.Event.TheVariants.{Accept, Command, Tick, Carry, Back, Take}
 use Rattle.session_model.specs.Scenario.{Order, Offer, order_of, offer_of, orders_of, offers_of, scenario_of, lands_at, comes_at, orders_at, frames_at}
-use Rattle.session_model.specs.Counts.{Due, frame_due, command_due, due_of, dues_of, frame_dues, command_dues, LinePath, LineCounts, Plan, Counts, land_due, held, full, is_missing, tick_full, tick_held, tick, in_send, in_receive, carry_on, carry_at, in_return, back, take_popped, pop_lines, is_back_full, take_row, step, run, begin}
+use Rattle.session_model.specs.Counts.{Due, frame_due, command_due, dues_of, frame_dues, command_dues, LinePath, LineCounts, Plan, Counts, land_due, held, full, is_missing, tick_full, tick_held, tick, in_send, in_receive, carry_on, carry_at, in_return, back, take_popped, pop_lines, is_back_full, take_row, step, run, begin}
 use Rattle.loss_law.proofs.FilterLaws.{and_false, filter-skip}
+use Rattle.script_law.proofs.ItemLaws.{order_dues, offer_dues}
 use Rattle.walk_law.specs.Walk.{walk_plan, IsWalked}
 use Rattle.walk_law.specs.Landed.{Numbered, landed_scenario, IsOfferAt, IsOrderAt}
 
@@ -69,6 +68,13 @@ held-commands ticks a zero i (command_due first ∷ items) none (suc k) due low 
 held-commands ticks a (suc b) i (command_due first ∷ items) none zero due low here = absurd (omega arith)
 held-commands ticks a (suc b) i (command_due first ∷ items) none (suc k) due low here = held-commands ticks a b (suc i) items none k due (omega arith) here
 
+-- so a tick may go on
+pub ahead-next : (items : List Due) (ticks frames commands : ℕ) → held ticks frames commands 0 items ≡ None → Ahead items (ticks + 1) frames commands
+ahead-next items ticks frames commands none = record {
+  of_frames = λ k due low there. let late = held-frames ticks frames commands 0 items none k due low there in omega arith;
+  of_commands = λ k due low there. let late = held-commands ticks frames commands 0 items none k due low there in omega arith;
+}
+
 -- ---- event by event
 ahead-land : (plan : Plan) (due : Option ℕ) (s next : Counts) → IsAhead plan s → IsAhead plan next → IsAhead plan (land_due s.ticks due s next).counts
 ahead-land plan None s next here there = here
@@ -80,10 +86,7 @@ ahead-full plan None s here there = elim (cases_Bool (is_missing plan s)) [ inl 
 
 ahead-held : (plan : Plan) (item : Option ℕ) (s : Counts) → held s.ticks s.frames s.commands 0 plan.items ≡ item → IsAhead plan s → IsAhead plan (tick_held item plan s).counts
 ahead-held plan (Some item) s e here = here
-ahead-held plan None s e here = ahead-full plan (full plan.ticks s.ticks 0 s.lines) s here (record {
-  of_frames = λ k due low there. let late = held-frames s.ticks s.frames s.commands 0 plan.items e k due low there in omega arith;
-  of_commands = λ k due low there. let late = held-commands s.ticks s.frames s.commands 0 plan.items e k due low there in omega arith;
-})
+ahead-held plan None s e here = ahead-full plan (full plan.ticks s.ticks 0 s.lines) s here (ahead-next plan.items s.ticks s.frames s.commands e)
 
 ahead-tick : (plan : Plan) (s : Counts) → IsAhead plan s → IsAhead plan (tick plan s).counts
 ahead-tick plan s here =
@@ -154,29 +157,11 @@ walked-ahead script s walked =
     }))
 
 -- ---- items as offers and orders
-frame-dues-by : (due : ℕ) (kind : ItemKind) (items : List Item) → frame_dues (dues_of items) ≡ map (λ (offer : Offer). offer.due) (offers_of items) →
-    frame_dues (due_of due kind ∷ dues_of items) ≡ map (λ (offer : Offer). offer.due) (offer_of due kind ++ offers_of items)
-unfolding frame_dues
-frame-dues-by due (Frame octets) items same = ap (λ l. due ∷ l) same
-frame-dues-by due (Add line) items same = same
-frame-dues-by due (Remove line) items same = same
-
 pub frame-dues : (items : List Item) → frame_dues (dues_of items) ≡ map (λ (offer : Offer). offer.due) (offers_of items)
-unfolding frame_dues
-frame-dues [] = refl
-frame-dues (item ∷ items) = frame-dues-by item.due item.kind items (frame-dues items)
-
-command-dues-by : (due : ℕ) (kind : ItemKind) (items : List Item) → command_dues (dues_of items) ≡ map (λ (order : Order). order.due) (orders_of items) →
-    command_dues (due_of due kind ∷ dues_of items) ≡ map (λ (order : Order). order.due) (order_of due kind ++ orders_of items)
-unfolding command_dues
-command-dues-by due (Frame octets) items same = same
-command-dues-by due (Add line) items same = ap (λ l. due ∷ l) same
-command-dues-by due (Remove line) items same = ap (λ l. due ∷ l) same
+frame-dues items = sym (offer_dues items)
 
 pub command-dues : (items : List Item) → command_dues (dues_of items) ≡ map (λ (order : Order). order.due) (orders_of items)
-unfolding command_dues
-command-dues [] = refl
-command-dues (item ∷ items) = command-dues-by item.due item.kind items (command-dues items)
+command-dues items = sym (order_dues items)
 
 pub frame-waits : (script : Script) (s : Counts) (k : ℕ) (offer : Offer) → IsWalked script s → s.frames ≤ k → slice_get (offers_of script.items) k ≡ Some offer → s.ticks ≤ offer.due
 frame-waits script s k offer walked low there =

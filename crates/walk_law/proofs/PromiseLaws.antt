@@ -5,7 +5,6 @@ use Rattle.session_model.specs.Piece.{frames_by}
 use Rattle.session_model.specs.Scenario.{scenario_of, steps_in}
 use Rattle.session_model.specs.Source.{after}
 use Rattle.session_model.specs.Back.{session_cells}
-use Rattle.session_model.specs.Journal.{frames_before}
 use Rattle.session_model.specs.Counts.{Counts}
 use Rattle.session_model.specs.Loss.{Extent, frames_kept}
 use Rattle.session_law.specs.Use.{IsInUse, IsUsedBy, AddsUndamaged, AddsAmongSilent}
@@ -15,9 +14,10 @@ use Rattle.loss_law.specs.Carried.{IsUndamaged}
 use Rattle.loss_law.proofs.SessionLossLaws.{session-kept, session-hitless, session-prefix, frames-extents}
 use Rattle.session_law.proofs.ClientLaws.{stream_before-frames}
 use Rattle.session_model.specs.Valid.{IsValid}
+use Rattle.script_law.proofs.ItemLaws.{are_octets}
 use Rattle.walk_law.specs.Walk.{walk_plan, CanWalk, IsWalked}
 use Rattle.walk_law.specs.Delivered.{session_rows, delivered_of}
-use Rattle.walk_law.specs.Promise.{accepted_frames, session_pieces, session_extents, session_waiting, place_after, HasOctets, HasNoFailure, ConfirmsTrue, drained, InUseBy}
+use Rattle.walk_law.specs.Promise.{accepted_frames, session_pieces, session_extents, session_waiting, place_after, HasNoFailure, ConfirmsTrue, drained, InUseBy}
 use Rattle.walk_law.proofs.PlanLaws.{has-plan, valid-walks}
 use Rattle.walk_law.proofs.AcceptedLaws.{frames-accepted}
 
@@ -26,32 +26,28 @@ pub drain-ends : (script : Script) (s : Counts) → CanWalk script → IsWalked 
 drain-ends script s can walked = reached-ends (walk_plan script) s (has-plan script can) walked
 
 -- ---- no failure
-module _ (script : Script) (can : CanWalk script) (octets : HasOctets script) (none : HasNoFailure script) where
+module _ (script : Script) (valid : IsValid script) (none : HasNoFailure script) where
   fine : IsUndamaged (scenario_of script)
-  fine = record { some_line = can.some; none = none }
+  fine = record { some_line = (valid-walks script valid).some; none = none }
 
   pub fine-carried : (rows : ℕ) → rows ≤ script.config.ticks → delivered_of script rows ≡ frames_by (place_after script rows) (session_pieces script)
-  fine-carried rows low = session-hitless (scenario_of script) (session_cells (scenario_of script)) rows script.config.ticks octets fine low
+  fine-carried rows low =
+      session-hitless (scenario_of script) (session_cells (scenario_of script)) rows script.config.ticks (are_octets script valid) fine low
 
-  fine-prefix : (rows : ℕ) → rows ≤ script.config.ticks →
-      delivered_of script rows ≡ take (length (delivered_of script rows)) (frames_before (scenario_of script) (session_cells (scenario_of script)) script.config.ticks)
-  fine-prefix rows low = session-prefix (scenario_of script) (session_cells (scenario_of script)) rows script.config.ticks octets fine low
+  pub fine-first : (rows : ℕ) → rows ≤ script.config.ticks → delivered_of script rows ≡ take (length (delivered_of script rows)) (accepted_frames script)
+  fine-first rows low =
+      session-prefix (scenario_of script) (session_cells (scenario_of script)) rows script.config.ticks (are_octets script valid) fine low
+      ∙ ap (take (length (delivered_of script rows))) (frames-accepted script valid)
 
-pub fine-first : (script : Script) (rows : ℕ) → IsValid script → HasOctets script → HasNoFailure script → rows ≤ script.config.ticks →
-    delivered_of script rows ≡ take (length (delivered_of script rows)) (accepted_frames script)
-fine-first script rows valid octets none low =
-    fine-prefix script (valid-walks script valid) octets none rows low ∙ ap (take (length (delivered_of script rows))) (frames-accepted script valid)
-
-pub fine-drained : (script : Script) (s : Counts) → CanWalk script → HasOctets script → HasNoFailure script → IsWalked script s →
-    delivered_of script (drained script s).rows ≡ frames_by (place_after script script.config.ticks) (session_pieces script)
-fine-drained script s can octets none walked =
-    ap (delivered_of script) (drain-ends script s can walked) ∙ fine-carried script can octets none script.config.ticks (omega arith)
+  pub fine-drained : (s : Counts) → IsWalked script s → delivered_of script (drained script s).rows ≡ frames_by (place_after script script.config.ticks) (session_pieces script)
+  fine-drained s walked =
+      ap (delivered_of script) (drain-ends script s (valid-walks script valid) walked) ∙ fine-carried script.config.ticks (omega arith)
 
 -- ---- failures
-pub frames-kept : (script : Script) (rows : ℕ) → HasOctets script → rows ≤ script.config.ticks → ConfirmsTrue script rows →
+pub frames-kept : (script : Script) (rows : ℕ) → IsValid script → rows ≤ script.config.ticks → ConfirmsTrue script rows →
     delivered_of script rows ≡ frames_kept (session_pieces script) (session_rows script rows)
-frames-kept script rows octets low true_starts =
-    session-kept (scenario_of script) (session_cells (scenario_of script)) rows script.config.ticks octets low true_starts
+frames-kept script rows valid low true_starts =
+    session-kept (scenario_of script) (session_cells (scenario_of script)) rows script.config.ticks (are_octets script valid) low true_starts
 
 pub frames-known : (script : Script) → IsValid script → map (λ (extent : Extent). extent.frame) (session_extents script) ++ session_waiting script ≡ accepted_frames script
 frames-known script valid =

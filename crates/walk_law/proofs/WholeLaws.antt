@@ -18,6 +18,7 @@ use Rattle.session_model.specs.SessionRows.{is_whole_row}
 use Rattle.session_model.specs.Segment.{StreamRow, Segment, Segments, row_by, segments_on, segments}
 use Rattle.session_model.specs.Loss.{StartsTrue}
 use Rattle.session_model.specs.SessionStream.{row_of, rows_of}
+use Rattle.session_model.specs.Valid.{IsValid}
 use Rattle.session_law.specs.Session.{AreWhole}
 use Rattle.session_law.proofs.DamageLaws.{readable-whole, good-whole, heard-line}
 use Rattle.loss_law.specs.Carried.{Carry, IsSentPiece}
@@ -25,8 +26,9 @@ use Rattle.loss_law.proofs.FilterLaws.{and_false}
 use Rattle.loss_law.proofs.SessionLossLaws.{pieces-sent}
 use Rattle.loss_law.proofs.SessionStreamLaws.{pieces-open, rows-carry, rows-length}
 use Rattle.loss_law.proofs.WholeLaws.{deliver-whole}
+use Rattle.script_law.proofs.ItemLaws.{are_octets}
 use Rattle.walk_law.specs.Delivered.{delivered_of}
-use Rattle.walk_law.specs.Promise.{session_pieces, place_after, HasOctets, IsClear, row_from, AreWholeBefore, ConfirmsTrue}
+use Rattle.walk_law.specs.Promise.{session_pieces, place_after, IsClear, row_from, AreWholeBefore, ConfirmsTrue}
 
 -- ---- one line
 clear-carried : (windows : List Window) (from end n : ℕ) → IsClear windows from end → from ≤ n → n < end → carried windows n ≡ Whole
@@ -105,14 +107,14 @@ rows-whole scenario cells (suc rows) each =
     (rows-whole scenario cells rows (λ t low. each t (omega arith)))
     (All-cons IsWhole (row_of scenario cells rows) [] (each rows (omega arith)) (All-nil IsWhole))
 
-pub delivered-before : (script : Script) (rows : ℕ) → HasOctets script → rows ≤ script.config.ticks → AreWholeBefore script rows →
+pub delivered-before : (script : Script) (rows : ℕ) → IsValid script → rows ≤ script.config.ticks → AreWholeBefore script rows →
     delivered_of script rows ≡ frames_by (place_after script rows) (session_pieces script)
-delivered-before script rows octets low whole =
+delivered-before script rows valid low whole =
     let scenario : Scenario = scenario_of script in
     let cells : List (Option Told) = session_cells scenario in
     let pieces : List Piece = session_pieces script in
     let opens = pieces-open scenario cells script.config.ticks in
-    let all : All (IsSentPiece 9600) (idle ∷ idle ∷ opens.0) = subst (All (IsSentPiece 9600)) opens.1 (pieces-sent scenario cells script.config.ticks octets) in
+    let all : All (IsSentPiece 9600) (idle ∷ idle ∷ opens.0) = subst (All (IsSentPiece 9600)) opens.1 (pieces-sent scenario cells script.config.ticks (are_octets script valid)) in
     let sent : All (IsSentPiece 9600) opens.0 = λ k d inside. all (suc (suc k)) d (omega arith) in
     let carry : Carry (rows_of scenario cells rows) (idle ∷ idle ∷ opens.0) = subst (Carry (rows_of scenario cells rows)) opens.1 (rows-carry scenario cells rows script.config.ticks low) in
     deliver-whole 9600 opens.0 (rows_of scenario cells rows) (omega arith) sent carry (rows-whole scenario cells rows whole)

@@ -13,7 +13,6 @@ use Rattle.session_model.specs.SessionRows.{is_whole_row}
 use Rattle.session_model.specs.Counts.{Counts, bound, drain}
 use Rattle.session_model.specs.Loss.{Extent, extents, TrueStarts}
 use Rattle.session_law.specs.Use.{IsInUse}
-use Rattle.loss_law.specs.Carried.{AreOctets}
 use Rattle.report_text.specs.declared.report.Refusal.{Refusal}
 use Rattle.walk_law.specs.Walk.{session_of, walk_plan}
 use Rattle.walk_law.specs.Delivered.{session_rows}
@@ -57,10 +56,6 @@ abbrev pub place_after : Script → ℕ → ℕ
 place_after script rows = place_of (scenario_of script) (session_of script) rows
 
 -- ---- premises
--- frames are octets
-abbrev pub HasOctets : Script → Type 0
-HasOctets script = AreOctets (scenario_of script)
-
 -- no line has a window of failure
 abbrev pub HasNoFailure : Script → Type 0
 HasNoFailure script = All (λ windows. windows ≡ []) script.config.windows

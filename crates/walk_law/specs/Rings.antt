@@ -47,13 +47,6 @@ send_by script line ticks carries = drop (min carries script.config.ticks) (take
 abbrev pub receive_by : Script → ℕ → ℕ → ℕ → List Cell
 receive_by script line carries popped = drop popped (cells_by script line carries)
 
--- ---- the rings of a line
-abbrev pub send_ring : Script → Counts → ℕ → List Container
-send_ring script s line = send_by script line s.ticks (counts_at s.lines line).carried
-
-abbrev pub receive_ring : Script → Counts → ℕ → List Cell
-receive_ring script s line = receive_by script line (counts_at s.lines line).carried (counts_at s.lines line).popped
-
 -- ---- the return path
 -- all cells of each line
 abbrev pub all_lines : Script → List (List Cell)

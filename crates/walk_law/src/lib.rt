@@ -44,7 +44,7 @@ ghost use Rattle.walk_law.specs.Delivered.{session_rows, delivered_of, IsReceive
 ghost use Rattle.walk_law.specs.Step.{last_packet, table_in};
 ghost use Rattle.walk_law.specs.Report.{report_of, final_report};
 ghost use Rattle.walk_law.specs.Worked.{worked_script, three_landed, at_the_end, first_refusals, all_refusals, first_totals, all_totals, two_frames, worked_report, delivering_script, one_frame, failing_script, seen_rows, seen_whole, whole_rows};
-ghost use Rattle.walk_law.specs.Promise.{numbered, accepted_frames, session_pieces, session_extents, session_waiting, place_after, HasOctets, HasNoFailure, IsClear, row_from, AreWholeBefore, ConfirmsTrue, drained, InUseBy};
+ghost use Rattle.walk_law.specs.Promise.{numbered, accepted_frames, session_pieces, session_extents, session_waiting, place_after, HasNoFailure, IsClear, row_from, AreWholeBefore, ConfirmsTrue, drained, InUseBy};
 ghost use Rattle.walk_law.specs.Landed.{Numbered, landed_items, landed_scenario, told_before, IsOfferAt, IsOrderAt, refusal_at, refused_by, refusals_of, IsPlaced, totals_of, with_frame_told, with_command_told};
 
 /// A script whose rings fit has a plan of its walk, whose lines are what the session sends on them.
@@ -301,18 +301,17 @@ pub fn frames_law()
 /// delivered are the accepted ones whose piece ends in the rows that were taken, the first ones in item order; and after a drain all
 /// that the ticks carry.
 pub fn delivery_law()
-    ensures carried { (script : Script) (rows : ℕ) → CanWalk script → HasOctets script →
-        HasNoFailure script → rows ≤ script.config.ticks →
+    ensures carried { (script : Script) (rows : ℕ) → IsValid script → HasNoFailure script →
+        rows ≤ script.config.ticks →
         delivered_of script rows ≡ frames_by (place_after script rows) (session_pieces script) }
-    ensures first { (script : Script) (rows : ℕ) → IsValid script → HasOctets script →
-        HasNoFailure script → rows ≤ script.config.ticks →
-        delivered_of script rows
+    ensures first { (script : Script) (rows : ℕ) → IsValid script → HasNoFailure script →
+        rows ≤ script.config.ticks → delivered_of script rows
         ≡ take (length (delivered_of script rows)) (accepted_frames script) }
-    ensures walked { (script : Script) (s : Counts) → CanWalk script → HasOctets script →
-        HasNoFailure script → IsWalked script s → delivered_of script s.rows
+    ensures walked { (script : Script) (s : Counts) → IsValid script → HasNoFailure script →
+        IsWalked script s → delivered_of script s.rows
         ≡ frames_by (place_after script s.rows) (session_pieces script) }
-    ensures drained { (script : Script) (s : Counts) → CanWalk script → HasOctets script →
-        HasNoFailure script → IsWalked script s → delivered_of script (drained script s).rows
+    ensures drained { (script : Script) (s : Counts) → IsValid script → HasNoFailure script →
+        IsWalked script s → delivered_of script (drained script s).rows
         ≡ frames_by (place_after script script.config.ticks) (session_pieces script) }
 {}
 
@@ -326,7 +325,7 @@ pub fn clear_law()
         is_whole_row (scenario_of script) (session_of script) t ≡ true }
     ensures starts { (script : Script) (rows : ℕ) → AreWholeBefore script rows →
         ConfirmsTrue script rows }
-    ensures before { (script : Script) (rows : ℕ) → HasOctets script → rows ≤ script.config.ticks →
+    ensures before { (script : Script) (rows : ℕ) → IsValid script → rows ≤ script.config.ticks →
         AreWholeBefore script rows →
         delivered_of script rows ≡ frames_by (place_after script rows) (session_pieces script) }
 {}
@@ -335,11 +334,11 @@ pub fn clear_law()
 /// pieces that the taken rows carry whole and that aren't lost, in order and each once; a frame is lost in the four ways alone. The
 /// frames of the pieces, and then those that still wait, are the accepted frames of the script in item order.
 pub fn failure_law()
-    ensures kept { (script : Script) (rows : ℕ) → HasOctets script → rows ≤ script.config.ticks →
+    ensures kept { (script : Script) (rows : ℕ) → IsValid script → rows ≤ script.config.ticks →
         ConfirmsTrue script rows →
         delivered_of script rows ≡ frames_kept (session_pieces script) (session_rows script rows) }
-    ensures walked { (script : Script) (s : Counts) → CanWalk script → HasOctets script →
-        IsWalked script s → ConfirmsTrue script s.rows → delivered_of script s.rows
+    ensures walked { (script : Script) (s : Counts) → IsValid script → IsWalked script s →
+        ConfirmsTrue script s.rows → delivered_of script s.rows
         ≡ frames_kept (session_pieces script) (session_rows script s.rows) }
     ensures accepted { (script : Script) → IsValid script →
         map (λ (extent : Extent). extent.frame) (session_extents script) ++ session_waiting script

@@ -1,6 +1,6 @@
 -- Each fact of what a valid script meets.
 use Rattle.std.proofs.Common.{arith}
-use Rattle.script_law.proofs.ItemLaws.{orders_rise, offers_rise, offers_octets}
+use Rattle.script_law.proofs.ItemLaws.{orders_rise, offers_rise, are_octets}
 use Rattle.script_law.proofs.read_law.Goals as goal
 
 pub returns-clause-limits : goal.returns-clause-limits
@@ -19,4 +19,4 @@ pub returns-clause-offers : goal.returns-clause-offers
 returns-clause-offers c script is = offers_rise script.items is.items.frames
 
 pub returns-clause-octets : goal.returns-clause-octets
-returns-clause-octets c script are = offers_octets script.items are
+returns-clause-octets c = are_octets

@@ -5,6 +5,7 @@ use Rattle.loss_law.proofs.WayLaws.{way_of, lost_of}
 use Rattle.walk_law.specs.Delivered.{session_rows}
 use Rattle.walk_law.specs.Promise.{session_extents}
 use Rattle.std.proofs.Common.{arith}
+use Rattle.walk_law.proofs.PlanLaws.{valid-walks}
 use Rattle.walk_law.proofs.EndLaws.{counts-within}
 use Rattle.walk_law.proofs.PromiseLaws.{frames-kept, frames-known}
 use Rattle.walk_law.proofs.failure_law.Goals as goal
@@ -22,5 +23,5 @@ returns-clause-ways c script rows frame long = (
 )
 
 pub returns-clause-walked : goal.returns-clause-walked
-returns-clause-walked c script s can octets walked true_starts =
-    let (low, high) = counts-within script s can walked in frames-kept script s.rows octets (omega arith) true_starts
+returns-clause-walked c script s valid walked true_starts =
+    let (low, high) = counts-within script s (valid-walks script valid) walked in frames-kept script s.rows valid (omega arith) true_starts

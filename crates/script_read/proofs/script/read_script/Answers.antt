@@ -1,8 +1,6 @@
 -- A draft that passes the tests is a script that meets all that is said of one.
 use Rattle.std.proofs.Common.{sym, subst}
-use Rattle.session_model.specs.declared.script.Script.{Script}
 use Rattle.session_model.specs.Valid.{IsValid}
-use Rattle.script_read.specs.Octets.{HaveOctets}
 use Rattle.script_read.proofs.ValidLaws.{IsValid-draft}
 use Rattle.script_read.proofs.script.read_script.Goals as goal
 
@@ -10,6 +8,3 @@ pub returns-clause-valid : goal.returns-clause-valid
 returns-clause-valid c =
     subst IsValid (sym c.finished.ensures)
     (IsValid-draft c.in-Ok.draft c.in-Ok.ensures.stands.0 c.in-Ok.ensures.stands.1 c.in-Ok.ensures.few (sym c.in_default.ensures))
-
-pub returns-clause-octets : goal.returns-clause-octets
-returns-clause-octets c = subst (λ (script : Script). HaveOctets script.items) (sym c.finished.ensures) c.in-Ok.ensures.stands.0.octets
