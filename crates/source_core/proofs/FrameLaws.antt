@@ -1,14 +1,19 @@
 -- The containers of a frame: H4 and zeros first, and then the row over the lines that carry payload.
-use Rattle.std.proofs.Common.{◌≡◌, ◌≢◌, ℕ, zero, suc, ◌+◌, ◌-◌, ◌*◌, ◌<◌, ◌==◌, Bool, true, false, if◌then◌else◌, List, [], ◌∷◌, ◌++◌, drop, length, replicate, slice_index, slice_index_or, slice_set, Option, Some, None, refl, sym, ◌∙◌, ap, ap₂, subst, arith}
+use Rattle.std.proofs.Common.{◌≡◌, ◌≢◌, ℕ, zero, suc, ◌+◌, ◌-◌, ◌*◌, ◌<◌, ◌≤◌, inl, inr, ◌==◌, Bool, true, false, if◌then◌else◌, List, [], ◌∷◌, ◌++◌, take, drop, length, replicate, slice_index, slice_index_or, slice_set, Option, Some, None, refl, sym, ◌∙◌, ap, ap₂, subst, arith, length-drop}
 use Rattle.std.specs.Option.{is_some}
 use Rattle.std.specs.List.{position_from}
-use Rattle.std.proofs.lemmas.Bool.{eqb-true, eqb-false}
+use Rattle.std.proofs.lemmas.Bool.{eqb-true, eqb-false, cases_lt, false≢true, false_from_ne_true}
+use Rattle.std.proofs.lemmas.List.{get_or-replicate, length-take-le, length-replicate}
+use Rattle.std.proofs.Math.ListN.{get_or-eq_default}
 use Rattle.std.proofs.lemmas.List.FromFn.{fill_by_all}
 use Rattle.vc_cell.specs.declared.Container.{Container}
 use Rattle.session_model.specs.Interleave.{part_of}
 use Rattle.session_model.specs.Sent.{rank_of, payload_by}
+use Rattle.session_model.specs.Piece.{Piece, stream_of}
+use Rattle.session_model.specs.Client.{size}
+use Rattle.gfp_fill.proofs.StreamSteps.{long}
 use Rattle.vcat_interleave.specs.Members.{AreLines, with_octets}
-use Rattle.vcat_interleave.specs.Spread.{Spreads}
+use Rattle.vcat_interleave.specs.Spread.{SpreadsOver, Spreads, AreDistinct}
 use Rattle.vcat_interleave.proofs.RowLaws.{length-part_of, is-part_of}
 use Rattle.vcat_interleave.proofs.SpreadLaws.{spreads-none, spreads-next}
 use Rattle.source_core.specs.Frame.{h4_by, carries, IsBegun, AreBegun, container_by, containers_by}
@@ -37,6 +42,14 @@ IsRank-from (first ∷ lines) line from =
 pub rank_of-is : (lines : List ℕ) (line : ℕ) → IsRank lines line 0 (rank_of lines line)
 rank_of-is lines line = IsRank-from lines line 0
 
+-- no line is marked at first
+pub no-mark : (lines line : ℕ) → slice_index_or (replicate lines false) line false ≡ true → ⊥
+no-mark lines line marked =
+    elim (cases_lt line lines) [
+      | inl low ↦ false≢true (sym (get_or-replicate lines line false false low) ∙ marked)
+      | inr high ↦ false≢true (sym (get_or-eq_default (replicate lines false) false (let e : length (replicate lines false) ≤ line = omega (arith, length-replicate lines false) in e)) ∙ marked)
+    ]
+
 -- which lines are marked, where each of those that carry payload is and no other
 pub marked-is : (active : List ℕ) (marks : List Bool) (line : ℕ) → ((rank : ℕ) → rank < length active → slice_index_or marks (slice_index active rank) false ≡ true) →
     (slice_index_or marks line false ≡ true → (rank : ℕ) × (rank < length active) × (slice_index active rank ≡ line)) →
@@ -44,10 +57,7 @@ pub marked-is : (active : List ℕ) (marks : List Bool) (line : ℕ) → ((rank 
 marked-is active marks line all only = is (rank_of active line) (rank_of-is active line) where
   is : (found : Option ℕ) → IsRank active line 0 found → slice_index_or marks line false ≡ is_some found
   is (Some place) found = sym (ap (λ n. slice_index_or marks n false) found.3) ∙ all found.0 found.2
-  is None none = elim (slice_index_or marks line false) as (λ b. slice_index_or marks line false ≡ b → b ≡ false) [
-    | true ↦ λ e. let one = only e in absurd (none one.0 one.1 one.2)
-    | false ↦ λ e. refl
-  ] refl
+  is None none = false_from_ne_true (slice_index_or marks line false) (λ e. let one = only e in none one.0 one.1 one.2)
 
 -- ---- a part of a row, put into a container that was begun
 pub IsBegun-as : (h4 other filled more : ℕ) (one same : Container) → h4 ≡ other → filled ≡ more → one ≡ same → IsBegun h4 filled one → IsBegun other more same
@@ -98,13 +108,18 @@ part_of-one : (row : List ℕ) → part_of 0 1 (length row) row ≡ row
 part_of-one row = sym (is-part_of row row 0 1 (λ p low. let place : p ≡ p * 1 + 0 = omega arith in ap (slice_index row) place))
 
 -- the row is put into its container
-pub spreads-one : (line size : ℕ) (row : List ℕ) (before after : List Container) → line < length before → length row ≡ size →
-    ((d : Container) → after ≡ slice_set before line (with_octets 0 row (slice_index_or before line d))) →
-    Spreads 0 size row (line ∷ []) before after
-spreads-one line size row before after inside long put =
-    spreads-next 0 0 0 size row (line ∷ []) before before after (λ rank other less low. absurd (omega arith)) among (omega arith) (omega arith)
-    (λ d. put d ∙ ap (λ part. slice_set before line (with_octets 0 part (slice_index_or before line d))) (sym (part_of-one row) ∙ ap (λ n. part_of 0 1 n row) long))
-    (spreads-none 0 0 0 size row (line ∷ []) before (omega arith)) where
-      among : AreLines (length before) (line ∷ [])
-      among zero low = inside
-      among (suc rank) low = absurd (omega arith)
+pub spreads-one : (size : ℕ) (row active : List ℕ) (before after : List Container) → length active ≡ 1 → AreDistinct active → AreLines (length before) active → length row ≡ size →
+    ((d : Container) → after ≡ slice_set before (slice_index active 0) (with_octets 0 row (slice_index_or before (slice_index active 0) d))) →
+    Spreads 0 size row active before after
+spreads-one size row active before after single distinct lines long put =
+    let part : row ≡ part_of 0 (length active) size row =
+    sym (part_of-one row) ∙ ap (λ x. part_of 0 x (length row) row) (sym single) ∙ ap (λ n. part_of 0 (length active) n row) long in
+    subst (λ upto. SpreadsOver 0 upto 0 size row active before after) (sym single)
+    (spreads-next 0 0 0 size row active before before after distinct lines (omega arith) (omega arith)
+    (λ d. put d ∙ ap (λ part. slice_set before (slice_index active 0) (with_octets 0 part (slice_index_or before (slice_index active 0) d))) part)
+    (spreads-none 0 0 0 size row active before (omega arith)))
+
+-- the next octets of a stream are as many as it has been reached for
+pub next-size : (place n : ℕ) (pieces : List Piece) → place + n ≤ size pieces → length (take n (drop place (stream_of pieces))) ≡ n
+next-size place n pieces within =
+    length-take-le n (drop place (stream_of pieces)) (omega (arith, length-drop place (stream_of pieces), long pieces))

@@ -1,5 +1,5 @@
 -- One line more is begun.
-use Rattle.std.proofs.Common.{◌≡◌, false, if◌then◌else◌, [], slice_index_or, sym, ◌∙◌, ap, subst, arith, get_or-set_other, inl, inr}
+use Rattle.std.proofs.Common.{◌≡◌, if◌then◌else◌, [], slice_index_or, sym, ◌∙◌, ap, subst, arith, get_or-set_other, inl, inr}
 use Rattle.std.proofs.lemmas.Bool.{cases_lt}
 use Rattle.std.proofs.lemmas.Grind.{get_or-set_at}
 use Rattle.source_core.specs.Frame.{h4_by, carries, IsBegun}

@@ -1,7 +1,14 @@
--- One line more is marked.
-use Rattle.std.proofs.Common.{◌≡◌, true, false, slice_index_or, refl, sym, ◌∙◌, ap, arith}
-use Rattle.source_core.proofs.FrameLaws.{marked-is}
+-- No line is marked at first, and then one line more.
+use Rattle.std.proofs.Common.{refl, arith}
+use Rattle.source_core.proofs.FrameLaws.{marked-is, no-mark}
 use Rattle.source_core.proofs.frame.carriers.Goals as goal
+
+pub loop-rank-init : goal.loop-rank-init
+loop-rank-init c = record {
+  size = refl;
+  all = λ rank low. absurd (omega arith);
+  only = λ line marked. absurd (no-mark 128 line marked);
+}
 
 pub returns : goal.returns
 returns c line low =
