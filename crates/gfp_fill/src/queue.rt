@@ -93,6 +93,21 @@ impl FrameQueue {
         }
     }
 
+    /// The first cause for which a frame would be refused now; none where it would be taken.
+    pub fn refusal(&self, frame: &[u8]) -> Option<AcceptFault>
+        ensures { result ≡ refusal_while self.now.waiting frame.now }
+    {
+        if frame.len() < MIN_FRAME || frame.len() > MAX_FRAME {
+            return Some(AcceptFault::Length {
+                n: frame.len() as u64,
+            });
+        }
+        if self.waiting.len() >= MAX_WAITING {
+            return Some(AcceptFault::QueueFull { waiting: 256 });
+        }
+        None
+    }
+
     /// How many frames wait.
     pub fn waiting(&self) -> u16
         ensures count { result ≡ length self.now.waiting }

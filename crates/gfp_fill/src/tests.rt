@@ -100,6 +100,11 @@ fn lengths_are_those_of_frames(rt: HostRuntime) -> Result<(), Fail> {
         (9600, Ok(())),
         (9601, Err(AcceptFault::Length { n: 9601 })),
     ] {
+        assert_eq!(rt;
+            queue.refusal(&octets[..length]),
+            answer.err(),
+            "{length} octets"
+        );
         assert_eq!(rt; queue.push(&octets[..length]), answer, "{length} octets");
     }
     assert_eq!(rt; queue.waiting(), 2);

@@ -1,5 +1,6 @@
 -- What contracts say of a group, by its parts.
-use Rattle.std.proofs.Common.{◌≡◌, ℕ, ◌+◌, ◌<◌, ◌≤◌, nat_lt, not, Bool, true, false, if◌then◌else◌, List, [], ◌∷◌, ◌++◌, Option, Some, None, option_map, refl, sym, ◌∙◌, ap, subst, arith}
+use Rattle.std.proofs.Common.{◌≡◌, ℕ, ◌+◌, ◌<◌, ◌≤◌, nat_lt, nat_le, not, ◌&&◌, ◌||◌, Bool, true, false, if◌then◌else◌, List, [], ◌∷◌, ◌++◌, Option, Some, None, option_map, refl, sym, ◌∙◌, ap, subst, arith}
+use Rattle.std.specs.Option.{is_some}
 use Rattle.std.proofs.Math.Logic.{∥∥₁_elim}
 use Rattle.std.proofs.Props.{props}
 use Rattle.std.proofs.lemmas.Bool.Decides.{nat_tests}
@@ -20,7 +21,7 @@ use Rattle.group_lock.specs.Journal.{entry_of, fits}
 use Rattle.group_lock.specs.Landed.{due_at}
 use Rattle.group_lock.specs.Lands.{met_by, with_kind}
 use Rattle.group_lock.specs.Parts.{setting_in}
-use Rattle.group_lock.specs.Group.{parts_of, Stands, SameScript, SameRings, items_of, frames_of, commands_of, journal_of, slots_of, bytes_of, refusals_of, taken_of, source_of, ticks_of, next_of, refusal_of, is_number, fault_in, counted_by, HasCounted, with_landed}
+use Rattle.group_lock.specs.Group.{parts_of, Stands, SameScript, SameRings, items_of, frames_of, commands_of, journal_of, slots_of, bytes_of, refusals_of, taken_of, source_of, ticks_of, next_of, refusal_of, is_number, fault_met, fault_in, counted_by, HasCounted, with_landed}
 use Rattle.group_lock.specs.Calls.{Submits}
 use Rattle.group_lock.proofs.AlikeLaws.{met-journal}
 
@@ -31,11 +32,10 @@ pub script-same : (g : GroupState) → SameScript g g
 script-same g = record { lines = refl; lag = refl; size = refl; total = refl; lost = refl; items = refl }
 
 -- ---- why an item isn't accepted, by the tests in their order
-abbrev pub fault_by : Option ℕ → ℕ → ℕ → ℕ → Bool → ℕ → ℕ → Option SubmitFault → Option SubmitFault
-fault_by next number ticks due fits slots bytes rest =
+abbrev pub fault_by : Option ℕ → ℕ → ℕ → ℕ → Option SubmitFault → Option SubmitFault
+fault_by next number ticks due rest =
     if not (is_number next number) then Some (NotNext next)
     else if nat_lt ticks due then Some (Early ticks)
-    else if not fits then Some (JournalFull slots bytes)
     else rest
 
 same-number : (number : ℕ) → is_number (Some number) number ≡ true
@@ -51,24 +51,26 @@ other-number : (next : Option ℕ) (number : ℕ) → (next ≡ Some number → 
 other-number None number other = refl
 other-number (Some n) number other = grind (arith, nat_tests, (λ (e : n ≡ number). other (ap Some e)))
 
-pub fault-next : (next : Option ℕ) (number ticks due : ℕ) (fits : Bool) (slots bytes : ℕ) (rest : Option SubmitFault) → (next ≡ Some number → ⊥) →
-    Some (NotNext next) ≡ fault_by next number ticks due fits slots bytes rest
-fault-next next number ticks due fits slots bytes rest other = rw (other-number next number other) refl
+fault-next : (next : Option ℕ) (number ticks due : ℕ) (rest : Option SubmitFault) → (next ≡ Some number → ⊥) → Some (NotNext next) ≡ fault_by next number ticks due rest
+fault-next next number ticks due rest other = rw (other-number next number other) refl
 
-pub fault-early : (next : Option ℕ) (number ticks due : ℕ) (fits : Bool) (slots bytes : ℕ) (rest : Option SubmitFault) → next ≡ Some number → ticks < due →
-    Some (Early ticks) ≡ fault_by next number ticks due fits slots bytes rest
-fault-early next number ticks due fits slots bytes rest is low =
-    subst (λ n. Some (Early ticks) ≡ fault_by n number ticks due fits slots bytes rest) (sym is) (rw (same-number number, is-early ticks due low) refl)
+fault-early : (next : Option ℕ) (number ticks due : ℕ) (rest : Option SubmitFault) → next ≡ Some number → ticks < due → Some (Early ticks) ≡ fault_by next number ticks due rest
+fault-early next number ticks due rest is low =
+    subst (λ n. Some (Early ticks) ≡ fault_by n number ticks due rest) (sym is) (rw (same-number number, is-early ticks due low) refl)
 
-pub fault-full : (next : Option ℕ) (number ticks due : ℕ) (fits : Bool) (slots bytes : ℕ) (rest : Option SubmitFault) → next ≡ Some number → due ≤ ticks → fits ≡ false →
-    Some (JournalFull slots bytes) ≡ fault_by next number ticks due fits slots bytes rest
-fault-full next number ticks due fits slots bytes rest is low full =
-    subst (λ n. Some (JournalFull slots bytes) ≡ fault_by n number ticks due fits slots bytes rest) (sym is) (rw (same-number number, not-early ticks due low, full) refl)
+fault-rest : (next : Option ℕ) (number ticks due : ℕ) (rest : Option SubmitFault) → next ≡ Some number → due ≤ ticks → rest ≡ fault_by next number ticks due rest
+fault-rest next number ticks due rest is low = subst (λ n. rest ≡ fault_by n number ticks due rest) (sym is) (rw (same-number number, not-early ticks due low) refl)
 
-pub fault-rest : (next : Option ℕ) (number ticks due : ℕ) (fits : Bool) (slots bytes : ℕ) (rest : Option SubmitFault) → next ≡ Some number → due ≤ ticks → fits ≡ true →
-    rest ≡ fault_by next number ticks due fits slots bytes rest
-fault-rest next number ticks due fits slots bytes rest is low there =
-    subst (λ n. rest ≡ fault_by n number ticks due fits slots bytes rest) (sym is) (rw (same-number number, not-early ticks due low, there) refl)
+-- the source is asked first, and then the journal
+source-first : (why : Option Refusal) (fits : Bool) (slots bytes : ℕ) → (why ≡ None → fits ≡ true) → option_map fault_of why ≡ fault_met why fits slots bytes
+source-first (Some why) fits slots bytes room = refl
+source-first None true slots bytes room = refl
+source-first None false slots bytes room = absurd (let e : false ≡ true = room refl in cc)
+
+journal-last : (why : Option Refusal) (fits : Bool) (slots bytes : ℕ) → why ≡ None → fits ≡ false → Some (JournalFull slots bytes) ≡ fault_met why fits slots bytes
+journal-last (Some why) fits slots bytes none full = absurd cc
+journal-last None true slots bytes none full = absurd cc
+journal-last None false slots bytes none full = refl
 
 -- ---- what has landed is counted
 pub counted-frame : (client : Bool) → (if client then 1 else 0) ≡ counted_by client true
@@ -105,28 +107,44 @@ submits-none g number kind fault none is = record {
 pub refused-is : (g : GroupState) (kind : ItemKind) → met_by (source_of g) kind ≡ refusal_of g kind
 refused-is g kind = ∥∥₁_elim g.keeps.made (hlevel props) (λ made. met-journal (source_of g) (setting_in (parts_of g)) (journal_of g) (taken_of g) kind made)
 
--- what is asked of an item before the source is asked
+-- what is known of an item that lands
 pub record Asks (g : GroupState) (number : ℕ) (kind : ItemKind) : Type 0 where
   pub next : next_of g kind ≡ Some number
   pub due : due_at (items_of g) number ≤ ticks_of g
-  pub room : fits (parts_of g).journal kind ≡ true
+  pub room : refusal_of g kind ≡ None → fits (parts_of g).journal kind ≡ true
+
+abbrev pub met_in : GroupState → ItemKind → Option SubmitFault
+met_in g kind = fault_met (refusal_of g kind) (fits (parts_of g).journal kind) (slots_of g) (bytes_of g)
 
 fault-asked : (g : GroupState) (number : ℕ) (kind : ItemKind) → Asks g number kind → option_map fault_of (refusal_of g kind) ≡ fault_in g number kind
 fault-asked g number kind asks =
-    fault-rest (next_of g kind) number (ticks_of g) (due_at (items_of g) number) (fits (parts_of g).journal kind) (slots_of g) (bytes_of g) (option_map fault_of (refusal_of g kind)) asks.next asks.due asks.room
+    source-first (refusal_of g kind) (fits (parts_of g).journal kind) (slots_of g) (bytes_of g) asks.room
+    ∙ fault-rest (next_of g kind) number (ticks_of g) (due_at (items_of g) number) (met_in g kind) asks.next asks.due
 
 pub asked-next : (g : GroupState) (number : ℕ) (kind : ItemKind) → (next_of g kind ≡ Some number → ⊥) → Some (NotNext (next_of g kind)) ≡ fault_in g number kind
-asked-next g number kind other =
-    fault-next (next_of g kind) number (ticks_of g) (due_at (items_of g) number) (fits (parts_of g).journal kind) (slots_of g) (bytes_of g) (option_map fault_of (refusal_of g kind)) other
+asked-next g number kind other = fault-next (next_of g kind) number (ticks_of g) (due_at (items_of g) number) (met_in g kind) other
 
 pub asked-early : (g : GroupState) (number : ℕ) (kind : ItemKind) → next_of g kind ≡ Some number → ticks_of g < due_at (items_of g) number → Some (Early (ticks_of g)) ≡ fault_in g number kind
-asked-early g number kind next low =
-    fault-early (next_of g kind) number (ticks_of g) (due_at (items_of g) number) (fits (parts_of g).journal kind) (slots_of g) (bytes_of g) (option_map fault_of (refusal_of g kind)) next low
+asked-early g number kind next low = fault-early (next_of g kind) number (ticks_of g) (due_at (items_of g) number) (met_in g kind) next low
 
-pub asked-full : (g : GroupState) (number : ℕ) (kind : ItemKind) → next_of g kind ≡ Some number → due_at (items_of g) number ≤ ticks_of g → fits (parts_of g).journal kind ≡ false →
-    Some (JournalFull (slots_of g) (bytes_of g)) ≡ fault_in g number kind
+pub asked-full : (g : GroupState) (number : ℕ) (kind : ItemKind) → next_of g kind ≡ Some number → due_at (items_of g) number ≤ ticks_of g →
+    (is_some (refusal_of g kind) || fits (parts_of g).journal kind) ≡ false → Some (JournalFull (slots_of g) (bytes_of g)) ≡ fault_in g number kind
 asked-full g number kind next low full =
-    fault-full (next_of g kind) number (ticks_of g) (due_at (items_of g) number) (fits (parts_of g).journal kind) (slots_of g) (bytes_of g) (option_map fault_of (refusal_of g kind)) next low full
+    let (none, over) = none-fits (refusal_of g kind) (fits (parts_of g).journal kind) full in
+    journal-last (refusal_of g kind) (fits (parts_of g).journal kind) (slots_of g) (bytes_of g) none over
+    ∙ fault-rest (next_of g kind) number (ticks_of g) (due_at (items_of g) number) (met_in g kind) next low
+  where
+    none-fits : (why : Option Refusal) (fits : Bool) → (is_some why || fits) ≡ false → (why ≡ None) × (fits ≡ false)
+    none-fits None fits e = (refl, e)
+    none-fits (Some why) fits e = absurd cc
+
+-- an item has room that the source takes
+pub room-found : (why : Option Refusal) (fits : Bool) → (is_some why || fits) ≡ true → why ≡ None → fits ≡ true
+room-found None fits e none = e
+room-found (Some why) fits e none = absurd cc
+
+pub room-there : (slots bytes size : ℕ) → (nat_lt 0 slots && nat_le size bytes) ≡ true → (0 < slots) × (size ≤ bytes)
+room-there slots bytes size e = (grind (arith, nat_tests, e), grind (arith, nat_tests, e))
 
 -- what an item that has landed leaves
 pub record Lands (a b : GroupState) (number : ℕ) (kind : ItemKind) (why : Option Refusal) : Type 0 where

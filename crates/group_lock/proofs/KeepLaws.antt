@@ -20,7 +20,7 @@ use Rattle.member_ring.specs.Ends.{out_passed, in_passed}
 use Rattle.source_core.specs.Terminal.{Terminal, SameKind, needed_at}
 use Rattle.source_core.specs.Given.{IsFresh, with_cell, Stands as HasMade}
 use Rattle.walk_law.specs.Landed.{Numbered, kind_refusal}
-use Rattle.walk_law.proofs.LandLaws.{Ahead}
+use Rattle.walk_law.proofs.LandLaws.{Ahead, ahead-next}
 use Rattle.group_lock.specs.Journal.{Journal, Setting, journal_scenario, items_in, entry_of, IsLegal}
 use Rattle.group_lock.specs.Landed.{Landed, due_at}
 use Rattle.group_lock.specs.Lands.{with_kind}
@@ -29,7 +29,6 @@ use Rattle.group_lock.specs.Rings.{AreUnused, SameOuts, HaveLooked, ArePushed, H
 use Rattle.group_lock.specs.Parts.{Parts, setting_in, scenario_in, told_in_parts, AreSent, AreDue, ArePast, Keeps}
 use Rattle.group_lock.proofs.CellLaws.{come-length, taken-more, cell_for, rest_for, Takes, takes}
 use Rattle.group_lock.proofs.AlikeLaws.{journal-push, alike-kind, alike-cells, refusal-alike, legal-alike, push-cases, legal-push, container-in, sent-alike, sent-next}
-use Rattle.group_lock.proofs.HeldLaws.{ahead-next}
 
 pub there-at : {X : Type 0} (xs : List X) (m : ℕ) → m < length xs → (x : X) × (slice_get xs m ≡ Some x)
 there-at [] m low = absurd (omega arith)

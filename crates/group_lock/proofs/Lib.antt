@@ -3,10 +3,8 @@ pub mod AlikeLaws
 pub mod PlaceLaws
 pub mod RingLaws
 pub mod EntryLaws
-pub mod HeldLaws
 pub mod KeepLaws
 pub mod GroupLaws
 pub mod TickLaws
-pub mod InsertLaws
 pub mod BoundLaws
 pub mod SubmitLaws

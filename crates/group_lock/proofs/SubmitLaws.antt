@@ -1,11 +1,10 @@
 -- An item that lands leaves a group bound to its session.
-use Rattle.std.proofs.Common.{◌≡◌, ℕ, zero, suc, ◌+◌, ◌-◌, ◌<◌, ◌≤◌, nat_lt, nat_le, not, ◌&&◌, Bool, true, false, if◌then◌else◌, List, [], ◌∷◌, ◌++◌, map, filter, fold, take, drop, length, slice_get, get_or, All, Option, Some, None, is_none, option_map, inl, inr, refl, sym, ◌∙◌, ap, subst, arith, append_assoc, length-append}
+use Rattle.std.proofs.Common.{◌≡◌, ℕ, zero, suc, ◌+◌, ◌-◌, ◌<◌, ◌≤◌, nat_lt, nat_le, not, ◌&&◌, Bool, true, false, if◌then◌else◌, List, [], ◌∷◌, ◌++◌, map, filter, fold, take, drop, length, slice_get, get_or, All, Option, Some, None, is_none, option_map, inl, inr, refl, sym, ◌∙◌, ap, subst, arith, length-append}
 use Rattle.std.proofs.Math.Logic.{∥∥₁_map, ∥∥₁_elim}
 use Rattle.std.proofs.Props.{props}
 use Rattle.std.proofs.lemmas.Bool.{cases_Bool, ltb-false, eqb-true}
 use Rattle.std.proofs.lemmas.Bool.Decides.{nat_tests}
-use Rattle.std.proofs.lemmas.List.Concat.{flat_map-append}
-use Rattle.std.proofs.lemmas.List.Elements.{All-cons, All-append, All-tail, filter-append}
+use Rattle.std.proofs.lemmas.List.Elements.{All-cons, All-append, All-tail}
 use Rattle.std.proofs.lemmas.Option.{slice_get_within, slice_get-map}
 use Rattle.report_text.specs.declared.report.Refusal.{Refusal}
 use Rattle.session_model.specs.declared.script.Script.{Script}
@@ -16,7 +15,7 @@ use Rattle.group_lock.specs.Answer.{fault_of, has_landed, is_full, refusal_told}
 use Rattle.group_lock.specs.Landed.{AreBefore, AreAfter}
 use Rattle.group_lock.specs.Session.{refusal_by, refusals_by, accepted_frames_by, accepted_commands_by, AreItemsOf, IsBound}
 use Rattle.session_model.specs.Table.{Told}
-use Rattle.group_lock.proofs.InsertLaws.{IsInserted, landed-frame, landed-command}
+use Rattle.walk_law.proofs.ReportLaws.{IsInserted, landed-frame, landed-command, placed, one-more}
 use Rattle.std.proofs.lemmas.List.{length-map, length-drop, get_or-drop}
 use Rattle.std.proofs.lemmas.List.Sums.{sum_by-drop_more}
 use Rattle.std.proofs.lemmas.Option.{slice_get-get_or, get_or_from_slice_get}
@@ -58,10 +57,10 @@ use Rattle.group_lock.proofs.AlikeLaws.{push-cases, offers-push, orders-push}
 use Rattle.group_lock.proofs.BoundLaws.{of-then}
 use Rattle.group_lock.specs.Landed.{next_number, due_in, due_at}
 use Rattle.group_lock.specs.Lands.{met_by, with_kind}
-use Rattle.group_lock.specs.Group.{IsOf, HasCounted, parts_of, items_of, ticks_of, frames_of, commands_of, taken_of, source_of, next_of, refusal_of, is_number, fault_in, slots_of, bytes_of, journal_of, refusals_of, lag_of, lost_of, entries_by, with_landed, room_for}
+use Rattle.group_lock.specs.Group.{IsOf, HasCounted, parts_of, items_of, ticks_of, frames_of, commands_of, taken_of, source_of, next_of, refusal_of, is_number, fault_met, fault_in, slots_of, bytes_of, journal_of, refusals_of, lag_of, lost_of, entries_by, with_landed, room_for}
 use Rattle.group_lock.specs.Session.{counts_of, IsItemOf, octets_in, HasRoom, HasLandedOf}
 use Rattle.group_lock.proofs.PlaceLaws.{bare-dues, bare-place, frame-blind, command-blind, number-there, item-there, next-due, all-left, all-right}
-use Rattle.group_lock.proofs.GroupLaws.{refused-is, fault_by}
+use Rattle.group_lock.proofs.GroupLaws.{refused-is, fault_by, met_in}
 
 -- ---- a list in two parts by a number has them in one way
 split-same : (number : ℕ) (front back other rest : List (ℕ × Refusal)) → front ++ back ≡ other ++ rest → AreBefore number front → AreAfter number back → AreBefore number other → AreAfter number rest →
@@ -90,45 +89,7 @@ placed-same number put was now other one two =
     let (a, b) = split-same number one.front one.back two.front two.back (sym one.was_so ∙ two.was_so) one.before one.after two.before two.after in
     one.is_so ∙ ap (λ l. l ++ put ++ one.back) a ∙ ap (λ l. two.front ++ put ++ l) b ∙ sym two.is_so
 
--- ---- the refusals of items with one more
-refused-within : (P : ℕ → Type 0) (number : ℕ) (why : Option Refusal) → P number → All (λ (refused : ℕ × Refusal). P refused.0) (refused_by number why)
-refused-within P number None here = λ k d inside. absurd (omega arith)
-refused-within P number (Some why) here = All-cons (λ (refused : ℕ × Refusal). P refused.0) (number, why) [] here (λ k d inside. absurd (omega arith))
-
-list-within : (P : ℕ → Type 0) (script : Script) (cells : List (Option Told)) (items : List Numbered) → All (λ (other : Numbered). P other.number) items →
-    All (λ (refused : ℕ × Refusal). P refused.0) (refusals_by script cells items)
-list-within P script cells [] all = λ k d inside. absurd (omega arith)
-list-within P script cells (item ∷ items) all =
-    All-append (λ (refused : ℕ × Refusal). P refused.0) (refused_by item.number (refusal_by script cells item)) (refusals_by script cells items)
-    (refused-within P item.number (refusal_by script cells item) (all 0 item (omega arith)))
-    (list-within P script cells items (λ k d inside. all (suc k) d (omega arith)))
-
-pub placed-by : (script : Script) (cells : List (Option Told)) (item : Numbered) (was now : List Numbered) → IsInserted item was now →
-    IsPlaced item.number (refused_by item.number (refusal_by script cells item)) (refusals_by script cells was) (refusals_by script cells now)
-placed-by script cells item was now put =
-    let f = λ (item : Numbered). refused_by item.number (refusal_by script cells item) in
-    record {
-      front = refusals_by script cells put.front;
-      back = refusals_by script cells put.back;
-      was_so = ap (refusals_by script cells) put.was_so ∙ flat_map-append f put.front put.back;
-      is_so = ap (refusals_by script cells) put.is_so ∙ flat_map-append f put.front (item ∷ put.back)
-          ∙ sym (append_assoc (refusals_by script cells put.front) (refused_by item.number (refusal_by script cells item)) (refusals_by script cells put.back));
-      before = list-within (λ number. number < item.number) script cells put.front put.before;
-      after = list-within (λ number. item.number < number) script cells put.back put.after;
-    }
-
--- ---- how many of them pass a test, with one more
-filter-size : (p : Numbered → Bool) (item : Numbered) (items : List Numbered) → length (filter p (item ∷ items)) ≡ length (filter p items) + (if p item then 1 else 0)
-filter-size p item items = elim (cases_Bool (p item)) [ inl e ↦ rw e (omega arith) | inr e ↦ rw e (omega arith) ]
-
-pub inserted-size : (p : Numbered → Bool) (item : Numbered) (was now : List Numbered) → IsInserted item was now → length (filter p now) ≡ length (filter p was) + (if p item then 1 else 0)
-inserted-size p item was now put =
-    let a = ap (λ l. length (filter p l)) put.was_so ∙ ap length (filter-append p put.front put.back) ∙ length-append (filter p put.front) (filter p put.back) in
-    let b = ap (λ l. length (filter p l)) put.is_so ∙ ap length (filter-append p put.front (item ∷ put.back)) ∙ length-append (filter p put.front) (filter p (item ∷ put.back)) in
-    let one = filter-size p item put.back in
-    omega arith
-
--- what holds of each of them, and of one more
+-- ---- what holds of each of them, and of one more
 pub inserted-all : (P : Numbered → Type 0) (item : Numbered) (was now : List Numbered) → IsInserted item was now → All P was → P item → All P now
 inserted-all P item was now put all here =
     let parts : All P (put.front ++ put.back) = subst (All P) put.was_so all in
@@ -374,38 +335,37 @@ number-is : (next : Option ℕ) (number : ℕ) → is_number next number ≡ tru
 number-is None number e = absurd cc
 number-is (Some n) number e = ap Some (eqb-true n number e)
 
-asks-by : (next : Option ℕ) (number ticks due : ℕ) (fits : Bool) (slots bytes : ℕ) (rest : Option SubmitFault) → has_landed (fault_by next number ticks due fits slots bytes rest) ≡ true →
-    (next ≡ Some number) × (due ≤ ticks) × (fault_by next number ticks due fits slots bytes rest ≡ rest)
-asks-by next number ticks due fits slots bytes rest h =
+asks-by : (next : Option ℕ) (number ticks due : ℕ) (rest : Option SubmitFault) → has_landed (fault_by next number ticks due rest) ≡ true →
+    (next ≡ Some number) × (due ≤ ticks) × (fault_by next number ticks due rest ≡ rest)
+asks-by next number ticks due rest h =
     elim (cases_Bool (is_number next number)) [
       | inr other ↦ absurd (let f : false ≡ true = rw other at h in cc)
       | inl same ↦ elim (cases_Bool (nat_lt ticks due)) [
         | inl early ↦ absurd (let f : false ≡ true = rw (same, early) at h in cc)
-        | inr late ↦ elim (cases_Bool fits) [
-          | inr none ↦ absurd (let f : false ≡ true = rw (same, late, none) at h in cc)
-          | inl there ↦ (number-is next number same, ltb-false ticks due late, rw (same, late, there) refl)
-        ]
+        | inr late ↦ (number-is next number same, ltb-false ticks due late, rw (same, late) refl)
       ]
     ]
 
-full-by : (next : Option ℕ) (number ticks due : ℕ) (fits : Bool) (slots bytes : ℕ) (rest : Option SubmitFault) → is_full rest ≡ false → is_full (fault_by next number ticks due fits slots bytes rest) ≡ true →
-    (next ≡ Some number) × (due ≤ ticks) × (fits ≡ false)
-full-by next number ticks due fits slots bytes rest never h =
+landed-met : (why : Option Refusal) (fits : Bool) (slots bytes : ℕ) → has_landed (fault_met why fits slots bytes) ≡ true → fault_met why fits slots bytes ≡ option_map fault_of why
+landed-met (Some why) fits slots bytes h = refl
+landed-met None true slots bytes h = refl
+landed-met None false slots bytes h = absurd cc
+
+full-by : (next : Option ℕ) (number ticks due : ℕ) (rest : Option SubmitFault) → is_full (fault_by next number ticks due rest) ≡ true → (next ≡ Some number) × (due ≤ ticks) × (is_full rest ≡ true)
+full-by next number ticks due rest h =
     elim (cases_Bool (is_number next number)) [
       | inr other ↦ absurd (let f : false ≡ true = rw other at h in cc)
       | inl same ↦ elim (cases_Bool (nat_lt ticks due)) [
         | inl early ↦ absurd (let f : false ≡ true = rw (same, early) at h in cc)
-        | inr late ↦ elim (cases_Bool fits) [
-          | inr none ↦ (number-is next number same, ltb-false ticks due late, none)
-          | inl there ↦ absurd (let f : is_full rest ≡ true = rw (same, late, there) at h in let e : false ≡ true = sym never ∙ f in cc)
-        ]
+        | inr late ↦ (number-is next number same, ltb-false ticks due late, rw (same, late) at h)
       ]
     ]
 
-never-full : (why : Option Refusal) → is_full (option_map fault_of why) ≡ false
-never-full None = refl
-never-full (Some (frame_refused fault)) = refl
-never-full (Some (command_refused fault)) = refl
+full-met : (why : Option Refusal) (fits : Bool) (slots bytes : ℕ) → is_full (fault_met why fits slots bytes) ≡ true → fits ≡ false
+full-met (Some (frame_refused fault)) fits slots bytes h = absurd cc
+full-met (Some (command_refused fault)) fits slots bytes h = absurd cc
+full-met None true slots bytes h = absurd cc
+full-met None false slots bytes h = refl
 
 told-rest : (why : Option Refusal) → refusal_told (option_map fault_of why) ≡ why
 told-rest None = refl
@@ -446,8 +406,8 @@ not-full script g number kind answer of_script room is_item is =
     elim (cases_Bool (is_full answer)) [
       | inr none ↦ none
       | inl full ↦
-          let (next, due, few) = full-by (next_of g kind) number (ticks_of g) (due_at (items_of g) number) (fits (parts_of g).journal kind) (slots_of g) (bytes_of g) (option_map fault_of (refusal_of g kind))
-          (never-full (refusal_of g kind)) (sym (ap is_full is) ∙ full) in
+          let (next, due, none) = full-by (next_of g kind) number (ticks_of g) (due_at (items_of g) number) (met_in g kind) (sym (ap is_full is) ∙ full) in
+          let few = full-met (refusal_of g kind) (fits (parts_of g).journal kind) (slots_of g) (bytes_of g) none in
           let here = item-here script g number kind of_script next due is_item in
           let (slots, bytes) = room-first script g number kind of_script next here room in
           absurd (let f = fits-room (slots_of g) (bytes_of g) (octet_count kind) slots bytes in let e : true ≡ false = sym f ∙ few in cc)
@@ -513,9 +473,9 @@ module _ (script : Script) (a b : GroupState) (number : ℕ) (kind : ItemKind) (
 
   asks : (next_of a kind ≡ Some number) × (due_at (items_of a) number ≤ ticks_of a) × (answer ≡ option_map fault_of (refusal_of a kind))
   asks =
-      let (next, due, same) = asks-by (next_of a kind) number (ticks_of a) (due_at (items_of a) number) (fits (parts_of a).journal kind) (slots_of a) (bytes_of a) (option_map fault_of (refusal_of a kind))
-      (sym (ap has_landed call.fault) ∙ landed) in
-      (next, due, call.fault ∙ same)
+      let (next, due, same) = asks-by (next_of a kind) number (ticks_of a) (due_at (items_of a) number) (met_in a kind) (sym (ap has_landed call.fault) ∙ landed) in
+      let met : answer ≡ met_in a kind = call.fault ∙ same in
+      (next, due, met ∙ landed-met (refusal_of a kind) (fits (parts_of a).journal kind) (slots_of a) (bytes_of a) (sym (ap has_landed met) ∙ landed))
 
   here : slice_get script.items number ≡ Some (record { due = ticks_of a; kind = kind })
   here = item-here script a number kind of_script asks.0 asks.1 is_item
@@ -536,8 +496,8 @@ module _ (script : Script) (a b : GroupState) (number : ℕ) (kind : ItemKind) (
       let put = next-is.inserted in
       let cells : List (Option Told) = taken_of a in
       let sizes = offers-next answer (journal_of a) (journal_of b) number (ticks_of a) kind landed call.journal in
-      let frames = inserted-size (λ item. is_client item.item.kind && is_none (refusal_by script cells item)) entry (landed_items script (counts_of a)) (landed_items script (counts_of b)) put in
-      let commands = inserted-size (λ item. not (is_client item.item.kind) && is_none (refusal_by script cells item)) entry (landed_items script (counts_of a)) (landed_items script (counts_of b)) put in
+      let frames = one-more (λ item. is_client item.item.kind && is_none (refusal_by script cells item)) entry (landed_items script (counts_of a)) (landed_items script (counts_of b)) put in
+      let commands = one-more (λ item. not (is_client item.item.kind) && is_none (refusal_by script cells item)) entry (landed_items script (counts_of a)) (landed_items script (counts_of b)) put in
       record {
         entries = entries-next answer script (journal_of a) (journal_of b) number (ticks_of a) kind call.journal has.entries here;
         past = subst (λ n. ArePast n (landed_items script (counts_of b))) (sym call.rings.ticks)
@@ -547,7 +507,7 @@ module _ (script : Script) (a b : GroupState) (number : ℕ) (kind : ItemKind) (
         refusals = placed-same number (refused_by number (refusal_told answer)) (refusals_of a) (refusals_of b) (refusals_by script cells (landed_items script (counts_of b))) (call.refusals landed)
             (subst (λ (l : List (ℕ × Refusal)). IsPlaced number (refused_by number (refusal_told answer)) l (refusals_by script cells (landed_items script (counts_of b)))) (sym has.refusals)
             (subst (λ (w : Option Refusal). IsPlaced number (refused_by number w) (refusals_by script cells (landed_items script (counts_of a))) (refusals_by script cells (landed_items script (counts_of b)))) (sym told)
-            (placed-by script cells entry (landed_items script (counts_of a)) (landed_items script (counts_of b)) put)))
+            (placed (refusal_by script cells) entry (landed_items script (counts_of a)) (landed_items script (counts_of b)) put)))
             ∙ sym (ap (λ c. refusals_by script c (landed_items script (counts_of b))) taken);
         frames = sizes.0 ∙ ap (λ n. n + (if is_client kind && is_none (refusal_told answer) then 1 else 0)) has.frames
             ∙ ap (λ (w : Option Refusal). length (accepted_frames_by script cells (landed_items script (counts_of a))) + (if is_client kind && is_none w then 1 else 0)) told

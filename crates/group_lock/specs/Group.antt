@@ -1,5 +1,5 @@
 -- What contracts say of a group.
-use Rattle.std.specs.Prelude.{◌≡◌, ℕ, ◌+◌, ◌<◌, ◌==◌, not, nat_lt, Bool, true, false, if◌then◌else◌, List, [], ◌∷◌, ◌++◌, length, slice_get, Option, Some, None, option_map}
+use Rattle.std.specs.Prelude.{◌≡◌, ℕ, ◌+◌, ◌<◌, ◌==◌, not, nat_lt, Bool, true, false, if◌then◌else◌, List, [], ◌∷◌, ◌++◌, length, slice_get, Option, Some, None}
 use Rattle.outside_io.specs.Faults.{one_more}
 use Rattle.vc_cell.specs.declared.Container.{Container}
 use Rattle.vc_cell.specs.declared.BackCell.{BackCell}
@@ -148,13 +148,17 @@ next_of g kind = next_number (parts_of g).landed (is_client kind)
 abbrev pub refusal_of : GroupState → ItemKind → Option Refusal
 refusal_of g kind = kind_refusal (replay_of g) (taken_of g) (ticks_of g) (items_in (journal_of g)) kind
 
+-- why it isn't accepted though it is due: the source refuses it, or else the journal has no room for it, with so many entries and octets left
+abbrev pub fault_met : Option Refusal → Bool → ℕ → ℕ → Option SubmitFault
+fault_met (Some why) fits slots bytes = Some (fault_of why)
+fault_met None fits slots bytes = if fits then None else Some (JournalFull slots bytes)
+
 -- why it isn't accepted: the first cause that holds
 abbrev pub fault_in : GroupState → ℕ → ItemKind → Option SubmitFault
 fault_in g number kind =
     if not (is_number (next_of g kind) number) then Some (NotNext (next_of g kind))
     else if nat_lt (ticks_of g) (due_at (items_of g) number) then Some (Early (ticks_of g))
-    else if not (fits (parts_of g).journal kind) then Some (JournalFull (slots_of g) (bytes_of g))
-    else option_map fault_of (refusal_of g kind)
+    else fault_met (refusal_of g kind) (fits (parts_of g).journal kind) (slots_of g) (bytes_of g)
 
 -- what it adds to the journal
 abbrev pub entries_by : Option SubmitFault → ℕ → ℕ → ItemKind → List Numbered

@@ -17,7 +17,7 @@ pub enum SubmitFault {
     Frame(AcceptFault),
     /// It has landed, and is a command that is refused.
     Command(CommandFault),
-    /// The journal has no entry left for it, or too few octets: this is what is left.
+    /// The source would take it, but the journal has no entry left for it, or too few octets: this is what is left.
     JournalFull { entries: u32, bytes: u64 },
 }
 

@@ -19,7 +19,7 @@ use crate::sends::{first_full, push_frame, take_cells};
 use member_ring::{RingIn, RingOut};
 use report_text::{Refusal, Totals};
 use session_model::{Item, Script};
-use source_core::SourceCore;
+use source_core::{Command, SourceCore};
 use std::alloc::{AllocError, Global};
 use vc_cell::{BackCell, Container, PAYLOAD};
 
@@ -49,7 +49,8 @@ pub struct GroupState {
 }
 
 impl GroupState {
-    ghost use Rattle.std.specs.Prelude.{◌≡◌, ◌≢◌, ◌<◌, ◌≤◌, true, [], length, Some, None, IsSome, IfOk, MatchOption};
+    ghost use Rattle.std.specs.Prelude.{◌≡◌, ◌≢◌, ◌<◌, ◌≤◌, ◌||◌, true, [], length, Some, None, IsSome, IfOk, MatchOption};
+    ghost use Rattle.std.specs.Option.{is_some};
     ghost use Rattle.outside_io.specs.Faults.{one_more};
     ghost use Rattle.session_model.specs.Valid.{IsValid};
     ghost use Rattle.session_model.specs.Accepted.{refusal_in};
@@ -58,7 +59,7 @@ impl GroupState {
     ghost use Rattle.group_lock.specs.Journal.{fits};
     ghost use Rattle.group_lock.specs.Landed.{due_at};
     ghost use Rattle.group_lock.specs.Rings.{AreUnused, AreFree, IsFirstFull};
-    ghost use Rattle.group_lock.specs.Group.{parts_of, lines_of, lag_of, size_of, IsOf, ticks_of, total_of, items_of, frames_of, commands_of, journal_of, slots_of, bytes_of, refusals_of, inbox_of, source_of, totals_of, next_of, held_of};
+    ghost use Rattle.group_lock.specs.Group.{parts_of, lines_of, lag_of, size_of, IsOf, ticks_of, total_of, items_of, frames_of, commands_of, journal_of, slots_of, bytes_of, refusals_of, inbox_of, source_of, totals_of, next_of, refusal_of, held_of};
     ghost use Rattle.group_lock.specs.Calls.{Submits, Ticks, Comes, Looks, Makes};
 
     /// A group of a script, over a fresh send ring for each line and a fresh return ring, with room for so many entries of the journal
@@ -127,7 +128,8 @@ impl GroupState {
     }
 
     /// Lands an item, of this number in the script. Of each kind, the client's frames and the operator's commands, the next one lands, once
-    /// it is due. One that is refused has landed, and its refusal is kept; each other fault changes nothing.
+    /// it is due. One that the source refuses has landed, and its refusal is kept; the journal needs room only for one that the source
+    /// takes. Each other fault changes nothing.
     pub fn submit(&mut self, number: u32, item: ItemRef) -> Result<(), SubmitFault>
         ensures { Submits self.old self.new number (kind_of item.entry) (refusal_in result) }
     {
@@ -139,7 +141,7 @@ impl GroupState {
         if now < self.landing.due(item.is_frame(), number) {
             return Err(SubmitFault::Early { now });
         }
-        if !self.journal.has_room(item) {
+        if !self.finds_room(item) {
             let entries = self.journal.slots();
             let bytes = self.journal.bytes();
             return Err(SubmitFault::JournalFull { entries, bytes });
@@ -173,11 +175,20 @@ impl GroupState {
         TickAnswer::Ticked
     }
 
-    /// Lands an item that is the next of its kind, is due, and has room in the journal.
+    /// Whether the journal has room for an item that is due. It needs none for one that the source refuses.
+    fn finds_room(&self, item: ItemRef) -> bool
+        ensures { result ≡ (is_some (refusal_of self.now (kind_of item.entry))
+            || fits (parts_of self.now).journal (kind_of item.entry)) }
+    {
+        refusal_by(&self.source, item).is_some() || self.journal.has_room(item)
+    }
+
+    /// Lands an item that is the next of its kind and is due. The journal has room for it, where the source takes it.
     fn land(&mut self, number: u32, item: ItemRef) -> Result<(), SubmitFault>
         requires next { next_of self.old (kind_of item) ≡ Some number }
         requires due { due_at (items_of self.old) number ≤ ticks_of self.old }
-        requires room { fits (parts_of self.old).journal (kind_of item) ≡ true }
+        requires room { refusal_of self.old (kind_of item) ≡ None →
+            fits (parts_of self.old).journal (kind_of item) ≡ true }
         ensures { Submits self.old self.new number (kind_of item.entry) (refusal_in result) }
     {
         let why = give(&mut self.source, item);
@@ -221,6 +232,21 @@ impl GroupState {
         let back = take_needed(&mut self.inbox, needed);
         fill(&mut self.source, back, &mut self.frame);
         push_frame(&mut self.tx, &self.frame);
+    }
+}
+
+/// Why the source would refuse an item now, where it would.
+fn refusal_by(source: &SourceCore, item: ItemRef) -> Option<Refusal>
+    ensures { result ≡ met_by source.now (kind_of item.entry) }
+{
+    match item {
+        ItemRef::Frame(octets) => source.frame_refusal(octets).map(Refusal::Frame),
+        ItemRef::Add(line) => source
+            .command_refusal(Command::Add(line))
+            .map(Refusal::Command),
+        ItemRef::Remove(line) => source
+            .command_refusal(Command::Remove(line))
+            .map(Refusal::Command),
     }
 }
 

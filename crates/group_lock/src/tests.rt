@@ -6,7 +6,7 @@ use crate::{GroupState, ItemRef, SubmitFault, TickAnswer};
 use member_ring::{LineEnds, RingIn, RingOut, back_ring, line_rings};
 use report_text::{Refusal, Totals};
 use script_read::read_script;
-use source_core::CommandFault;
+use source_core::{AcceptFault, CommandFault};
 use std::alloc::{AllocError, Global};
 use std::process::Abort;
 use std::test::Fail;
@@ -40,11 +40,12 @@ fn send_rings(
 enum Try {
     Add(u32, Result<(), SubmitFault>),
     Frame(u32, Result<(), SubmitFault>),
+    Short(u32, Result<(), SubmitFault>),
     Ticks(u32, TickAnswer),
     Back,
 }
 
-// The command and the frame of the script, and a return packet.
+// The command and the frame of the script, a frame that is an octet too short, and a return packet.
 fn try_each(rt: &impl Abort, group: &mut GroupState, back: &mut RingOut<BackCell>, steps: &[Try]) {
     for step in steps {
         match *step {
@@ -53,6 +54,9 @@ fn try_each(rt: &impl Abort, group: &mut GroupState, back: &mut RingOut<BackCell
             }
             Try::Frame(number, want) => {
                 assert_eq!(rt; group.submit(number, ItemRef::Frame(&[7u8; 64])), want);
+            }
+            Try::Short(number, want) => {
+                assert_eq!(rt; group.submit(number, ItemRef::Frame(&[7u8; 63])), want);
             }
             Try::Ticks(times, want) => {
                 for _ in 0..times {
@@ -110,7 +114,7 @@ fn what_is_due_lands_before_a_tick(rt: HostRuntime) -> Result<(), Fail> {
 }
 
 #[test]
-fn a_journal_that_is_full_says_what_is_left(rt: HostRuntime) -> Result<(), Fail> {
+fn the_source_refuses_before_a_full_journal_does(rt: HostRuntime) -> Result<(), Fail> {
     let alloc = rt.alloc();
     let script = read_script(
         alloc,
@@ -127,12 +131,15 @@ fn a_journal_that_is_full_says_what_is_left(rt: HostRuntime) -> Result<(), Fail>
         entries: 0,
         bytes: 63,
     };
+    let short = SubmitFault::Frame(AcceptFault::Length { n: 63 });
     let steps = [
         Try::Frame(0, Err(few)),
         Try::Add(1, Ok(())),
-        Try::Add(2, Err(none)),
+        Try::Add(2, Err(SubmitFault::Command(CommandFault::AlreadyIn))),
         Try::Frame(0, Err(none)),
         Try::Ticks(1, TickAnswer::Held { item: 0 }),
+        Try::Short(0, Err(short)),
+        Try::Ticks(1, TickAnswer::Ticked),
     ];
     try_each(&rt, &mut group, &mut back, &steps);
     Ok(())

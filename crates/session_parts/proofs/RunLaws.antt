@@ -5,11 +5,15 @@ use Rattle.outside_io.specs.Transfer.{AppendsPart}
 use Rattle.outside_io.proofs.Parts.{Appends-then, AppendsPart-then, AppendsPart-longer}
 use Rattle.report_text.specs.Report.{got_text, got_texts}
 use Rattle.sink_core.specs.Given.{given_frames, added_frames}
-use Rattle.sink_worker.specs.Told.{Seen, seen, known_of, faults_of, Told, Writes}
+use Rattle.got_out.specs.Told.{Seen, seen, known_of, faults_of}
+use Rattle.sink_worker.specs.Told.{Writes}
 use Rattle.sink_worker.specs.declared.worker.SinkWorker.{SinkWorker}
 use Rattle.sink_worker.specs.Worker.{Stands, IsLater, parts_of, cells_of, size_of, taken_of, has_failed}
 use Rattle.sink_worker.proofs.PartsLaws.{given-then, later-then}
 use Rattle.session_parts.specs.Duty.{Begun, HasRun}
+
+abbrev Told : Bool → Seen → Seen → List ℕ → Type 0
+Told failed first now text = Writes known_of faults_of false failed first now text
 
 module _ {K : Type 0} (written : K → Option (List ℕ)) (faults : K → ℕ) where
   abbrev seen_of : K → Seen

@@ -1,8 +1,9 @@
 -- What a sink has written since its session began.
-use Rattle.std.specs.Prelude.{ℕ}
+use Rattle.std.specs.Prelude.{ℕ, false}
 use Rattle.report_text.specs.Report.{got_texts}
 use Rattle.sink_core.specs.Given.{given_frames}
-use Rattle.sink_worker.specs.Told.{Seen, Told}
+use Rattle.got_out.specs.Told.{Seen, known_of, faults_of}
+use Rattle.sink_worker.specs.Told.{Writes}
 use Rattle.sink_worker.specs.declared.worker.SinkWorker.{SinkWorker}
 use Rattle.sink_worker.specs.Worker.{Stands, IsLater, cells_of, size_of, taken_of, has_failed}
 
@@ -16,4 +17,4 @@ pub record Begun : Type 0 where
 pub record HasRun (begun : Begun) (sink : SinkWorker) (now : Seen) : Type 0 where
   pub stands : Stands sink
   pub later : IsLater begun.sink sink
-  pub told : Told (has_failed sink) begun.first now (got_texts (given_frames (size_of sink) (cells_of sink) (taken_of sink)))
+  pub told : Writes known_of faults_of false (has_failed sink) begun.first now (got_texts (given_frames (size_of sink) (cells_of sink) (taken_of sink)))

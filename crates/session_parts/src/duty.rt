@@ -1,7 +1,7 @@
 //! What the calling thread does while others run: a duty of its own. It owns what it writes to for that time, so that what was written is
 //! known once the duty comes back.
 ghost use Rattle.std.specs.Prelude.{◌≡◌, false};
-ghost use Rattle.sink_worker.specs.Told.{seen};
+ghost use Rattle.got_out.specs.Told.{seen};
 ghost use Rattle.sink_worker.specs.Worker.{Stands, taken_of, has_failed};
 ghost use Rattle.session_parts.specs.Duty.{Begun, HasRun};
 
@@ -61,7 +61,7 @@ impl<'a, K: ByteSink> SinkDuty<'a, K> {
 
 impl<'a, K: ByteSink> Duty for SinkDuty<'a, K> {
     ghost use Rattle.std.specs.Prelude.{◌≡◌};
-    ghost use Rattle.sink_worker.specs.Told.{seen};
+    ghost use Rattle.got_out.specs.Told.{seen};
     ghost use Rattle.session_parts.specs.Duty.{HasRun};
 
     ghost stands_for = { λ duty begun. (duty.out.ghost_name ≡ begun.name)

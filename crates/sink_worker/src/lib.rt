@@ -12,5 +12,4 @@ mod tests;
 mod worker;
 
 pub use burst::{SinkBurst, SinkIdle};
-pub use got::GotOut;
 pub use worker::SinkWorker;

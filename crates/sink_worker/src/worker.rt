@@ -3,8 +3,9 @@ ghost use Rattle.std.specs.Prelude.{◌≡◌, ◌≤◌, length};
 ghost use Rattle.realign_core.specs.Gather.{line_count};
 
 use crate::burst::SinkBurst;
-use crate::got::{CountOut, GotOut, take_back};
+use crate::got::{CountOut, ToldOut, take_back};
 use crate::rows::take_rows;
+use got_out::GotOut;
 use member_ring::{Gate, RingIn, RingOut, Who};
 use outside_io::ByteSink;
 use realign_core::RowGather;
@@ -145,19 +146,23 @@ impl SinkWorker {
         ensures most { taken_of self.new ≤ taken_of self.old + 16 }
         ensures later { IsLater self.old self.new }
     {
-        let mut got = GotOut::new(out);
+        let mut told = ToldOut {
+            lines: GotOut::new(out),
+            counted: CountOut { count: 0 },
+        };
         let first = take_rows(
             &mut self.rows,
             &mut self.core,
             &mut self.rx,
             &mut self.back,
-            &mut got,
+            &mut told,
             self.ticks,
         );
-        let (back, failed, count) = got.into_parts();
+        let ToldOut { lines, counted } = told;
+        let (back, end) = lines.finish();
         take_back(back);
-        self.failed = failed;
-        self.got = self.got.saturating_add(count);
+        self.failed = end.is_err();
+        self.got = self.got.saturating_add(counted.count);
         first
     }
 

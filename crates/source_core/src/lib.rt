@@ -13,4 +13,5 @@ mod tests;
 pub use gfp_fill::AcceptFault;
 pub use laws::{accepted_law, landed_law, membership_law, needed_law};
 pub use lcas_source::CommandFault;
+pub use session_model::Command;
 pub use terminal::SourceCore;

@@ -16,6 +16,7 @@ use crate::step::{NIBBLES, no_packets, take_step};
 use arrayvec::ArrayVec;
 use gfp_fill::{AcceptFault, Filler, FrameQueue};
 use lcas_source::{CommandFault, SourceTable};
+use session_model::Command;
 use std::alloc::{AllocError, Global};
 use std::marker::Model;
 use vc_cell::{BackCell, Container};
@@ -119,6 +120,20 @@ impl SourceCore {
         ensures kind { SameKind self.new self.old }
     {
         self.table.remove(line)
+    }
+
+    /// The first cause for which a frame would be refused now; none where it would be taken.
+    pub fn frame_refusal(&self, frame: &[u8]) -> Option<AcceptFault>
+        ensures { result ≡ refusal_while self.now.queue.waiting frame.now }
+    {
+        self.queue.refusal(frame)
+    }
+
+    /// The first cause for which a command would be refused now; none where it would be taken.
+    pub fn command_refusal(&self, command: Command) -> Option<CommandFault>
+        ensures { result ≡ refusal self.now.lines command self.now.table.source }
+    {
+        self.table.refusal(command)
     }
 
     /// The number of the return cell that the next tick takes. It takes one exactly where it makes decision step `j`, so that the

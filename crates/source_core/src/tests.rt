@@ -2,7 +2,7 @@
 ghost use Rattle.std.specs.Prelude.{◌≡◌, ℕ, ◌+◌, ◌<◌, ◌≤◌, length};
 ghost use Rattle.source_core.specs.Terminal.{SameKind};
 
-use crate::SourceCore;
+use crate::{AcceptFault, Command, CommandFault, SourceCore};
 use lcas_packet::Packet;
 use lcas_source::SourceTable;
 use std::process::Abort;
@@ -76,6 +76,20 @@ fn first_payload(rt: HostRuntime) -> Result<(), Fail> {
     tick(&mut core, &cells, &mut out);
     let [container] = &out;
     assert_eq!(rt; &container.payload[..28], STREAM.as_slice());
+    Ok(())
+}
+
+/// A refusal can be asked for before.
+#[test]
+fn refusals_that_are_asked_for(rt: HostRuntime) -> Result<(), Fail> {
+    let mut core = SourceCore::new(rt.alloc(), 1, 1, 2340)?;
+    let short = Some(AcceptFault::Length { n: 63 });
+    assert_eq!(rt; core.frame_refusal(&[0; 63]), short);
+    assert_eq!(rt; core.frame_refusal(&[0; 64]), None);
+    assert_eq!(rt; core.command_refusal(Command::Add(0)), None);
+    assert_eq!(rt; core.add(0), Ok(()));
+    let twice = Some(CommandFault::AlreadyIn);
+    assert_eq!(rt; core.command_refusal(Command::Add(0)), twice);
     Ok(())
 }
 

@@ -69,6 +69,13 @@ held-commands ticks a zero i (command_due first ∷ items) none (suc k) due low 
 held-commands ticks a (suc b) i (command_due first ∷ items) none zero due low here = absurd (omega arith)
 held-commands ticks a (suc b) i (command_due first ∷ items) none (suc k) due low here = held-commands ticks a b (suc i) items none k due (omega arith) here
 
+-- so a tick may go on
+pub ahead-next : (items : List Due) (ticks frames commands : ℕ) → held ticks frames commands 0 items ≡ None → Ahead items (ticks + 1) frames commands
+ahead-next items ticks frames commands none = record {
+  of_frames = λ k due low there. let late = held-frames ticks frames commands 0 items none k due low there in omega arith;
+  of_commands = λ k due low there. let late = held-commands ticks frames commands 0 items none k due low there in omega arith;
+}
+
 -- ---- event by event
 ahead-land : (plan : Plan) (due : Option ℕ) (s next : Counts) → IsAhead plan s → IsAhead plan next → IsAhead plan (land_due s.ticks due s next).counts
 ahead-land plan None s next here there = here
@@ -80,10 +87,7 @@ ahead-full plan None s here there = elim (cases_Bool (is_missing plan s)) [ inl 
 
 ahead-held : (plan : Plan) (item : Option ℕ) (s : Counts) → held s.ticks s.frames s.commands 0 plan.items ≡ item → IsAhead plan s → IsAhead plan (tick_held item plan s).counts
 ahead-held plan (Some item) s e here = here
-ahead-held plan None s e here = ahead-full plan (full plan.ticks s.ticks 0 s.lines) s here (record {
-  of_frames = λ k due low there. let late = held-frames s.ticks s.frames s.commands 0 plan.items e k due low there in omega arith;
-  of_commands = λ k due low there. let late = held-commands s.ticks s.frames s.commands 0 plan.items e k due low there in omega arith;
-})
+ahead-held plan None s e here = ahead-full plan (full plan.ticks s.ticks 0 s.lines) s here (ahead-next plan.items s.ticks s.frames s.commands e)
 
 ahead-tick : (plan : Plan) (s : Counts) → IsAhead plan s → IsAhead plan (tick plan s).counts
 ahead-tick plan s here =

@@ -3,6 +3,7 @@ use Rattle.std.proofs.Common.{◌≡◌, ℕ, zero, suc, ◌+◌, ◌-◌, ◌<�
 use Rattle.std.proofs.lemmas.Bool.{cases_Bool}
 use Rattle.std.proofs.lemmas.List.Concat.{flat_map-append}
 use Rattle.std.proofs.lemmas.List.Elements.{All-cons, All-append, filter-append}
+use Rattle.std.specs.List.{flat_map}
 use Rattle.session_model.specs.declared.script.Item.{Item}
 use Rattle.session_model.specs.declared.script.ItemKind.{ItemKind}
 use Rattle.session_model.specs.declared.script.ItemKind.TheVariants.{Frame, Add, Remove}
@@ -15,7 +16,7 @@ use Rattle.walk_law.specs.Delivered.{delivered_of}
 use Rattle.walk_law.specs.Landed.{Numbered, is_client, with_if, landed_from, landed_items, IsOfferAt, IsOrderAt, refusal_at, refused_by, refusals_among, refusals_of, IsPlaced, is_accepted_frame, is_accepted_command, totals_of, with_frame_told, with_command_told}
 
 -- ---- an item among those that have landed
-record IsInserted (item : Numbered) (was now : List Numbered) : Type 0 where
+pub record IsInserted (item : Numbered) (was now : List Numbered) : Type 0 where
   pub front : List Numbered
   pub back : List Numbered
   pub was_so : was ≡ front ++ back
@@ -146,7 +147,7 @@ order-put (first ∷ items) a b i (suc k) item order there is before =
           (order-put items (a - 1) b (suc i) k item order there is less))
     ]
 
-landed-frame : (script : Script) (s : Counts) (item : Numbered) (offer : Offer) → IsOfferAt script.items s.frames item offer →
+pub landed-frame : (script : Script) (s : Counts) (item : Numbered) (offer : Offer) → IsOfferAt script.items s.frames item offer →
     IsInserted item (landed_items script s) (landed_items script (record s { frames = s.frames + 1 }))
 landed-frame script s item offer at =
     let e : suc s.frames ≡ s.frames + 1 = omega arith in
@@ -156,7 +157,7 @@ landed-frame script s item offer at =
     (subst (λ a. IsInserted (record { number = 0 + item.number; item = item.item }) (landed_from s.frames s.commands 0 script.items) (landed_from a s.commands 0 script.items)) e
     (offer-put script.items s.frames s.commands 0 item.number item.item offer at.there at.is at.before))
 
-landed-command : (script : Script) (s : Counts) (item : Numbered) (order : Order) → IsOrderAt script.items s.commands item order →
+pub landed-command : (script : Script) (s : Counts) (item : Numbered) (order : Order) → IsOrderAt script.items s.commands item order →
     IsInserted item (landed_items script s) (landed_items script (record s { commands = s.commands + 1 }))
 landed-command script s item order at =
     let e : suc s.commands ≡ s.commands + 1 = omega arith in
@@ -171,39 +172,44 @@ refused-within : (P : ℕ → Type 0) (number : ℕ) (why : Option Refusal) → 
 refused-within P number None here = λ k d inside. absurd (omega arith)
 refused-within P number (Some why) here = All-cons (λ (refused : ℕ × Refusal). P refused.0) (number, why) [] here (λ k d inside. absurd (omega arith))
 
-list-within : (P : ℕ → Type 0) (script : Script) (items : List Numbered) → All (λ (other : Numbered). P other.number) items → All (λ (refused : ℕ × Refusal). P refused.0) (refusals_among script items)
-list-within P script [] all = λ k d inside. absurd (omega arith)
-list-within P script (item ∷ items) all =
-    All-append (λ (refused : ℕ × Refusal). P refused.0) (refused_by item.number (refusal_at script item)) (refusals_among script items)
-    (refused-within P item.number (refusal_at script item) (all 0 item (omega arith)))
-    (list-within P script items (λ k d inside. all (suc k) d (omega arith)))
+-- of items those that are refused, whatever refuses them
+abbrev pub refusals_by : (Numbered → Option Refusal) → List Numbered → List (ℕ × Refusal)
+refusals_by why items = flat_map (λ item. refused_by item.number (why item)) items
 
-placed : (script : Script) (item : Numbered) (was now : List Numbered) → IsInserted item was now →
-    IsPlaced item.number (refused_by item.number (refusal_at script item)) (refusals_among script was) (refusals_among script now)
-placed script item was now put =
-    let f = λ (item : Numbered). refused_by item.number (refusal_at script item) in
+list-within : (P : ℕ → Type 0) (why : Numbered → Option Refusal) (items : List Numbered) → All (λ (other : Numbered). P other.number) items →
+    All (λ (refused : ℕ × Refusal). P refused.0) (refusals_by why items)
+list-within P why [] all = λ k d inside. absurd (omega arith)
+list-within P why (item ∷ items) all =
+    All-append (λ (refused : ℕ × Refusal). P refused.0) (refused_by item.number (why item)) (refusals_by why items)
+    (refused-within P item.number (why item) (all 0 item (omega arith)))
+    (list-within P why items (λ k d inside. all (suc k) d (omega arith)))
+
+pub placed : (why : Numbered → Option Refusal) (item : Numbered) (was now : List Numbered) → IsInserted item was now →
+    IsPlaced item.number (refused_by item.number (why item)) (refusals_by why was) (refusals_by why now)
+placed why item was now put =
+    let f = λ (item : Numbered). refused_by item.number (why item) in
     record {
-      front = refusals_among script put.front;
-      back = refusals_among script put.back;
-      was_so = ap (refusals_among script) put.was_so ∙ flat_map-append f put.front put.back;
-      is_so = ap (refusals_among script) put.is_so ∙ flat_map-append f put.front (item ∷ put.back)
-          ∙ sym (append_assoc (refusals_among script put.front) (refused_by item.number (refusal_at script item)) (refusals_among script put.back));
-      before = list-within (λ number. number < item.number) script put.front put.before;
-      after = list-within (λ number. item.number < number) script put.back put.after;
+      front = refusals_by why put.front;
+      back = refusals_by why put.back;
+      was_so = ap (refusals_by why) put.was_so ∙ flat_map-append f put.front put.back;
+      is_so = ap (refusals_by why) put.is_so ∙ flat_map-append f put.front (item ∷ put.back)
+          ∙ sym (append_assoc (refusals_by why put.front) (refused_by item.number (why item)) (refusals_by why put.back));
+      before = list-within (λ number. number < item.number) why put.front put.before;
+      after = list-within (λ number. item.number < number) why put.back put.after;
     }
 
 pub frame-placed : (script : Script) (s : Counts) (item : Numbered) (offer : Offer) → IsOfferAt script.items s.frames item offer →
     IsPlaced item.number (refused_by item.number (refusal_at script item)) (refusals_of script s) (refusals_of script (record s { frames = s.frames + 1 }))
 frame-placed script s item offer at =
-    placed script item (landed_items script s) (landed_items script (record s { frames = s.frames + 1 })) (landed-frame script s item offer at)
+    placed (refusal_at script) item (landed_items script s) (landed_items script (record s { frames = s.frames + 1 })) (landed-frame script s item offer at)
 
 pub command-placed : (script : Script) (s : Counts) (item : Numbered) (order : Order) → IsOrderAt script.items s.commands item order →
     IsPlaced item.number (refused_by item.number (refusal_at script item)) (refusals_of script s) (refusals_of script (record s { commands = s.commands + 1 }))
 command-placed script s item order at =
-    placed script item (landed_items script s) (landed_items script (record s { commands = s.commands + 1 })) (landed-command script s item order at)
+    placed (refusal_at script) item (landed_items script s) (landed_items script (record s { commands = s.commands + 1 })) (landed-command script s item order at)
 
 -- ---- totals
-one-more : (p : Numbered → Bool) (item : Numbered) (was now : List Numbered) → IsInserted item was now →
+pub one-more : (p : Numbered → Bool) (item : Numbered) (was now : List Numbered) → IsInserted item was now →
     length (filter p now) ≡ length (filter p was) + (if p item then 1 else 0)
 one-more p item was now put =
     let a = filter-append p put.front put.back in
@@ -221,7 +227,7 @@ one-more p item was now put =
 more-refused : (script : Script) (item : Numbered) (was now : List Numbered) → IsInserted item was now →
     length (refusals_among script now) ≡ length (refusals_among script was) + length (refused_by item.number (refusal_at script item))
 more-refused script item was now put =
-    let place = placed script item was now put in
+    let place = placed (refusal_at script) item was now put in
     let own : List (ℕ × Refusal) = refused_by item.number (refusal_at script item) in
     let old = ap length place.was_so ∙ length-append place.front place.back in
     let new = ap length place.is_so ∙ length-append (place.front ++ own) place.back in

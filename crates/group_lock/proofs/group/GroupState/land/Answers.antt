@@ -1,13 +1,25 @@
 -- An item has landed: the source has it, and it is counted; it is in the journal, or its refusal is kept.
-use Rattle.std.proofs.Common.{◌+◌, if◌then◌else◌, [], ◌∷◌, ◌++◌, Option, refl, sym, ◌∙◌, ap, subst, arith}
+use Rattle.std.proofs.Common.{◌+◌, if◌then◌else◌, [], ◌∷◌, ◌++◌, length, Option, refl, sym, ◌∙◌, ap, subst, arith}
 use Rattle.report_text.specs.declared.report.Refusal.{Refusal}
+use Rattle.source_core.specs.Terminal.{Terminal}
 use Rattle.walk_law.specs.Landed.{is_client, IsPlaced, refused_by}
 use Rattle.group_lock.specs.Item.{kind_of}
 use Rattle.group_lock.specs.Journal.{entry_of}
+use Rattle.group_lock.specs.Parts.{parts, Keeps}
 use Rattle.group_lock.proofs.PlaceLaws.{next-due}
-use Rattle.group_lock.proofs.KeepLaws.{keeps-accepted}
-use Rattle.group_lock.proofs.GroupLaws.{refused-is, submits-accepted, submits-refused}
+use Rattle.group_lock.proofs.KeepLaws.{keeps-accepted, keeps-refused}
+use Rattle.group_lock.proofs.GroupLaws.{refused-is, submits-accepted, submits-refused, room-there}
 use Rattle.group_lock.proofs.group.GroupState.land.Goals as goal
+
+pub push-requires-clause-slots : goal.push-requires-clause-slots
+push-requires-clause-slots c =
+    let none = sym (refused-is c.args.self.now (kind_of c.args.item)) ∙ sym c.give-why.ensures.met ∙ c.in-None.is in
+    (room-there _ _ _ (c.requires.room none)).0
+
+pub push-requires-clause-bytes : goal.push-requires-clause-bytes
+push-requires-clause-bytes c =
+    let none = sym (refused-is c.args.self.now (kind_of c.args.item)) ∙ sym c.give-why.ensures.met ∙ c.in-None.is in
+    (room-there _ _ _ (c.requires.room none)).1
 
 pub returns-in-None : goal.returns-in-None
 returns-in-None c =
@@ -60,4 +72,15 @@ invariant_of-self-in-None c =
       keeps = keeps-accepted _ _ c.give-why.new.source c.land.new.self c.push.new.self c.args.number kind g.keeps l.items (omega arith) (omega arith)
           (c.push.ensures.entries ∙ ap (λ n. g.journal.entries ++ entry_of c.args.number n kind ∷ []) (c.ticks.ensures ∙ e.ticks)) e.ticks e.kind e.stands
           (sym (refused-is g kind) ∙ sym e.met ∙ c.in-None.is) (omega arith);
+    }
+
+pub invariant_of-self : goal.invariant_of-self
+invariant_of-self c =
+    let g = c.args.self.now in
+    let l = c.land.ensures in
+    let frames = l.frames in
+    let commands = l.commands in
+    record {
+      keeps = subst (λ (source : Terminal). Keeps (parts source g.total c.land.new.self g.journal g.inbox g.tx.items g.back) (length g.frame.items)) (sym (c.in-Some.ensures.unchanged refl))
+          (keeps-refused (parts g.source g.total g.landing g.journal g.inbox g.tx.items g.back) _ c.land.new.self g.keeps l.items (omega arith) (omega arith));
     }

@@ -6,7 +6,7 @@ use Rattle.std.proofs.Common.{eq-eqb}
 use Rattle.group_lock.specs.declared.answer.SubmitFault.TheVariants.{NotNext, Early, JournalFull}
 use Rattle.group_lock.specs.Item.{kind_of}
 use Rattle.group_lock.specs.Landed.{next_number}
-use Rattle.group_lock.proofs.GroupLaws.{submits-none, asked-next, asked-early, asked-full}
+use Rattle.group_lock.proofs.GroupLaws.{submits-none, asked-next, asked-early, asked-full, room-found}
 use Rattle.group_lock.proofs.group.GroupState.submit.Goals as goal
 
 not-true : (b : Bool) → true ≡ not b → b ≡ false
@@ -49,8 +49,8 @@ returns-then-now-due c =
     let due = c.due.ensures in
     submits-none g c.args.number kind (Early c.ticks-now.result) refl (ap (λ n. Some (Early n)) now ∙ asked-early g c.args.number kind next (omega arith))
 
-pub returns-then-not-has_room : goal.returns-then-not-has_room
-returns-then-not-has_room c =
+pub returns-then-not-finds_room : goal.returns-then-not-finds_room
+returns-then-not-finds_room c =
     let g = c.args.self.now in
     let kind = kind_of c.args.item in
     let next = sym (c.next-next.ensures ∙ ap (next_number g.landing) c.is_frame.ensures) ∙ is-some c.next-next.result c.args.number (not-false _ (sym c.if-ne.false ∙ c.ne.ensures)) in
@@ -59,7 +59,7 @@ returns-then-not-has_room c =
     let due = c.due.ensures in
     submits-none g c.args.number kind (JournalFull c.slots-entries.result c.bytes-bytes.result) refl
     (ap (λ n. Some (JournalFull n c.bytes-bytes.result)) c.slots-entries.ensures ∙ ap (λ n. Some (JournalFull g.journal.slots n)) c.bytes-bytes.ensures
-    ∙ asked-full g c.args.number kind next (omega arith) (sym c.has_room.ensures ∙ c.if-not-has_room.true))
+    ∙ asked-full g c.args.number kind next (omega arith) (sym c.finds_room.ensures ∙ c.if-not-finds_room.true))
 
 pub land-requires-clause-next : goal.land-requires-clause-next
 land-requires-clause-next c =
@@ -74,7 +74,7 @@ land-requires-clause-due c =
     omega arith
 
 pub land-requires-clause-room : goal.land-requires-clause-room
-land-requires-clause-room c = sym c.has_room.ensures ∙ c.if-not-has_room.false
+land-requires-clause-room c = room-found _ _ (sym c.finds_room.ensures ∙ c.if-not-finds_room.false)
 
 pub returns : goal.returns
 returns c = c.land.ensures
