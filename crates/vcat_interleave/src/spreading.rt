@@ -11,9 +11,6 @@ use crate::square::{SIDE, octets_of, put_octets, turned};
 use std::simd::prelude::*;
 use vc_cell::{Container, PAYLOAD};
 
-// The fewest members over which squares are worth it.
-const LEAST: usize = 4;
-
 /// Writes the octets of a row that the member of a rank carries at `size` places, and zeros at the places from there on.
 pub fn spread(bytes: &[u8], rank: usize, x: usize, size: usize, out: &mut [u8; PAYLOAD])
     requires rank { rank < x }
@@ -55,13 +52,14 @@ pub fn spread_places(
     spread_each(back, active, place + done, places - done, containers);
 }
 
-// How many squares of places are spread: none over fewer than four members, and none that reaches behind the end of the row.
+// How many squares of places are spread: none over one member, whose row is copied, and none that
+// reaches behind the end of the row.
 fn squares_over(x: usize, len: usize) -> usize
     ensures within { (places : ℕ) → len ≡ places * x → result * 16 ≤ places }
     ensures room { 0 < result → result * 16 * x + overhang x ≤ len }
 {
     let beyond = (SIDE - x % SIDE) % SIDE;
-    if x < LEAST || len < beyond {
+    if x < 2 || len < beyond {
         0
     } else {
         (len - beyond) / x / SIDE
