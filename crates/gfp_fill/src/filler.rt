@@ -21,10 +21,18 @@ const CORE_HEADER: usize = 4;
 
 const HEADERS: usize = 8;
 
-// The core header of an idle frame, and two of them.
-const IDLE: [u8; CORE_HEADER] = [0xb6, 0xab, 0x31, 0xe0];
-
+// The core headers of two idle frames.
 const TWO_IDLES: [u8; HEADERS] = [0xb6, 0xab, 0x31, 0xe0, 0xb6, 0xab, 0x31, 0xe0];
+
+// How many idle frames are written at once, and their octets.
+const IDLES: usize = 16;
+
+const IDLE_OCTETS: [u8; CORE_HEADER * IDLES] = [
+    0xb6, 0xab, 0x31, 0xe0, 0xb6, 0xab, 0x31, 0xe0, 0xb6, 0xab, 0x31, 0xe0, 0xb6, 0xab, 0x31, 0xe0,
+    0xb6, 0xab, 0x31, 0xe0, 0xb6, 0xab, 0x31, 0xe0, 0xb6, 0xab, 0x31, 0xe0, 0xb6, 0xab, 0x31, 0xe0,
+    0xb6, 0xab, 0x31, 0xe0, 0xb6, 0xab, 0x31, 0xe0, 0xb6, 0xab, 0x31, 0xe0, 0xb6, 0xab, 0x31, 0xe0,
+    0xb6, 0xab, 0x31, 0xe0, 0xb6, 0xab, 0x31, 0xe0, 0xb6, 0xab, 0x31, 0xe0, 0xb6, 0xab, 0x31, 0xe0,
+];
 
 /// Writes the stream of GFP frames: two idle frames, and then each frame that waits, or an idle frame where none does. The
 /// payload areas are scrambled as one list, and the core headers are not. A frame is sent from the buffer in which it waited, so a
@@ -172,8 +180,11 @@ fn put_idles(out: &mut [u8]) -> usize
     ensures idles { take result out.new ≡ flat_map with_header (replicate (length out.old / 4) []) }
 {
     let n = out.len() / CORE_HEADER;
-    for i in 0..n {
-        put(out, CORE_HEADER * i, &IDLE);
+    let blocks = n / IDLES;
+    for i in 0..blocks {
+        put(out, IDLE_OCTETS.len() * i, &IDLE_OCTETS);
     }
+    let rest = &IDLE_OCTETS[..CORE_HEADER * (n % IDLES)];
+    put(out, IDLE_OCTETS.len() * blocks, rest);
     CORE_HEADER * n
 }

@@ -1,7 +1,6 @@
 -- What is true of a terminal's fields, call by call.
-use Rattle.std.proofs.Common.{◌≡◌, ℕ, ◌+◌, ◌*◌, ◌%◌, ◌≤◌, Bool, true, false, List, length, take, Option, option_map, refl, sym, ◌∙◌, ap, subst, arith}
+use Rattle.std.proofs.Common.{◌≡◌, ℕ, ◌+◌, ◌*◌, ◌%◌, ◌≤◌, Bool, true, false, List, length, Option, option_map, refl, sym, ◌∙◌, ap, subst, arith}
 use Rattle.std.proofs.lemmas.Bool.{eqb-true, eqb-false}
-use Rattle.std.proofs.lemmas.List.{length-take-le}
 use Rattle.std.proofs.lemmas.List.FromFn.{length-map-range_with_len}
 use Rattle.std.proofs.Math.Nat.{mul-le-mul_left}
 use Rattle.vc_cell.specs.declared.BackCell.{BackCell}
@@ -88,6 +87,3 @@ frame-fits size lines octets n x active room members is_size is_many =
     let fits : size * length active ≤ size * lines = mul-le-mul_left size most in
     let same : n * x ≡ size * length active = ap (λ n. n * x) is_size ∙ ap (λ x. size * x) is_many in
     omega arith
-
-pub front-length : (n octets : ℕ) (xs : List ℕ) → n ≤ octets → octets ≡ length xs → length (take n xs) ≡ n
-front-length n octets xs low long = length-take-le n xs (omega arith)

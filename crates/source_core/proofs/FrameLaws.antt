@@ -1,15 +1,22 @@
--- The containers of a frame: H4 and no payload first, and then the row over the lines that carry payload.
-use Rattle.std.proofs.Common.{◌≡◌, ◌≢◌, ℕ, zero, suc, ◌+◌, ◌-◌, ◌<◌, ◌==◌, true, false, if◌then◌else◌, List, [], ◌∷◌, ◌++◌, drop, length, replicate, slice_index, slice_index_or, Option, Some, None, refl, sym, ◌∙◌, ap, arith}
+-- The containers of a frame: H4 and zeros first, and then the row over the lines that carry payload.
+use Rattle.std.proofs.Common.{◌≡◌, ◌≢◌, ℕ, zero, suc, ◌+◌, ◌-◌, ◌*◌, ◌<◌, ◌≤◌, inl, inr, ◌==◌, Bool, true, false, if◌then◌else◌, List, [], ◌∷◌, ◌++◌, take, drop, length, replicate, slice_index, slice_index_or, slice_set, Option, Some, None, refl, sym, ◌∙◌, ap, ap₂, subst, arith, length-drop}
+use Rattle.std.specs.Option.{is_some}
 use Rattle.std.specs.List.{position_from}
-use Rattle.std.proofs.lemmas.Bool.{eqb-true, eqb-false}
-use Rattle.std.proofs.lemmas.List.{drop-replicate}
-use Rattle.std.proofs.lemmas.List.FromFn.{get_or-map-range_with_len, fill_by_all}
+use Rattle.std.proofs.lemmas.Bool.{eqb-true, eqb-false, cases_lt, false≢true, false_from_ne_true}
+use Rattle.std.proofs.lemmas.List.{get_or-replicate, length-take-le, length-replicate}
+use Rattle.std.proofs.Math.ListN.{get_or-eq_default}
+use Rattle.std.proofs.lemmas.List.FromFn.{fill_by_all}
 use Rattle.vc_cell.specs.declared.Container.{Container}
 use Rattle.session_model.specs.Interleave.{part_of}
 use Rattle.session_model.specs.Sent.{rank_of, payload_by}
-use Rattle.vcat_interleave.specs.Members.{with_octets}
-use Rattle.vcat_interleave.proofs.RowLaws.{length-part_of}
-use Rattle.source_core.specs.Frame.{h4_by, with_no_payload, blanks_by, container_by, containers_by}
+use Rattle.session_model.specs.Piece.{Piece, stream_of}
+use Rattle.session_model.specs.Client.{size}
+use Rattle.gfp_fill.proofs.StreamSteps.{long}
+use Rattle.vcat_interleave.specs.Members.{AreLines, with_octets}
+use Rattle.vcat_interleave.specs.Spread.{SpreadsOver, Spreads, AreDistinct}
+use Rattle.vcat_interleave.proofs.RowLaws.{length-part_of, is-part_of}
+use Rattle.vcat_interleave.proofs.SpreadLaws.{spreads-none, spreads-next}
+use Rattle.source_core.specs.Frame.{h4_by, carries, IsBegun, AreBegun, container_by, containers_by}
 
 -- ---- the place of a line among lines
 -- a line stands at its place, or nowhere
@@ -35,38 +42,84 @@ IsRank-from (first ∷ lines) line from =
 pub rank_of-is : (lines : List ℕ) (line : ℕ) → IsRank lines line 0 (rank_of lines line)
 rank_of-is lines line = IsRank-from lines line 0
 
--- ---- a part of a row, put into a container without payload
-part-put : (h4 size : ℕ) (part : List ℕ) → length part ≡ size → with_octets 0 part (with_no_payload h4) ≡ record { h4 = h4; payload = part ++ replicate (2340 - size) 0 }
-part-put h4 size part long =
-    ap (λ rest. record { h4 = h4; payload = part ++ rest })
-    (let place : 0 + length part ≡ size = omega arith in ap (λ n. drop n (replicate 2340 0)) place ∙ drop-replicate size 2340 0)
+-- no line is marked at first
+pub no-mark : (lines line : ℕ) → slice_index_or (replicate lines false) line false ≡ true → ⊥
+no-mark lines line marked =
+    elim (cases_lt line lines) [
+      | inl low ↦ false≢true (sym (get_or-replicate lines line false false low) ∙ marked)
+      | inr high ↦ false≢true (sym (get_or-eq_default (replicate lines false) false (let e : length (replicate lines false) ≤ line = omega (arith, length-replicate lines false) in e)) ∙ marked)
+    ]
+
+-- which lines are marked, where each of those that carry payload is and no other
+pub marked-is : (active : List ℕ) (marks : List Bool) (line : ℕ) → ((rank : ℕ) → rank < length active → slice_index_or marks (slice_index active rank) false ≡ true) →
+    (slice_index_or marks line false ≡ true → (rank : ℕ) × (rank < length active) × (slice_index active rank ≡ line)) →
+    slice_index_or marks line false ≡ carries active line
+marked-is active marks line all only = is (rank_of active line) (rank_of-is active line) where
+  is : (found : Option ℕ) → IsRank active line 0 found → slice_index_or marks line false ≡ is_some found
+  is (Some place) found = sym (ap (λ n. slice_index_or marks n false) found.3) ∙ all found.0 found.2
+  is None none = false_from_ne_true (slice_index_or marks line false) (λ e. let one = only e in none one.0 one.1 one.2)
+
+-- ---- a part of a row, put into a container that was begun
+pub IsBegun-as : (h4 other filled more : ℕ) (one same : Container) → h4 ≡ other → filled ≡ more → one ≡ same → IsBegun h4 filled one → IsBegun other more same
+IsBegun-as h4 other filled more one same header size is begun =
+    subst (IsBegun other more) is (subst (λ n. IsBegun other n one) size (subst (λ n. IsBegun n filled one) header begun))
+
+part-put : (h4 size : ℕ) (part : List ℕ) (container : Container) → length part ≡ size → IsBegun h4 size container →
+    with_octets 0 part container ≡ record { h4 = h4; payload = part ++ replicate (2340 - size) 0 }
+part-put h4 size part container long begun =
+    let place : 0 + length part ≡ size = omega arith in
+    ap₂ (λ (h : ℕ) (rest : List ℕ). record { h4 = h; payload = part ++ rest }) begun.header (ap (λ n. drop n container.payload) place ∙ begun.zeros)
+
+-- one that has no octets of the stream
+empty : (h4 : ℕ) (container : Container) → IsBegun h4 0 container → container ≡ record { h4 = h4; payload = replicate 2340 0 }
+empty h4 container begun = ap₂ (λ (h : ℕ) (payload : List ℕ). record { h4 = h; payload = payload }) begun.header begun.zeros
 
 -- ---- all lines
-pub sent-frame : (lines t : ℕ) (nibbles : List (List ℕ)) (active : List ℕ) (size : ℕ) (row : List ℕ) (before after : List Container) → before ≡ blanks_by lines t nibbles →
-    ((rank : ℕ) (d : Container) → rank < length active → slice_index_or after (slice_index active rank) d
-    ≡ with_octets 0 (part_of rank (length active) size row) (slice_index_or before (slice_index active rank) d)) →
-    ((line : ℕ) (d : Container) → ((rank : ℕ) → rank < length active → slice_index active rank ≢ line) → slice_index_or after line d ≡ slice_index_or before line d) →
-    length after ≡ lines → after ≡ containers_by lines t nibbles active size row
-sent-frame lines t nibbles active size row before after blank members others long =
-    fill_by_all (container_by t nibbles active size row) after lines (with_no_payload 0) long each where
-      empty : (line : ℕ) → line < lines → slice_index_or before line (with_no_payload 0) ≡ with_no_payload (h4_by t (slice_index_or nibbles line []))
-      empty line low =
-          ap (λ xs. slice_index_or xs line (with_no_payload 0)) blank
-          ∙ get_or-map-range_with_len (λ line. with_no_payload (h4_by t (slice_index_or nibbles line []))) 0 lines line line (with_no_payload 0) low (omega arith)
+pub sent-frame : (lines t : ℕ) (nibbles : List (List ℕ)) (active : List ℕ) (size : ℕ) (row : List ℕ) (before after : List Container) →
+    AreBegun t nibbles active size lines before → Spreads 0 size row active before after → length before ≡ lines →
+    after ≡ containers_by lines t nibbles active size row
+sent-frame lines t nibbles active size row before after begun spreads long =
+    fill_by_all (container_by t nibbles active size row) after lines none (spreads.lines ∙ long) each where
+      none : Container
+      none = record { h4 = 0; payload = [] }
 
-      one : (line : ℕ) → line < lines → (found : Option ℕ) → IsRank active line 0 found →
-          slice_index_or after line (with_no_payload 0) ≡ record { h4 = h4_by t (slice_index_or nibbles line []); payload = payload_by found (length active) size row }
-      one line low None none = others line (with_no_payload 0) none ∙ empty line low
-      one line low (Some place) found =
+      header : ℕ → ℕ
+      header line = h4_by t (slice_index_or nibbles line [])
+
+      one : (line : ℕ) → (found : Option ℕ) → IsRank active line 0 found → IsBegun (header line) (if is_some found then size else 0) (slice_index_or before line none) →
+          slice_index_or after line none ≡ record { h4 = header line; payload = payload_by found (length active) size row }
+      one line None apart is = spreads.others line none (λ rank above low. apart rank low) ∙ empty (header line) (slice_index_or before line none) is
+      one line (Some place) found is =
           let rank = found.0 in
           let same : rank ≡ place = omega (arith, found.1) in
           let part = part_of rank (length active) size row in
-          sym (ap (λ n. slice_index_or after n (with_no_payload 0)) found.3)
-          ∙ members rank (with_no_payload 0) found.2
-          ∙ ap (λ n. with_octets 0 part (slice_index_or before n (with_no_payload 0))) found.3
-          ∙ ap (with_octets 0 part) (empty line low)
-          ∙ part-put (h4_by t (slice_index_or nibbles line [])) size part (length-part_of rank (length active) size row)
-          ∙ ap (λ n. record { h4 = h4_by t (slice_index_or nibbles line []); payload = part_of n (length active) size row ++ replicate (2340 - size) 0 }) same
+          sym (ap (λ n. slice_index_or after n none) found.3)
+          ∙ spreads.members rank none (omega arith) found.2
+          ∙ ap (λ n. with_octets 0 part (slice_index_or before n none)) found.3
+          ∙ part-put (header line) size part (slice_index_or before line none) (length-part_of rank (length active) size row) is
+          ∙ ap (λ n. record { h4 = header line; payload = part_of n (length active) size row ++ replicate (2340 - size) 0 }) same
 
-      each : (line : ℕ) → line < lines → slice_index_or after line (with_no_payload 0) ≡ container_by t nibbles active size row line
-      each line low = one line low (rank_of active line) (rank_of-is active line)
+      each : (line : ℕ) → line < lines → slice_index_or after line none ≡ container_by t nibbles active size row line
+      each line low = one line (rank_of active line) (rank_of-is active line) (begun line none low)
+
+-- ---- one member
+-- its part is the row
+part_of-one : (row : List ℕ) → part_of 0 1 (length row) row ≡ row
+part_of-one row = sym (is-part_of row row 0 1 (λ p low. let place : p ≡ p * 1 + 0 = omega arith in ap (slice_index row) place))
+
+-- the row is put into its container
+pub spreads-one : (size : ℕ) (row active : List ℕ) (before after : List Container) → length active ≡ 1 → AreDistinct active → AreLines (length before) active → length row ≡ size →
+    ((d : Container) → after ≡ slice_set before (slice_index active 0) (with_octets 0 row (slice_index_or before (slice_index active 0) d))) →
+    Spreads 0 size row active before after
+spreads-one size row active before after single distinct lines long put =
+    let part : row ≡ part_of 0 (length active) size row =
+    sym (part_of-one row) ∙ ap (λ x. part_of 0 x (length row) row) (sym single) ∙ ap (λ n. part_of 0 (length active) n row) long in
+    subst (λ upto. SpreadsOver 0 upto 0 size row active before after) (sym single)
+    (spreads-next 0 0 0 size row active before before after distinct lines (omega arith) (omega arith)
+    (λ d. put d ∙ ap (λ part. slice_set before (slice_index active 0) (with_octets 0 part (slice_index_or before (slice_index active 0) d))) part)
+    (spreads-none 0 0 0 size row active before (omega arith)))
+
+-- the next octets of a stream are as many as it has been reached for
+pub next-size : (place n : ℕ) (pieces : List Piece) → place + n ≤ size pieces → length (take n (drop place (stream_of pieces))) ≡ n
+next-size place n pieces within =
+    length-take-le n (drop place (stream_of pieces)) (omega (arith, length-drop place (stream_of pieces), long pieces))

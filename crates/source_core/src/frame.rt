@@ -1,59 +1,62 @@
 //! The containers of a frame.
 
-ghost use Rattle.std.specs.Prelude.{◌≡◌, ℕ, ◌+◌, ◌*◌, ◌<◌, ◌≤◌, All, length, take, drop, replicate};
+ghost use Rattle.std.specs.Prelude.{◌≡◌, ℕ, ◌+◌, ◌-◌, ◌*◌, ◌<◌, ◌≤◌, if◌then◌else◌, All, false, length, take, drop, replicate, slice_index_or};
 ghost use Rattle.session_model.specs.Piece.{stream_of};
 ghost use Rattle.session_model.specs.Client.{Stream, reached};
 ghost use Rattle.gfp_fill.specs.Stream.{Stands};
-ghost use Rattle.source_core.specs.Frame.{h4_by, with_no_payload, blanks_by, containers_by};
+ghost use Rattle.vcat_interleave.specs.Members.{AreLines, with_octets};
+ghost use Rattle.vcat_interleave.specs.Spread.{Spreads};
+ghost use Rattle.source_core.specs.Frame.{h4_by, carries, IsBegun, AreBegun};
 ghost use Rattle.source_core.specs.Step.{AreMembers, AreNibbles};
 
 use crate::step::NIBBLES;
 use gfp_fill::{Filler, FrameQueue};
 use h4_multiframe::h4;
-use vc_cell::{Container, PAYLOAD};
+use vc_cell::Container;
 use vcat_interleave::spread_places;
 
-/// Writes the next `len` octets of the stream at the front of a row.
-pub(crate) fn fill_front(filler: &mut Filler, queue: &mut FrameQueue, len: usize, row: &mut [u8])
-    requires { len ≤ length row.old }
-    ensures stands { (stream : Stream) (place : ℕ) → Stands filler.old queue.old stream place →
-        Stands filler.new queue.new (reached (place + len) stream) (place + len) }
-    ensures octets { (stream : Stream) (place : ℕ) → Stands filler.old queue.old stream place →
-        take len row.new
-        ≡ take len (drop place (stream_of (reached (place + len) stream).pieces)) }
-{
-    filler.fill(queue, &mut row[..len]);
-}
+/// The most lines of a group.
+const LINES: usize = 128;
 
-/// Writes the containers of all lines: the nibbles of their packets in H4, and the row over the active lines.
-pub(crate) fn send(
+/// Writes H4 of all lines, by the nibbles of their packets, and zeros where no octet of the stream is carried.
+pub(crate) fn begin_all(
     ticks: u32,
     nibbles: &[[u8; NIBBLES]],
     active: &[u8],
     size: usize,
-    row: &[u8],
     out: &mut [Container],
 )
     requires lines { length nibbles.now ≡ length out.old }
+    requires few { length out.old ≤ 128 }
     requires below { AreNibbles nibbles.now }
     requires members { AreMembers (length out.old) active.now }
     requires size { size ≤ 2340 }
-    requires row { length row.now ≡ size * length active.now }
-    ensures { out.new ≡ containers_by (length out.old) ticks nibbles.now active.now size row.now }
+    ensures { AreBegun ticks nibbles.now active.now size (length out.old) out.new }
 {
-    clear_all(ticks, nibbles, out);
-    spread_places(row, active, 0, size, out);
+    let carry = carriers(active);
+    for line in 0..out.len() {
+        let filled = filled(carry[line], size);
+        begin(h4_of(ticks, &nibbles[line]), filled, &mut out[line]);
+    }
 }
 
-/// Writes H4 of all lines, and no payload.
-fn clear_all(ticks: u32, nibbles: &[[u8; NIBBLES]], out: &mut [Container])
-    requires lines { length nibbles.now ≡ length out.old }
-    requires below { AreNibbles nibbles.now }
-    ensures { out.new ≡ blanks_by (length out.old) ticks nibbles.now }
+/// Which lines carry payload.
+fn carriers(active: &[u8]) -> [bool; LINES]
+    requires lines { AreLines 128 active.now }
+    ensures { (line : ℕ) → line < 128 → slice_index_or result line false ≡ carries active.now line }
 {
-    for line in 0..out.len() {
-        clear(h4_of(ticks, &nibbles[line]), &mut out[line]);
+    let mut carry = [false; LINES];
+    for rank in 0..active.len() {
+        carry[usize::from(active[rank])] = true;
     }
+    carry
+}
+
+/// How many octets of the stream a container has.
+fn filled(carries: bool, size: usize) -> usize
+    ensures { result ≡ (if carries then size else 0) }
+{
+    if carries { size } else { 0 }
 }
 
 /// The H4 octet of a frame of a line, by the nibbles of its packet.
@@ -65,18 +68,61 @@ fn h4_of(ticks: u32, nibbles: &[u8; NIBBLES]) -> u8
     h4(u64::from(ticks), nibbles[place])
 }
 
-/// Writes H4, and no payload.
-fn clear(h4: u8, container: &mut Container)
-    ensures { container.new ≡ with_no_payload h4 }
+/// Writes H4, and zeros behind the octets that are filled.
+fn begin(h4: u8, filled: usize, container: &mut Container)
+    requires { filled ≤ 2340 }
+    ensures { IsBegun h4 filled container.new }
 {
     container.h4 = h4;
-    blank(&mut container.payload);
+    blank(&mut container.payload[filled..]);
 }
 
 /// Writes zeros.
-fn blank(octets: &mut [u8; PAYLOAD])
-    ensures zeros { octets.new ≡ replicate (length octets.old) 0 }
-    ensures size { length octets.old ≡ 2340 }
+fn blank(octets: &mut [u8])
+    ensures { octets.new ≡ replicate (length octets.old) 0 }
 {
     octets.fill(0);
+}
+
+/// Writes the next octets of the stream over the lines that carry payload. Their row is a place to work in.
+pub(crate) fn fill_all(
+    filler: &mut Filler,
+    queue: &mut FrameQueue,
+    active: &[u8],
+    size: usize,
+    row: &mut [u8],
+    out: &mut [Container],
+)
+    requires members { AreMembers (length out.old) active.now }
+    requires size { size ≤ 2340 }
+    requires room { size * length active.now ≤ length row.old }
+    ensures stands { (stream : Stream) (place : ℕ) → Stands filler.old queue.old stream place →
+        let further = place + size * length active.now in
+        Stands filler.new queue.new (reached further stream) further }
+    ensures spreads { (stream : Stream) (place : ℕ) → Stands filler.old queue.old stream place →
+        let len = size * length active.now in
+        let octets = take len (drop place (stream_of (reached (place + len) stream).pieces)) in
+        Spreads 0 size octets active.now out.old out.new }
+{
+    match active {
+        // The row of one member is what it carries.
+        [line] => fill_one(filler, queue, size, &mut out[usize::from(*line)]),
+        _ => {
+            let row = &mut row[..size * active.len()];
+            filler.fill(queue, row);
+            spread_places(row, active, 0, size, out);
+        }
+    }
+}
+
+/// Writes the next octets of the stream to the front of a payload.
+fn fill_one(filler: &mut Filler, queue: &mut FrameQueue, size: usize, container: &mut Container)
+    requires { size ≤ 2340 }
+    ensures stands { (stream : Stream) (place : ℕ) → Stands filler.old queue.old stream place →
+        Stands filler.new queue.new (reached (place + size) stream) (place + size) }
+    ensures octets { (stream : Stream) (place : ℕ) → Stands filler.old queue.old stream place →
+        container.new ≡ with_octets 0
+        (take size (drop place (stream_of (reached (place + size) stream).pieces))) container.old }
+{
+    filler.fill(queue, &mut container.payload[..size]);
 }

@@ -11,7 +11,7 @@ ghost use Rattle.session_model.specs.Sent.{frame_of};
 ghost use Rattle.source_core.specs.Terminal.{needed, SameKind};
 ghost use Rattle.source_core.specs.Given.{with_frame, with_command, with_cell, IsFresh, Stands};
 
-use crate::frame::{fill_front, send};
+use crate::frame::{begin_all, fill_all};
 use crate::step::{NIBBLES, no_packets, take_step};
 use arrayvec::ArrayVec;
 use gfp_fill::{AcceptFault, Filler, FrameQueue};
@@ -173,10 +173,15 @@ impl SourceCore {
             &mut self.nibbles,
         );
         let size = usize::from(self.size);
-        let len = size * self.active.len();
-        fill_front(&mut self.filler, &mut self.queue, len, &mut self.row);
-        let row = &self.row[..len];
-        send(self.ticks, &self.nibbles, &self.active, size, row, out);
+        begin_all(self.ticks, &self.nibbles, &self.active, size, out);
+        fill_all(
+            &mut self.filler,
+            &mut self.queue,
+            &self.active,
+            size,
+            &mut self.row,
+            out,
+        );
         self.ticks += 1;
     }
 

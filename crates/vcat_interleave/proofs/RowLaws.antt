@@ -1,8 +1,8 @@
 -- Rows and their parts, octet by octet.
-use Rattle.std.proofs.Common.{◌≡◌, ◌≢◌, ℕ, zero, suc, ◌+◌, ◌-◌, ◌*◌, ◌/◌, ◌%◌, ◌<◌, ◌≤◌, inl, inr, min, List, [], ◌∷◌, ◌++◌, length, take, drop, slice_index, slice_index_or, refl, sym, ◌∙◌, ap, ap₂, arith, length-append, length-drop, length-take, append_assoc}
+use Rattle.std.proofs.Common.{◌≡◌, ◌≢◌, ℕ, zero, suc, ◌+◌, ◌-◌, ◌*◌, ◌/◌, ◌%◌, ◌<◌, ◌≤◌, inl, inr, min, List, [], ◌∷◌, ◌++◌, length, take, drop, slice_index, slice_index_or, refl, sym, ◌∙◌, ap, ap₂, arith, length-append, length-take, append_assoc}
 use Rattle.std.specs.Prelude.{Contains, All}
 use Rattle.std.specs.List.{range_with_len}
-use Rattle.std.proofs.lemmas.List.{get_or-map, get_or-drop, get_or-take, get_or_append_left, get_or-append_right, drop-append-le, length-map}
+use Rattle.std.proofs.lemmas.List.{get_or-map, get_or-drop, get_or-take, get_or_append_left, get_or-append_right, drop-drop, length-map}
 use Rattle.std.proofs.lemmas.List.FromFn.{get_or-map-range_with_len, length-range_with_len}
 use Rattle.std.proofs.lemmas.Bool.{cases_eq}
 use Rattle.std.proofs.lemmas.Grind.{same_number_lists}
@@ -34,17 +34,16 @@ is-part_of octets row rank x each =
     (λ p within. each p within ∙ sym (get-part_of rank x (length octets) row p within))
 
 -- what more places carry
-pub part_of-append : (rank x a b : ℕ) (xs ys : List ℕ) → rank < x → length xs ≡ a * x →
-    part_of rank x (a + b) (xs ++ ys) ≡ part_of rank x a xs ++ part_of rank x b ys
+pub part_of-add : (rank x a b : ℕ) (row : List ℕ) → part_of rank x (a + b) row ≡ part_of rank x a row ++ part_of rank x b (drop (a * x) row)
 unfolding part_of
-part_of-append rank x zero b [] ys below size = ap (λ n. part_of rank x n ys) (let e : 0 + b ≡ b = omega arith in e)
-part_of-append rank x zero b (y ∷ xs) ys below size = absurd (omega arith)
-part_of-append rank x (suc a) b xs ys below size =
-    let many : x ≤ length xs = omega arith in
-    ap (λ n. part_of rank x n (xs ++ ys)) (let e : suc a + b ≡ suc (a + b) = omega arith in e)
-    ∙ ap (λ o. o ∷ part_of rank x (a + b) (drop x (xs ++ ys))) (get_or_append_left xs ys 0 rank (omega arith))
-    ∙ ap (λ l. slice_index xs rank ∷ part_of rank x (a + b) l) (drop-append-le x xs ys many)
-    ∙ ap (λ l. slice_index xs rank ∷ l) (part_of-append rank x a b (drop x xs) ys below (omega (arith, length-drop x xs)))
+part_of-add rank x zero b row =
+    let none : 0 * x ≡ 0 = omega arith in
+    ap (λ n. part_of rank x n row) (let e : 0 + b ≡ b = omega arith in e) ∙ ap (λ n. part_of rank x b (drop n row)) (sym none)
+part_of-add rank x (suc a) b row =
+    ap (λ n. part_of rank x n row) (let e : suc a + b ≡ suc (a + b) = omega arith in e)
+    ∙ ap (λ l. slice_index row rank ∷ l) (part_of-add rank x a b (drop x row)
+    ∙ ap (λ l. part_of rank x a (drop x row) ++ part_of rank x b l) (drop-drop (a * x) x row)
+    ∙ ap (λ n. part_of rank x a (drop x row) ++ part_of rank x b (drop n row)) (let e : x + a * x ≡ suc a * x = omega arith in e))
 
 -- ---- places of a row
 pub rank-place : (x p rank : ℕ) → rank < x → ((p * x + rank) % x ≡ rank) × ((p * x + rank) / x ≡ p)

@@ -1,10 +1,10 @@
 //! A row is spread over the members of a group.
-ghost use Rattle.std.specs.Prelude.{◌≡◌, ◌≢◌, ℕ, ◌+◌, ◌-◌, ◌*◌, ◌<◌, ◌≤◌, max, List, ◌++◌, length, take, drop, replicate, slice_index, slice_index_or, slice_set};
+ghost use Rattle.std.specs.Prelude.{◌≡◌, ◌≢◌, ℕ, ◌+◌, ◌-◌, ◌*◌, ◌/◌, ◌<◌, ◌≤◌, List, ◌++◌, length, take, drop, replicate, slice_index, slice_index_or, slice_set};
 ghost use Rattle.vc_cell.specs.declared.Container.{Container};
 ghost use Rattle.session_model.specs.Interleave.{part_of};
-ghost use Rattle.vcat_interleave.specs.Square.{octet_at};
+ghost use Rattle.vcat_interleave.specs.Square.{octet_at, overhang};
 ghost use Rattle.vcat_interleave.specs.Members.{AreLines, with_octets};
-ghost use Rattle.vcat_interleave.specs.Spread.{SpreadsTo, Spreads, AreDistinct};
+ghost use Rattle.vcat_interleave.specs.Spread.{SpreadsOver, Spreads, AreDistinct};
 
 use crate::member::take_rank;
 use crate::square::{SIDE, octets_of, put_octets, turned};
@@ -45,101 +45,131 @@ pub fn spread_places(
         slice_index_or containers.new line c ≡ slice_index_or containers.old line c }
 {
     let x = active.len();
-    let pieces = pieces_of(x, places);
-    let done = pieces * SIDE;
-    let (front, back) = row.split_at(done * x);
-    spread_pieces(front, active, place, pieces, containers);
+    let squares = squares_over(x, row.len());
+    let done = squares * SIDE;
+    spread_squares(row, active, place, squares, containers);
+    let back = &row[done * x..];
     spread_each(back, active, place + done, places - done, containers);
 }
 
-// How many pieces of sixteen places are spread one by one: none of one member, whose row is copied.
-fn pieces_of(x: usize, places: usize) -> usize
-    ensures { result * 16 ≤ places }
+// How many squares of places are spread: none over one member, whose row is copied, and none that
+// reaches behind the end of the row.
+fn squares_over(x: usize, len: usize) -> usize
+    ensures within { (places : ℕ) → len ≡ places * x → result * 16 ≤ places }
+    ensures room { 0 < result → result * 16 * x + overhang x ≤ len }
 {
-    if x == 1 { 0 } else { places / SIDE }
+    let beyond = (SIDE - x % SIDE) % SIDE;
+    if x < 2 || len < beyond {
+        0
+    } else {
+        (len - beyond) / x / SIDE
+    }
 }
 
-// Spreads a row at a number of places that sixteen divides.
-fn spread_pieces(
+// Spreads a row at a number of places that sixteen divides. No more than sixteen payloads are written at once: caches follow these.
+fn spread_squares(
     row: &[u8],
     active: &[u8],
     place: usize,
-    pieces: usize,
+    squares: usize,
     containers: &mut [Container],
 )
     requires lines { AreLines (length containers.old) active.now }
     requires distinct { AreDistinct active.now }
-    requires within { place + pieces * 16 ≤ 2340 }
-    requires row { length row.now ≡ pieces * 16 * length active.now }
-    ensures { Spreads place (pieces * 16) row.now active.now containers.old containers.new }
+    requires within { place + squares * 16 ≤ 2340 }
+    requires room { 0 < squares →
+        squares * 16 * length active.now + overhang (length active.now) ≤ length row.now }
+    ensures { Spreads place (squares * 16) row.now active.now containers.old containers.new }
 {
     let x = active.len();
-    for k in 0..pieces {
-        let done = k * SIDE;
-        spread_piece(
-            &row[done * x..(done + SIDE) * x],
-            active,
-            place + done,
-            containers,
-        );
+    for k in 0..x / SIDE {
+        spread_ranks(row, active, SIDE * k, SIDE, place, squares, containers);
     }
+    spread_last(row, active, x / SIDE * SIDE, place, squares, containers);
 }
 
-// Spreads a row at sixteen places.
-fn spread_piece(row: &[u8], active: &[u8], place: usize, containers: &mut [Container])
+// Spreads a row over the last members, fewer than sixteen, once those of all ranks before them have it.
+fn spread_last(
+    row: &[u8],
+    active: &[u8],
+    rank: usize,
+    place: usize,
+    squares: usize,
+    containers: &mut [Container],
+)
     requires lines { AreLines (length containers.old) active.now }
     requires distinct { AreDistinct active.now }
-    requires within { place + 16 ≤ 2340 }
-    requires row { length row.now ≡ 16 * length active.now }
-    ensures { Spreads place 16 row.now active.now containers.old containers.new }
+    requires rank { rank ≡ length active.now / 16 * 16 }
+    requires within { place + squares * 16 ≤ 2340 }
+    requires room { 0 < squares →
+        squares * 16 * length active.now + overhang (length active.now) ≤ length row.now }
+    ensures { SpreadsOver rank (length active.now) place (squares * 16) row.now active.now
+        containers.old containers.new }
 {
-    if active.len() < SIDE {
-        spread_each(row, active, place, SIDE, containers);
-    } else {
-        spread_sixteen(row, active, place, containers);
+    let ranks = active.len() - rank;
+    if ranks > 0 {
+        spread_ranks(row, active, rank, ranks, place, squares, containers);
     }
 }
 
-// Spreads a row over at least sixteen members at sixteen places. The last square begins where sixteen ranks are left.
-fn spread_sixteen(row: &[u8], active: &[u8], place: usize, containers: &mut [Container])
-    requires lines { AreLines (length containers.old) active.now }
-    requires distinct { AreDistinct active.now }
-    requires least { 16 ≤ length active.now }
-    requires within { place + 16 ≤ 2340 }
-    requires row { length row.now ≡ 16 * length active.now }
-    ensures { Spreads place 16 row.now active.now containers.old containers.new }
-{
-    let x = active.len();
-    for k in 0..x.div_ceil(SIDE) {
-        spread_square(row, active, (SIDE * k).min(x - SIDE), place, containers);
-    }
-}
-
-// Spreads a row over the members of sixteen ranks at sixteen places, once those of all ranks before them have it.
+// Spreads a row over the members of up to sixteen ranks.
 #[inline]
-fn spread_square(row: &[u8], active: &[u8], rank: usize, place: usize, containers: &mut [Container])
+fn spread_ranks(
+    row: &[u8],
+    active: &[u8],
+    rank: usize,
+    ranks: usize,
+    place: usize,
+    squares: usize,
+    containers: &mut [Container],
+)
     requires lines { AreLines (length containers.old) active.now }
     requires distinct { AreDistinct active.now }
-    requires rank { rank + 16 ≤ length active.now }
+    requires few { ranks ≤ 16 }
+    requires ranks { rank + ranks ≤ length active.now }
+    requires within { place + squares * 16 ≤ 2340 }
+    requires room { 0 < squares →
+        squares * 16 * length active.now + (rank + 16) ≤ length row.now + length active.now }
+    ensures { SpreadsOver rank (rank + ranks) place (squares * 16) row.now active.now
+        containers.old containers.new }
+{
+    let x = active.len();
+    for k in 0..squares {
+        let done = k * SIDE;
+        let rest = &row[done * x..];
+        spread_square(rest, active, rank, ranks, place + done, containers);
+    }
+}
+
+// Spreads a row over the members of up to sixteen ranks at sixteen places.
+#[inline]
+fn spread_square(
+    row: &[u8],
+    active: &[u8],
+    rank: usize,
+    ranks: usize,
+    place: usize,
+    containers: &mut [Container],
+)
+    requires lines { AreLines (length containers.old) active.now }
+    requires distinct { AreDistinct active.now }
+    requires few { ranks ≤ 16 }
+    requires ranks { rank + ranks ≤ length active.now }
     requires within { place + 16 ≤ 2340 }
-    requires row { length row.now ≡ 16 * length active.now }
-    ensures spreads { (upto : ℕ) (before : List Container) →
-        rank ≤ upto → upto ≤ length active.now →
-        SpreadsTo upto place 16 row.now active.now before containers.old →
-        SpreadsTo (max upto (rank + 16)) place 16 row.now active.now before containers.new }
-    ensures lines { length containers.new ≡ length containers.old }
+    requires room { 15 * length active.now + (rank + 16) ≤ length row.now }
+    ensures { SpreadsOver rank (rank + ranks) place 16 row.now active.now
+        containers.old containers.new }
 {
     let columns = turned(rows_between(row, rank, active.len()));
-    for i in 0..SIDE {
+    for i in 0..ranks {
         put_member(columns[i], place, usize::from(active[rank + i]), containers);
     }
 }
 
-// Sixteen places of sixteen ranks of a row.
+// Sixteen octets from a rank on at each of sixteen places of a row.
 #[inline]
 fn rows_between(row: &[u8], rank: usize, x: usize) -> [u8x16; 16]
-    requires rank { rank + 16 ≤ x }
-    requires row { length row.now ≡ 16 * x }
+    requires room { 15 * x + (rank + 16) ≤ length row.now }
     ensures { (j i : ℕ) → j < 16 → i < 16 →
         octet_at result j i ≡ slice_index row.now (j * x + (rank + i)) }
 {

@@ -4,4 +4,4 @@ use Rattle.session_model.proofs.IdleLaws.{idles}
 use Rattle.gfp_fill.proofs.filler.put_idles.Given as goal
 
 abbrev pub invariant-loop-i : goal.invariant-loop-i
-invariant-loop-i l = take (4 * l.i) l.out ≡ idles l.i
+invariant-loop-i l = take (64 * l.i) l.out ≡ idles (16 * l.i)

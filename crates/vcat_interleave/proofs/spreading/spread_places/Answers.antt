@@ -1,20 +1,30 @@
 -- The places done by squares, and those after them.
-use Rattle.std.proofs.Common.{◌*◌, refl, length, ◌∙◌}
+use Rattle.std.proofs.Common.{◌≡◌, ◌+◌, ◌-◌, ◌*◌, ◌≤◌, drop, length, subst, ◌∙◌, ap, arith, length-drop}
+use Rattle.std.proofs.lemmas.List.{take_rest}
+use Rattle.std.proofs.lemmas.Nat.{mul-le}
 use Rattle.vcat_interleave.specs.Spread.{Spreads}
 use Rattle.vcat_interleave.proofs.PlaceLaws.{rest-size}
-use Rattle.vcat_interleave.proofs.SpreadLaws.{spreads-all}
+use Rattle.vcat_interleave.proofs.SpreadLaws.{spreads-add}
 use Rattle.vcat_interleave.proofs.spreading.spread_places.Goals as goal
 
 all : (c : goal.After-containers-2-1) → Spreads c.args.place c.args.places c.args.row.now c.args.active.now c.args.containers.now c.spread_each.new.containers
 all c =
-    spreads-all c.args.place (c.pieces_of-pieces.result * 16) c.args.places (length c.args.active.now) c.args.row.now c.split_at.result.0.now c.split_at.result.1.now
-    c.args.active.now c.args.containers.now c.spread_pieces.new.containers c.spread_each.new.containers refl c.pieces_of-pieces.ensures c.requires.row
-    c.split_at.ensures.front c.split_at.ensures.back c.spread_pieces.ensures c.spread_each.ensures
+    let x = length c.args.active.now in
+    let done = c.squares_over-squares.result * 16 in
+    let count : done + (c.args.places - done) ≡ c.args.places = omega (arith, c.squares_over-squares.ensures.within c.args.places c.requires.row) in
+    subst (λ n. Spreads c.args.place n c.args.row.now c.args.active.now c.args.containers.now c.spread_each.new.containers) count
+    (spreads-add 0 x c.args.place done (c.args.places - done) c.args.row.now c.args.active.now c.args.containers.now c.spread_squares.new.containers c.spread_each.new.containers
+    c.spread_squares.ensures
+    (subst (λ l. Spreads (c.args.place + done) (c.args.places - done) l c.args.active.now c.spread_squares.new.containers c.spread_each.new.containers) (take_rest c.args.row.now (done * x)) c.spread_each.ensures))
 
 pub spread_each-requires-clause-row : goal.spread_each-requires-clause-row
 spread_each-requires-clause-row c =
-    rest-size c.args.places (c.pieces_of-pieces.result * 16) (length c.args.active.now) (length c.split_at.result.1.now)
-    c.pieces_of-pieces.ensures (c.split_at.ensures.back_len ∙ c.requires.row)
+    let x = length c.args.active.now in
+    let done = c.squares_over-squares.result * 16 in
+    let few = c.squares_over-squares.ensures.within c.args.places c.requires.row in
+    let fits : done * x ≤ length c.args.row.now = omega (arith, mul-le done x c.args.places x few (omega arith), c.requires.row) in
+    ap length (take_rest c.args.row.now (done * x))
+    ∙ rest-size c.args.places done x (length (drop (done * x) c.args.row.now)) few (omega (arith, length-drop (done * x) c.args.row.now, fits, c.requires.row))
 
 pub returns-clause-members : goal.returns-clause-members
-returns-clause-members c = (all c).members
+returns-clause-members c rank d below = (all c).members rank d (omega arith) below

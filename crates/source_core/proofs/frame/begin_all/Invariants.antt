@@ -1,0 +1,6 @@
+-- The lines up to here are begun.
+use Rattle.source_core.specs.Frame.{AreBegun}
+use Rattle.source_core.proofs.frame.begin_all.Given as goal
+
+abbrev pub invariant-loop-line : goal.invariant-loop-line
+invariant-loop-line l = AreBegun l.ticks l.nibbles l.active l.size l.line l.out
