@@ -204,9 +204,9 @@ fn only_payload(containers: &[Container], line: u8, size: usize) -> &[u8]
     &containers[usize::from(line)].payload[..size]
 }
 
-/// Gives the octets of a row to a receiver, block by block, or as they lie where one line carries them alone. Idle frames that are left
-/// aren't gathered where they change nothing. `active` has the lines
-/// that carry payload, by rank, and `containers` has the container of each line.
+/// Gives the octets of a row to a receiver, block by block, or as they lie where one line carries them alone. Where all that are left
+/// are idle frames that change nothing, they aren't gathered. `active` has the lines that carry payload, by rank, and `containers` has
+/// the container of each line.
 pub(crate) fn take_members<F: FrameOut>(
     delineator: &mut Delineator,
     block: &mut [u8],
