@@ -1,5 +1,5 @@
 -- Octets again and again.
-use Rattle.std.proofs.Common.{◌≡◌, ℕ, zero, suc, ◌+◌, ◌*◌, List, ◌++◌, take, refl, sym, ◌∙◌, ap, arith, append_assoc}
+use Rattle.std.proofs.Common.{◌≡◌, ℕ, zero, suc, ◌+◌, ◌*◌, List, ◌++◌, refl, sym, ◌∙◌, ap, arith, append_assoc}
 use Rattle.std.proofs.lemmas.List.{append-nil}
 use Rattle.std.specs.Int.{to_le_bytes, w64}
 use Rattle.session_model.proofs.IdleLaws.{idle_header, idles, idles-more}
@@ -32,13 +32,3 @@ repeated-idles (suc n) =
     ∙ ap (λ l. l ++ idle_header) (sym (idles-more (2 * n)))
     ∙ sym (idles-more (2 * n + 1))
     ∙ (let e : 2 * n + 1 + 1 ≡ 2 * suc n = omega arith in ap idles e)
-
--- after a place, and after what stands there
-pub repeated-behind : (piece octets : List ℕ) (at a b c m n k : ℕ) → c ≡ a + b → k ≡ m + n → take (at + a) piece ≡ take at piece ++ repeated m octets →
-    take (at + a + b) piece ≡ take (at + a) piece ++ repeated n octets → take (at + c) piece ≡ take at piece ++ repeated k octets
-repeated-behind piece octets at a b c m n k size count one other =
-    (let e : at + c ≡ at + a + b = omega (arith, size) in ap (λ n. take n piece) e)
-    ∙ other
-    ∙ ap (λ l. l ++ repeated n octets) one
-    ∙ append_assoc (take at piece) (repeated m octets) (repeated n octets)
-    ∙ ap (λ l. take at piece ++ l) (sym (repeated-add m n octets) ∙ ap (λ n. repeated n octets) (sym count))

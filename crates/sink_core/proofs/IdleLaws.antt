@@ -1,5 +1,5 @@
 -- Idle frames that are dealt to members.
-use Rattle.std.proofs.Common.{◌≡◌, ℕ, zero, suc, ◌+◌, ◌-◌, ◌*◌, ◌/◌, ◌%◌, ◌<◌, List, [], ◌∷◌, ◌++◌, length, take, drop, slice_index, slice_index_or, refl, sym, ◌∙◌, ap, ap₂, arith, length-append}
+use Rattle.std.proofs.Common.{◌≡◌, ℕ, zero, suc, ◌+◌, ◌-◌, ◌*◌, ◌/◌, ◌%◌, ◌<◌, List, [], ◌∷◌, ◌++◌, length, take, drop, slice_index, refl, sym, ◌∙◌, ap, ap₂, arith, length-append}
 use Rattle.std.proofs.lemmas.List.{get_or_append_left, get_or-append_right, get_or-map}
 use Rattle.std.proofs.lemmas.Nat.{div-add-mod'}
 use Rattle.session_model.specs.Core.{core_header}
@@ -7,7 +7,6 @@ use Rattle.session_model.specs.Interleave.{octets_from}
 use Rattle.session_model.proofs.IdleLaws.{idle_header, core_header-idle}
 use Rattle.vc_cell.specs.declared.Container.{Container}
 use Rattle.vcat_interleave.specs.Members.{payload_at, payloads_of}
-use Rattle.vcat_interleave.specs.Square.{octet_at}
 use Rattle.vcat_interleave.proofs.MemberLaws.{is-row}
 use Rattle.vcat_interleave.proofs.RowLaws.{within-row}
 use Rattle.gfp_delineate.specs.Repeated.{repeated, idles_from}

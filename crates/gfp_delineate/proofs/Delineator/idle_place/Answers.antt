@@ -1,4 +1,4 @@
-use Rattle.std.proofs.Common.{◌≡◌, ◌-◌, ◌<◌, ℕ, List, take, drop, sym, ◌∙◌, ap, subst}
+use Rattle.std.proofs.Common.{◌≡◌, ◌-◌, ◌<◌, ℕ, take, drop, sym, ◌∙◌, ap, subst}
 use Rattle.std.specs.Prelude.{vec_len}
 use Rattle.gfp_delineate.specs.declared.Phase.TheVariants.{SyncHeader}
 use Rattle.gfp_delineate.specs.Receiver.{Receiver, IsWithin}
