@@ -5,10 +5,12 @@ pub mod OutcomeLaws
 pub mod Taking
 pub mod Known
 pub mod ListLaws
+pub mod Repeating
 pub mod SettleLaws
 pub mod SearchSteps
 pub mod RunSteps
 pub mod HeaderSteps
+pub mod IdleSteps
 pub mod AreaSteps
 pub mod Frames
 pub mod FrontLaws

@@ -1,2 +1,3 @@
 pub mod Standing
+pub mod Repeated
 pub mod Receiver

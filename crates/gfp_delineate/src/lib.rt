@@ -10,11 +10,14 @@ ghost use Rattle.session_model.specs.Piece.{stream_of, opening, frames_by};
 ghost use Rattle.session_model.specs.Run.{is_sync};
 ghost use Rattle.session_model.specs.Outcome.{outcomes};
 ghost use Rattle.session_model.specs.Delivery.{delivered};
+ghost use Rattle.gfp_delineate.specs.Repeated.{idles_from};
 ghost use Rattle.gfp_delineate.specs.Receiver.{most, StandsIn, Advances, Brings, frame_of, told_outcomes, IsClientFrame};
 
 mod octets;
 mod steps;
 
+use crate::octets::begins_idle;
+pub use crate::octets::word_run;
 use gfp_scramble::Descrambler;
 pub use session_model::{TypeFault, Why};
 use std::alloc::{AllocError, Global};
@@ -153,6 +156,22 @@ impl Delineator {
     {
         self.descrambler.forget();
         self.phase = Phase::Hunt { have: 0 };
+    }
+
+    /// How many octets of the header of an idle frame came last, below four, in SYNC where a header is due, and `None` in all other
+    /// states. Idle frames that go on from there change nothing.
+    pub fn idle_place(&self) -> Option<usize>
+        ensures below { IfSome result (λ place. place < 4) }
+        ensures stays { IfSome result (λ place. (count : ℕ) →
+            Advances self.now self.now (idles_from place count)
+            × Brings self.now (idles_from place count) []) }
+    {
+        match self.phase {
+            Phase::SyncHeader { have } if begins_idle(&self.window, have) => Some(usize::from(
+                have,
+            )),
+            _ => None,
+        }
     }
 
     /// Whether the state is SYNC.

@@ -1,18 +1,20 @@
 //! Octets of a piece that are taken in one go.
 
-ghost use Rattle.std.specs.Prelude.{◌≡◌, ◌+◌, ◌*◌, ◌≤◌, true, ◌∷◌, [], ◌++◌, length, take, drop, replicate, vec_len};
+ghost use Rattle.std.specs.Prelude.{◌≡◌, ◌+◌, ◌-◌, ◌*◌, ◌<◌, ◌≤◌, true, ◌∷◌, [], ◌++◌, length, take, drop, replicate, vec_len};
 ghost use Rattle.std.specs.Vec.{vec_capacity};
+ghost use Rattle.std.specs.Int.{to_le_bytes, w64};
 ghost use Rattle.gfp_scramble.specs.Descrambler.{Continues, DescramblesTo};
 ghost use Rattle.std.specs.List.{flat_map};
 ghost use Rattle.session_model.specs.Piece.{with_header};
+ghost use Rattle.gfp_delineate.specs.Repeated.{repeated};
 
 use gfp_scramble::Descrambler;
 
 /// The core header of an idle frame.
 const IDLE: [u8; 4] = [0xb6, 0xab, 0x31, 0xe0];
 
-/// Two of them.
-const TWO_IDLES: [u8; 8] = [0xb6, 0xab, 0x31, 0xe0, 0xb6, 0xab, 0x31, 0xe0];
+/// Two of them as a word, whose first octet is the least significant.
+const TWO_IDLES: u64 = 0xe031_abb6_e031_abb6;
 
 /// The octets that settle a descrambler.
 const SETTLING: usize = 6;
@@ -23,7 +25,7 @@ pub fn idle_run(piece: &[u8]) -> usize
     ensures within { 4 * result ≤ length piece.now }
     ensures run { take (4 * result) piece.now ≡ flat_map with_header (replicate result []) }
 {
-    let pairs = idle_pairs(piece);
+    let pairs = word_run(piece, TWO_IDLES);
     let at = 8 * pairs;
     if piece.len() - at >= 4 && is_idle(piece, at) {
         2 * pairs + 1
@@ -32,28 +34,82 @@ pub fn idle_run(piece: &[u8]) -> usize
     }
 }
 
-/// The number of pairs of idle headers that a piece begins with.
+/// How often octets begin with a word, again and again. The first octet of the word is its least significant one.
 #[inline]
-fn idle_pairs(piece: &[u8]) -> usize
+pub fn word_run(piece: &[u8], word: u64) -> usize
     ensures within { 8 * result ≤ length piece.now }
-    ensures run { take (8 * result) piece.now ≡ flat_map with_header (replicate (2 * result) []) }
+    ensures run { take (8 * result) piece.now ≡ repeated result (to_le_bytes w64 word) }
+{
+    let blocks = block_run(piece, word);
+    8 * blocks + few_words(&piece[64 * blocks..], word)
+}
+
+/// How often octets begin with eight times a word.
+#[inline]
+fn block_run(piece: &[u8], word: u64) -> usize
+    ensures within { 64 * result ≤ length piece.now }
+    ensures run { take (64 * result) piece.now ≡ repeated (8 * result) (to_le_bytes w64 word) }
+{
+    for i in 0..piece.len() / 64 {
+        if !are_eight(piece, 64 * i, word) {
+            return i;
+        }
+    }
+    piece.len() / 64
+}
+
+/// How often octets begin with a word, one by one.
+#[inline]
+fn few_words(piece: &[u8], word: u64) -> usize
+    ensures within { 8 * result ≤ length piece.now }
+    ensures run { take (8 * result) piece.now ≡ repeated result (to_le_bytes w64 word) }
 {
     for i in 0..piece.len() / 8 {
-        if !is_pair(piece, 8 * i) {
+        if word_at(piece, 8 * i) != word {
             return i;
         }
     }
     piece.len() / 8
 }
 
-/// Whether two idle headers stand at a place.
+/// Whether a word stands eight times at a place.
 #[inline]
-fn is_pair(piece: &[u8], at: usize) -> bool
-    requires { at + 8 ≤ length piece.now }
-    ensures { result ≡ true → take (at + 8) piece.now
-        ≡ (take at piece.now ++ 0xb6 ∷ 0xab ∷ 0x31 ∷ 0xe0 ∷ []) ++ 0xb6 ∷ 0xab ∷ 0x31 ∷ 0xe0 ∷ [] }
+fn are_eight(piece: &[u8], at: usize, word: u64) -> bool
+    requires { at + 64 ≤ length piece.now }
+    ensures { result ≡ true → take (at + 64) piece.now
+        ≡ take at piece.now ++ repeated 8 (to_le_bytes w64 word) }
 {
-    [
+    // All are looked at before the answer, so that LLVM compares them by vectors.
+    are_four(piece, at, word) & are_four(piece, at + 32, word)
+}
+
+/// Whether a word stands four times at a place.
+#[inline]
+fn are_four(piece: &[u8], at: usize, word: u64) -> bool
+    requires { at + 32 ≤ length piece.now }
+    ensures { result ≡ true → take (at + 32) piece.now
+        ≡ take at piece.now ++ repeated 4 (to_le_bytes w64 word) }
+{
+    are_two(piece, at, word) & are_two(piece, at + 16, word)
+}
+
+/// Whether a word stands twice at a place.
+#[inline]
+fn are_two(piece: &[u8], at: usize, word: u64) -> bool
+    requires { at + 16 ≤ length piece.now }
+    ensures { result ≡ true → take (at + 16) piece.now
+        ≡ take at piece.now ++ repeated 2 (to_le_bytes w64 word) }
+{
+    (word_at(piece, at) == word) & (word_at(piece, at + 8) == word)
+}
+
+/// The word that the eight octets at a place are, the first one least significant.
+#[inline]
+fn word_at(piece: &[u8], at: usize) -> u64
+    requires { at + 8 ≤ length piece.now }
+    ensures { take (at + 8) piece.now ≡ take at piece.now ++ to_le_bytes w64 result }
+{
+    u64::from_le_bytes([
         piece[at],
         piece[at + 1],
         piece[at + 2],
@@ -62,7 +118,7 @@ fn is_pair(piece: &[u8], at: usize) -> bool
         piece[at + 5],
         piece[at + 6],
         piece[at + 7],
-    ] == TWO_IDLES
+    ])
 }
 
 /// Whether an idle header stands at a place.
@@ -73,6 +129,16 @@ fn is_idle(piece: &[u8], at: usize) -> bool
         take (at + 4) piece.now ≡ take at piece.now ++ 0xb6 ∷ 0xab ∷ 0x31 ∷ 0xe0 ∷ [] }
 {
     [piece[at], piece[at + 1], piece[at + 2], piece[at + 3]] == IDLE
+}
+
+/// Whether the last octets of a header are the first ones of an idle frame's.
+pub fn begins_idle(window: &[u8; 4], have: u8) -> bool
+    requires { have < 4 }
+    ensures { result ≡ true →
+        drop (4 - have) window.now ≡ take have (0xb6 ∷ 0xab ∷ 0x31 ∷ 0xe0 ∷ []) }
+{
+    let have = usize::from(have);
+    &window[4 - have..] == &IDLE[..have]
 }
 
 /// Keeps more octets of an area, descrambled.

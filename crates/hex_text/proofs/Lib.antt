@@ -1,2 +1,3 @@
 mod DigitLaws
 mod TextSteps
+mod SixteenLaws

@@ -8,12 +8,14 @@ use Rattle.std.proofs.lemmas.List.Concat.{flat_map-append}
 use Rattle.session_model.specs.Outcome.{outcomes}
 use Rattle.session_model.specs.Delivery.{frame_in}
 use Rattle.gfp_delineate.specs.declared.Step.{Step}
+use Rattle.gfp_delineate.specs.declared.Step.TheVariants.{Nothing}
 use Rattle.gfp_delineate.specs.Receiver.{Receiver, StandsIn, told_outcomes}
 use Rattle.gfp_delineate.proofs.Frames.{told, frames_told}
 use Rattle.loss_law.specs.Added.{frames_in, next_frames}
 use Rattle.loss_law.proofs.SegmentLaws.{next-none, next-more}
 use Rattle.loss_law.proofs.GrowLaws.{adds}
-use Rattle.sink_core.specs.Receives.{IsKnown, Grows, Gives}
+use Rattle.gfp_delineate.specs.Receiver.{Advances, Brings}
+use Rattle.sink_core.specs.Receives.{IsKnown, Grows, Gives, IsIdle}
 
 pub known-grows : (was now : Receiver) (more : List ℕ) → IsKnown was → Grows was now more → IsKnown now
 known-grows was now more (first, octets, stands) grows = (first, octets ++ more, grows first octets stands)
@@ -48,6 +50,23 @@ next-told receiver step first octets more outcome =
     ∙ flat_map-append frame_in (outcomes 9600 first octets) (told_outcomes receiver step)
     ∙ ap (λ l. before ++ l) (frames_told receiver step))
     ∙ drop_at before (told receiver step) (length before) refl
+
+-- ---- octets that change nothing
+pub idle-none : (receiver : Receiver) (more : List ℕ) → more ≡ [] → IsIdle receiver more
+idle-none receiver more none first octets stands = (
+  subst (StandsIn receiver 9600 first) (sym (ap (λ l. octets ++ l) none ∙ append-nil octets)) stands,
+  ap (next_frames 9600 first octets) none ∙ next-none 9600 first octets,
+)
+
+pub idle-by : (receiver : Receiver) (more : List ℕ) → Advances receiver receiver more × Brings receiver more [] → IsIdle receiver more
+idle-by receiver more both first octets stands = (both.0 9600 first octets stands, next-told receiver Nothing first octets more (both.1 9600 first octets stands))
+
+pub idle-grows : (receiver : Receiver) (more : List ℕ) → IsIdle receiver more → Grows receiver receiver more
+idle-grows receiver more idle first octets stands = (idle first octets stands).0
+
+pub idle-gives : {A : Type 0} (stands : A → List (List ℕ) → Type 0) (receiver : Receiver) (more : List ℕ) (out : A) → IsIdle receiver more → Gives stands receiver more out out
+idle-gives stands receiver more out idle first octets has frames before =
+    subst (stands out) (sym (append-nil frames) ∙ ap (λ l. frames ++ l) (sym (idle first octets has).1)) before
 
 -- octets that follow a first part, of what is left after it
 pub take-further : (at n : ℕ) (piece : List ℕ) → take (at + n) piece ≡ take at piece ++ take n (take (length piece - at) (drop at piece))

@@ -1,5 +1,6 @@
 pub mod ActiveLaws
 pub mod GivingLaws
+pub mod IdleLaws
 pub mod WholeLaws
 pub mod ReceivedLaws
 pub mod GivenLaws

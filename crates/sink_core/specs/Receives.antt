@@ -1,5 +1,5 @@
 -- What a receiver has got of rows.
-use Rattle.std.specs.Prelude.{ℕ, Bool, List, ◌++◌}
+use Rattle.std.specs.Prelude.{◌≡◌, ℕ, Bool, List, [], ◌++◌}
 use Rattle.gfp_delineate.specs.Receiver.{Receiver, StandsIn}
 use Rattle.session_model.specs.Segment.{StreamRow, segments_of}
 use Rattle.loss_law.specs.Added.{next_frames}
@@ -20,3 +20,8 @@ Grows was now more = (first : Bool) (octets : List ℕ) → StandsIn was 9600 fi
 abbrev pub Gives : {A : Type 0} → (A → List (List ℕ) → Type 0) → Receiver → List ℕ → A → A → Type 0
 Gives stands was more before after = (first : Bool) (octets : List ℕ) → StandsIn was 9600 first octets →
     (frames : List (List ℕ)) → stands before frames → stands after (frames ++ next_frames 9600 first octets more)
+
+-- these octets change nothing of a receiver, and add no frame
+abbrev pub IsIdle : Receiver → List ℕ → Type 0
+IsIdle receiver more = (first : Bool) (octets : List ℕ) → StandsIn receiver 9600 first octets →
+    (StandsIn receiver 9600 first (octets ++ more)) × (next_frames 9600 first octets more ≡ [])

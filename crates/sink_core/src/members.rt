@@ -1,16 +1,19 @@
 //! The octets of the members of a row, given to a receiver, and the frames that they complete.
 
-ghost use Rattle.std.specs.Prelude.{◌≡◌, ℕ, ◌+◌, ◌*◌, ◌<◌, ◌≤◌, Bool, false, List, [], ◌++◌, length, take, IfSome, IsSome};
+ghost use Rattle.std.specs.Prelude.{◌≡◌, ℕ, ◌+◌, ◌*◌, ◌/◌, ◌%◌, ◌<◌, ◌≤◌, Bool, true, false, List, [], ◌++◌, length, take, drop, slice_index, IfSome, IsSome};
+ghost use Rattle.std.specs.Int.{to_le_bytes, w64};
 ghost use Rattle.std.specs.Option.{option_to_list};
 ghost use Rattle.gfp_delineate.specs.Receiver.{frame_of, StandsIn};
+ghost use Rattle.gfp_delineate.specs.Repeated.{idles_from};
+ghost use Rattle.session_model.specs.Core.{core_header};
 ghost use Rattle.session_model.specs.Interleave.{octets_from};
 ghost use Rattle.vcat_interleave.specs.Members.{payload_at, payloads_of, AreLines};
 ghost use Rattle.sink_core.specs.Start.{Start};
-ghost use Rattle.sink_core.specs.Receives.{IsKnown, Grows, Gives};
+ghost use Rattle.sink_core.specs.Receives.{IsKnown, Grows, Gives, IsIdle};
 
 use crate::frames::FrameOut;
-use gfp_delineate::{Delineator, Step};
-use vc_cell::Container;
+use gfp_delineate::{Delineator, Step, word_run};
+use vc_cell::{Container, PAYLOAD};
 use vcat_interleave::gather_places;
 
 /// The octets of a block.
@@ -69,6 +72,128 @@ fn places_of(x: usize) -> usize
     BLOCK / x / SIDE * SIDE
 }
 
+/// An octet of the header of an idle frame, by its place among the octets of idle frames.
+#[inline]
+fn idle_octet(i: usize) -> u8
+    ensures { result ≡ slice_index (core_header 0) (i % 4) }
+{
+    [0xb6, 0xab, 0x31, 0xe0][i % 4]
+}
+
+/// The word that octets are, the first one least significant.
+#[inline]
+fn word_of(octets: &[u8; 8]) -> u64
+    ensures { to_le_bytes w64 result ≡ octets.now }
+{
+    u64::from_le_bytes(*octets)
+}
+
+/// The octets of idle frames at eight places of a member, which carries one of each `x`, the first of them octet `first`.
+fn idle_word(first: usize, x: usize) -> u64
+    requires first { first < 256 }
+    requires few { x ≤ 128 }
+    ensures { (i : ℕ) → i < 8 → slice_index (to_le_bytes w64 result) i
+        ≡ slice_index (core_header 0) ((first + i * x) % 4) }
+{
+    word_of(&[
+        idle_octet(first),
+        idle_octet(first + x),
+        idle_octet(first + 2 * x),
+        idle_octet(first + 3 * x),
+        idle_octet(first + 4 * x),
+        idle_octet(first + 5 * x),
+        idle_octet(first + 6 * x),
+        idle_octet(first + 7 * x),
+    ])
+}
+
+/// What a line carries.
+#[inline]
+fn payload_of(containers: &[Container], line: u8) -> &[u8; PAYLOAD]
+    requires { line < length containers.now }
+    ensures { result.now ≡ payload_at containers.now line }
+{
+    &containers[usize::from(line)].payload
+}
+
+/// The octets that a line carries at some places.
+#[inline]
+fn part_of(containers: &[Container], line: u8, place: usize, places: usize) -> &[u8]
+    requires line { line < length containers.now }
+    requires within { place + places ≤ 2340 }
+    ensures size { length result.now ≡ places }
+    ensures octets { result.now ≡ take places (drop place (payload_at containers.now line)) }
+{
+    &payload_of(containers, line)[place..place + places]
+}
+
+/// Whether what a line carries at some places, a multiple of eight, is a word again and again.
+fn carries_word(containers: &[Container], line: u8, place: usize, places: usize, word: u64) -> bool
+    requires line { line < length containers.now }
+    requires within { place + places ≤ 2340 }
+    requires eights { places % 8 ≡ 0 }
+    ensures { result ≡ true → (p : ℕ) → p < places →
+        slice_index (payload_at containers.now line) (place + p)
+        ≡ slice_index (to_le_bytes w64 word) (p % 8) }
+{
+    word_run(part_of(containers, line, place, places), word) == places / 8
+}
+
+/// Whether the octets of a row at some places, a multiple of eight, are those of idle frames from place `have` of a header on.
+fn are_idle(
+    containers: &[Container],
+    active: &[u8],
+    place: usize,
+    places: usize,
+    have: usize,
+) -> bool
+    requires lines { AreLines (length containers.now) active.now }
+    requires few { length active.now ≤ 128 }
+    requires within { place + places ≤ 2340 }
+    requires eights { places % 8 ≡ 0 }
+    requires have { have < 4 }
+    ensures { result ≡ true → octets_from place places (payloads_of containers.now active.now)
+        ≡ idles_from have (places / 4 * length active.now) }
+{
+    let x = active.len();
+    for rank in 0..x {
+        if !carries_word(
+            containers,
+            active[rank],
+            place,
+            places,
+            idle_word(have + rank, x),
+        ) {
+            return false;
+        }
+    }
+    true
+}
+
+/// How many places from one on have the octets of idle frames that change nothing of a receiver: all that are left, to a multiple of
+/// eight, or none.
+fn idle_places(
+    delineator: &Delineator,
+    containers: &[Container],
+    active: &[u8],
+    place: usize,
+    size: usize,
+) -> usize
+    requires lines { AreLines (length containers.now) active.now }
+    requires few { length active.now ≤ 128 }
+    requires place { place ≤ size }
+    requires size { size ≤ 2340 }
+    ensures within { place + result ≤ size }
+    ensures idle { IsIdle delineator.now
+        (octets_from place result (payloads_of containers.now active.now)) }
+{
+    let places = (size - place) / 8 * 8;
+    match delineator.idle_place() {
+        Some(have) if are_idle(containers, active, place, places, have) => places,
+        _ => 0,
+    }
+}
+
 /// The octets of a row that one line carries alone.
 fn only_payload(containers: &[Container], line: u8, size: usize) -> &[u8]
     requires line { line < length containers.now }
@@ -79,8 +204,9 @@ fn only_payload(containers: &[Container], line: u8, size: usize) -> &[u8]
     &containers[usize::from(line)].payload[..size]
 }
 
-/// Gives the octets of a row to a receiver, block by block, or as they lie where one line carries them alone. `active` has the lines
-/// that carry payload, by rank, and `containers` has the container of each line.
+/// Gives the octets of a row to a receiver, block by block, or as they lie where one line carries them alone. Where all that are left
+/// are idle frames that change nothing, they aren't gathered. `active` has the lines that carry payload, by rank, and `containers` has
+/// the container of each line.
 pub(crate) fn take_members<F: FrameOut>(
     delineator: &mut Delineator,
     block: &mut [u8],
@@ -109,6 +235,7 @@ pub(crate) fn take_members<F: FrameOut>(
     let most = places_of(active.len());
     let mut place = 0;
     while place < size {
+        place += idle_places(delineator, containers, active, place, size);
         let places = most.min(size - place);
         let piece = &mut block[..places * active.len()];
         gather_places(containers, active, place, places, piece);

@@ -1,17 +1,15 @@
--- One octet more is written.
-use Rattle.std.proofs.Common.{refl, arith}
-use Rattle.hex.specs.Hex.{lower_digits}
-use Rattle.hex.proofs.Pairs.{encode_step, encode_done}
+-- The octets of whole sixteens, and the others.
+use Rattle.std.proofs.Common.{◌≡◌, ℕ, ◌-◌, ◌*◌, ◌/◌, List, ◌++◌, length, take, drop, sym, ◌∙◌, ap, ap₂, arith, length-drop}
+use Rattle.std.proofs.lemmas.List.{take_all, take-append-drop}
+use Rattle.hex.specs.Hex.{encode_lower, lower_digits}
+use Rattle.hex_text.proofs.SixteenLaws.{encode-append}
 use Rattle.hex_text.proofs.encoding.encode.Goals as goal
-
-pub loop-i-init : goal.loop-i-init
-loop-i-init c = refl
-
-pub loop-i-preserved : goal.loop-i-preserved
-loop-i-preserved c =
-    encode_step lower_digits c.args.octets.now c.loop-i.text c.loop-i.i c.digit.result c.digit-in-loop-i.result
-    (omega (arith, c.loop-i-test.true)) (omega (arith, c.loop-i-test.true, c.loop-i.auto.text, c.requires)) c.digit.ensures c.digit-in-loop-i.ensures c.loop-i.invariant
 
 pub returns : goal.returns
 returns c =
-    encode_done lower_digits c.args.octets.now c.loop-i.text c.loop-i.i (omega (arith, c.loop-i-test.false)) (omega (arith, c.loop-i.auto.text, c.requires)) c.loop-i.invariant
+    let octets : List ℕ = c.args.octets.now in
+    let whole : ℕ = length octets / 16 * 16 in
+    let rest : take (length octets - whole) (drop whole octets) ≡ drop whole octets = take_all (length octets - whole) (drop whole octets) (omega (arith, length-drop whole octets)) in
+    ap₂ (λ l m. l ++ m) c.encode_sixteens.ensures (c.encode_each.ensures ∙ ap encode_lower rest)
+    ∙ sym (encode-append lower_digits (take whole octets) (drop whole octets))
+    ∙ ap encode_lower (take-append-drop whole octets)

@@ -1,5 +1,5 @@
 -- The octets of some places more.
-use Rattle.std.proofs.Common.{◌≡◌, ℕ, List, ◌<◌, ◌≤◌, ◌+◌, ◌*◌, [], ◌∷◌, ◌++◌, length, take, get_or, sym, ◌∙◌, ap, subst, arith}
+use Rattle.std.proofs.Common.{◌≡◌, ℕ, List, ◌<◌, ◌≤◌, ◌+◌, ◌*◌, [], ◌∷◌, ◌++◌, length, take, get_or, sym, ◌∙◌, ap, ap₂, subst, arith}
 use Rattle.std.proofs.lemmas.Bool.Decides.{nat_tests}
 use Rattle.std.proofs.lemmas.List.{nil_from_length}
 use Rattle.session_model.specs.Interleave.{octets_from}
@@ -11,7 +11,7 @@ use Rattle.std.proofs.lemmas.List.{take_all}
 use Rattle.vc_cell.specs.declared.Container.{Container}
 use Rattle.vcat_interleave.specs.Members.{payload_at}
 use Rattle.gfp_delineate.proofs.ListLaws.{take_one}
-use Rattle.sink_core.proofs.GivingLaws.{octets_from-single, long-enough, known-grows, grows-none, grows-more, gives-none, gives-more}
+use Rattle.sink_core.proofs.GivingLaws.{octets_from-single, long-enough, known-grows, grows-none, grows-more, gives-none, gives-more, idle-grows, idle-gives}
 use Rattle.sink_core.proofs.members.take_members.Goals as goal
 
 pub returns-then-is_empty : goal.returns-then-is_empty
@@ -40,28 +40,36 @@ loop-place-init g c =
       gives = λ start. subst (λ l. Gives (λ o. g.F.FrameOut.stands_for o start) was l c.args.out.now c.args.out.now) (sym none) (gives-none (λ o. g.F.FrameOut.stands_for o start) was c.args.out.now);
     }
 
+-- a row and the places behind it
+more-places : (place places : ℕ) (parts : List (List ℕ)) → octets_from 0 place parts ++ octets_from place places parts ≡ octets_from 0 (place + places) parts
+more-places place places parts =
+    ap (λ p. octets_from 0 place parts ++ octets_from p places parts) (let e : place ≡ 0 + place = omega arith in e) ∙ sym (octets_from-add 0 place places parts)
+
 pub loop-place-preserved : goal.loop-place-preserved
 loop-place-preserved g c =
     let place = c.loop-place.place in
+    let skipped = c.idle_places-place.result in
     let n = c.min-places.result in
     let parts = payloads_of c.args.containers.now c.args.active.now in
     let was = c.args.delineator.now in
     let then' = c.loop-place.delineator in
     let now = c.take_piece-in-loop-place.new.delineator in
     let front = octets_from 0 place parts in
+    let idle = octets_from place skipped parts in
     let back = c.gather_places.new.out in
     let inv = c.loop-place.invariant in
-    let at : place ≡ 0 + place = omega arith in
-    let next : front ++ back ≡ octets_from 0 (place + n) parts =
-    ap (λ l. front ++ l) (c.gather_places.ensures ∙ ap (λ p. octets_from p n parts) at) ∙ sym (octets_from-add 0 place n parts) in
+    let front_grows = grows-more was then' then' front idle inv.grows (idle-grows then' idle c.idle_places-place.ensures.idle) in
+    let next : (front ++ idle) ++ back ≡ octets_from 0 (place + skipped + n) parts =
+    ap₂ (λ a b. a ++ b) (more-places place skipped parts) c.gather_places.ensures ∙ more-places (place + skipped) n parts in
     record {
-      within = omega (arith, c.min-places.ensures, inv.within);
+      within = omega (arith, c.min-places.ensures, inv.within, c.idle_places-place.ensures.within);
       known = known-grows then' now back inv.known c.take_piece-in-loop-place.ensures.grows;
-      grows = subst (Grows was now) next (grows-more was then' now front back inv.grows c.take_piece-in-loop-place.ensures.grows);
+      grows = subst (Grows was now) next (grows-more was then' now (front ++ idle) back front_grows c.take_piece-in-loop-place.ensures.grows);
       gives = λ start.
           subst (λ l. Gives (λ o. g.F.FrameOut.stands_for o start) was l c.args.out.now c.take_piece-in-loop-place.new.out) next
-          (gives-more (λ o. g.F.FrameOut.stands_for o start) was then' front back c.args.out.now c.loop-place.out c.take_piece-in-loop-place.new.out
-          inv.grows (inv.gives start) (c.take_piece-in-loop-place.ensures.gives start));
+          (gives-more (λ o. g.F.FrameOut.stands_for o start) was then' (front ++ idle) back c.args.out.now c.loop-place.out c.take_piece-in-loop-place.new.out front_grows
+          (gives-more (λ o. g.F.FrameOut.stands_for o start) was then' front idle c.args.out.now c.loop-place.out c.loop-place.out inv.grows (inv.gives start) (idle-gives (λ o. g.F.FrameOut.stands_for o start) then' idle c.loop-place.out c.idle_places-place.ensures.idle))
+          (c.take_piece-in-loop-place.ensures.gives start));
     }
 
 pub returns : goal.returns

@@ -1,0 +1,5 @@
+use Rattle.sink_core.proofs.IdleLaws.{AreDealt}
+use Rattle.sink_core.proofs.members.are_idle.Given as goal
+
+abbrev pub invariant-loop-rank : goal.invariant-loop-rank
+invariant-loop-rank l = AreDealt l.have l.place l.places l.rank l.containers l.active
