@@ -125,12 +125,12 @@ sent-long [] n all k frame e = absurd cc
 sent-long (row ∷ rows) n all zero frame e = ap length (let h : frame ≡ row.items = cc in h) ∙ all 0 row (omega arith)
 sent-long (row ∷ rows) n all (suc k) frame e = sent-long rows n (λ i d low. all (suc i) d (omega (arith, low))) k frame e
 
-pub sent-opened : (script : Script) (sent : List (Vec Container)) → length sent ≡ 32 → All (λ (row : Vec Container). length row.items ≡ script.config.lines) sent →
-    HasSent script 0 (map (λ (row : Vec Container). row.items) sent)
-sent-opened script sent places long = record {
+pub sent-opened : (script : Script) (counts : List LineCounts) (sent : List (Vec Container)) → length sent ≡ 32 → All (λ (row : Vec Container). length row.items ≡ script.config.lines) sent →
+    HasSent script 0 counts (map (λ (row : Vec Container). row.items) sent)
+sent-opened script counts sent places long = record {
   places = length-map sent (λ (row : Vec Container). row.items) ∙ places;
   lines = sent-long sent script.config.lines long;
-  frames = λ t low high. absurd (omega (arith, low));
+  frames = λ t m inside held low high. absurd (omega (arith, low));
 }
 
 -- ---- nothing was told, nothing is on its way, and nothing was delivered
@@ -223,7 +223,7 @@ module _ (script : Script) (source : Terminal) (sent : List (Vec Container)) (li
       lag = is.lag_of;
       size = is.size_of;
     });
-    sent = subst (λ n. HasSent script n (map (λ (row : Vec Container). row.items) sent)) (sym is.no_ticks) (sent-opened script sent is.places is.long);
+    sent = subst (λ n. HasSent script n (map line_counts lines) (map (λ (row : Vec Container). row.items) sent)) (sym is.no_ticks) (sent-opened script (map line_counts lines) sent is.places is.long);
     lines = opened-lines script lines is.are;
     sink = record {
       gathers = subst (Gathers rows) (sym cells-are) is.gathers;
