@@ -1,5 +1,5 @@
 -- No frame waits for a line where each line has carried all.
-use Rattle.std.proofs.Common.{◌%◌, map, subst, sym, arith}
+use Rattle.std.proofs.Common.{map, subst, sym, arith}
 use Rattle.std.specs.Global.{Vec}
 use Rattle.vc_cell.specs.declared.Container.{Container}
 use Rattle.walk_core.specs.Parts.{line_counts, HasSent}
