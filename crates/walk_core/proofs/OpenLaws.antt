@@ -18,7 +18,7 @@ use Rattle.session_model.specs.Run.{delineate_within}
 use Rattle.session_model.specs.Hunt.{hunt_within}
 use Rattle.report_text.specs.declared.report.Refusal.{Refusal}
 use Rattle.session_model.specs.Back.{cells_before}
-use Rattle.session_model.specs.Valid.{IsSize, IsValid}
+use Rattle.session_model.specs.Valid.{IsValid}
 use Rattle.session_model.specs.Counts.{LineCounts, Counts, begin, used_in, in_return, in_inbox}
 use Rattle.line_core.specs.Line.{opened}
 use Rattle.realign_core.specs.Gather.{Gather, Stands as Gathers, line_count}
@@ -152,10 +152,6 @@ drop-none (x ∷ xs) = refl
 
 range-none : {X : Type 0} (f : ℕ → X) (z n : ℕ) → n ≡ 0 → map f (range_with_len z n) ≡ []
 range-none f z n none = ap (λ k. map f (range_with_len z k)) none
-
-pub size-few : (size : ℕ) → IsSize size → size ≤ 2340
-size-few size (inl small) = omega (arith, small)
-size-few size (inr large) = omega (arith, large)
 
 refused-none : (script : Script) (items : List Numbered) → items ≡ [] → flat_map (λ item. refused_by item.number (refusal_at script item)) items ≡ []
 refused-none script items none = ap (flat_map (λ item. refused_by item.number (refusal_at script item))) none
