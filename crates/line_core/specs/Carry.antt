@@ -3,6 +3,8 @@ use Rattle.std.specs.Prelude.{List, [], ◌∷◌}
 use Rattle.vc_cell.specs.declared.Container.{Container}
 use Rattle.vc_cell.specs.declared.Cell.{Cell}
 use Rattle.vc_cell.specs.declared.Cell.TheVariants.{Good as GoodCell, Fail as FailCell, End as EndCell}
+use Rattle.session_model.specs.declared.window.Carried.{Carried}
+use Rattle.session_model.specs.declared.window.Carried.TheVariants.{Whole, Fails, Vanishes}
 use Rattle.line_core.specs.declared.carry.Carry.{Carry}
 use Rattle.line_core.specs.declared.carry.Carry.TheVariants.{Nothing, Good, Fail, End}
 use Rattle.line_core.specs.declared.carry.Out.{Out}
@@ -18,3 +20,9 @@ carry_cells Nothing place = []
 carry_cells Good place = GoodCell place ∷ []
 carry_cells Fail place = FailCell ∷ []
 carry_cells End place = EndCell ∷ []
+
+-- by what comes of a container
+abbrev pub carry_for : Carried → Carry
+carry_for Whole = Good
+carry_for Fails = Fail
+carry_for Vanishes = Nothing

@@ -1,6 +1,5 @@
 -- A line, and the calls on it.
-use Rattle.std.specs.Prelude.{◌≡◌, ℕ, suc, ◌+◌, ◌-◌, ◌<◌, ◌≤◌, List, [], ◌∷◌, ◌++◌, length, drop}
-use Rattle.circular_buffer.specs.Buffer.{Buffer}
+use Rattle.std.specs.Prelude.{◌≡◌, ℕ, suc, ◌+◌, ◌-◌, ◌<◌, ◌≤◌, min, List, [], ◌∷◌, ◌++◌, length, drop}
 use Rattle.vc_cell.specs.declared.Container.{Container}
 use Rattle.vc_cell.specs.declared.Cell.{Cell}
 use Rattle.session_model.specs.declared.window.Window.{Window}
@@ -75,10 +74,20 @@ pub record Counts (before after : Line) (pushes flushes : ℕ) : Type 0 where
 abbrev pub IsEnded : Line → Type 0
 IsEnded line = line.delay < line.flushed
 
--- what is true of the parts of a line: as many containers are on their way as were pushed and not let go, and no flush comes before
--- the last push
-pub record IsLine (store : Buffer Container) (delay total pushed flushed : ℕ) : Type 0 where
+-- the containers that are on their way, oldest first; how many there may be, and how many places are spare
+pub record Stored : Type 0 where
+  pub items : List Container
+  pub capacity : ℕ
+  pub spare : ℕ
+
+abbrev pub stored : List Container → ℕ → ℕ → Stored
+stored items capacity spare = record { items = items; capacity = capacity; spare = spare }
+
+-- what is true of the parts of a line: as many containers are on their way as were pushed and not let go, there is a spare place for
+-- each that fills the delay, and no flush comes before the last push
+pub record IsLine (store : Stored) (delay total pushed flushed : ℕ) : Type 0 where
   pub room : store.capacity ≡ delay
+  pub spare : min delay total ≤ store.spare + pushed
   pub stored : length store.items ≡ pushed - (pushed + flushed - delay)
   pub within : pushed ≤ total
   pub flushes : flushed ≤ delay + 1

@@ -1,12 +1,13 @@
 //! A line with its delay and its windows.
-ghost use Rattle.std.specs.Prelude.{◌≡◌, ◌≢◌, ◌<◌, ◌≤◌, ◌↔◌, ◌++◌, IfOk, IsTrue, Contains};
+ghost use Rattle.std.specs.Prelude.{◌≡◌, ◌≢◌, ◌-◌, ◌<◌, ◌≤◌, ◌↔◌, ◌++◌, IfOk, IfSome, IfNone, IsTrue, Contains};
+ghost use Rattle.session_model.specs.Damage.{carried};
 ghost use Rattle.line_core.specs.Carry.{carry_cells, out_cells};
 ghost use Rattle.line_core.specs.Line.{Line, IsLine, Calls, opened, and_push, and_flush, path_cells, Stands, Counts, IsEnded};
 
 use crate::carry::{Carry, Out};
-use crate::store::{Store, keep, let_go, pass};
-use circular_buffer::HeapCircularBuffer;
+use crate::store::Store;
 use failure_window::Windows;
+use session_model::Carried;
 use std::alloc::{AllocError, Global};
 use std::marker::Model;
 use vc_cell::{Cell, Container, PAYLOAD};
@@ -49,10 +50,9 @@ impl LineCore {
     ) -> Result<LineCore, AllocError>
         ensures { IfOk result (λ line. Stands line (opened delay windows total)) }
     {
-        let store = HeapCircularBuffer::with_capacity(alloc, usize::from(delay))?;
         Ok(LineCore {
             windows,
-            store,
+            store: Store::new(alloc, delay, total)?,
             delay,
             total,
             pushed: 0,
@@ -84,14 +84,36 @@ impl LineCore {
         ensures kept { result ≢ Carry.Good → out.new ≡ out.old }
         ensures counts { Counts self.old self.new 1 0 }
     {
-        let n = self.pushed;
+        let fate = self.next_fate();
         self.pushed += 1;
-        if self.store.is_full() {
-            let fate = self.windows.at(n - u32::from(self.delay));
-            pass(&mut self.store, fate, container, out)
-        } else {
-            keep(&mut self.store, container);
-            Carry::Nothing
+        match fate {
+            Some(fate) => self.store.pass(fate, container, out),
+            None => {
+                self.store.keep(container);
+                Carry::Nothing
+            }
+        }
+    }
+
+    /// Carries a container on as `push_from` does, but changes `out` for the box of a good cell's container.
+    pub fn push_boxed(&mut self, container: &Container, out: &mut Box<Container>) -> Carry
+        requires { self.old.pushed < self.old.total }
+        ensures stands { (calls : Calls) → Stands self.old calls →
+            Stands self.new (and_push calls container.now) }
+        ensures cells { (calls : Calls) → Stands self.old calls →
+            path_cells (and_push calls container.now)
+            ≡ path_cells calls ++ carry_cells result out.new.value }
+        ensures kept { result ≢ Carry.Good → out.new.value ≡ out.old.value }
+        ensures counts { Counts self.old self.new 1 0 }
+    {
+        let fate = self.next_fate();
+        self.pushed += 1;
+        match fate {
+            Some(fate) => self.store.pass_boxed(fate, container, out),
+            None => {
+                self.store.keep(container);
+                Carry::Nothing
+            }
         }
     }
 
@@ -129,7 +151,21 @@ impl LineCore {
             Carry::End
         } else {
             let fate = self.windows.at(self.total - left);
-            let_go(&mut self.store, fate, out)
+            self.store.let_go(fate, out)
+        }
+    }
+
+    /// What comes of the container that the next push lets go, once the delay is filled.
+    fn next_fate(&self) -> Option<Carried>
+        requires { self.now.pushed < self.now.total }
+        ensures filled { IfSome result (λ fate. (self.now.delay ≤ self.now.pushed)
+            × (fate ≡ carried self.now.windows (self.now.pushed - self.now.delay))) }
+        ensures filling { IfNone result (self.now.pushed < self.now.delay) }
+    {
+        if self.store.is_full() {
+            Some(self.windows.at(self.pushed - u32::from(self.delay)))
+        } else {
+            None
         }
     }
 

@@ -1,91 +1,200 @@
 //! The containers on their way, oldest first, and what comes of the oldest.
-ghost use Rattle.std.specs.Prelude.{◌≡◌, ◌≢◌, ◌<◌, [], ◌∷◌, ◌++◌, length, drop, slice_get, Some};
-ghost use Rattle.circular_buffer.specs.Buffer.{buffer};
+ghost use Rattle.std.specs.Prelude.{◌≡◌, ◌≢◌, ◌+◌, ◌-◌, ◌<◌, ◌≤◌, ◌==◌, min, [], ◌∷◌, ◌++◌, length, drop, slice_get, Some, IfOk};
 ghost use Rattle.vc_cell.specs.declared.Container.{Container};
 ghost use Rattle.session_model.specs.Path.{cells_of};
-ghost use Rattle.line_core.specs.Carry.{carry_cells};
+ghost use Rattle.line_core.specs.Carry.{carry_cells, carry_for};
+ghost use Rattle.line_core.specs.Line.{stored};
 
 use crate::carry::Carry;
 use circular_buffer::HeapCircularBuffer;
 use session_model::Carried;
-use std::slice;
-use vc_cell::Container;
+use std::alloc::{AllocError, Global};
+use std::marker::Model;
+use std::mem;
+use vc_cell::{Container, PAYLOAD};
 
-// The containers on their way: as many as the delay, once it is filled.
-pub(crate) type Store = HeapCircularBuffer<Container>;
-
-// Puts a container after those on their way.
-pub(crate) fn keep(store: &mut Store, container: &Container)
-    requires { length store.old.items < store.old.capacity }
-    ensures { store.new ≡ buffer (store.old.items ++ container.now ∷ []) store.old.capacity }
-{
-    let _one = store.fill_from_slice(slice::from_ref(container));
+/// The containers on their way: as many as the delay, once it is filled. Each lies in a box, so that it is never moved itself.
+#[derive(Drop)]
+pub(crate) struct Store {
+    kept: HeapCircularBuffer<Box<Container>>,
+    /// Boxes for the containers that fill the delay.
+    spare: Vec<Box<Container>>,
 }
 
-// Takes the oldest container out of the store, into `out` where it comes whole.
-pub(crate) fn let_go(store: &mut Store, fate: Carried, out: &mut Container) -> Carry
-    requires { 0 < length store.old.items }
-    ensures store { store.new ≡ buffer (drop 1 store.old.items) store.old.capacity }
-    ensures cells { (x : Container) → slice_get store.old.items 0 ≡ Some x →
-        carry_cells result out.new ≡ cells_of fate x }
-    ensures kept { result ≢ Carry.Good → out.new ≡ out.old }
-{
-    match fate {
-        Carried::Whole => {
-            let _one = store.read_into(slice::from_mut(out));
-            Carry::Good
+impl Model for Store {
+    ghost use Rattle.std.specs.Prelude.{map, length};
+    ghost use Rattle.line_core.specs.Line.{Stored};
+
+    ghost Value = { Stored };
+
+    ghost view = { λ store. record {
+      items = map (λ place. place.value) store.kept.items;
+      capacity = store.kept.capacity;
+      spare = length store.spare.items;
+    } };
+}
+
+impl Store {
+    /// An empty store for a delay in containers, of a line that carries so many in all.
+    pub(crate) fn new(alloc: Global, delay: u16, total: u32) -> Result<Store, AllocError>
+        ensures { IfOk result (λ store. store ≡ stored [] delay (min delay total)) }
+    {
+        let kept = HeapCircularBuffer::with_capacity(alloc, usize::from(delay))?;
+        let spare = blank_boxes(alloc, u32::from(delay).min(total))?;
+        Ok(Store { kept, spare })
+    }
+
+    /// Whether it holds as many containers as it can.
+    pub(crate) fn is_full(&self) -> bool
+        ensures { result ≡ (length self.now.items == self.now.capacity) }
+    {
+        self.kept.is_full()
+    }
+
+    /// Whether it holds none.
+    pub(crate) fn is_empty(&self) -> bool
+        ensures { result ≡ (length self.now.items == 0) }
+    {
+        self.kept.is_empty()
+    }
+
+    /// Puts a container after those on their way, into a spare box.
+    pub(crate) fn keep(&mut self, container: &Container)
+        requires room { length self.old.items < self.old.capacity }
+        requires spare { 0 < self.old.spare }
+        ensures { self.new ≡ stored (self.old.items ++ container.now ∷ [])
+            self.old.capacity (self.old.spare - 1) }
+    {
+        match self.spare.pop() {
+            Some(place) => self.put(place, container),
+            None => unreachable!(),
         }
-        Carried::Fails => {
-            lose(store);
-            Carry::Fail
+    }
+
+    /// Puts a container after those on their way, into this box.
+    fn put(&mut self, mut place: Box<Container>, container: &Container)
+        requires { length self.old.items < self.old.capacity }
+        ensures { self.new ≡ stored (self.old.items ++ container.now ∷ [])
+            self.old.capacity self.old.spare }
+    {
+        *place = *container;
+        let _none = self.kept.push_back(place);
+    }
+
+    /// Takes the oldest container out.
+    fn take_oldest(&mut self) -> Box<Container>
+        requires { 0 < length self.old.items }
+        ensures store { self.new ≡ stored (drop 1 self.old.items) self.old.capacity self.old.spare }
+        ensures oldest { slice_get self.old.items 0 ≡ Some result.value }
+    {
+        match self.kept.pop_front() {
+            Some(oldest) => oldest,
+            None => unreachable!(),
         }
-        Carried::Vanishes => {
-            lose(store);
-            Carry::Nothing
+    }
+
+    /// Takes the oldest container out of the store, and copies it to `out` where it comes whole.
+    pub(crate) fn let_go(&mut self, fate: Carried, out: &mut Container) -> Carry
+        requires { 0 < length self.old.items }
+        ensures store { self.new ≡ stored (drop 1 self.old.items) self.old.capacity self.old.spare }
+        ensures cells { (x : Container) → slice_get self.old.items 0 ≡ Some x →
+            carry_cells result out.new ≡ cells_of fate x }
+        ensures kept { result ≢ Carry.Good → out.new ≡ out.old }
+    {
+        let oldest = self.take_oldest();
+        go_by(fate, &oldest, out)
+    }
+
+    /// Puts a container into a full store, and takes the oldest out: that is the container itself where the store has no place.
+    pub(crate) fn pass(
+        &mut self,
+        fate: Carried,
+        container: &Container,
+        out: &mut Container,
+    ) -> Carry
+        requires { length self.old.items ≡ self.old.capacity }
+        ensures store { self.new ≡ stored (drop 1 (self.old.items ++ container.now ∷ []))
+            self.old.capacity self.old.spare }
+        ensures cells { (x : Container) → slice_get (self.old.items ++ container.now ∷ []) 0 ≡ Some x →
+            carry_cells result out.new ≡ cells_of fate x }
+        ensures kept { result ≢ Carry.Good → out.new ≡ out.old }
+    {
+        if self.is_empty() {
+            return go_by(fate, container, out);
         }
+        let oldest = self.take_oldest();
+        let carry = go_by(fate, &oldest, out);
+        self.put(oldest, container);
+        carry
+    }
+
+    /// Puts a container into a full store and takes the oldest out as `pass` does, but gives its box, where it comes whole.
+    pub(crate) fn pass_boxed(
+        &mut self,
+        fate: Carried,
+        container: &Container,
+        out: &mut Box<Container>,
+    ) -> Carry
+        requires { length self.old.items ≡ self.old.capacity }
+        ensures store { self.new ≡ stored (drop 1 (self.old.items ++ container.now ∷ []))
+            self.old.capacity self.old.spare }
+        ensures cells { (x : Container) → slice_get (self.old.items ++ container.now ∷ []) 0 ≡ Some x →
+            carry_cells result out.new.value ≡ cells_of fate x }
+        ensures kept { result ≢ Carry.Good → out.new.value ≡ out.old.value }
+    {
+        if self.is_empty() {
+            return go_by(fate, container, out);
+        }
+        let mut oldest = self.take_oldest();
+        let carry = change(fate, &mut oldest, out);
+        self.put(oldest, container);
+        carry
     }
 }
 
-// Takes the oldest container out of the store.
-fn lose(store: &mut Store)
-    requires { 0 < length store.old.items }
-    ensures { store.new ≡ buffer (drop 1 store.old.items) store.old.capacity }
+/// So many boxes.
+fn blank_boxes(alloc: Global, count: u32) -> Result<Vec<Box<Container>>, AllocError>
+    ensures { IfOk result (λ places. length places.items ≡ count) }
 {
-    store.truncate_front(store.len() - 1);
-}
-
-// Puts a container into a full store, and takes the oldest out: that is the container itself where the store has no place.
-pub(crate) fn pass(
-    store: &mut Store,
-    fate: Carried,
-    container: &Container,
-    out: &mut Container,
-) -> Carry
-    requires { length store.old.items ≡ store.old.capacity }
-    ensures store { store.new
-        ≡ buffer (drop 1 (store.old.items ++ container.now ∷ [])) store.old.capacity }
-    ensures cells { (x : Container) → slice_get (store.old.items ++ container.now ∷ []) 0 ≡ Some x →
-        carry_cells result out.new ≡ cells_of fate x }
-    ensures kept { result ≢ Carry.Good → out.new ≡ out.old }
-{
-    if store.is_empty() {
-        return go_by(fate, container, out);
+    let mut places = Vec::with_capacity(alloc, count as usize)?;
+    for _ in 0..count {
+        let blank = Container {
+            h4: 0,
+            payload: [0; PAYLOAD],
+        };
+        places.push(Box::new(alloc, blank)?)?;
     }
-    let carry = let_go(store, fate, out);
-    keep(store, container);
-    carry
+    Ok(places)
 }
 
-// What comes of a container without delay.
+/// What comes of a container, which is copied where it comes whole.
 fn go_by(fate: Carried, container: &Container, out: &mut Container) -> Carry
     ensures cells { carry_cells result out.new ≡ cells_of fate container.now }
     ensures kept { result ≢ Carry.Good → out.new ≡ out.old }
 {
+    if let Carried::Whole = fate {
+        *out = *container;
+    }
+    carry_of(fate)
+}
+
+/// What comes of a container in a box, which changes places with the other where it comes whole.
+fn change(fate: Carried, place: &mut Box<Container>, out: &mut Box<Container>) -> Carry
+    ensures cells { carry_cells result out.new.value ≡ cells_of fate place.old.value }
+    ensures kept { result ≢ Carry.Good → out.new.value ≡ out.old.value }
+{
+    if let Carried::Whole = fate {
+        mem::swap(place, out);
+    }
+    carry_of(fate)
+}
+
+/// What a carry gives, by what comes of its container.
+fn carry_of(fate: Carried) -> Carry
+    ensures { result ≡ carry_for fate }
+{
     match fate {
-        Carried::Whole => {
-            *out = *container;
-            Carry::Good
-        }
+        Carried::Whole => Carry::Good,
         Carried::Fails => Carry::Fail,
         Carried::Vanishes => Carry::Nothing,
     }

@@ -36,6 +36,7 @@ use Rattle.walk_core.specs.Moved.{answer_by, moved_of, counts_after}
 use Rattle.walk_core.specs.Parts.{Parts, Landing, HasSent, counts_of, calls_on, line_counts, HasLine, IsWalk}
 use Rattle.walk_core.specs.Carry.{carry_cause, CanCarry, HasRoom, IsSentOn}
 use Rattle.walk_core.proofs.EventLaws.{walked-next}
+use Rattle.walk_core.proofs.SendLaws.{sent-later, set-carries, counts-of}
 
 -- a line in numbers
 pub record AreNumbers (script : Script) (m : ℕ) (line : Ringed) : Type 0 where
@@ -273,7 +274,9 @@ module _ (script : Script) (parts : Parts) (landing : Landing) (got : ℕ) (last
           valid = is.valid;
           walked = walked-next script (counts_of parts landing) _ (Carry m) is.walked carry-counts;
           source = record { made = is.source.made; lines = is.source.lines; lag = is.source.lag; size = is.source.size };
-          sent = is.sent;
+          sent = sent-later script parts.source.ticks _ _ parts.sent is.sent
+              (λ k. subst (λ ls. (counts_at (counts_of parts landing).lines k).carried ≤ (counts_at ls k).carried) (sym lines-are)
+              (set-carries (counts_of parts landing).lines m k (line_counts line) (record { carried = line.carried + 1; popped = line.popped }) here (omega arith)));
           lines = record {
             size = length-slice_set parts.lines m after ∙ is.lines.size;
             each = λ k other e. elim (cases_eq k m) [
@@ -296,19 +299,19 @@ module _ (script : Script) (parts : Parts) (landing : Landing) (got : ℕ) (last
     carry-counts_at k same = ap (λ (j : ℕ). counts_of (record parts { lines = slice_set parts.lines j after }) landing) same ∙ carry-counts
 
 -- a place of the send rings
-pub frame-size : (script : Script) (ticks : ℕ) (sent : List (Vec Container)) → HasSent script ticks (map (λ (row : Vec Container). row.items) sent) → (k : ℕ) (frame : Vec Container) → slice_get sent k ≡ Some frame →
+pub frame-size : (script : Script) (ticks : ℕ) (counts : List LineCounts) (sent : List (Vec Container)) → HasSent script ticks counts (map (λ (row : Vec Container). row.items) sent) → (k : ℕ) (frame : Vec Container) → slice_get sent k ≡ Some frame →
     length frame.items ≡ script.config.lines
-frame-size script ticks sent has k frame e = has.lines k frame.items (map-get (λ (row : Vec Container). row.items) sent k frame e)
+frame-size script ticks counts sent has k frame e = has.lines k frame.items (map-get (λ (row : Vec Container). row.items) sent k frame e)
 
-pub sent-places : (script : Script) (ticks : ℕ) (sent : List (Vec Container)) → HasSent script ticks (map (λ (row : Vec Container). row.items) sent) → length sent ≡ 32
-sent-places script ticks sent has = sym (length-map sent (λ (row : Vec Container). row.items)) ∙ has.places
+pub sent-places : (script : Script) (ticks : ℕ) (counts : List LineCounts) (sent : List (Vec Container)) → HasSent script ticks counts (map (λ (row : Vec Container). row.items) sent) → length sent ≡ 32
+sent-places script ticks counts sent has = sym (length-map sent (λ (row : Vec Container). row.items)) ∙ has.places
 
 -- the container that a carry takes
-pub is-sent : (script : Script) (ticks : ℕ) (sent : List (Vec Container)) (m x : ℕ) → HasSent script ticks (map (λ (row : Vec Container). row.items) sent) → m < length script.config.windows →
-    (x < script.config.ticks → x < ticks) → (x < script.config.ticks → ticks ≤ x + 32) → IsSentOn script m x sent
-is-sent script ticks sent m x has inside some room low frame e =
+pub is-sent : (script : Script) (ticks : ℕ) (counts : List LineCounts) (sent : List (Vec Container)) (m x : ℕ) → HasSent script ticks counts (map (λ (row : Vec Container). row.items) sent) → m < length script.config.windows →
+    m < script.config.lines → (counts_at counts m).carried ≤ x → (x < script.config.ticks → x < ticks) → (x < script.config.ticks → ticks ≤ x + 32) → IsSentOn script m x sent
+is-sent script ticks counts sent m x has inside own held some room low frame e =
     let row = map-get (λ (row : Vec Container). row.items) sent (x % 32) frame e in
-    let same = same-some frame.items (frame_of (scenario_of script) (session_cells (scenario_of script)) x) (sym row ∙ has.frames x (some low) (room low)) in
+    let same = same-some frame.items (frame_of (scenario_of script) (session_cells (scenario_of script)) x) (sym row ∙ has.frames x m own held (some low) (room low)) in
     ap (λ xs. slice_get xs m) same ∙ frame-at script m x inside
 
 module _ (script : Script) (parts : Parts) (landing : Landing) (got : ℕ) (last : Option StepNote) (is : IsWalk script parts landing got last)
@@ -331,7 +334,8 @@ module _ (script : Script) (parts : Parts) (landing : Landing) (got : ℕ) (last
       let a = n.pushed in let b = n.total in
       let fits = fits-line in
       let send = fits.send in
-      is-sent script parts.source.ticks sent m line.carried (subst (HasSent script parts.source.ticks) (sym same) is.sent) (omega (arith, low, e))
+      is-sent script parts.source.ticks (map line_counts parts.lines) sent m line.carried (subst (HasSent script parts.source.ticks (map line_counts parts.lines)) (sym same) is.sent) (omega (arith, low, e))
+      low (let own = ap (λ (l : LineCounts). l.carried) (counts-of parts.lines m line there) in omega (arith, own))
       (λ left. can.wet (omega (arith, a, b, left))) (λ left. omega (arith, send, left))
 
   pub room-left : (line.given ≡ line.popped + ring_of line → ⊥) → line.given < line.popped + ring_of line

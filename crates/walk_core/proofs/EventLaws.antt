@@ -1,5 +1,5 @@
 -- What each event leaves of a walk's counts.
-use Rattle.std.proofs.Common.{◌≡◌, [], ◌∷◌, ◌++◌, Option, Some, None, refl, sym, ◌∙◌, ap}
+use Rattle.std.proofs.Common.{◌≡◌, [], ◌∷◌, ◌++◌, Option, Some, refl, sym, ◌∙◌, ap}
 use Rattle.session_model.specs.declared.walk.Event.{Event}
 use Rattle.session_model.specs.declared.script.Script.{Script}
 use Rattle.session_model.specs.declared.walk.StallCause.{StallCause}
@@ -12,7 +12,7 @@ use Rattle.report_text.specs.declared.report.Refusal.{Refusal}
 use Rattle.walk_law.specs.Walk.{walk_plan, IsWalked}
 use Rattle.walk_law.proofs.PlanLaws.{has-plan, valid-walks}
 use Rattle.walk_core.specs.Moved.{answer_by, counts_after}
-use Rattle.walk_core.specs.declared.moved.Moved.TheVariants.{Yes, Stalled}
+use Rattle.walk_core.specs.declared.moved.Moved.TheVariants.{Stalled}
 
 pub walked-next : (script : Script) (s next : Counts) (event : Event) → IsWalked script s → next ≡ counts_after script s event → IsWalked script next
 unfolding run
@@ -27,6 +27,3 @@ walk-fits script s valid walked = reached-fits (walk_plan script) s (has-plan sc
 -- a stalled event
 pub stalled-moved : (cause : StallCause) (found : Option StallCause) (why : Option Refusal) → found ≡ Some cause → Stalled cause ≡ answer_by found why
 stalled-moved cause found why e = rw e refl
-
-pub yes-moved : (found : Option StallCause) (why : Option Refusal) → found ≡ None → why ≡ None → Yes ≡ answer_by found why
-yes-moved found why e f = rw (e, f) refl

@@ -1,5 +1,5 @@
 -- What an item that lands leaves of a walk.
-use Rattle.std.proofs.Common.{◌≡◌, ℕ, suc, ◌+◌, ◌-◌, ◌<◌, ◌≤◌, nat_lt, Bool, true, false, List, [], ◌∷◌, ◌++◌, length, take, drop, slice_get, slice_index_or, Option, Some, None, option_map, inl, inr, sym, ◌∙◌, ap, subst, arith}
+use Rattle.std.proofs.Common.{◌≡◌, ℕ, suc, ◌+◌, ◌-◌, ◌<◌, ◌≤◌, nat_lt, Bool, true, false, List, [], ◌∷◌, ◌++◌, length, take, drop, map, slice_get, slice_index_or, Option, Some, None, option_map, inl, inr, sym, ◌∙◌, ap, subst, arith}
 use Rattle.std.specs.List.{flat_map}
 use Rattle.std.proofs.lemmas.Bool.{cases_Bool}
 use Rattle.std.proofs.lemmas.List.{length-append, length-take-le}
@@ -30,7 +30,7 @@ use Rattle.walk_law.proofs.ReportLaws.{frame-placed, command-placed, frame-total
 use Rattle.walk_parts.specs.Place.{is_frame, is_command, place_of}
 use Rattle.walk_core.specs.declared.moved.StepNote.{StepNote}
 use Rattle.walk_core.specs.Landing.{stall_by, met_by, with_kind}
-use Rattle.walk_core.specs.Parts.{Parts, Landing, counts_of, note_of, HasSource, HasSent, HasBack, HasLanded, IsWalk}
+use Rattle.walk_core.specs.Parts.{Parts, Landing, counts_of, note_of, HasSource, HasSent, HasBack, HasLanded, line_counts, IsWalk}
 use Rattle.session_model.specs.declared.walk.Event.{Event}
 use Rattle.session_model.specs.declared.walk.StallCause.{StallCause}
 use Rattle.session_model.specs.declared.walk.Event.TheVariants.{Accept, Command}
@@ -143,7 +143,7 @@ module _ (script : Script) (parts : Parts) (landing : Landing) (got : ℕ) (last
           lag = same.lag ∙ is.source.lag;
           size = same.size ∙ is.source.size;
         });
-        sent = subst (λ t. HasSent script t parts.sent) (sym ticks) is.sent;
+        sent = subst (λ t. HasSent script t (map line_counts parts.lines) parts.sent) (sym ticks) is.sent;
         lines = is.lines;
         sink = record { gathers = is.sink.gathers; taken = is.sink.taken; passed = is.sink.passed; lines = is.sink.lines; all = is.sink.all; size = is.sink.size };
         back = subst (λ (c : Counts). HasBack script c parts.back) e (record { ring = is.back.ring; inbox = is.back.inbox; room = is.back.room });

@@ -1,6 +1,7 @@
 pub mod EventLaws
 pub mod BackLaws
 pub mod RoundLaws
+pub mod SendLaws
 pub mod CarryLaws
 pub mod TickLaws
 pub mod OpenLaws

@@ -18,7 +18,7 @@ use Rattle.session_model.specs.Run.{delineate_within}
 use Rattle.session_model.specs.Hunt.{hunt_within}
 use Rattle.report_text.specs.declared.report.Refusal.{Refusal}
 use Rattle.session_model.specs.Back.{cells_before}
-use Rattle.session_model.specs.Valid.{IsSize, IsValid}
+use Rattle.session_model.specs.Valid.{IsValid}
 use Rattle.session_model.specs.Counts.{LineCounts, Counts, begin, used_in, in_return, in_inbox}
 use Rattle.line_core.specs.Line.{opened}
 use Rattle.realign_core.specs.Gather.{Gather, Stands as Gathers, line_count}
@@ -125,12 +125,12 @@ sent-long [] n all k frame e = absurd cc
 sent-long (row ∷ rows) n all zero frame e = ap length (let h : frame ≡ row.items = cc in h) ∙ all 0 row (omega arith)
 sent-long (row ∷ rows) n all (suc k) frame e = sent-long rows n (λ i d low. all (suc i) d (omega (arith, low))) k frame e
 
-pub sent-opened : (script : Script) (sent : List (Vec Container)) → length sent ≡ 32 → All (λ (row : Vec Container). length row.items ≡ script.config.lines) sent →
-    HasSent script 0 (map (λ (row : Vec Container). row.items) sent)
-sent-opened script sent places long = record {
+pub sent-opened : (script : Script) (counts : List LineCounts) (sent : List (Vec Container)) → length sent ≡ 32 → All (λ (row : Vec Container). length row.items ≡ script.config.lines) sent →
+    HasSent script 0 counts (map (λ (row : Vec Container). row.items) sent)
+sent-opened script counts sent places long = record {
   places = length-map sent (λ (row : Vec Container). row.items) ∙ places;
   lines = sent-long sent script.config.lines long;
-  frames = λ t low high. absurd (omega (arith, low));
+  frames = λ t m inside held low high. absurd (omega (arith, low));
 }
 
 -- ---- nothing was told, nothing is on its way, and nothing was delivered
@@ -152,10 +152,6 @@ drop-none (x ∷ xs) = refl
 
 range-none : {X : Type 0} (f : ℕ → X) (z n : ℕ) → n ≡ 0 → map f (range_with_len z n) ≡ []
 range-none f z n none = ap (λ k. map f (range_with_len z k)) none
-
-pub size-few : (size : ℕ) → IsSize size → size ≤ 2340
-size-few size (inl small) = omega (arith, small)
-size-few size (inr large) = omega (arith, large)
 
 refused-none : (script : Script) (items : List Numbered) → items ≡ [] → flat_map (λ item. refused_by item.number (refusal_at script item)) items ≡ []
 refused-none script items none = ap (flat_map (λ item. refused_by item.number (refusal_at script item))) none
@@ -223,7 +219,7 @@ module _ (script : Script) (source : Terminal) (sent : List (Vec Container)) (li
       lag = is.lag_of;
       size = is.size_of;
     });
-    sent = subst (λ n. HasSent script n (map (λ (row : Vec Container). row.items) sent)) (sym is.no_ticks) (sent-opened script sent is.places is.long);
+    sent = subst (λ n. HasSent script n (map line_counts lines) (map (λ (row : Vec Container). row.items) sent)) (sym is.no_ticks) (sent-opened script (map line_counts lines) sent is.places is.long);
     lines = opened-lines script lines is.are;
     sink = record {
       gathers = subst (Gathers rows) (sym cells-are) is.gathers;

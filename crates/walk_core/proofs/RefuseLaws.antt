@@ -1,10 +1,8 @@
 -- A refusal is put at its place.
-use Rattle.std.proofs.Common.{◌≡◌, ℕ, ◌+◌, ◌-◌, ◌<◌, ◌≤◌, List, [], ◌∷◌, ◌++◌, length, slice_index_or, insert, inl, inr, refl, sym, ◌∙◌, ap, arith}
+use Rattle.std.proofs.Common.{◌≡◌, ℕ, ◌+◌, ◌-◌, ◌<◌, ◌≤◌, List, length, slice_index_or, inl, inr, refl, ◌∙◌, ap, arith}
 use Rattle.std.proofs.lemmas.Bool.{cases_lt}
 use Rattle.std.proofs.lemmas.List.{get_or_append_left, get_or-append_right, length-append}
-use Rattle.std.proofs.lemmas.List.Edits.{insert_end, insert-append_left}
 use Rattle.report_text.specs.declared.report.Refusal.{Refusal}
-use Rattle.walk_law.specs.Landed.{IsPlaced}
 use Rattle.walk_core.specs.Landing.{IsParted}
 
 -- the refusal before a place is after the item, so the place isn't the one
@@ -36,14 +34,3 @@ place-found item front back refusals place d parted some within high low =
           absurd (omega (arith, high, e, after)))
       | inr same ↦ omega (arith, same, low)
     ]
-
-pub placed-parted : (item : ℕ) (put was now : List (ℕ × Refusal)) → (p : IsPlaced item put was now) → IsParted item p.front p.back was
-placed-parted item put was now p = record { whole = p.was_so; before = p.before; after = p.after }
-
-pub placed-inserted : (item : ℕ) (why : Refusal) (was now : List (ℕ × Refusal)) (place : ℕ) → (p : IsPlaced item ((item, why) ∷ []) was now) → place ≡ length p.front → insert was place (item, why) ≡ now
-placed-inserted item why was now place p at =
-    ap (λ xs. insert xs place (item, why)) p.was_so
-    ∙ ap (λ k. insert (p.front ++ p.back) k (item, why)) at
-    ∙ insert-append_left p.front p.back (length p.front) (item, why) (omega arith)
-    ∙ ap (λ xs. xs ++ p.back) (insert_end p.front (item, why))
-    ∙ sym p.is_so

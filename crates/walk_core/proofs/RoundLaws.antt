@@ -1,5 +1,5 @@
 -- Rounds of a walk: items land until they stall, each line is tried once, and so for the rest.
-use Rattle.std.proofs.Common.{◌≡◌, ℕ, zero, suc, ◌+◌, ◌-◌, ◌<◌, ◌≤◌, ◌&&◌, ◌⊎◌, nat_le, nat_lt, inl, inr, List, [], ◌∷◌, ◌++◌, length, replicate, drop, slice_get, Option, Some, None, refl, sym, ◌∙◌, ap, subst, arith, append_assoc}
+use Rattle.std.proofs.Common.{◌≡◌, ℕ, zero, suc, ◌+◌, ◌-◌, ◌<◌, ◌≤◌, ◌&&◌, nat_le, nat_lt, inl, inr, List, [], ◌∷◌, ◌++◌, length, replicate, drop, slice_get, Option, Some, None, refl, sym, ◌∙◌, ap, subst, arith, append_assoc}
 use Rattle.std.proofs.lemmas.Option.{slice_get_within}
 use Rattle.std.proofs.lemmas.Bool.{cases_Bool}
 use Rattle.std.proofs.lemmas.List.{append-nil}
@@ -234,11 +234,6 @@ take-rises plan s =
       ])
     ]
 
--- a walk goes on after an answer that isn't a stall
-pub is-moving : (moved : Moved) → (moved ≡ Yes) ⊎ ((why : Refusal) × (moved ≡ Refused why)) → IsMoving moved
-is-moving moved (inl h) cause e = absurd (let f : Yes ≡ Stalled cause = sym h ∙ e in cc)
-is-moving moved (inr h) cause e = absurd (let f : Refused h.0 ≡ Stalled cause = sym h.1 ∙ e in cc)
-
 -- ---- the frames of more rows
 drop-append : {X : Type 0} (xs ys : List X) → drop (length xs) (xs ++ ys) ≡ ys
 drop-append [] ys = refl
@@ -262,9 +257,6 @@ since-none script a = ap (drop (length (delivered_of script a))) (sym (append-ni
 pub round-rows : (script : Script) (a b t m r e s : Counts) → a.rows ≡ s.rows → b.rows ≡ a.rows → t ≡ counts_after script b Tick → m.rows ≡ t.rows → r ≡ counts_after script m Back → r.rows ≡ s.rows
 round-rows script a b t m r e s is_a is_b is_t is_m is_r =
     ap (λ (x : Counts). x.rows) is_r ∙ back-rows m ∙ is_m ∙ ap (λ (x : Counts). x.rows) is_t ∙ tick-rows (walk_plan script) b ∙ is_b ∙ is_a
-
-pub take-more : (script : Script) (r e s : Counts) → r.rows ≡ s.rows → e ≡ counts_after script r Take → s.rows ≤ e.rows
-take-more script r e s same is = let low = take-rises (walk_plan script) r in let next = ap (λ (x : Counts). x.rows) is in omega (arith, low, next, same)
 
 -- ---- no event takes rows back
 step-rises : (script : Script) (s : Counts) (event : Event) → s.rows ≤ (counts_after script s event).rows

@@ -37,14 +37,15 @@ use Rattle.walk_parts.specs.Ringed.{Ringed}
 use Rattle.walk_core.specs.declared.moved.StepNote.{StepNote}
 use Rattle.walk_core.specs.declared.moved.Moved.TheVariants.{Yes, Stalled}
 use Rattle.walk_core.specs.Moved.{answer_by, moved_of, counts_after, delivered_since, GivesRows}
-use Rattle.walk_core.specs.Parts.{Parts, Landing, HasBack, counts_of, line_counts, IsWalk}
+use Rattle.walk_core.specs.Parts.{Parts, Landing, HasSent, HasBack, counts_of, line_counts, IsWalk}
 use Rattle.walk_core.specs.Take.{take_cause, CanPop, HasPopped, CanTake, HasRow}
 use Rattle.walk_core.proofs.EventLaws.{walk-fits, walked-next}
+use Rattle.walk_core.proofs.SendLaws.{sent-later}
 use Rattle.walk_core.proofs.BackLaws.{ring-size}
 use Rattle.walk_core.proofs.CarryLaws.{numbers, map-get, same-some}
 use Rattle.walk_core.proofs.TakeLaws.{counts-at}
 
--- ---- what is popped is more
+-- ---- what is popped is more, and what is carried the same
 pop-more : (k : ℕ) (path : LinePath) (t y : ℕ) → y ≤ pop k path t y
 unfolding pop
 pop-more zero path t y = omega arith
@@ -68,6 +69,21 @@ pops-more t k (path ∷ paths) (line ∷ lines) (suc m) =
     elim (cases_Bool (nat_le (path.decided (popped_line path t line).popped) t)) [
       | inl e ↦ rw e (omega arith)
       | inr e ↦ rw e (pops-more t (suc k) paths lines m)
+    ]
+
+pops-carry : (t k : ℕ) (paths : List LinePath) (lines : List LineCounts) (m : ℕ) → (counts_at lines m).carried ≤ (counts_at (pop_lines t k paths lines).lines m).carried
+unfolding pop_lines
+pops-carry t k [] lines m = omega arith
+pops-carry t k (path ∷ paths) [] m = omega arith
+pops-carry t k (path ∷ paths) (line ∷ lines) zero =
+    elim (cases_Bool (nat_le (path.decided (popped_line path t line).popped) t)) [
+      | inl e ↦ rw e (omega arith)
+      | inr e ↦ rw e (omega arith)
+    ]
+pops-carry t k (path ∷ paths) (line ∷ lines) (suc m) =
+    elim (cases_Bool (nat_le (path.decided (popped_line path t line).popped) t)) [
+      | inl e ↦ rw e (omega arith)
+      | inr e ↦ rw e (pops-carry t (suc k) paths lines m)
     ]
 
 cells-longer : (script : Script) (before after : List LineCounts) → ((m : ℕ) → (counts_at before m).popped ≤ (counts_at after m).popped) → IsLonger (popped_cells script before) (popped_cells script after)
@@ -258,6 +274,11 @@ module _ (script : Script) (parts : Parts) (landing : Landing) (got : ℕ) (last
           (λ m. subst (λ ls. (counts_at (map line_counts parts.lines) m).popped ≤ (counts_at ls m).popped) (sym lines-are) (pops-more parts.sink.taken 0 (walk_plan script).paths was.lines m)))
           is.sink.taken
 
+      sent : HasSent script parts.source.ticks (map line_counts lines) parts.sent
+      sent =
+          sent-later script parts.source.ticks was.lines (map line_counts lines) parts.sent is.sent
+          (λ m. subst (λ ls. (counts_at was.lines m).carried ≤ (counts_at ls m).carried) (sym lines-are) (pops-carry parts.sink.taken 0 (walk_plan script).paths was.lines m))
+
       module _ (line : ℕ) (waits : Some line ≡ waiting) where
         stays : step (walk_plan script) (counts_of parts landing) Take ≡ stalled (record (counts_of parts landing) { lines = map line_counts lines }) (Waiting line)
         stays = moves ∙ ap (take_popped was (map line_counts lines)) (sym waits)
@@ -273,7 +294,7 @@ module _ (script : Script) (parts : Parts) (landing : Landing) (got : ℕ) (last
           valid = is.valid;
           walked = walked-next script was _ Take is.walked waits-counts;
           source = record { made = is.source.made; lines = is.source.lines; lag = is.source.lag; size = is.source.size };
-          sent = is.sent;
+          sent = sent;
           lines = popped.lines;
           sink = record { gathers = popped.gathers; taken = stands; passed = row-is; lines = count ∙ is.sink.lines; all = is.sink.all; size = is.sink.size };
           back = record { ring = is.back.ring; inbox = is.back.inbox; room = is.back.room };
@@ -343,7 +364,7 @@ module _ (script : Script) (parts : Parts) (landing : Landing) (got : ℕ) (last
               valid = is.valid;
               walked = subst (IsWalked script) (sym counts-are) walked-on;
               source = record { made = is.source.made; lines = is.source.lines; lag = is.source.lag; size = is.source.size };
-              sent = is.sent;
+              sent = sent;
               lines = popped.lines;
               sink = record { gathers = row.gathers; taken = row.taken; passed = row.passed; lines = row.lines ∙ sym row.all; all = row.all ∙ is.sink.all; size = row.size ∙ is.sink.size };
               back = subst (λ s. HasBack script s back) (sym counts-are) (record {

@@ -18,7 +18,7 @@ use Rattle.session_model.specs.Scenario.{Scenario, scenario_of}
 use Rattle.session_model.specs.Table.{Told}
 use Rattle.session_model.specs.Back.{session_cells, cells_before}
 use Rattle.session_model.specs.Sent.{container_of, frame_of}
-use Rattle.session_model.specs.Counts.{Plan, Counts, Step, in_inbox, used_in, held, full, is_missing, moved, tick, tick_held, tick_full, step}
+use Rattle.session_model.specs.Counts.{LineCounts, Plan, Counts, Step, in_inbox, used_in, held, full, is_missing, moved, tick, tick_held, tick_full, step}
 use Rattle.session_model.specs.Course.{Course}
 use Rattle.source_core.specs.Terminal.{Terminal, needed, needed_at, SameKind}
 use Rattle.source_core.specs.Given.{with_cell, Stands as HasMade}
@@ -208,16 +208,16 @@ frame-long script t =
     length-map (range_with_len 0 (length script.config.windows)) (λ line. container_of (scenario_of script) (session_cells (scenario_of script)) line t)
     ∙ length-range_with_len 0 (length script.config.windows)
 
-sent-more : (script : Script) (ticks : ℕ) (sent : List (List Container)) (frame : List Container) → HasSent script ticks sent →
-    frame ≡ frame_of (scenario_of script) (session_cells (scenario_of script)) ticks → length frame ≡ script.config.lines → HasSent script (ticks + 1) (slice_set sent (ticks % 32) frame)
-sent-more script ticks sent frame has is long = record {
+sent-more : (script : Script) (ticks : ℕ) (counts : List LineCounts) (sent : List (List Container)) (frame : List Container) → HasSent script ticks counts sent →
+    frame ≡ frame_of (scenario_of script) (session_cells (scenario_of script)) ticks → length frame ≡ script.config.lines → HasSent script (ticks + 1) counts (slice_set sent (ticks % 32) frame)
+sent-more script ticks counts sent frame has is long = record {
   places = length-slice_set sent (ticks % 32) frame ∙ has.places;
   lines = λ k other e. elim (cases_eq k (ticks % 32)) [
     | inl same ↦ ap length (set-here sent (ticks % 32) frame other (sym (ap (slice_get (slice_set sent (ticks % 32) frame)) same) ∙ e)) ∙ long
     | inr apart ↦ has.lines k other (sym (slice_get-set_other sent (ticks % 32) k frame apart) ∙ e)
   ];
-  frames = λ t low high. elim (cases_lt t ticks) [
-    | inl before ↦ slice_get-set_other sent (ticks % 32) (t % 32) frame (apart-places t ticks before (omega (arith, high))) ∙ has.frames t before (omega (arith, high))
+  frames = λ t m inside held low high. elim (cases_lt t ticks) [
+    | inl before ↦ slice_get-set_other sent (ticks % 32) (t % 32) frame (apart-places t ticks before (omega (arith, high))) ∙ has.frames t m inside held before (omega (arith, high))
     | inr now ↦
         let e : t ≡ ticks = omega (arith, low, now) in
         let size = has.places in
@@ -338,8 +338,8 @@ module _ (script : Script) (parts : Parts) (landing : Landing) (got : ℕ) (last
             lag = kind.lag ∙ is.source.lag;
             size = kind.size ∙ is.source.size;
           });
-          sent = subst (λ n. HasSent script n (slice_set parts.sent (parts.source.ticks % 32) frame)) (sym ticks)
-              (sent-more script parts.source.ticks parts.sent frame is.sent frame-is (ap length frame-is ∙ frame-long script parts.source.ticks ∙ is.valid.network.windows_each));
+          sent = subst (λ n. HasSent script n (map line_counts parts.lines) (slice_set parts.sent (parts.source.ticks % 32) frame)) (sym ticks)
+              (sent-more script parts.source.ticks (map line_counts parts.lines) parts.sent frame is.sent frame-is (ap length frame-is ∙ frame-long script parts.source.ticks ∙ is.valid.network.windows_each));
           lines = is.lines;
           sink = record { gathers = is.sink.gathers; taken = is.sink.taken; passed = is.sink.passed; lines = is.sink.lines; all = is.sink.all; size = is.sink.size };
           back = subst (λ s. HasBack script s path) (sym counts-are) (record { ring = is_taken.ring ∙ is.back.ring; inbox = is_taken.inbox; room = is_taken.room ∙ is.back.room });
@@ -349,14 +349,39 @@ module _ (script : Script) (parts : Parts) (landing : Landing) (got : ℕ) (last
         }
 
         -- by the rings as they are kept, at a number that is that of the frame
-        module _ (rows : List (Vec Container)) (row : Vec Container) (own : row.items ≡ frame) (same : map (λ (row : Vec Container). row.items) rows ≡ parts.sent) (n : ℕ) (now : n ≡ parts.source.ticks) where
-          rows-are : slice_set parts.sent (parts.source.ticks % 32) frame ≡ map (λ (row : Vec Container). row.items) (slice_set rows (n % 32) row)
+        module _ (rows : List (Vec Container)) (row : Vec Container) (own : row.items ≡ frame) (same : map (λ (row : Vec Container). row.items) rows ≡ parts.sent) (k : ℕ) (at : k ≡ parts.source.ticks % 32) where
+          rows-are : slice_set parts.sent (parts.source.ticks % 32) frame ≡ map (λ (row : Vec Container). row.items) (slice_set rows k row)
           rows-are =
-              sym (map-set (λ (row : Vec Container). row.items) rows (n % 32) row ∙ ap (slice_set (map (λ (row : Vec Container). row.items) rows) (n % 32)) own
-              ∙ ap (λ k. slice_set (map (λ (row : Vec Container). row.items) rows) (k % 32) frame) now ∙ ap (λ sent. slice_set sent (parts.source.ticks % 32) frame) same)
+              sym (map-set (λ (row : Vec Container). row.items) rows k row ∙ ap (slice_set (map (λ (row : Vec Container). row.items) rows) k) own
+              ∙ ap (λ j. slice_set (map (λ (row : Vec Container). row.items) rows) j frame) at ∙ ap (λ sent. slice_set sent (parts.source.ticks % 32) frame) same)
 
-          pub tick-kept_at : IsWalk script (record parts { source = source; sent = map (λ (row : Vec Container). row.items) (slice_set rows (n % 32) row); back = path }) landing got note
+          pub tick-kept_at : IsWalk script (record parts { source = source; sent = map (λ (row : Vec Container). row.items) (slice_set rows k row); back = path }) landing got note
           tick-kept_at = subst (λ sent. IsWalk script (record parts { source = source; sent = sent; back = path }) landing got note) rows-are tick-kept
+
+-- ---- the send rings before a frame is put into them
+pub sent-placed : (script : Script) (parts : Parts) (landing : Landing) (got : ℕ) (last : Option StepNote) (sent : List (List Container)) → IsWalk script parts landing got last →
+    HasSent script parts.source.ticks (map line_counts parts.lines) sent → IsWalk script (record parts { sent = sent }) landing got last
+sent-placed script parts landing got last sent is has = record {
+  valid = is.valid;
+  walked = is.walked;
+  source = record { made = is.source.made; lines = is.source.lines; lag = is.source.lag; size = is.source.size };
+  sent = has;
+  lines = is.lines;
+  sink = record { gathers = is.sink.gathers; taken = is.sink.taken; passed = is.sink.passed; lines = is.sink.lines; all = is.sink.all; size = is.sink.size };
+  back = record { ring = is.back.ring; inbox = is.back.inbox; room = is.back.room };
+  landed = record { frame = is.landed.frame; command = is.landed.command; refusals = is.landed.refusals; room = is.landed.room; frames = is.landed.frames; commands = is.landed.commands; refused = is.landed.refused };
+  counted = is.counted;
+  noted = is.noted;
+}
+
+-- by the ticks and the lines as they are read
+pub sent-read : (script : Script) (ticks now : ℕ) (lines own : List Ringed) (was after : List (List Container)) → now ≡ ticks → own ≡ lines →
+    (HasSent script now (map line_counts own) was → HasSent script now (map line_counts own) after) →
+    HasSent script ticks (map line_counts lines) was → HasSent script ticks (map line_counts lines) after
+sent-read script ticks now lines own was after same_ticks same_lines keeps has =
+    subst (λ n. HasSent script n (map line_counts lines) after) same_ticks
+    (subst (λ ls. HasSent script now (map line_counts ls) after) same_lines
+    (keeps (subst (λ ls. HasSent script now (map line_counts ls) was) (sym same_lines) (subst (λ n. HasSent script n (map line_counts lines) was) (sym same_ticks) has))))
 
 -- ---- the table
 pub table-after : (script : Script) (parts : Parts) (landing : Landing) (got : ℕ) (last : Option StepNote) → IsWalk script parts landing got last → parts.source.table.source.table ≡ table_in script parts.source.ticks

@@ -1,5 +1,6 @@
 -- What a walk holds, by its script and its counts.
 use Rattle.std.specs.Prelude.{◌≡◌, ℕ, ◌+◌, ◌-◌, ◌%◌, ◌<◌, ◌≤◌, min, List, [], map, length, slice_get, slice_index_or, Option, Some, None}
+use Rattle.std.specs.Global.{Vec}
 use Rattle.vc_cell.specs.declared.Container.{Container}
 use Rattle.session_model.specs.declared.script.Script.{Script}
 use Rattle.session_model.specs.Valid.{IsValid}
@@ -13,7 +14,7 @@ use Rattle.realign_core.specs.Gather.{Gather, Stands as Gathers, line_count}
 use Rattle.source_core.specs.Terminal.{Terminal}
 use Rattle.source_core.specs.Given.{Stands as HasMade}
 use Rattle.sink_core.specs.Core.{Core, Stands as HasTaken}
-use Rattle.walk_law.specs.Walk.{IsWalked, popped_cells}
+use Rattle.walk_law.specs.Walk.{IsWalked, counts_at, popped_cells}
 use Rattle.walk_law.specs.Rings.{delay_on, taken_by, return_ring, inbox}
 use Rattle.walk_law.specs.Landed.{landed_scenario, told_before, refusals_of, totals_of}
 use Rattle.walk_law.specs.Delivered.{delivered_of}
@@ -23,7 +24,7 @@ use Rattle.walk_parts.specs.Ringed.{Ringed, ring_of, Has}
 use Rattle.walk_parts.specs.Return.{Return}
 use Rattle.walk_core.specs.declared.moved.StepNote.{StepNote}
 
--- the terminals; the frames that are in the send rings, that of number t at place t modulo 32; the lines; the gathered rows; the return
+-- the terminals; the frames of the send rings, that of number t at place t modulo 32; the lines; the gathered rows; the return
 -- path
 pub record Parts : Type 0 where
   pub source : Terminal
@@ -32,6 +33,10 @@ pub record Parts : Type 0 where
   pub rows : Gather
   pub sink : Core
   pub back : Return
+
+-- the containers of the send rings
+abbrev pub sent_frames : Vec (Vec Container) → List (List Container)
+sent_frames sent = map (λ (row : Vec Container). row.items) sent.items
 
 -- what has landed: the refusals and the room for them, the places of the next frame and the next command, and how many of each have
 -- landed and were refused
@@ -76,10 +81,12 @@ pub record HasSource (script : Script) (s : Counts) (source : Terminal) : Type 0
   pub lag : source.lag ≡ script.config.lag
   pub size : source.size ≡ script.config.size
 
-pub record HasSent (script : Script) (ticks : ℕ) (sent : List (List Container)) : Type 0 where
+-- of the frames, those that some line hasn't carried
+pub record HasSent (script : Script) (ticks : ℕ) (counts : List LineCounts) (sent : List (List Container)) : Type 0 where
   pub places : length sent ≡ 32
   pub lines : (k : ℕ) (frame : List Container) → slice_get sent k ≡ Some frame → length frame ≡ script.config.lines
-  pub frames : (t : ℕ) → t < ticks → ticks ≤ t + 32 → slice_get sent (t % 32) ≡ Some (frame_of (scenario_of script) (session_cells (scenario_of script)) t)
+  pub frames : (t m : ℕ) → m < script.config.lines → (counts_at counts m).carried ≤ t → t < ticks → ticks ≤ t + 32 →
+      slice_get sent (t % 32) ≡ Some (frame_of (scenario_of script) (session_cells (scenario_of script)) t)
 
 pub record HasLine (script : Script) (m : ℕ) (line : Ringed) : Type 0 where
   pub has : Has line (calls_on script m line.carried)
@@ -121,7 +128,7 @@ pub record IsWalk (script : Script) (parts : Parts) (landing : Landing) (got : �
   pub valid : IsValid script
   pub walked : IsWalked script (counts_of parts landing)
   pub source : HasSource script (counts_of parts landing) parts.source
-  pub sent : HasSent script parts.source.ticks parts.sent
+  pub sent : HasSent script parts.source.ticks (map line_counts parts.lines) parts.sent
   pub lines : HasLines script parts.lines
   pub sink : HasSink script (counts_of parts landing) parts.rows parts.sink
   pub back : HasBack script (counts_of parts landing) parts.back

@@ -25,7 +25,7 @@ ghost use Rattle.walk_core.specs.Opened.{AreOpened};
 ghost use Rattle.walk_core.specs.Carry.{carry_cause, CanCarry, IsSentOn, HasRoom};
 ghost use Rattle.std.specs.Vec.{vec_capacity};
 ghost use Rattle.walk_core.specs.Landing.{stall_by, met_by, with_kind, IsParted};
-ghost use Rattle.walk_core.specs.Parts.{note_of, line_counts, HasLine as HasLineOn};
+ghost use Rattle.walk_core.specs.Parts.{note_of, line_counts, sent_frames, HasSent, HasLine as HasLineOn};
 ghost use Rattle.walk_core.specs.Take.{take_cause, CanPop, HasPopped, CanTake, HasRow};
 ghost use Rattle.sink_core.specs.Given.{added_frames};
 ghost use Rattle.vc_cell.specs.declared.Cell.{Cell};
@@ -62,7 +62,7 @@ const EMPTY: Container = Container {
 pub struct Walk {
     script: Script,
     source: SourceCore,
-    /// The send rings of all lines: each place holds the containers of a frame, of a number modulo 32.
+    /// The send rings of all lines: each place holds the containers of a frame, of a number modulo 32, until each line carried it.
     sent: Vec<Vec<Container>>,
     lines: Vec<WalkLine>,
     rows: RowGather,
@@ -88,19 +88,19 @@ impl Model for Walk {
     ghost use Rattle.std.specs.Prelude.{map};
     ghost use Rattle.std.specs.Vec.{vec_capacity};
     ghost use Rattle.walk_core.specs.Moved.{Walked};
-    ghost use Rattle.walk_core.specs.Parts.{Parts, Landing, counts_of, IsWalk};
+    ghost use Rattle.walk_core.specs.Parts.{Parts, Landing, counts_of, sent_frames, IsWalk};
 
     ghost Value = { Walked };
 
     ghost view = { λ w. record {
       script = w.script;
       counts = counts_of
-          (record { source = w.source; sent = map (λ row. row.items) w.sent.items; lines = w.lines.items; rows = w.rows; sink = w.sink; back = w.back })
+          (record { source = w.source; sent = sent_frames w.sent; lines = w.lines.items; rows = w.rows; sink = w.sink; back = w.back })
           (record { refusals = w.refusals.items; room = vec_capacity w.refusals; frame = w.frame; command = w.command; frames = w.frames; commands = w.commands; refused_frames = w.refused_frames; refused_commands = w.refused_commands });
     } };
 
     ghost invariant = { λ w. IsWalk w.script
-        (record { source = w.source; sent = map (λ row. row.items) w.sent.items; lines = w.lines.items; rows = w.rows; sink = w.sink; back = w.back })
+        (record { source = w.source; sent = sent_frames w.sent; lines = w.lines.items; rows = w.rows; sink = w.sink; back = w.back })
         (record { refusals = w.refusals.items; room = vec_capacity w.refusals; frame = w.frame; command = w.command; frames = w.frames; commands = w.commands; refused_frames = w.refused_frames; refused_commands = w.refused_commands })
         w.got w.last };
 }
@@ -396,11 +396,8 @@ impl Walk {
         let ticks = self.source.ticks();
         let back = take_needed(&mut self.back, self.source.needs_back().is_some());
         self.last = next_note(ticks, back, self.last);
-        make_frame(
-            &mut self.source,
-            back,
-            &mut self.sent[ticks as usize % SENDS],
-        );
+        let place = next_place(&mut self.sent, &self.lines, ticks);
+        make_frame(&mut self.source, back, &mut self.sent[place]);
         Moved::Yes
     }
 
@@ -631,6 +628,36 @@ fn make_frame(source: &mut SourceCore, back: Option<BackCell>, frame: &mut Vec<C
     ensures kind { SameKind source.new source.old }
 {
     source.tick(back, frame);
+}
+
+/// The place of the next frame. It gets the containers of the frame before where each line has carried that, since these lie nearest
+/// in the caches of the processor.
+fn next_place(sent: &mut Vec<Vec<Container>>, lines: &[WalkLine], ticks: u32) -> usize
+    requires places { length sent.old.items ≡ 32 }
+    ensures place { result ≡ ticks % 32 }
+    ensures places { length sent.new.items ≡ 32 }
+    ensures has { (script : Script) → length lines.now ≡ script.config.lines →
+        HasSent script ticks (map line_counts lines.now) (sent_frames sent.old) →
+        HasSent script ticks (map line_counts lines.now) (sent_frames sent.new) }
+{
+    let place = ticks as usize % SENDS;
+    if are_carried(lines, ticks) {
+        sent.swap(place, (place + SENDS - 1) % SENDS);
+    }
+    place
+}
+
+/// Whether each line has carried so many containers.
+fn are_carried(lines: &[WalkLine], ticks: u32) -> bool
+    ensures { result ≡ true → (m : ℕ) (line : Ringed) → slice_get lines.now m ≡ Some line →
+        ticks ≤ line.carried }
+{
+    for m in 0..lines.len() {
+        if lines[m].carried() < ticks {
+            return false;
+        }
+    }
+    true
 }
 
 /// The first line whose send ring holds as many containers as it may.

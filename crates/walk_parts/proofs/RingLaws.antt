@@ -1,7 +1,10 @@
 -- What a receive ring holds after a carry.
 use Rattle.std.proofs.Common.{◌≡◌, ◌≢◌, ℕ, ◌+◌, ◌-◌, ◌%◌, ◌<◌, ◌≤◌, nat_lt, false, List, [], ◌∷◌, ◌++◌, length, slice_get, slice_set, slice_index_or, Some, refl, sym, ◌∙◌, ap, arith, inl, inr, length-append}
 use Rattle.std.proofs.Math.Nat.{mod-add-mod, mod-eq_of_lt, add-mod_right, mod-lt}
+use Rattle.std.specs.Global.{Box}
+use Rattle.std.specs.Prelude.{option_map}
 use Rattle.std.proofs.lemmas.Bool.{cases_lt}
+use Rattle.std.proofs.lemmas.Option.{slice_get-map}
 use Rattle.circular_buffer.proofs.Places.{slice_get-set_same, slice_get-set_other, slice_get-append_left, slice_get-append_right}
 use Rattle.vc_cell.specs.declared.Container.{Container}
 use Rattle.vc_cell.specs.declared.Cell.{Cell}
@@ -13,7 +16,7 @@ use Rattle.session_model.specs.Path.{path}
 use Rattle.line_core.specs.Line.{Line, Calls, opened, carries_of, path_cells, Stands}
 use Rattle.realign_core.proofs.GatherLaws.{length-slice_set}
 use Rattle.walk_parts.proofs.ItemLaws.{at-index}
-use Rattle.walk_parts.specs.Ringed.{Ringed, cell_in, cell_at, with_sign, count_of, Has}
+use Rattle.walk_parts.specs.Ringed.{Ringed, cell_in, cell_at, contents, with_sign, count_of, Has}
 
 -- two numbers less than r apart differ modulo r
 mod-apart : (r y d : ℕ) → 0 < d → d < r → (y + d) % r ≡ y % r → ⊥
@@ -119,6 +122,22 @@ has-more line core calls more carry place signs places count has some beside roo
       (omega (arith, under, counts)) (sym (ap (λ xs. slice_get xs y) grows) ∙ told);
 }
 
+-- the two places that change their boxes hold no cell
+pub has-changed : (line : Ringed) (calls : Calls) (places : List Container) → Has line calls → 0 < length line.signs → line.popped ≤ line.given → line.given < line.popped + length line.signs →
+    ((k : ℕ) → k ≢ line.given % length line.signs → k ≢ (line.popped + length line.signs - 1) % length line.signs → slice_get places k ≡ slice_get line.places k) →
+    Has (record { core = line.core; signs = line.signs; places = places; carried = line.carried; given = line.given; popped = line.popped }) calls
+has-changed line calls places has some pops room others = record {
+  core = has.core;
+  carried = has.carried;
+  given = has.given;
+  holds = λ y cell low under told.
+      let size : ℕ = length line.signs in
+      ap (cell_in (slice_get line.signs (y % size)))
+      (others (y % size) (λ same. slot-apart size y line.given line.popped low under room same)
+      (λ same. slot-apart size y (line.popped + size - 1) line.popped low (omega (arith, under, room)) (omega (arith, some)) same))
+      ∙ has.holds y cell low under told;
+}
+
 -- no carry
 pub has-none : (core : Line) (signs : List Carry) (places : List Container) (delay : ℕ) (windows : List Window) (total : ℕ) → Stands core (opened delay windows total) →
     Has (record { core = core; signs = signs; places = places; carried = 0; given = 0; popped = 0 }) (opened delay windows total)
@@ -134,10 +153,11 @@ has-none core signs places delay windows total stands = record {
     none delay total = let e : 0 - delay ≡ 0 = omega arith in let f : nat_lt total 0 ≡ false = grind arith in rw (e, f) refl
 
 -- a cell that is read where it lies
-pub cell-read : (signs : List Carry) (places : List Container) (y len : ℕ) (sign : Carry) (place : Container) → 0 < length signs → length places ≡ length signs → len ≡ length signs →
-    sign ≡ slice_index_or signs (y % len) sign → place ≡ slice_index_or places (y % len) place → cell_at signs places y ≡ carry_cells sign place
-cell-read signs places y len sign place some beside size at put =
+pub cell-read : (signs : List Carry) (boxes : List (Box Container)) (y len : ℕ) (sign : Carry) (place : Box Container) → 0 < length signs → length boxes ≡ length signs → len ≡ length signs →
+    sign ≡ slice_index_or signs (y % len) sign → place ≡ slice_index_or boxes (y % len) place → cell_at signs (contents boxes) y ≡ carry_cells sign place.value
+cell-read signs boxes y len sign place some beside size at put =
     let low : y % length signs < length signs = mod-lt y some in
     let one = at-index signs (y % length signs) sign low (at ∙ ap (λ n. slice_index_or signs (y % n) sign) size) in
-    let two = at-index places (y % length signs) place (omega (arith, low, beside)) (put ∙ ap (λ n. slice_index_or places (y % n) place) size) in
-    ap (λ s. cell_in s (slice_get places (y % length signs))) one ∙ ap (λ p. cell_in (Some sign) p) two
+    let two = at-index boxes (y % length signs) place (omega (arith, low, beside)) (put ∙ ap (λ n. slice_index_or boxes (y % n) place) size) in
+    let inside = slice_get-map (λ (b : Box Container). b.value) boxes (y % length signs) ∙ ap (option_map (λ (b : Box Container). b.value)) two in
+    ap (λ s. cell_in s (slice_get (contents boxes) (y % length signs))) one ∙ ap (λ p. cell_in (Some sign) p) inside

@@ -1,5 +1,6 @@
 -- A line with its receive ring.
-use Rattle.std.specs.Prelude.{◌≡◌, ℕ, zero, suc, ◌+◌, ◌%◌, ◌<◌, ◌≤◌, Bool, false, ◌==◌, if◌then◌else◌, List, [], ◌∷◌, length, take, slice_get, slice_set, Option, Some, None, is_none, IsSome}
+use Rattle.std.specs.Prelude.{◌≡◌, ℕ, zero, suc, ◌+◌, ◌%◌, ◌<◌, ◌≤◌, Bool, false, ◌==◌, if◌then◌else◌, List, [], ◌∷◌, map, length, take, slice_get, slice_set, Option, Some, None, is_none, IsSome}
+use Rattle.std.specs.Global.{Box}
 use Rattle.vc_cell.specs.declared.Container.{Container}
 use Rattle.vc_cell.specs.declared.Cell.{Cell}
 use Rattle.line_core.specs.declared.carry.Carry.{Carry}
@@ -18,6 +19,10 @@ pub record Ringed : Type 0 where
   pub carried : ℕ
   pub given : ℕ
   pub popped : ℕ
+
+-- what lies in some boxes
+abbrev pub contents : List (Box Container) → List Container
+contents boxes = map (λ (place : Box Container). place.value) boxes
 
 -- how many cells the ring has places for
 abbrev pub ring_of : Ringed → ℕ

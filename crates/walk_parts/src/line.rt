@@ -1,6 +1,6 @@
 //! A line of a walk with its receive ring.
 
-ghost use Rattle.std.specs.Prelude.{◌≡◌, ℕ, ◌+◌, ◌-◌, ◌<◌, ◌≤◌, ◌↔◌, [], ◌∷◌, true, List, length, slice_set, IfOk, IsTrue, is_some};
+ghost use Rattle.std.specs.Prelude.{◌≡◌, ◌≢◌, ℕ, ◌+◌, ◌-◌, ◌<◌, ◌≤◌, ◌↔◌, [], ◌∷◌, true, List, length, slice_get, slice_set, IfOk, IsTrue, is_some};
 ghost use Rattle.vc_cell.specs.declared.Cell.{Cell};
 ghost use Rattle.line_core.specs.Carry.{carry_cells};
 ghost use Rattle.line_core.specs.Line.{Calls, opened, and_push, and_flush, path_cells, IsEnded};
@@ -26,14 +26,14 @@ const EMPTY: Container = Container {
 };
 
 /// A line with its receive ring: the cells that it gave and that weren't popped. Only its making takes memory, and a container is
-/// copied once on its way into the ring and once out of it.
+/// copied once on its way into the line and once out of the ring.
 #[derive(Drop)]
 pub struct WalkLine {
     core: LineCore,
     /// What carries gave: that of cell `y` at place `y` modulo the size of the ring.
     signs: Vec<Carry>,
-    /// The containers of those that are good.
-    places: Vec<Container>,
+    /// The containers of those that are good, each in a box that it may leave the line in.
+    places: Vec<Box<Container>>,
     /// How many carries were made.
     carried: u32,
     /// How many cells came out.
@@ -43,13 +43,13 @@ pub struct WalkLine {
 }
 
 impl Model for WalkLine {
-    ghost use Rattle.walk_parts.specs.Ringed.{Ringed, IsRinged};
+    ghost use Rattle.walk_parts.specs.Ringed.{Ringed, IsRinged, contents};
 
     ghost Value = { Ringed };
 
-    ghost view = { λ line. record { core = line.core; signs = line.signs.items; places = line.places.items; carried = line.carried; given = line.given; popped = line.popped } };
+    ghost view = { λ line. record { core = line.core; signs = line.signs.items; places = contents line.places.items; carried = line.carried; given = line.given; popped = line.popped } };
 
-    ghost invariant = { λ line. IsRinged (record { core = line.core; signs = line.signs.items; places = line.places.items; carried = line.carried; given = line.given; popped = line.popped }) };
+    ghost invariant = { λ line. IsRinged (record { core = line.core; signs = line.signs.items; places = contents line.places.items; carried = line.carried; given = line.given; popped = line.popped }) };
 }
 
 impl WalkLine {
@@ -76,7 +76,7 @@ impl WalkLine {
         Ok(WalkLine {
             core: LineCore::new(alloc, delay, windows, total)?,
             signs: vec![in alloc; Carry::Nothing; usize::from(ring)]?,
-            places: vec![in alloc; EMPTY; usize::from(ring)]?,
+            places: blank_places(alloc, ring)?,
             carried: 0,
             given: 0,
             popped: 0,
@@ -123,8 +123,14 @@ impl WalkLine {
         ensures carried { self.new.carried ≡ self.old.carried + 1 }
         ensures popped { self.new.popped ≡ self.old.popped }
     {
-        let slot = self.given as usize % self.signs.len();
-        let carry = self.core.push_from(container, &mut self.places[slot]);
+        let size = self.signs.len();
+        let slot = self.given as usize % size;
+        exchange(
+            &mut self.places,
+            slot,
+            (self.popped as usize + size - 1) % size,
+        );
+        let carry = self.core.push_boxed(container, &mut self.places[slot]);
         self.carried += 1;
         self.given += keep(&mut self.signs, slot, carry);
     }
@@ -140,7 +146,7 @@ impl WalkLine {
         ensures popped { self.new.popped ≡ self.old.popped }
     {
         let slot = self.given as usize % self.signs.len();
-        let carry = self.core.flush_to(&mut self.places[slot]);
+        let carry = self.core.flush_to(&mut *self.places[slot]);
         self.carried += 1;
         self.given += keep(&mut self.signs, slot, carry);
     }
@@ -172,6 +178,29 @@ impl WalkLine {
         }
         !waits_for(rows, line)
     }
+}
+
+/// So many places with a box each.
+fn blank_places(alloc: Global, count: u16) -> Result<Vec<Box<Container>>, AllocError>
+    ensures { IfOk result (λ places. length places.items ≡ count) }
+{
+    let mut places = Vec::with_capacity(alloc, usize::from(count))?;
+    for _ in 0..count {
+        places.push(Box::new(alloc, EMPTY)?)?;
+    }
+    Ok(places)
+}
+
+/// Changes the boxes of two places for each other. A place that is to be filled gets the box that was emptied last, since this lies
+/// nearest in the caches of the processor.
+fn exchange(places: &mut Vec<Box<Container>>, a: usize, b: usize)
+    requires first { a < length places.old.items }
+    requires second { b < length places.old.items }
+    ensures size { length places.new.items ≡ length places.old.items }
+    ensures others { (k : ℕ) → k ≢ a → k ≢ b →
+        slice_get places.new.items k ≡ slice_get places.old.items k }
+{
+    places.swap(a, b);
 }
 
 /// Puts what a carry gave at its place, where it gave a cell. Answers how many cells it gave.

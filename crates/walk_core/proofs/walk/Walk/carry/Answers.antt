@@ -87,14 +87,14 @@ carry_on-requires-clause-room c =
     room-left _ _ _ _ _ c.self.invariant c.args.line low c.index_mut.result.now there_ can.room
 
 pub carry_on-requires-clause-places : goal.carry_on-requires-clause-places
-carry_on-requires-clause-places c = ap length c.deref.ensures.value ∙ sent-places c.self.inside.script c.self.inside.source.ticks c.self.inside.sent.items c.self.invariant.sent
+carry_on-requires-clause-places c = ap length c.deref.ensures.value ∙ sent-places c.self.inside.script c.self.inside.source.ticks _ c.self.inside.sent.items c.self.invariant.sent
 
 pub carry_on-requires-clause-lines : goal.carry_on-requires-clause-lines
 carry_on-requires-clause-lines c k frame e =
     let low_ = c.requires in
     let count = ap (λ (w : Walked). w.script.config.lines) c.self.view_is in
     let at = c.from-m.ensures in
-    let size = frame-size c.self.inside.script c.self.inside.source.ticks c.self.inside.sent.items c.self.invariant.sent k frame (sym (ap (λ xs. slice_get xs k) c.deref.ensures.value) ∙ e) in
+    let size = frame-size c.self.inside.script c.self.inside.source.ticks _ c.self.inside.sent.items c.self.invariant.sent k frame (sym (ap (λ xs. slice_get xs k) c.deref.ensures.value) ∙ e) in
     omega (arith, low_, count, at, size)
 
 pub invariant_of-self : goal.invariant_of-self

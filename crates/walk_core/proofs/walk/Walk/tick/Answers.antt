@@ -1,13 +1,13 @@
 -- A tick is made.
-use Rattle.std.proofs.Common.{◌≡◌, ◌/◌, ◌%◌, ◌==◌, if◌then◌else◌, drop, slice_get, Some, None, refl, sym, ◌∙◌, ap, subst, arith}
+use Rattle.std.proofs.Common.{◌≡◌, ◌/◌, ◌%◌, ◌==◌, if◌then◌else◌, length, drop, slice_get, Some, None, refl, sym, ◌∙◌, ap, subst, arith}
 use Rattle.std.specs.Option.{is_some}
 use Rattle.session_model.specs.declared.walk.Event.TheVariants.{Tick}
 use Rattle.session_model.specs.Counts.{step}
 use Rattle.walk_law.specs.Walk.{walk_plan}
 use Rattle.walk_parts.proofs.ItemLaws.{at-index}
 use Rattle.walk_core.specs.Moved.{Walked, counts_after}
-use Rattle.walk_core.proofs.CarryLaws.{frame-size, sent-places}
-use Rattle.walk_core.proofs.TickLaws.{tick-stays, some-needed, tick-counts, tick-kept_at}
+use Rattle.walk_core.proofs.CarryLaws.{frame-size}
+use Rattle.walk_core.proofs.TickLaws.{tick-stays, some-needed, tick-counts, sent-placed, sent-read, tick-kept_at}
 use Rattle.walk_core.proofs.walk.Walk.tick.Goals as goal
 
 pub returns-in-Some-clause-counts : goal.returns-in-Some-clause-counts
@@ -18,9 +18,13 @@ returns-in-Some-clause-counts c =
 pub make_frame-requires-clause-places : goal.make_frame-requires-clause-places
 make_frame-requires-clause-places c =
     let f = c.self.inside in
-    let places = sent-places f.script f.source.ticks f.sent.items c.self.invariant.sent in
-    let there = at-index f.sent.items (c.ticks-ticks.result % 32) c.index_mut.result.now (omega (arith, places)) c.index_mut.ensures.value in
-    frame-size f.script f.source.ticks f.sent.items c.self.invariant.sent (c.ticks-ticks.result % 32) c.index_mut.result.now there ∙ sym c.self.invariant.source.lines
+    let size = ap length c.deref.ensures.value ∙ c.self.invariant.lines.size in
+    let sent = sent-read f.script f.source.ticks c.ticks-ticks.result f.lines.items c.deref.result.now _ _ c.ticks-ticks.ensures c.deref.ensures.value (c.next_place-place.ensures.has f.script size)
+    c.self.invariant.sent in
+    let places = c.next_place-place.ensures.places in
+    let at = c.next_place-place.ensures.place in
+    let there = at-index c.next_place-place.new.sent.items c.next_place-place.result c.index_mut.result.now (omega (arith, places, at)) c.index_mut.ensures.value in
+    frame-size f.script f.source.ticks _ c.next_place-place.new.sent.items sent c.next_place-place.result c.index_mut.result.now there ∙ sym c.self.invariant.source.lines
 
 pub make_frame-requires-clause-back : goal.make_frame-requires-clause-back
 make_frame-requires-clause-back c =
@@ -41,9 +45,13 @@ invariant_of-self c =
     let left = subst (λ b. c.take_needed-back.new.back ≡ (if b then record f.back { inbox = drop 1 f.back.inbox } else f.back)) need c.take_needed-back.ensures.path in
     let noted = c.next_note-self-inside.ensures
     ∙ ap (λ n. if n % 16 == 8 then Some (record { packet = n / 16; back = c.take_needed-back.result }) else f.last) c.ticks-ticks.ensures in
-    tick-kept_at _ _ _ _ _ c.self.invariant e c.take_needed-back.result c.take_needed-back.new.back first left
+    let size = ap length c.deref.ensures.value ∙ c.self.invariant.lines.size in
+    let sent = sent-read f.script f.source.ticks c.ticks-ticks.result f.lines.items c.deref.result.now _ _ c.ticks-ticks.ensures c.deref.ensures.value (c.next_place-place.ensures.has f.script size)
+    c.self.invariant.sent in
+    tick-kept_at _ _ _ _ _ (sent-placed _ _ _ _ _ _ c.self.invariant sent) e c.take_needed-back.result c.take_needed-back.new.back first left
     c.make_frame.new.source c.make_frame.ensures.stands c.make_frame.ensures.ticks c.make_frame.ensures.kind c.make_frame.new.frame.items c.make_frame.ensures.frame
-    c.next_note-self-inside.result noted f.sent.items c.make_frame.new.frame refl refl c.ticks-ticks.result c.ticks-ticks.ensures
+    c.next_note-self-inside.result noted c.next_place-place.new.sent.items c.make_frame.new.frame refl refl c.next_place-place.result
+    (c.next_place-place.ensures.place ∙ ap (λ n. n % 32) c.ticks-ticks.ensures)
 
 pub returns-clause-counts : goal.returns-clause-counts
 returns-clause-counts c =

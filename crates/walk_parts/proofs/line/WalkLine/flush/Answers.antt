@@ -1,7 +1,10 @@
 -- The ring holds what the carry gave.
 use Rattle.std.proofs.Common.{rules, ◌≡◌, ◌%◌, ◌∙◌, length, slice_set, ap, subst, sym, arith}
+use Rattle.std.specs.Global.{Box}
+use Rattle.std.proofs.lemmas.List.{map-set}
+use Rattle.vc_cell.specs.declared.Container.{Container}
 use Rattle.line_core.specs.Line.{and_flush}
-use Rattle.walk_parts.specs.Ringed.{Ringed, Has, with_sign}
+use Rattle.walk_parts.specs.Ringed.{Ringed, contents, Has, with_sign}
 use Rattle.walk_parts.proofs.RingLaws.{has-more}
 use Rattle.walk_parts.proofs.line.WalkLine.flush.Goals as goal
 
@@ -17,5 +20,6 @@ returns-clause-has c calls has =
     has-more _ _ calls (and_flush calls) c.flush_to-carry.result c.flush_to-carry.new.out _ _ _ own is.some is.beside
     (omega (arith, room, given, popped, size)) (c.flush_to-carry.ensures.stands calls own.core) (omega arith) (c.flush_to-carry.ensures.cells calls own.core)
     (c.keep.ensures.signs ∙ ap (λ n. with_sign c.flush_to-carry.result (c.self.inside.given % n) c.self.inside.signs.items) count)
-    (ap (λ n. slice_set c.self.inside.places.items (c.self.inside.given % n) c.flush_to-carry.new.out) count)
+    (map-set (λ (b : Box Container). b.value) c.self.inside.places.items (c.self.inside.given % c.len.result) _
+    ∙ ap (λ n. slice_set (contents c.self.inside.places.items) (c.self.inside.given % n) c.flush_to-carry.new.out) count)
     c.keep.ensures.count

@@ -1,15 +1,19 @@
 -- Each cell leaves the line open, up to the last one.
 use Rattle.std.proofs.Common.{rules, ◌≡◌, ℕ, ◌-◌, true, false, List, length, take, slice_set, refl, sym, ◌∙◌, ap, subst, arith}
 use Rattle.std.specs.Prelude.{is_none}
+use Rattle.std.specs.Global.{Box}
+use Rattle.std.proofs.lemmas.List.{length-map}
+use Rattle.vc_cell.specs.declared.Container.{Container}
 use Rattle.std.proofs.lemmas.Option.{slice_get_within}
 use Rattle.circular_buffer.proofs.Places.{slice_get-some}
 use Rattle.vc_cell.specs.declared.Cell.{Cell}
+use Rattle.line_core.specs.Carry.{carry_cells}
 use Rattle.line_core.specs.Line.{path_cells}
 use Rattle.session_model.specs.Number.{verdict}
 use Rattle.session_model.specs.Rows.{first_open}
 use Rattle.line_reader.specs.Told.{cell_of}
 use Rattle.realign_core.specs.Gather.{Stands as Gathers, with_cell}
-use Rattle.walk_parts.specs.Ringed.{Ringed, cell_at, is_at, popped_until, leaves_open}
+use Rattle.walk_parts.specs.Ringed.{Ringed, contents, cell_at, is_at, popped_until, leaves_open}
 use Rattle.walk_parts.proofs.RingLaws.{cell-read}
 use Rattle.walk_parts.proofs.PopLaws.{waits-is, with-set, set-same, take-next, until-shut, until-none, until-next, none-some}
 use Rattle.walk_parts.proofs.line.WalkLine.pop_into.Goals as goal
@@ -81,14 +85,14 @@ loop-self-preserved c =
           let held = next.has.holds y cell more (omega (arith, given, test)) there in
           let known = c.self.invariant in
           let signs = ap length inv.signs ∙ sym (ap (λ (line : Ringed). length line.signs) c.self.view_is) in
-          let places = ap length inv.places ∙ sym (ap (λ (line : Ringed). length line.places) c.self.view_is) in
+          let places = sym (length-map c.loop-self.self-inside.places.items (λ (b : Box Container). b.value)) ∙ ap length inv.places ∙ sym (ap (λ (line : Ringed). length line.places) c.self.view_is) in
           let some = known.some in
           let beside = known.beside in
           let count : c.len.result ≡ length c.loop-self.self-inside.signs.items = search (rules, c.len.ensures) in
           let read = cell-read c.loop-self.self-inside.signs.items c.loop-self.self-inside.places.items y c.len.result c.index.result.now c.index-in-loop-self.result.now
           (omega (arith, signs, some)) (omega (arith, signs, places, beside)) count c.index.ensures c.index-in-loop-self.ensures in
           let is : cell_of c.cell_ref.result ≡ cell =
-          c.cell_ref.ensures cell (sym read ∙ ap (λ s. cell_at s c.loop-self.self-inside.places.items y) inv.signs ∙ ap (λ p. cell_at c.args.self.now.signs p y) inv.places ∙ held) in
+          c.cell_ref.ensures cell (ap (carry_cells c.index.result.now) c.deref.ensures ∙ sym read ∙ ap (λ s. cell_at s (contents c.loop-self.self-inside.places.items) y) inv.signs ∙ ap (λ p. cell_at c.args.self.now.signs p y) inv.places ∙ held) in
           let low = slice_get_within cells c.args.line _ next.own in
           subst (Gathers c.offer_from.new.self)
           (ap (λ x. with_cell (slice_set cells c.args.line (take y path)) c.args.line x) is ∙ with-set cells c.args.line (take y path) cell low ∙ ap (slice_set cells c.args.line) (sym (take-next path y cell there)))

@@ -3,14 +3,14 @@ use Rattle.std.proofs.Common.{◌≡◌, ◌-◌, ◌≤◌, List, take, slice_s
 use Rattle.vc_cell.specs.declared.Cell.{Cell}
 use Rattle.line_core.specs.Line.{Calls, path_cells}
 use Rattle.realign_core.specs.Gather.{Stands as Gathers, line_count}
-use Rattle.walk_parts.specs.Ringed.{IsNext, popped_until, leaves_open}
+use Rattle.walk_parts.specs.Ringed.{contents, IsNext, popped_until, leaves_open}
 use Rattle.walk_parts.proofs.line.WalkLine.pop_into.Given as goal
 
 abbrev pub invariant-loop-self : goal.invariant-loop-self
 invariant-loop-self l = record {
   core : l.self-inside.core ≡ l.fn.self.core;
   signs : l.self-inside.signs.items ≡ l.fn.self.signs;
-  places : l.self-inside.places.items ≡ l.fn.self.places;
+  places : contents l.self-inside.places.items ≡ l.fn.self.places;
   carried : l.self-inside.carried ≡ l.fn.self.carried;
   given : l.self-inside.given ≡ l.fn.self.given;
   more : l.fn.self.popped ≤ l.self-inside.popped;

@@ -1,8 +1,13 @@
 -- The ring holds what the carry gave.
-use Rattle.std.proofs.Common.{rules, ◌≡◌, ◌%◌, ◌∙◌, [], ◌∷◌, length, slice_set, ap, subst, sym, arith, length-append}
+use Rattle.std.proofs.Common.{rules, ◌≡◌, ◌+◌, ◌-◌, ◌%◌, ◌<◌, ◌∙◌, [], ◌∷◌, length, slice_set, ap, subst, sym, arith, length-append}
+use Rattle.std.specs.Global.{Box}
+use Rattle.std.specs.Prelude.{option_map}
+use Rattle.std.proofs.lemmas.List.{map-set, length-map}
+use Rattle.std.proofs.lemmas.Option.{slice_get-map}
+use Rattle.vc_cell.specs.declared.Container.{Container}
 use Rattle.line_core.specs.Line.{and_push}
-use Rattle.walk_parts.specs.Ringed.{Ringed, Has, with_sign}
-use Rattle.walk_parts.proofs.RingLaws.{has-more}
+use Rattle.walk_parts.specs.Ringed.{Ringed, contents, Has, with_sign}
+use Rattle.walk_parts.proofs.RingLaws.{has-more, has-changed}
 use Rattle.walk_parts.proofs.line.WalkLine.push.Goals as goal
 
 pub returns-clause-has : goal.returns-clause-has
@@ -14,9 +19,17 @@ returns-clause-has c calls has =
     let popped = ap (λ (line : Ringed). line.popped) c.self.view_is in
     let size = ap (λ (line : Ringed). length line.signs) c.self.view_is in
     let grown = length-append calls.containers (c.args.container.now ∷ []) in
-    let count : c.len.result ≡ length c.self.inside.signs.items = search (rules, c.len.ensures) in
-    has-more _ _ calls (and_push calls c.args.container.now) c.push_from-carry.result c.push_from-carry.new.out _ _ _ own is.some is.beside
-    (omega (arith, room, given, popped, size)) (c.push_from-carry.ensures.stands calls own.core) (omega (arith, grown)) (c.push_from-carry.ensures.cells calls own.core)
-    (c.keep.ensures.signs ∙ ap (λ n. with_sign c.push_from-carry.result (c.self.inside.given % n) c.self.inside.signs.items) count)
-    (ap (λ n. slice_set c.self.inside.places.items (c.self.inside.given % n) c.push_from-carry.new.out) count)
+    let count : c.len-size.result ≡ length c.self.inside.signs.items = search (rules, c.len-size.ensures) in
+    let few : c.self.inside.given < c.self.inside.popped + length c.self.inside.signs.items = omega (arith, room, given, popped, size) in
+    let same = length-map c.exchange.new.places.items (λ (b : Box Container). b.value) ∙ c.exchange.ensures.size ∙ sym (length-map c.self.inside.places.items (λ (b : Box Container). b.value)) in
+    let changed = has-changed _ calls (contents c.exchange.new.places.items) own is.some is.pops few
+    (λ k apart free. slice_get-map (λ (b : Box Container). b.value) c.exchange.new.places.items k
+    ∙ ap (option_map (λ (b : Box Container). b.value))
+    (c.exchange.ensures.others k (λ e. apart (e ∙ ap (λ n. c.self.inside.given % n) count)) (λ e. free (e ∙ ap (λ n. (c.self.inside.popped + n - 1) % n) count)))
+    ∙ sym (slice_get-map (λ (b : Box Container). b.value) c.self.inside.places.items k)) in
+    has-more _ _ calls (and_push calls c.args.container.now) c.push_boxed-carry.result c.push_boxed-carry.new.out.value _ _ _ changed is.some (same ∙ is.beside)
+    few (c.push_boxed-carry.ensures.stands calls own.core) (omega (arith, grown)) (c.push_boxed-carry.ensures.cells calls own.core)
+    (c.keep.ensures.signs ∙ ap (λ n. with_sign c.push_boxed-carry.result (c.self.inside.given % n) c.self.inside.signs.items) count)
+    (map-set (λ (b : Box Container). b.value) c.exchange.new.places.items (c.self.inside.given % c.len-size.result) c.push_boxed-carry.new.out
+    ∙ ap (λ n. slice_set (contents c.exchange.new.places.items) (c.self.inside.given % n) c.push_boxed-carry.new.out.value) count)
     c.keep.ensures.count
