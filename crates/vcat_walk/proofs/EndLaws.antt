@@ -1,5 +1,6 @@
 -- How a traced walk ends: its text and its trace are written, or prefixes of them.
-use Rattle.std.proofs.Common.{◌≡◌, ◌≢◌, ℕ, false, not, List, [], ◌++◌, Option, Some, None, IfSome, Ok, inl, inr, refl, sym, ◌∙◌, ap, subst, arith}
+use Rattle.std.proofs.Common.{◌≡◌, ℕ, false, not, List, [], ◌++◌, Option, IfSome, Ok, inl, inr, sym, ◌∙◌, ap, subst, arith}
+use Rattle.std.proofs.lemmas.Option.{IfSome_then}
 use Rattle.outside_io.specs.Transfer.{Appends}
 use Rattle.outside_io.proofs.Parts.{Appends-none}
 use Rattle.session_model.specs.declared.script.Script.{Script}
@@ -15,9 +16,6 @@ use Rattle.walk_law.specs.Report.{refused_texts, report_of}
 use Rattle.walk_core.specs.Moved.{Walked}
 use Rattle.script_read.specs.Script.{script_of}
 use Rattle.vcat_walk.specs.Ended.{WritesTrace, StopsBoth, StopsInTrace, FailsOnce}
-use Rattle.vcat_walk.specs.Stop.{HasRun}
-use Rattle.vcat_walk.specs.declared.stop.Stop.{Stop}
-use Rattle.vcat_walk.specs.declared.stop.Stop.TheVariants.{Usage, Read, TooLong, Fault, NotHex, Write, Memory}
 use Rattle.vcat_walk.specs.Texts.{counts_in, decisions_text, walk_text, trace_text}
 use Rattle.vcat_walk.specs.Trace.{TellsAll, TellsPart}
 use Rattle.vcat_walk.proofs.MakeLaws.{none-delivered}
@@ -83,15 +81,11 @@ module _ {K E : Type 0} (k_written : K → Option (List ℕ)) (k_faults : K → 
         subst Q trace told.lines
 
 -- ---- what is known of an input's octets
-if-some : {X : Type 0} (P Q : X → Type 0) (o : Option X) → ((x : X) → P x → Q x) → IfSome o P → IfSome o Q
-if-some P Q None f h = tt
-if-some P Q (Some x) f h = f x h
-
 pub writes-trace : {E : Type 0} (written : E → Option (List ℕ)) (faults : E → ℕ) (known : Option (List ℕ)) (script other : Script) (old new : E) → other ≡ script
     → IfSome known (λ text. script_of text ≡ Ok script) → Appends written faults old new (trace_text other) → IfSome known (WritesTrace written faults old new)
 writes-trace written faults known script other old new same is appends =
     let P : Script → Type 0 = λ script. Appends written faults old new (trace_text script) in
-    if-some (λ text. script_of text ≡ Ok script) (WritesTrace written faults old new) known (λ text e. (script, e, subst P same appends)) is
+    IfSome_then known is (λ text e. (script, e, subst P same appends))
 
 module _ {K E : Type 0} (k_written : K → Option (List ℕ)) (k_faults : K → ℕ) (k_old k_new : K) (e_written : E → Option (List ℕ)) (e_faults : E → ℕ) (e_old e_new : E) where
   pub stops-in-trace : (known : Option (List ℕ)) (script other : Script) → other ≡ script → IfSome known (λ text. script_of text ≡ Ok script)
@@ -99,26 +93,10 @@ module _ {K E : Type 0} (k_written : K → Option (List ℕ)) (k_faults : K → 
       → IfSome known (StopsInTrace k_written k_faults k_old k_new e_written e_faults e_old e_new)
   stops-in-trace known script other same is stops =
       let P : Script → Type 0 = λ script. StopsBoth k_written k_faults k_old k_new (walk_text script) e_written e_faults e_old e_new (trace_text script) in
-      if-some (λ text. script_of text ≡ Ok script) (StopsInTrace k_written k_faults k_old k_new e_written e_faults e_old e_new) known (λ text e. (script, e, subst P same stops)) is
+      IfSome_then known is (λ text e. (script, e, subst P same stops))
 
   -- one fault is counted, on one of the two
   pub fails-once : (text trace : List ℕ) → StopsBoth k_written k_faults k_old k_new text e_written e_faults e_old e_new trace
       → FailsOnce (k_faults k_old) (k_faults k_new) (e_faults e_old) (e_faults e_new)
   fails-once text trace (inl (part, some)) = inl (part.counted, some.quiet)
   fails-once text trace (inr (some, part)) = inr (some.quiet, part.counted)
-
--- what was stopped by another cause than a write has run nothing
-pub not-run : (now : Option Stop) (stop : Stop) → now ≡ Some stop → stop ≢ Write → HasRun now → ⊥
-not-run now stop is other run = stopped stop other (subst HasRun is run)
-  where
-    stopped : (stop : Stop) → stop ≢ Write → HasRun (Some stop) → ⊥
-    stopped Usage other run = run
-    stopped Read other run = run
-    stopped TooLong other run = run
-    stopped (Fault fault) other run = run
-    stopped (NotHex number) other run = run
-    stopped Write other run = other refl
-    stopped Memory other run = run
-
-pub same-stop : (a b : Stop) → Some a ≡ Some b → a ≡ b
-same-stop a b e = cc

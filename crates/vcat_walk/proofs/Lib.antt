@@ -7,6 +7,4 @@ pub mod LineLaws
 pub mod CountLaws
 pub mod RunLaws
 pub mod WriteLaws
-pub mod StopLaws
-pub mod StatusLaws
 pub mod TopLaws

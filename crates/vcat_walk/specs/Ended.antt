@@ -1,59 +1,25 @@
--- How the program ends: its statuses, what it writes at each, and the walk that it hands back. `written` and `faults` are what a sink
--- tells of its octets, where it tells them, and its count of faults.
-use Rattle.std.specs.Prelude.{◌≡◌, ◌⊎◌, ℕ, ◌≤◌, length, ◌==◌, ◌||◌, Bool, List, Option, Some, Ok}
+-- How the program ends: what it writes at each status, and the walk that it hands back. `written` and `faults` are what a sink tells of
+-- its octets, where it tells them, and its count of faults.
+use Rattle.std.specs.Prelude.{◌≡◌, ◌⊎◌, ℕ, ◌≤◌, length, List, Option, Some, Ok}
 use Rattle.outside_io.specs.Faults.{one_more}
 use Rattle.outside_io.specs.Transfer.{Appends, AppendsPart}
 use Rattle.session_model.specs.declared.script.Script.{Script}
 use Rattle.session_model.specs.DecodeText.{decoded_text}
-use Rattle.script_read.specs.declared.fault.ScriptFault.{ScriptFault}
-use Rattle.script_read.specs.declared.fault.ScriptFault.TheVariants.{Line, Slip, Spread, Lag, Memory}
 use Rattle.script_read.specs.Script.{script_of}
 use Rattle.walk_core.specs.Moved.{Walked}
 use Rattle.got_out.specs.Told.{AppendsSome}
+use Rattle.command_parts.specs.Status.{most_octets}
 use Rattle.vcat_walk.specs.HexLines.{IsHexText}
 use Rattle.vcat_walk.specs.Texts.{counts_in, walk_text, trace_text}
 
--- the greatest number of octets of an input
-abbrev pub most_octets : ℕ
-most_octets = 67108864
-
--- ---- the statuses
--- those that there are
-abbrev pub is_status : ℕ → Bool
-is_status n = n == 0 || n == 2 || n == 3 || n == 4 || n == 5 || n == 6 || n == 7 || n == 8
-
--- those at which an input was read to its end
-abbrev pub HasRead : ℕ → Type 0
-HasRead status = (status ≡ 0) ⊎ ((status ≡ 4) ⊎ ((status ≡ 5) ⊎ (status ≡ 6)))
-
--- those at which something was run
-abbrev pub HasRunAt : ℕ → Type 0
-HasRunAt status = (status ≡ 0) ⊎ (status ≡ 4)
-
 -- ---- faults
--- a count of faults rose, or stands at its greatest value
-abbrev pub Rises : ℕ → ℕ → Type 0
-Rises old new = one_more old ≤ new
-
 -- of two counts one rose by one, and the other stayed
 abbrev pub FailsOnce : ℕ → ℕ → ℕ → ℕ → Type 0
 FailsOnce k_old k_new e_old e_new = ((k_new ≡ one_more k_old) × (e_new ≡ e_old)) ⊎ ((k_new ≡ k_old) × (e_new ≡ one_more e_old))
 
--- the text is a script, and not too long
-abbrev pub IsGoodScript : List ℕ → Type 0
-IsGoodScript text = (length text ≤ most_octets) × (script : Script) × (script_of text ≡ Ok script)
-
 -- the text is lines of hexadecimal digits, and not too long
 abbrev pub IsGoodHex : List ℕ → Type 0
 IsGoodHex text = (length text ≤ most_octets) × (octets : List ℕ) × IsHexText text octets
-
--- why slips, spread or lag of a script don't fit
-abbrev pub IsLimit : ScriptFault → Type 0
-IsLimit (Line number kind) = ⊥
-IsLimit (Slip line window) = Unit {0}
-IsLimit (Spread slow fast slip ring) = Unit {0}
-IsLimit (Lag lag least) = Unit {0}
-IsLimit Memory = ⊥
 
 -- ---- the walk that is handed back: that of a script, with the counts of its events
 abbrev pub IsWalkOf : Script → Option Walked → Type 0

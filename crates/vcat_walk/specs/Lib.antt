@@ -3,7 +3,6 @@ pub mod HexLines
 pub mod Texts
 pub mod Make
 pub mod Ended
-pub mod Stop
 pub mod Run
 pub mod Written
 pub mod Trace

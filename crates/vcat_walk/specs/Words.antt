@@ -1,26 +1,21 @@
 -- The words of the command line, and which of them read an input.
-use Rattle.std.specs.Prelude.{◌≡◌, ◌⊎◌, ℕ, true, false, List, Option, Some, String, map, string_bytes}
+use Rattle.std.specs.Prelude.{◌≡◌, ◌⊎◌, ℕ, true, false, List, Some, String}
 use Rattle.std.specs.declared.alloc.Global.{Global}
-use Rattle.cmd_words.specs.declared.command.Command.{Command}
 use Rattle.cmd_words.specs.declared.command.Command.TheVariants.{Walk, Decode, Make}
 use Rattle.cmd_words.specs.declared.command.Program.TheVariants as program
-use Rattle.cmd_words.specs.Commands.{command_of}
-
--- the command that the words are, where they are one
-abbrev pub command_in : List (String Global) → Option Command
-command_in words = command_of program.Walk (map string_bytes words)
+use Rattle.command_parts.specs.Words.{command_in}
 
 abbrev pub IsWalk : List (String Global) → Type 0
-IsWalk words = command_in words ≡ Some (Walk false)
+IsWalk words = command_in program.Walk words ≡ Some (Walk false)
 
 abbrev pub IsTrace : List (String Global) → Type 0
-IsTrace words = command_in words ≡ Some (Walk true)
+IsTrace words = command_in program.Walk words ≡ Some (Walk true)
 
 abbrev pub IsDecode : List (String Global) → Type 0
-IsDecode words = command_in words ≡ Some Decode
+IsDecode words = command_in program.Walk words ≡ Some Decode
 
 abbrev pub IsMake : List (String Global) → ℕ → ℕ → ℕ → Type 0
-IsMake words number lines ticks = command_in words ≡ Some (Make number lines ticks)
+IsMake words number lines ticks = command_in program.Walk words ≡ Some (Make number lines ticks)
 
 -- they run the script that the input says
 abbrev pub RunsScript : List (String Global) → Type 0

@@ -5,14 +5,13 @@ ghost use Rattle.outside_io.specs.Transfer.{Appends, AppendsPart};
 ghost use Rattle.session_model.specs.DecodeText.{decoded_text};
 ghost use Rattle.trace_core.specs.Decoder.{Stands};
 ghost use Rattle.script_read.specs.declared.fault.ScriptFault.{ScriptFault};
+ghost use Rattle.command_parts.specs.Stop.{HasRun, ReadsInput};
 ghost use Rattle.vcat_walk.specs.Ended.{WritesPackets, WritesPacketsPart};
 ghost use Rattle.vcat_walk.specs.HexLines.{IsFirstFault};
-ghost use Rattle.vcat_walk.specs.Stop.{HasRun, ReadsInput};
 ghost use Rattle.vcat_walk.specs.Written.{HasLines, HasLinesPart};
 
 use crate::hex_lines::{HexLinesFault, read_octets};
-use crate::input::read_input;
-use crate::stop::Stop;
+use command_parts::{Stop, read_input};
 use outside_io::{ByteSink, ByteSource, Failed, put_all};
 use std::alloc::Global;
 use trace_core::{FOUND_ROOM, H4Decoder, end_line, found_line};

@@ -6,12 +6,12 @@ ghost use Rattle.session_model.specs.Counts.{begin, drain, bound};
 ghost use Rattle.make_load.specs.Load.{load};
 ghost use Rattle.walk_law.specs.Walk.{walk_plan};
 ghost use Rattle.walk_law.specs.Delivered.{delivered_of};
+ghost use Rattle.command_parts.specs.Stop.{HasRun, IsLate};
 ghost use Rattle.vcat_walk.specs.Ended.{IsWalkOf};
 ghost use Rattle.vcat_walk.specs.Make.{octet_count, octet_sum, made_text, sum_text, lines_text, make_text};
-ghost use Rattle.vcat_walk.specs.Stop.{HasRun, IsLate};
 
-use crate::stop::{Ended, Stop};
-use crate::walk::stopped;
+use crate::walk::{Ended, stopped};
+use command_parts::Stop;
 use outside_io::{ByteSink, Failed, put_all};
 use report_text::{LineCursor, Totals, total_line};
 use sink_core::FrameOut;

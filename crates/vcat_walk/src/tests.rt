@@ -1,4 +1,7 @@
 //! The program by words, inputs and faults. What is expected comes of a model of the definitions, or is counted by hand.
+//!
+//! A row is `WORDS;INPUT => STATUS;OUT;NOTES`, where ` walk` follows the status if a walk is handed back. `|` stands for LF, and `*9` at
+//! the end of a line of the input, or of a got line, for nine octets of 5a. Rows stand behind functions, so that no proof sees them.
 
 use crate::top::walk_top;
 use outside_io::{MemSink, MemSource};
@@ -30,17 +33,12 @@ const NONE: Fails<'static> = Fails {
 };
 
 /// Calls the program with words that stand one space apart.
-fn called(
-    alloc: Global,
-    text: &str,
-    script: &[u8],
-    fails: Fails<'_>,
-) -> Result<Answer, AllocError> {
+fn called(alloc: Global, text: &str, input: &[u8], fails: Fails<'_>) -> Result<Answer, AllocError> {
     let mut words = Vec::new(alloc);
     for word in text.split(' ') {
         words.push(String::from_str(alloc, word)?)?;
     }
-    let mut source = MemSource::new(alloc, script, fails.takes)?;
+    let mut source = MemSource::new(alloc, input, fails.takes)?;
     let mut out = MemSink::new(alloc, 1 << 20, fails.puts)?;
     let mut notes = MemSink::new(alloc, 1 << 16, fails.tells)?;
     let end = walk_top(alloc, words.as_slice(), &mut source, &mut out, &mut notes);
@@ -52,425 +50,316 @@ fn called(
     })
 }
 
-/// Appends a frame line with a due tick and a number of octets.
-fn push_frame(text: &mut Vec<u8>, due: &str, length: usize) -> Result<(), AllocError> {
-    text.extend_from_slice(b"frame ")?;
-    text.extend_from_slice(due.as_bytes())?;
-    text.extend_from_slice(b" ")?;
-    for _ in 0..length {
+/// Appends a line of an input, and the octets that `*` stands for.
+fn push_line(text: &mut Vec<u8>, line: &str) -> Result<(), AllocError> {
+    let (head, count) = line.split_once('*').unwrap_or((line, "0"));
+    text.extend_from_slice(head.as_bytes())?;
+    for _ in 0..count.parse::<usize>().unwrap_or(0) {
         text.extend_from_slice(b"5a")?;
     }
-    text.extend_from_slice(b"\n")?;
     Ok(())
 }
 
-/// How many lines a text has.
-fn count_lines(text: &[u8]) -> usize {
-    text.iter().filter(|octet| **octet == b'\n').count()
+/// The input that a row says.
+fn unfolded(alloc: Global, folded: &str) -> Result<Vec<u8>, AllocError> {
+    let mut text = Vec::new(alloc);
+    let mut between = "";
+    for line in folded.split('|') {
+        text.extend_from_slice(between.as_bytes())?;
+        push_line(&mut text, line)?;
+        between = "\n";
+    }
+    Ok(text)
 }
 
-/// Whether a text has this line.
-fn has_line(text: &[u8], wanted: &str) -> bool {
-    text.split(|octet| *octet == b'\n')
-        .any(|line| line == wanted.as_bytes())
+/// A line as a row says it.
+fn short(alloc: Global, line: &str) -> Result<String, AllocError> {
+    let digits = line.strip_prefix("got ").unwrap_or("");
+    if digits.is_empty()
+        || digits
+            .as_bytes()
+            .chunks(2)
+            .any(|pair| pair != b"5a".as_slice())
+    {
+        return String::from_str(alloc, line);
+    }
+    format!(in alloc; "got *{}", digits.len() / 2)
 }
 
-/// Words, inputs without frames, and what is answered: the status, `out` and `notes`.
-const ANSWERS: &[(&str, &str, u8, &str, &str)] = &[
-    (
-        "walk",
-        "lines 1\ndelays 0\nring 1\nlag 1\nticks 1\n",
-        0,
-        "total ticks 1 taken 1 frames 0 commands 0 refused 0 got 0\n",
-        "",
-    ),
-    // What event lines make, and nothing else.
-    (
-        "walk",
-        "lines 1\ndelays 0\nring 1\nlag 1\nticks 5\ntick 2\ncarry 0 1\n",
-        0,
-        "total ticks 2 taken 0 frames 0 commands 0 refused 0 got 0\n",
-        "",
-    ),
-    (
-        "walk",
-        "lines 1\ndelays 0\nring 1\nlag 1\nticks 1\nadd 0 0\nadd 0 0\nremove 0 1\nframe 0 00\n",
-        0,
-        "refused 1 already in\nrefused 2 unknown\nrefused 3 length 1\ntotal ticks 1 taken 1 frames 0 commands 1 refused 3 got 0\n",
-        "",
-    ),
-    (
-        "walk",
-        "lines 2\ndelays 0 0\nring 1\nlag 1\nticks 1\nadd 0 0\nadd 0 0\nremove 0 1",
-        0,
-        "refused 1 already in\nrefused 2 not in\ntotal ticks 1 taken 1 frames 0 commands 1 refused 2 got 0\n",
-        "",
-    ),
-    (
-        "trace",
-        "lines 1\ndelays 0\nring 1\nlag 1\nticks 41\nadd 0 0\n",
-        0,
-        "total ticks 41 taken 41 frames 0 commands 1 refused 0 got 0\n",
-        "packet 0 chg 1 act 0 back none add:0\npacket 1 chg 1 act 1 back 7f/1 eos:0\npacket 2 chg 1 act 1 back ff/1 eos:0\n",
-    ),
-    (
-        "make 1 1 1",
-        "",
-        0,
-        "made lines 1 ticks 1\ntotal ticks 1 taken 1 frames 1 commands 1 refused 0 got 0\noctets 0 sum 0\n",
-        "",
-    ),
-    (
-        "make 7 2 400",
-        "",
-        0,
-        "made lines 2 ticks 400\ntotal ticks 400 taken 400 frames 50 commands 2 refused 0 got 50\noctets 43246 sum 5512389\n",
-        "",
-    ),
-    (
-        "walk",
-        "lines 1\nring 1\n",
-        5,
-        "",
-        "fault: line 2: missing\n",
-    ),
-    ("walk", "", 5, "", "fault: line 1: missing\n"),
-    ("walk", "lines 129\n", 5, "", "fault: line 1: range\n"),
-    ("trace", "container vc2\n", 5, "", "fault: line 1: word\n"),
-    (
-        "walk",
-        "lines 1\ndelays 0\nring 1\nlag 1\nticks 1\nframe 0 abc\n",
-        5,
-        "",
-        "fault: line 6: hex\n",
-    ),
-    (
-        "walk",
-        "lines 1\ndelays 0\nring 1\nlag 1\nticks 9\nadd 5 0\nadd 4 0\nx\n",
-        5,
-        "",
-        "fault: line 7: order\n",
-    ),
-    (
-        "walk",
-        "lines 1\ndelays 00000000000\n",
-        5,
-        "",
-        "fault: line 2: number\n",
-    ),
-    (
-        "walk",
-        "lines 2\ndelays 0 63\nring 64\nlag 5\nticks 1\n",
-        0,
-        "total ticks 1 taken 1 frames 0 commands 0 refused 0 got 0\n",
-        "",
-    ),
-    (
-        "walk",
-        "lines 2\ndelays 0 63\nring 63\nlag 5\nticks 1\n",
-        6,
-        "",
-        "fault: spread 63 0 0 63\n",
-    ),
-    (
-        "walk",
-        "lines 2\ndelays 0 63\nring 64\nlag 4\nticks 1\n",
-        6,
-        "",
-        "fault: lag 4 least 5\n",
-    ),
-    (
-        "trace",
-        "lines 1\ndelays 0\nring 1\nlag 1\nticks 20\nfail 0 10 20 10\n",
-        6,
-        "",
-        "fault: slip line 0 window 0\n",
-    ),
-];
+/// A text as a row says it.
+fn folded(alloc: Global, text: &[u8]) -> Result<String, AllocError> {
+    let mut row = String::new(alloc);
+    let mut between = "";
+    for line in str::from_utf8(text).unwrap_or("no UTF-8").split('\n') {
+        row.push_str(between)?;
+        row.push_str(short(alloc, line)?.as_str())?;
+        between = "|";
+    }
+    Ok(row)
+}
+
+/// What a row says of an answer.
+fn told(alloc: Global, words: &str, input: &[u8], fails: Fails<'_>) -> Result<String, AllocError> {
+    let end = called(alloc, words, input, fails)?;
+    let walk = if end.walked { " walk" } else { "" };
+    let out = folded(alloc, end.out.as_slice())?;
+    let notes = folded(alloc, end.notes.as_slice())?;
+    format!(in alloc; "{}{walk};{};{}", end.status, out.as_str(), notes.as_str())
+}
+
+/// The first row that is answered otherwise, with the answer, or nothing.
+fn first_wrong(alloc: Global, rows: &str, fails: Fails<'_>) -> Result<String, AllocError> {
+    for row in rows.lines() {
+        let (given, want) = row.split_once(" => ").unwrap_or((row, "a row"));
+        let (words, folded) = given.split_once(';').unwrap_or((given, ""));
+        let input = unfolded(alloc, folded)?;
+        let answer = told(alloc, words, input.as_slice(), fails)?;
+        if answer.as_str() != want {
+            return format!(in alloc; "{row} BUT {}", answer.as_str());
+        }
+    }
+    Ok(String::new(alloc))
+}
+
+/// Walks and loads.
+fn answer_rows() -> &'static str {
+    "\
+    walk;lines 1|delays 0|ring 1|lag 1|ticks 1| => 0 walk;total ticks 1 taken 1 frames 0 commands 0 refused 0 got 0|;\n\
+    walk;lines 1|delays 0|ring 1|lag 1|ticks 5|tick 2|carry 0 1| => 0 walk;total ticks 2 taken 0 frames 0 commands 0 refused 0 got 0|;\n\
+    walk;lines 1|delays 0|ring 1|lag 1|ticks 1|add 0 0|add 0 0|remove 0 1|frame 0 00| => 0 walk;refused 1 already in|refused 2 unknown|refused 3 length 1|total ticks 1 taken 1 frames 0 commands 1 refused 3 got 0|;\n\
+    walk;lines 2|delays 0 0|ring 1|lag 1|ticks 1|add 0 0|add 0 0|remove 0 1 => 0 walk;refused 1 already in|refused 2 not in|total ticks 1 taken 1 frames 0 commands 1 refused 2 got 0|;\n\
+    trace;lines 1|delays 0|ring 1|lag 1|ticks 41|add 0 0| => 0 walk;total ticks 41 taken 41 frames 0 commands 1 refused 0 got 0|;packet 0 chg 1 act 0 back none add:0|packet 1 chg 1 act 1 back 7f/1 eos:0|packet 2 chg 1 act 1 back ff/1 eos:0|\n\
+    make 1 1 1; => 0 walk;made lines 1 ticks 1|total ticks 1 taken 1 frames 1 commands 1 refused 0 got 0|octets 0 sum 0|;\n\
+    make 7 2 400; => 0 walk;made lines 2 ticks 400|total ticks 400 taken 400 frames 50 commands 2 refused 0 got 50|octets 43246 sum 5512389|;\n\
+    walk;lines 2|delays 0 63|ring 64|lag 5|ticks 1| => 0 walk;total ticks 1 taken 1 frames 0 commands 0 refused 0 got 0|;"
+}
+
+/// Scripts that are faulty, or don't fit their rings.
+fn faulty_rows() -> &'static str {
+    "\
+    walk;lines 1|ring 1| => 5;;fault: line 2: missing|\n\
+    walk; => 5;;fault: line 1: missing|\n\
+    walk;lines 129| => 5;;fault: line 1: range|\n\
+    trace;container vc2| => 5;;fault: line 1: word|\n\
+    walk;lines 1|delays 0|ring 1|lag 1|ticks 1|frame 0 abc| => 5;;fault: line 6: hex|\n\
+    walk;lines 1|delays 0|ring 1|lag 1|ticks 9|add 5 0|add 4 0|x| => 5;;fault: line 7: order|\n\
+    walk;lines 1|delays 00000000000| => 5;;fault: line 2: number|\n\
+    walk;lines 2|delays 0 63|ring 63|lag 5|ticks 1| => 6;;fault: spread 63 0 0 63|\n\
+    walk;lines 2|delays 0 63|ring 64|lag 4|ticks 1| => 6;;fault: lag 4 least 5|\n\
+    trace;lines 1|delays 0|ring 1|lag 1|ticks 20|fail 0 10 20 10| => 6;;fault: slip line 0 window 0|"
+}
+
+/// Words that are no command.
+fn usage_rows() -> &'static str {
+    "\
+    ; => 2;;usage: vcat_walk walk, trace, decode, or make NUMBER LINES TICKS|\n\
+    walk ; => 2;;usage: vcat_walk walk, trace, decode, or make NUMBER LINES TICKS|\n\
+    walk x; => 2;;usage: vcat_walk walk, trace, decode, or make NUMBER LINES TICKS|\n\
+    Walk; => 2;;usage: vcat_walk walk, trace, decode, or make NUMBER LINES TICKS|\n\
+    walk walk; => 2;;usage: vcat_walk walk, trace, decode, or make NUMBER LINES TICKS|\n\
+    -h; => 2;;usage: vcat_walk walk, trace, decode, or make NUMBER LINES TICKS|\n\
+    run 2; => 2;;usage: vcat_walk walk, trace, decode, or make NUMBER LINES TICKS|\n\
+    make 1 1; => 2;;usage: vcat_walk walk, trace, decode, or make NUMBER LINES TICKS|"
+}
+
+/// Frames that are carried whole or not, in containers of either size; and those that a failure of 40 containers with a slip of 39 covers:
+/// the second one lies before the first place that is confirmed after it, and the third one is not yet descrambled. The last row makes
+/// the events in another order.
+fn frame_rows() -> &'static str {
+    "\
+    walk;lines 1|delays 0|ring 1|lag 1|ticks 41|add 0 0|frame 0 *2324| => 0 walk;got *2324|total ticks 41 taken 41 frames 1 commands 1 refused 0 got 1|;\n\
+    walk;lines 1|delays 0|ring 1|lag 1|ticks 41|add 0 0|frame 0 *2325| => 0 walk;total ticks 41 taken 41 frames 1 commands 1 refused 0 got 0|;\n\
+    walk;container vc3|lines 1|delays 0|ring 1|lag 1|ticks 41|add 0 0|frame 0 *740| => 0 walk;got *740|total ticks 41 taken 41 frames 1 commands 1 refused 0 got 1|;\n\
+    walk;container vc3|lines 1|delays 0|ring 1|lag 1|ticks 41|add 0 0|frame 0 *741| => 0 walk;total ticks 41 taken 41 frames 1 commands 1 refused 0 got 0|;\n\
+    walk;lines 1|delays 0|ring 40|lag 4|ticks 200|fail 0 100 140 39|add 0 0|frame 0 *64|frame 168 *64|frame 168 *64|frame 168 *64| => 0 walk;got *64|got *64|total ticks 200 taken 200 frames 4 commands 1 refused 0 got 2|;\n\
+    walk;lines 1|delays 0|ring 40|lag 4|ticks 200|fail 0 100 140 39|add 0 0|frame 0 *64|frame 168 *64|frame 168 *64|frame 168 *64|tick 9|operator 2|tick 30|carry 0 7|client 9|tick 3|carry 0 100|take 3|round 20|drain| => 0 walk;got *64|got *64|total ticks 200 taken 200 frames 4 commands 1 refused 0 got 2|;"
+}
 
 #[test]
 fn answers(rt: HostRuntime) -> Result<(), Fail> {
     let alloc = rt.alloc();
-    for (words, script, status, out, notes) in ANSWERS {
-        let end = called(alloc, words, script.as_bytes(), NONE)?;
-        assert_eq!(rt; end.status, *status, "{words} {script}");
-        assert_eq!(rt; end.out.as_slice(), out.as_bytes(), "{words} {script}");
-        assert_eq!(rt; end.notes.as_slice(), notes.as_bytes(), "{words} {script}");
-        assert_eq!(rt; end.walked, *status == 0, "{words} {script}");
-    }
-    for words in [
-        "",
-        "walk ",
-        "walk x",
-        "Walk",
-        "walk walk",
-        "-h",
-        "run 2",
-        "make 1 1",
-    ] {
-        let end = called(alloc, words, b"", NONE)?;
-        assert_eq!(rt; end.status, 2, "{words}");
-        assert_eq!(rt; end.out.len(), 0);
-        assert_eq!(rt;
-            end.notes.as_slice(),
-            b"usage: vcat_walk walk, trace, decode, or make NUMBER LINES TICKS\n".as_slice()
-        );
+    for rows in [answer_rows(), faulty_rows(), usage_rows(), frame_rows()] {
+        assert_eq!(rt; first_wrong(alloc, rows, NONE)?.as_str(), "");
     }
     Ok(())
 }
 
 /// Scripts without frames, and lines of their traces.
-const TRACES: &[(&str, &[&str])] = &[
-    (
-        "lines 3\ndelays 0 0 0\nring 1\nlag 1\nticks 700\nadd 0 0\nadd 0 1\nadd 0 2\nremove 600 1\n",
-        &[
-            "packet 1 chg 0 act 1 back 7f/1 eos:0 add:1 idle:255",
-            "packet 2 chg 1 act 1 back ff/0 eos:0 add:1 add:2",
-            "packet 17 chg 1 act 3 back 1f/1 norm:0 norm:1 eos:2",
-            "packet 33 chg 1 act 3 back 1f/1 norm:0 norm:1 eos:2",
-            "packet 37 chg 0 act 2 back ff/1 norm:0 idle:255 eos:1",
-        ],
-    ),
-    (
-        "lines 3\ndelays 0 0 0\nring 1\nlag 1\nticks 700\nadd 0 0\nadd 0 1\nadd 0 2\nremove 600 2\n",
-        &["packet 37 chg 0 act 2 back ff/1 norm:0 eos:1 idle:255"],
-    ),
-    (
-        "lines 2\ndelays 0 0\nring 1\nlag 4\nticks 1100\nadd 0 0\nremove 552 0\nadd 552 1\n",
-        &[
-            "packet 34 chg 0 act 0 back ff/1 idle:255 idle:255",
-            "packet 36 chg 0 act 0 back 7f/1 idle:255 idle:255",
-            "packet 38 chg 1 act 0 back ff/0 idle:255 add:0",
-            "packet 68 chg 1 act 1 back 7f/1 idle:255 eos:0",
-        ],
-    ),
-    (
-        "lines 2\ndelays 0 0\nring 1\nlag 1\nticks 1600\nfail 1 1024 1048 0\nadd 0 0\nadd 0 1\n",
-        &[
-            "packet 33 chg 0 act 2 back 3f/0 norm:0 eos:1",
-            "packet 65 chg 0 act 1 back 7f/0 eos:0 dnu:1",
-            "packet 97 chg 0 act 2 back 3f/0 norm:0 eos:1",
-        ],
-    ),
-    (
-        "lines 1\ndelays 0\nring 1\nlag 1\nticks 700\nlost 0 1\nadd 0 0\n",
-        &[
-            "packet 1 chg 1 act 0 back lost add:0",
-            "packet 2 chg 1 act 0 back ff/1 add:0",
-            "packet 33 chg 1 act 1 back 7f/1 eos:0",
-        ],
-    ),
-    (
-        "lines 2\ndelays 0 0\nring 1\nlag 1\nticks 1200\nfail 0 0 1100 0\nadd 0 0\nadd 0 1\n",
-        &[
-            "packet 0 chg 1 act 0 back none add:0 idle:255",
-            "packet 1 chg 0 act 0 back ff/1 add:0 add:1",
-            "packet 17 chg 1 act 0 back bf/0 add:1 add:0",
-            "packet 33 chg 1 act 1 back 7f/1 add:1 eos:0",
-        ],
-    ),
-];
+fn trace_rows() -> &'static str {
+    "\
+    lines 3|delays 0 0 0|ring 1|lag 1|ticks 700|add 0 0|add 0 1|add 0 2|remove 600 1| => \
+    packet 1 chg 0 act 1 back 7f/1 eos:0 add:1 idle:255;packet 2 chg 1 act 1 back ff/0 eos:0 add:1 add:2;\
+    packet 17 chg 1 act 3 back 1f/1 norm:0 norm:1 eos:2;packet 33 chg 1 act 3 back 1f/1 norm:0 norm:1 eos:2;\
+    packet 37 chg 0 act 2 back ff/1 norm:0 idle:255 eos:1\n\
+    lines 3|delays 0 0 0|ring 1|lag 1|ticks 700|add 0 0|add 0 1|add 0 2|remove 600 2| => \
+    packet 37 chg 0 act 2 back ff/1 norm:0 eos:1 idle:255\n\
+    lines 2|delays 0 0|ring 1|lag 4|ticks 1100|add 0 0|remove 552 0|add 552 1| => \
+    packet 34 chg 0 act 0 back ff/1 idle:255 idle:255;packet 36 chg 0 act 0 back 7f/1 idle:255 idle:255;\
+    packet 38 chg 1 act 0 back ff/0 idle:255 add:0;packet 68 chg 1 act 1 back 7f/1 idle:255 eos:0\n\
+    lines 2|delays 0 0|ring 1|lag 1|ticks 1600|fail 1 1024 1048 0|add 0 0|add 0 1| => \
+    packet 33 chg 0 act 2 back 3f/0 norm:0 eos:1;packet 65 chg 0 act 1 back 7f/0 eos:0 dnu:1;\
+    packet 97 chg 0 act 2 back 3f/0 norm:0 eos:1\n\
+    lines 1|delays 0|ring 1|lag 1|ticks 700|lost 0 1|add 0 0| => \
+    packet 1 chg 1 act 0 back lost add:0;packet 2 chg 1 act 0 back ff/1 add:0;packet 33 chg 1 act 1 back 7f/1 eos:0\n\
+    lines 2|delays 0 0|ring 1|lag 1|ticks 1200|fail 0 0 1100 0|add 0 0|add 0 1| => \
+    packet 0 chg 1 act 0 back none add:0 idle:255;packet 1 chg 0 act 0 back ff/1 add:0 add:1;\
+    packet 17 chg 1 act 0 back bf/0 add:1 add:0;packet 33 chg 1 act 1 back 7f/1 add:1 eos:0"
+}
+
+/// The first line that a trace doesn't have, or nothing.
+fn first_untold(alloc: Global, script: &[u8], lines: &str) -> Result<String, AllocError> {
+    let end = called(alloc, "trace", script, NONE)?;
+    let notes = str::from_utf8(end.notes.as_slice()).unwrap_or("");
+    for line in lines.split(';') {
+        if !notes.lines().any(|note| note == line) {
+            return String::from_str(alloc, line);
+        }
+    }
+    Ok(String::new(alloc))
+}
 
 #[test]
 fn traces(rt: HostRuntime) -> Result<(), Fail> {
     let alloc = rt.alloc();
-    for (script, lines) in TRACES {
-        let end = called(alloc, "trace", script.as_bytes(), NONE)?;
-        assert_eq!(rt; end.status, 0, "{script}");
-        for line in *lines {
-            assert_eq!(rt; has_line(end.notes.as_slice(), line), true, "{line}");
-        }
-        // The same on `out` as a walk.
-        let walk = called(alloc, "walk", script.as_bytes(), NONE)?;
-        assert_eq!(rt; walk.out.as_slice(), end.out.as_slice());
-        assert_eq!(rt; walk.notes.len(), 0);
+    for row in trace_rows().lines() {
+        let (folded, lines) = row.split_once(" => ").unwrap_or((row, "a row"));
+        let script = unfolded(alloc, folded)?;
+        assert_eq!(rt;
+            first_untold(alloc, script.as_slice(), lines)?.as_str(),
+            "",
+            "{row}"
+        );
     }
     Ok(())
 }
 
-/// How a script begins, the due ticks and lengths of its frames, how it ends, and its got lines.
-const DELIVERED: &[(&str, &[(&str, usize)], &str, usize)] = &[
-    (
-        "lines 1\ndelays 0\nring 1\nlag 1\nticks 41\nadd 0 0\n",
-        &[("0", 2324)],
-        "",
-        1,
-    ),
-    (
-        "lines 1\ndelays 0\nring 1\nlag 1\nticks 41\nadd 0 0\n",
-        &[("0", 2325)],
-        "",
-        0,
-    ),
-    (
-        "container vc3\nlines 1\ndelays 0\nring 1\nlag 1\nticks 41\nadd 0 0\n",
-        &[("0", 740)],
-        "",
-        1,
-    ),
-    (
-        "container vc3\nlines 1\ndelays 0\nring 1\nlag 1\nticks 41\nadd 0 0\n",
-        &[("0", 741)],
-        "",
-        0,
-    ),
-    // A failure of 40 containers with a slip of 39: the second frame lies before the first place that is confirmed after it, and the
-    // third one is not yet descrambled.
-    (
-        "lines 1\ndelays 0\nring 40\nlag 4\nticks 200\nfail 0 100 140 39\nadd 0 0\n",
-        &[("0", 64), ("168", 64), ("168", 64), ("168", 64)],
-        "",
-        2,
-    ),
-    // Events in another order than rounds, and then a drain.
-    (
-        "lines 1\ndelays 0\nring 40\nlag 4\nticks 200\nfail 0 100 140 39\nadd 0 0\n",
-        &[("0", 64), ("168", 64), ("168", 64), ("168", 64)],
-        "tick 9\noperator 2\ntick 30\ncarry 0 7\nclient 9\ntick 3\ncarry 0 100\ntake 3\nround 20\ndrain\n",
-        2,
-    ),
-];
+#[test]
+fn a_trace_is_a_walk(rt: HostRuntime) -> Result<(), Fail> {
+    let alloc = rt.alloc();
+    let (folded, _) = trace_rows().split_once(" => ").unwrap_or(("", ""));
+    let script = unfolded(alloc, folded)?;
+    let trace = called(alloc, "trace", script.as_slice(), NONE)?;
+    let walk = called(alloc, "walk", script.as_slice(), NONE)?;
+    assert_eq!(rt; trace.status, 0);
+    assert_eq!(rt; walk.out.as_slice(), trace.out.as_slice());
+    assert_eq!(rt; walk.notes.len(), 0);
+    Ok(())
+}
+
+/// Four frames of which each one's line goes out alone, and the lines of totals.
+fn four_frames() -> &'static str {
+    "lines 1|delays 0|ring 1|lag 1|ticks 58|add 0 0|frame 0 *9600|frame 0 *9600|frame 0 *9600|frame 0 *9600|"
+}
+
+/// What is answered where the first call of `out` fails, the second, and so on.
+fn cut_rows() -> &'static str {
+    "\
+    4 walk;;fault: write failed|\n\
+    4 walk;got *9600|;fault: write failed|\n\
+    4 walk;got *9600|got *9600|;fault: write failed|\n\
+    4 walk;got *9600|got *9600|got *9600|;fault: write failed|\n\
+    4 walk;got *9600|got *9600|got *9600|got *9600|;fault: write failed|\n\
+    0 walk;got *9600|got *9600|got *9600|got *9600|total ticks 58 taken 58 frames 4 commands 1 refused 0 got 4|;"
+}
 
 #[test]
-fn frames_that_are_delivered(rt: HostRuntime) -> Result<(), Fail> {
+fn puts_that_fail(rt: HostRuntime) -> Result<(), Fail> {
     let alloc = rt.alloc();
-    for (head, frames, tail, got) in DELIVERED {
-        let mut text = Vec::from_slice(alloc, head.as_bytes())?;
-        for (due, length) in *frames {
-            push_frame(&mut text, due, *length)?;
-        }
-        text.extend_from_slice(tail.as_bytes())?;
-        let end = called(alloc, "walk", text.as_slice(), NONE)?;
-        assert_eq!(rt; end.status, 0, "{head}");
-        assert_eq!(rt; count_lines(end.out.as_slice()), got + 1, "{head}{tail}");
+    let script = unfolded(alloc, four_frames())?;
+    let mut puts = [0];
+    for want in cut_rows().lines() {
+        let fails = Fails {
+            puts: &puts,
+            ..NONE
+        };
+        assert_eq!(rt;
+            told(alloc, "walk", script.as_slice(), fails)?.as_str(),
+            want
+        );
+        let walk = called(alloc, "walk", script.as_slice(), fails)?;
+        let trace = called(alloc, "trace", script.as_slice(), fails)?;
+        assert_eq!(rt; trace.status, walk.status);
+        assert_eq!(rt; trace.out.as_slice(), walk.out.as_slice());
+        assert_eq!(rt; trace.notes.ends_with(walk.notes.as_slice()), true);
+        puts = [puts[0].wrapping_add(1)];
     }
     Ok(())
+}
+
+/// A source that fails, and notes that can't be written: the status stays.
+fn unread_rows() -> &'static str {
+    "\
+    walk;lines 1|delays 0|ring 1|lag 1|ticks 1| => 3;;fault: read failed|\n\
+    trace;x| => 3;;fault: read failed|\n\
+    decode;00 => 3;;fault: read failed|"
+}
+
+fn untold_rows() -> &'static str {
+    "\
+    walk;x| => 5;;\n\
+    decode;x| => 5;;\n\
+    x; => 2;;\n\
+    trace;lines 1|delays 0|ring 1|lag 1|ticks 41|add 0 0| => 4 walk;;fault: write failed|"
 }
 
 #[test]
 fn calls_that_fail(rt: HostRuntime) -> Result<(), Fail> {
     let alloc = rt.alloc();
-    let mut text = Vec::from_slice(
-        alloc,
-        b"lines 1\ndelays 0\nring 1\nlag 1\nticks 58\nadd 0 0\n",
-    )?;
-    for _ in 0..4 {
-        push_frame(&mut text, "0", 9600)?;
-    }
-    let script = text.as_slice();
-    let whole = called(alloc, "walk", script, NONE)?;
-    assert_eq!(rt; whole.status, 0);
-    assert_eq!(rt; count_lines(whole.out.as_slice()), 5);
-    // A got line of 9,600 octets has 19,205, and goes out alone.
-    for (failing, lines) in [(0, 0), (1, 1), (2, 2), (3, 3), (4, 4)] {
-        for words in ["walk", "trace"] {
-            let fails = Fails {
-                puts: &[failing],
-                ..NONE
-            };
-            let cut = called(alloc, words, script, fails)?;
-            assert_eq!(rt; cut.status, 4);
-            assert_eq!(rt; cut.walked, true);
-            assert_eq!(rt; Some(cut.out.as_slice()), whole.out.get(..19_205 * lines));
-            assert_eq!(rt; has_line(cut.notes.as_slice(), "fault: write failed"), true);
-        }
-    }
-    // The second line of the trace can't be written: nothing follows it but the note, and on `out` nothing.
-    let fails = Fails {
-        tells: &[1],
-        ..NONE
-    };
-    let cut = called(alloc, "trace", script, fails)?;
-    assert_eq!(rt; cut.status, 4);
-    assert_eq!(rt; cut.out.len(), 0);
-    assert_eq!(rt;
-        cut.notes.as_slice(),
-        b"packet 0 chg 1 act 0 back none add:0\nfault: write failed\n".as_slice()
-    );
-    let fails = Fails {
+    let takes = Fails {
         takes: &[0],
         ..NONE
     };
-    let unread = called(alloc, "walk", script, fails)?;
-    assert_eq!(rt; unread.status, 3);
-    assert_eq!(rt; unread.out.len(), 0);
-    assert_eq!(rt; unread.notes.as_slice(), b"fault: read failed\n".as_slice());
-    // The status stays where a note can't be written.
-    for (words, input, status) in [("walk", "x\n", 5), ("decode", "x\n", 5), ("x", "", 2)] {
-        let fails = Fails {
-            tells: &[0],
-            ..NONE
-        };
-        let silent = called(alloc, words, input.as_bytes(), fails)?;
-        assert_eq!(rt; silent.status, status);
-        assert_eq!(rt; silent.notes.len(), 0);
-    }
+    assert_eq!(rt; first_wrong(alloc, unread_rows(), takes)?.as_str(), "");
+    let tells = Fails {
+        tells: &[0],
+        ..NONE
+    };
+    assert_eq!(rt; first_wrong(alloc, untold_rows(), tells)?.as_str(), "");
+    // The second line of the trace can't be written: nothing follows it but the note, and on `out` nothing.
+    let second = Fails {
+        tells: &[1],
+        ..NONE
+    };
+    let row =
+        "trace;lines 1|delays 0|ring 1|lag 1|ticks 58|add 0 0|frame 0 *64| => 4 walk;;packet 0 chg 1 act 0 back none add:0|fault: write failed|";
+    assert_eq!(rt; first_wrong(alloc, row, second)?.as_str(), "");
     Ok(())
 }
 
-/// The H4 octets of frames 0 to 39 of a line that is added to an empty group: two packets.
-const TWO_PACKETS: &[u8] =
-    b"000102030405060708090a1b0c0d0e0f001112130405060708090a1b0c0d0e0f0021321304151647";
-
-/// The same, where the check of the second packet says another value.
-const WRONG_CHECK: &[u8] =
-    b"000102030405060708090a1b0c0d0e0f001112130405060708090a1b0c0d0e0f0021321304151657";
-
-/// The H4 octets of a line while a group of three is set up, from outside the program: one packet has a wrong bit, one has a code
-/// that there is not, one lies where the line is not locked, and the last one is cut.
-const GROUP_OF_THREE: &[u8] =
-    b"# H4 of line 1 while a group of three is set up, and then from frame 590 on\n\n000102030405060708090a1b0c0dfeff00115213040586a7\n08090a0b0c0d0e1f002112130415865708090a1b0c0d0e1f\n003112130415C67708090A1B0C0D0E3F004112130415D617\n  08090a1b0c0d0e1f005112130415b6a708090a1b0c0d0e1f \n006172130415f62708090a1b0c0d0e1f00711213041566c7\n08090a1b0c0d0e1f00810e1f20512203043516b708090a0b\n0c0dfeff206152030425e6d708090a0b0c0dfeff20715203\n0425866708090a0b0c0dfeff208152030425c61708090a0b\n0c0dfeff20915203";
-
-const GROUP_OF_THREE_LINES: &str =
-    "at 8 idle sq 255 gid 1 act 0 chg 1 mst 00 ack 0\nat 24 add sq 1 gid 1 act 1 chg 0 mst 00 ack 0\nat 40 add sq 1 gid 1 act 1 chg 1 mst 00 ack 0\nat 56 crc said d1 found fd\nat 72 add sq 1 gid 1 act 1 chg 1 mst 00 ack 0\nat 88 ctrl 7\nat 104 add sq 1 gid 1 act 1 chg 1 mst 00 ack 0\nat 140 idle sq 255 gid 0 act 2 chg 0 mst 00 ack 0\nat 156 idle sq 255 gid 0 act 2 chg 0 mst 00 ack 0\nat 172 idle sq 255 gid 0 act 2 chg 0 mst 00 ack 0\nend octets 200 packets 10\n";
+/// H4 octets, and the packets in them. The first row is a line that is added to an empty group; in the second one the check of its
+/// second packet says another value. The third is from outside the program, a line while a group of three is set up: one packet has a
+/// wrong bit, one has a code that there is not, one lies where the line is not locked, and the last one is cut.
+fn packet_rows() -> &'static str {
+    "\
+    decode;000102030405060708090a1b0c0d0e0f001112130405060708090a1b0c0d0e0f0021321304151647 => 0;\
+    at 8 add sq 0 gid 1 act 0 chg 1 mst 00 ack 0|at 24 eos sq 0 gid 1 act 1 chg 1 mst 00 ack 0|end octets 40 packets 2|;\n\
+    decode;000102030405060708090a1b0c0d0e0f001112130405060708090a1b0c0d0e0f0021321304151657 => 0;\
+    at 8 add sq 0 gid 1 act 0 chg 1 mst 00 ack 0|at 24 crc said 15 found 14|end octets 40 packets 2|;\n\
+    decode;# H4 of line 1 while a group of three is set up, and then from frame 590 on||\
+    000102030405060708090a1b0c0dfeff00115213040586a7|08090a0b0c0d0e1f002112130415865708090a1b0c0d0e1f|\
+    003112130415C67708090A1B0C0D0E3F004112130415D617|  08090a1b0c0d0e1f005112130415b6a708090a1b0c0d0e1f |\
+    006172130415f62708090a1b0c0d0e1f00711213041566c7|08090a1b0c0d0e1f00810e1f20512203043516b708090a0b|\
+    0c0dfeff206152030425e6d708090a0b0c0dfeff20715203|0425866708090a0b0c0dfeff208152030425c61708090a0b|0c0dfeff20915203 => 0;\
+    at 8 idle sq 255 gid 1 act 0 chg 1 mst 00 ack 0|at 24 add sq 1 gid 1 act 1 chg 0 mst 00 ack 0|\
+    at 40 add sq 1 gid 1 act 1 chg 1 mst 00 ack 0|at 56 crc said d1 found fd|at 72 add sq 1 gid 1 act 1 chg 1 mst 00 ack 0|\
+    at 88 ctrl 7|at 104 add sq 1 gid 1 act 1 chg 1 mst 00 ack 0|at 140 idle sq 255 gid 0 act 2 chg 0 mst 00 ack 0|\
+    at 156 idle sq 255 gid 0 act 2 chg 0 mst 00 ack 0|at 172 idle sq 255 gid 0 act 2 chg 0 mst 00 ack 0|end octets 200 packets 10|;\n\
+    decode; => 0;end octets 0 packets 0|;\n\
+    decode;# none|| 00 \r|0aF0 => 0;end octets 3 packets 0|;\n\
+    decode;0001020 => 5;;fault: line 1: hex|\n\
+    decode;00||#|0g|0| => 5;;fault: line 4: hex|\n\
+    decode;00 01| => 5;;fault: line 1: hex|\n\
+    decode;00|00\r => 5;;fault: line 2: hex|\n\
+    decode;\t| => 5;;fault: line 1: hex|"
+}
 
 #[test]
 fn control_packets(rt: HostRuntime) -> Result<(), Fail> {
     let alloc = rt.alloc();
-    for (text, status, out, notes) in [
-        (
-            TWO_PACKETS,
-            0,
-            "at 8 add sq 0 gid 1 act 0 chg 1 mst 00 ack 0\nat 24 eos sq 0 gid 1 act 1 chg 1 mst 00 ack 0\nend octets 40 packets 2\n",
-            "",
-        ),
-        (
-            WRONG_CHECK,
-            0,
-            "at 8 add sq 0 gid 1 act 0 chg 1 mst 00 ack 0\nat 24 crc said 15 found 14\nend octets 40 packets 2\n",
-            "",
-        ),
-        (GROUP_OF_THREE, 0, GROUP_OF_THREE_LINES, ""),
-        (b"", 0, "end octets 0 packets 0\n", ""),
-        (b"# none\n\n 00 \r\n0aF0", 0, "end octets 3 packets 0\n", ""),
-        (b"0001020", 5, "", "fault: line 1: hex\n"),
-        (b"00\n\n#\n0g\n0\n", 5, "", "fault: line 4: hex\n"),
-        (b"00 01\n", 5, "", "fault: line 1: hex\n"),
-        (b"00\n00\r", 5, "", "fault: line 2: hex\n"),
-        (b"\t\n", 5, "", "fault: line 1: hex\n"),
-    ] {
-        let end = called(alloc, "decode", text, NONE)?;
-        assert_eq!(rt; end.status, status);
-        assert_eq!(rt; end.out.as_slice(), out.as_bytes());
-        assert_eq!(rt; end.notes.as_slice(), notes.as_bytes());
-    }
-    let unread = called(
-        alloc,
-        "decode",
-        TWO_PACKETS,
-        Fails {
-            takes: &[0],
-            ..NONE
-        },
-    )?;
-    assert_eq!(rt; unread.status, 3);
-    assert_eq!(rt; unread.notes.as_slice(), b"fault: read failed\n".as_slice());
-    let unwritten = called(alloc, "decode", TWO_PACKETS, Fails { puts: &[1], ..NONE })?;
-    assert_eq!(rt; unwritten.status, 4);
-    assert_eq!(rt; count_lines(unwritten.out.as_slice()), 1);
-    assert_eq!(rt;
-        unwritten.notes.as_slice(),
-        b"fault: write failed\n".as_slice()
-    );
+    assert_eq!(rt; first_wrong(alloc, packet_rows(), NONE)?.as_str(), "");
+    let second = Fails { puts: &[1], ..NONE };
+    let row =
+        "decode;000102030405060708090a1b0c0d0e0f001112130405060708090a1b0c0d0e0f0021321304151647 => 4;at 8 add sq 0 gid 1 act 0 chg 1 mst 00 ack 0|;fault: write failed|";
+    assert_eq!(rt; first_wrong(alloc, row, second)?.as_str(), "");
     Ok(())
 }

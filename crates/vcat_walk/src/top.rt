@@ -9,23 +9,23 @@ ghost use Rattle.script_read.specs.declared.fault.LineKind.TheVariants.{Hex};
 ghost use Rattle.script_read.specs.declared.fault.ScriptFault.{ScriptFault};
 ghost use Rattle.script_read.specs.declared.fault.ScriptFault.TheVariants.{Line};
 ghost use Rattle.make_load.specs.Load.{load};
-ghost use Rattle.vcat_walk.specs.Words.{command_in, IsWalk, IsTrace, IsDecode, IsMake, RunsScript, ReadsInput};
+ghost use Rattle.command_parts.specs.Words.{command_in};
+ghost use Rattle.command_parts.specs.Notes.{usage_text, line_text, fault_text, note_of};
+ghost use Rattle.command_parts.specs.Status.{most_octets, is_status, HasRead, HasRunAt, Rises, IsGoodScript, IsLimit};
+ghost use Rattle.command_parts.specs.Stop.{status_at};
+ghost use Rattle.vcat_walk.specs.Words.{IsWalk, IsTrace, IsDecode, IsMake, RunsScript, ReadsInput};
 ghost use Rattle.vcat_walk.specs.HexLines.{IsFirstFault};
-ghost use Rattle.vcat_walk.specs.Texts.{usage_text, line_text, fault_text};
 ghost use Rattle.vcat_walk.specs.Make.{make_text};
-ghost use Rattle.vcat_walk.specs.Ended.{most_octets, is_status, HasRead, HasRunAt, Rises, IsGoodScript, IsGoodHex, IsLimit, IsWalkOf, HandsBack, WritesWalk, WritesWalkPart, WritesTrace, StopsInTrace, WritesPackets, WritesPacketsPart};
-ghost use Rattle.vcat_walk.specs.Stop.{status_at, note_of};
+ghost use Rattle.vcat_walk.specs.Ended.{IsGoodHex, IsWalkOf, HandsBack, WritesWalk, WritesWalkPart, WritesTrace, StopsInTrace, WritesPackets, WritesPacketsPart};
 
 use crate::decode::decode;
 use crate::make::make;
-use crate::notes::tell;
-use crate::stop::{Ended, Stop};
 use crate::trace::trace;
-use crate::walk::{stopped, walk};
-use cmd_words::{Command, Program, WordFault, read_words};
+use crate::walk::{Ended, stopped, walk};
+use cmd_words::{Command, Program};
+use command_parts::{Stop, read_command, status_of, tell};
 use outside_io::{ByteSink, ByteSource};
-use script_read::ScriptFault;
-use std::alloc::{AllocError, Global};
+use std::alloc::Global;
 use walk_core::Walk;
 
 /// How a call of the program ended.
@@ -60,7 +60,8 @@ pub fn walk_top<S: ByteSource, K: ByteSink, E: ByteSink>(
 
     // Which status comes. What is said of the input's octets presumes that the source tells them.
     ensures known { IsTrue (is_status result.status) }
-    ensures usage { (result.status ≡ 2) ↔ (command_in words.now ≡ None) }
+    ensures usage { (result.status ≡ 2)
+        ↔ (command_in Program.Walk words.now ≡ None) }
     ensures long { result.status ≡ 8 → IfSome (S.left script.old)
         (λ text. most_octets < length text) }
     ensures fits { ReadsInput words.now → HasRead result.status →
@@ -126,7 +127,7 @@ pub fn walk_top<S: ByteSource, K: ByteSink, E: ByteSink>(
         (StopsInTrace K.written K.faults out.old out.new E.written E.faults notes.old told)
         × Tells E.written E.faults told notes.new (codes "fault: write failed\n") }
     ensures told_usage { result.status ≡ 2 → Tells
-        E.written E.faults notes.old notes.new usage_text }
+        E.written E.faults notes.old notes.new (usage_text Program.Walk) }
     ensures told_read { result.status ≡ 3 →
         Tells E.written E.faults notes.old notes.new (codes "fault: read failed\n") }
     ensures told_write { (¬ IsTrace words.now) → result.status ≡ 4 →
@@ -145,7 +146,7 @@ pub fn walk_top<S: ByteSource, K: ByteSink, E: ByteSink>(
     ensures told_long { result.status ≡ 8 →
         Tells E.written E.faults notes.old notes.new (codes "fault: too long\n") }
 {
-    let Ok(command) = read_command(alloc, words) else {
+    let Ok(command) = read_command(alloc, words, Program::Walk) else {
         return end_without_memory(notes);
     };
     match command {
@@ -170,18 +171,6 @@ pub fn walk_top<S: ByteSource, K: ByteSink, E: ByteSink>(
     }
 }
 
-/// The command that the words are, where they are one. Memory may be short only where they are.
-fn read_command(alloc: Global, words: &[String]) -> Result<Option<Command>, AllocError>
-    ensures command { IfOk result (λ command. command ≡ command_in words.now) }
-    ensures memory { OnErr result (IsSome (command_in words.now)) }
-{
-    match read_words(alloc, words, Program::Walk) {
-        Ok(command) => Ok(Some(command)),
-        Err(WordFault::Usage) => Ok(None),
-        Err(WordFault::Memory) => Err(AllocError),
-    }
-}
-
 /// Says on `notes` that memory is short.
 fn end_without_memory<E: ByteSink>(notes: &mut E) -> WalkEnd
     ensures status { result.status ≡ 7 }
@@ -197,32 +186,12 @@ fn finish<E: ByteSink>(ended: Ended, notes: &mut E) -> WalkEnd
     ensures walk { result.walk ≡ ended.walk }
     ensures quiet { ended.stop ≡ None → notes.new ≡ notes.old }
     ensures told { IfSome ended.stop (λ cause.
-        Tells E.written E.faults notes.old notes.new (note_of cause)) }
+        Tells E.written E.faults notes.old notes.new (note_of Program.Walk cause)) }
 {
     let Ended { stop, walk } = ended;
-    tell(stop, notes);
+    tell(stop, Program::Walk, notes);
     WalkEnd {
         status: status_of(stop),
         walk,
-    }
-}
-
-/// The exit status of a command that was done, or stopped by a cause.
-fn status_of(stop: Option<Stop>) -> u8
-    ensures { result ≡ status_at stop }
-{
-    match stop {
-        None => 0,
-        Some(Stop::Usage) => 2,
-        Some(Stop::Read) => 3,
-        Some(Stop::Write) => 4,
-        Some(Stop::NotHex { .. } | Stop::Fault(ScriptFault::Line { .. })) => 5,
-        Some(
-            Stop::Fault(
-                ScriptFault::Slip { .. } | ScriptFault::Spread { .. } | ScriptFault::Lag { .. },
-            ),
-        ) => 6,
-        Some(Stop::Memory | Stop::Fault(ScriptFault::Memory)) => 7,
-        Some(Stop::TooLong) => 8,
     }
 }

@@ -11,14 +11,13 @@ ghost use Rattle.sink_core.specs.Start.{Start};
 ghost use Rattle.walk_law.specs.Walk.{walk_plan, IsWalked};
 ghost use Rattle.walk_law.specs.Delivered.{delivered_of};
 ghost use Rattle.walk_core.specs.Moved.{GivesRows};
+ghost use Rattle.command_parts.specs.Stop.{HasRun, ReadsScript};
 ghost use Rattle.vcat_walk.specs.Ended.{WritesWalk, WritesTrace, StopsBoth, StopsInTrace, HandsBack, FailsOnce};
-ghost use Rattle.vcat_walk.specs.Stop.{HasRun, ReadsScript};
 ghost use Rattle.vcat_walk.specs.Texts.{counts_in, walk_text, decision_text, decisions_text, trace_text};
 ghost use Rattle.vcat_walk.specs.Trace.{events_of, IsTurn, IsTold};
 
-use crate::input::read_whole_script;
-use crate::stop::{Ended, Stop};
-use crate::walk::{stopped, take_back, write_rest};
+use crate::walk::{Ended, stopped, write_rest};
+use command_parts::{Stop, read_whole_script, take_back};
 use got_out::{GotOut, MayFail};
 use outside_io::{ByteSink, ByteSource, Failed, put_all};
 use session_model::{Event, EventLine};

@@ -8,25 +8,31 @@ ghost use Rattle.session_model.specs.Counts.{begin, run, run_line, run_lines, wa
 ghost use Rattle.session_model.specs.declared.walk.Event.{Event};
 ghost use Rattle.progress_law.specs.Progress.{HasLine};
 ghost use Rattle.report_text.specs.Report.{total_text};
-ghost use Rattle.walk_law.specs.Walk.{walk_plan, IsWalked};
+ghost use Rattle.walk_law.specs.Walk.{walk_plan};
 ghost use Rattle.walk_law.specs.Landed.{refusals_of, totals_of};
 ghost use Rattle.walk_law.specs.Report.{refused_texts};
 ghost use Rattle.sink_core.specs.Start.{Start};
 ghost use Rattle.got_out.specs.Told.{HasText};
+ghost use Rattle.command_parts.specs.Stop.{HasRun, ReadsScript};
 ghost use Rattle.vcat_walk.specs.Ended.{WritesWalk, WritesWalkPart, HandsBack};
 ghost use Rattle.vcat_walk.specs.Run.{RunsTo};
-ghost use Rattle.vcat_walk.specs.Stop.{HasRun, ReadsScript};
 ghost use Rattle.vcat_walk.specs.Texts.{counts_in, walk_text};
 
-use crate::input::read_whole_script;
-use crate::stop::{Ended, Stop};
+use command_parts::{Stop, read_whole_script, take_back};
 use got_out::GotOut;
 use outside_io::{ByteSink, ByteSource, Failed};
-use report_text::{REFUSED_ROOM, TOTAL_ROOM, refused_line, total_line};
 use session_model::{Event, EventLine};
 use sink_core::FrameOut;
 use std::alloc::Global;
 use walk_core::Walk;
+
+/// How a command ended, and the walk that it made, if it came to one.
+pub struct Ended {
+    /// Why it stopped, where it wasn't done.
+    pub stop: Option<Stop>,
+    /// The walk.
+    pub walk: Option<Walk>,
+}
 
 /// Tries an event a number of times.
 fn repeat<F: FrameOut>(walk: &mut Walk, event: Event, tries: u32, out: &mut F)
@@ -84,20 +90,6 @@ fn make_lines<F: FrameOut>(walk: &mut Walk, lines: &[EventLine], out: &mut F)
     }
 }
 
-/// Writes the lines of refused items.
-fn write_refusals<K: ByteSink>(walk: &Walk, got: &mut GotOut<K>)
-    ensures { (start : Start) (before : List ℕ) →
-        HasText K.written K.faults got.old start before →
-        HasText K.written K.faults got.new start
-        (before ++ refused_texts (refusals_of walk.now.script walk.now.counts)) }
-{
-    let mut line = [0u8; REFUSED_ROOM];
-    for (item, why) in walk.refusals() {
-        let end = refused_line(*item, why, &mut line);
-        got.line(&line[..end]);
-    }
-}
-
 /// Writes what follows the lines of delivered frames: those of refused items, and that of totals.
 pub fn write_rest<K: ByteSink>(walk: &Walk, got: &mut GotOut<K>)
     ensures { (start : Start) (before : List ℕ) →
@@ -106,17 +98,7 @@ pub fn write_rest<K: ByteSink>(walk: &Walk, got: &mut GotOut<K>)
         (before ++ refused_texts (refusals_of walk.now.script walk.now.counts)
         ++ total_text (totals_of walk.now.script walk.now.counts)) }
 {
-    write_refusals(walk, got);
-    let mut line = [0u8; TOTAL_ROOM];
-    let end = total_line(&walk.totals(), &mut line);
-    got.line(&line[..end]);
-}
-
-/// Ends a loan: what was lent is then what the reference says.
-pub fn take_back<K>(out: &mut K)
-    ensures { out.new ≡ out.old }
-{
-    let _ = out;
+    command_parts::write_rest(walk.refusals(), &walk.totals(), got);
 }
 
 /// Makes a walk, and writes what comes of it.

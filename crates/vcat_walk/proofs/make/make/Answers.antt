@@ -4,8 +4,8 @@ use Rattle.outside_io.specs.Transfer.{Appends, AppendsPart}
 use Rattle.session_model.specs.declared.script.Script.{Script}
 use Rattle.session_model.specs.Counts.{begin}
 use Rattle.walk_law.specs.Walk.{walk_plan}
-use Rattle.vcat_walk.specs.declared.stop.Stop.TheVariants.{Write}
-use Rattle.vcat_walk.specs.Stop.{IsLate, done, cut, short}
+use Rattle.command_parts.specs.declared.stop.Stop.TheVariants.{Write}
+use Rattle.command_parts.specs.Stop.{IsLate, done, cut, short}
 use Rattle.vcat_walk.proofs.MakeLaws.{lines-are}
 use Rattle.vcat_walk.proofs.make.make.Goals as goal
 use Rattle.vcat_walk.proofs.make.make.Goals.{in-Ok-write_made, in-Err}

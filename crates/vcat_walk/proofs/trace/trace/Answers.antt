@@ -1,16 +1,16 @@
 -- A script is read, its walk is traced, and its texts are written or a write fails.
-use Rattle.std.proofs.Common.{Option, sym, ◌∙◌, ap, subst}
+use Rattle.std.proofs.Common.{Option, Some, sym, ◌∙◌, ap, subst}
 use Rattle.session_model.specs.declared.script.Script.{Script}
 use Rattle.session_model.specs.Counts.{begin}
 use Rattle.session_model.specs.Valid.{IsValid}
 use Rattle.walk_law.specs.Walk.{walk_plan}
-use Rattle.vcat_walk.specs.declared.stop.Stop.{Stop}
-use Rattle.vcat_walk.specs.declared.stop.Stop.TheVariants.{Usage, NotHex, Write, Memory}
-use Rattle.vcat_walk.specs.Stop.{ReadsScript}
+use Rattle.command_parts.specs.declared.stop.Stop.{Stop}
+use Rattle.command_parts.specs.declared.stop.Stop.TheVariants.{Usage, NotHex, Write, Memory}
+use Rattle.command_parts.specs.Stop.{ReadsScript, cut, short}
 use Rattle.vcat_walk.specs.Texts.{walk_text, trace_text}
-use Rattle.vcat_walk.proofs.StopLaws.{reads-late}
+use Rattle.command_parts.proofs.StopLaws.{reads-late, not-run, same-stop}
 use Rattle.vcat_walk.proofs.WriteLaws.{writes-walk, hands-back}
-use Rattle.vcat_walk.proofs.EndLaws.{writes-trace, stops-in-trace, fails-once, not-run, same-stop}
+use Rattle.vcat_walk.proofs.EndLaws.{writes-trace, stops-in-trace, fails-once}
 use Rattle.vcat_walk.proofs.trace.trace.Goals as goal
 
 -- ---- nothing was read, or no script
@@ -38,7 +38,7 @@ returns-in-Err-clause-handed g c run = absurd (not-run c.stopped.result.stop c.i
 pub returns-in_default-clause-reads : goal.returns-in_default-clause-reads
 returns-in_default-clause-reads g c =
     let P : Option Stop → Type 0 = λ stop. ReadsScript g.S.ByteSource.left g.S.ByteSource.faults c.args.script.now c.read_whole_script.new.source stop in
-    subst P (sym c.stopped-in_default.ensures.stop) (reads-late g.S.ByteSource.left g.S.ByteSource.faults c.args.script.now c.read_whole_script.new.source c.in-Ok.ensures.done).1
+    subst P (sym c.stopped-in_default.ensures.stop) (reads-late g.S.ByteSource.left g.S.ByteSource.faults c.args.script.now c.read_whole_script.new.source (Some Memory) short c.in-Ok.ensures.done)
 
 pub returns-in_default-clause-handed : goal.returns-in_default-clause-handed
 returns-in_default-clause-handed g c run = absurd (not-run c.stopped-in_default.result.stop Memory c.stopped-in_default.ensures.stop (λ e. absurd cc) run)
@@ -46,7 +46,7 @@ returns-in_default-clause-handed g c run = absurd (not-run c.stopped-in_default.
 pub returns-in_default-new-clause-reads : goal.returns-in_default-new-clause-reads
 returns-in_default-new-clause-reads g c =
     let P : Option Stop → Type 0 = λ stop. ReadsScript g.S.ByteSource.left g.S.ByteSource.faults c.args.script.now c.read_whole_script.new.source stop in
-    subst P (sym c.stopped-in_default-new.ensures.stop) (reads-late g.S.ByteSource.left g.S.ByteSource.faults c.args.script.now c.read_whole_script.new.source c.in-Ok.ensures.done).1
+    subst P (sym c.stopped-in_default-new.ensures.stop) (reads-late g.S.ByteSource.left g.S.ByteSource.faults c.args.script.now c.read_whole_script.new.source (Some Memory) short c.in-Ok.ensures.done)
 
 pub returns-in_default-new-clause-handed : goal.returns-in_default-new-clause-handed
 returns-in_default-new-clause-handed g c run = absurd (not-run c.stopped-in_default-new.result.stop Memory c.stopped-in_default-new.ensures.stop (λ e. absurd cc) run)
@@ -78,7 +78,7 @@ returns-in-Ok-write_trace-clause-write_quiet g c e = (c.in-Ok-write_trace.ensure
 
 -- ---- a write has failed
 pub returns-clause-reads : goal.returns-clause-reads
-returns-clause-reads g c = (reads-late g.S.ByteSource.left g.S.ByteSource.faults c.args.script.now c.read_whole_script.new.source c.in-Ok.ensures.done).0
+returns-clause-reads g c = reads-late g.S.ByteSource.left g.S.ByteSource.faults c.args.script.now c.read_whole_script.new.source (Some Write) cut c.in-Ok.ensures.done
 
 pub returns-clause-part : goal.returns-clause-part
 returns-clause-part g c e =

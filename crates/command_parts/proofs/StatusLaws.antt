@@ -4,10 +4,10 @@ use Rattle.script_read.specs.declared.fault.LineKind.{LineKind}
 use Rattle.script_read.specs.declared.fault.ScriptFault.{ScriptFault}
 use Rattle.script_read.specs.declared.fault.ScriptFault.TheVariants.{Line, Slip, Spread, Lag}
 use Rattle.script_read.specs.declared.fault.ScriptFault.TheVariants as fault
-use Rattle.vcat_walk.specs.declared.stop.Stop.{Stop}
-use Rattle.vcat_walk.specs.declared.stop.Stop.TheVariants.{Usage, Read, TooLong, Fault, NotHex, Write, Memory}
-use Rattle.vcat_walk.specs.Ended.{HasRead, HasRunAt, IsLimit}
-use Rattle.vcat_walk.specs.Stop.{HasReadAll, HasRun, status_at}
+use Rattle.command_parts.specs.declared.stop.Stop.{Stop}
+use Rattle.command_parts.specs.declared.stop.Stop.TheVariants.{Usage, Read, TooLong, Fault, NotHex, Write, Memory}
+use Rattle.command_parts.specs.Status.{HasRead, HasRunAt, IsLimit}
+use Rattle.command_parts.specs.Stop.{HasReadAll, HasRun, status_at}
 
 pub is-done : (stop : Option Stop) → status_at stop ≡ 0 → stop ≡ None
 is-done None e = refl
@@ -22,34 +22,6 @@ is-done (Some (Fault (Lag a b))) e = absurd (omega (arith, e))
 is-done (Some (Fault fault.Memory)) e = absurd (omega (arith, e))
 is-done (Some Memory) e = absurd (omega (arith, e))
 is-done (Some TooLong) e = absurd (omega (arith, e))
-
-pub is-usage : (stop : Option Stop) → status_at stop ≡ 2 → stop ≡ Some Usage
-is-usage None e = absurd (omega (arith, e))
-is-usage (Some Usage) e = refl
-is-usage (Some Read) e = absurd (omega (arith, e))
-is-usage (Some Write) e = absurd (omega (arith, e))
-is-usage (Some (NotHex n)) e = absurd (omega (arith, e))
-is-usage (Some (Fault (Line n k))) e = absurd (omega (arith, e))
-is-usage (Some (Fault (Slip l w))) e = absurd (omega (arith, e))
-is-usage (Some (Fault (Spread a b c d))) e = absurd (omega (arith, e))
-is-usage (Some (Fault (Lag a b))) e = absurd (omega (arith, e))
-is-usage (Some (Fault fault.Memory)) e = absurd (omega (arith, e))
-is-usage (Some Memory) e = absurd (omega (arith, e))
-is-usage (Some TooLong) e = absurd (omega (arith, e))
-
-pub is-read : (stop : Option Stop) → status_at stop ≡ 3 → stop ≡ Some Read
-is-read None e = absurd (omega (arith, e))
-is-read (Some Usage) e = absurd (omega (arith, e))
-is-read (Some Read) e = refl
-is-read (Some Write) e = absurd (omega (arith, e))
-is-read (Some (NotHex n)) e = absurd (omega (arith, e))
-is-read (Some (Fault (Line n k))) e = absurd (omega (arith, e))
-is-read (Some (Fault (Slip l w))) e = absurd (omega (arith, e))
-is-read (Some (Fault (Spread a b c d))) e = absurd (omega (arith, e))
-is-read (Some (Fault (Lag a b))) e = absurd (omega (arith, e))
-is-read (Some (Fault fault.Memory)) e = absurd (omega (arith, e))
-is-read (Some Memory) e = absurd (omega (arith, e))
-is-read (Some TooLong) e = absurd (omega (arith, e))
 
 pub is-write : (stop : Option Stop) → status_at stop ≡ 4 → stop ≡ Some Write
 is-write None e = absurd (omega (arith, e))
@@ -92,34 +64,6 @@ is-limit (Some (Fault (Lag a b))) e = ((Lag a b), tt, refl)
 is-limit (Some (Fault fault.Memory)) e = absurd (omega (arith, e))
 is-limit (Some Memory) e = absurd (omega (arith, e))
 is-limit (Some TooLong) e = absurd (omega (arith, e))
-
-pub is-memory : (stop : Option Stop) → status_at stop ≡ 7 → (stop ≡ Some Memory) ⊎ (stop ≡ Some (Fault fault.Memory))
-is-memory None e = absurd (omega (arith, e))
-is-memory (Some Usage) e = absurd (omega (arith, e))
-is-memory (Some Read) e = absurd (omega (arith, e))
-is-memory (Some Write) e = absurd (omega (arith, e))
-is-memory (Some (NotHex n)) e = absurd (omega (arith, e))
-is-memory (Some (Fault (Line n k))) e = absurd (omega (arith, e))
-is-memory (Some (Fault (Slip l w))) e = absurd (omega (arith, e))
-is-memory (Some (Fault (Spread a b c d))) e = absurd (omega (arith, e))
-is-memory (Some (Fault (Lag a b))) e = absurd (omega (arith, e))
-is-memory (Some (Fault fault.Memory)) e = inr refl
-is-memory (Some Memory) e = inl refl
-is-memory (Some TooLong) e = absurd (omega (arith, e))
-
-pub is-long : (stop : Option Stop) → status_at stop ≡ 8 → stop ≡ Some TooLong
-is-long None e = absurd (omega (arith, e))
-is-long (Some Usage) e = absurd (omega (arith, e))
-is-long (Some Read) e = absurd (omega (arith, e))
-is-long (Some Write) e = absurd (omega (arith, e))
-is-long (Some (NotHex n)) e = absurd (omega (arith, e))
-is-long (Some (Fault (Line n k))) e = absurd (omega (arith, e))
-is-long (Some (Fault (Slip l w))) e = absurd (omega (arith, e))
-is-long (Some (Fault (Spread a b c d))) e = absurd (omega (arith, e))
-is-long (Some (Fault (Lag a b))) e = absurd (omega (arith, e))
-is-long (Some (Fault fault.Memory)) e = absurd (omega (arith, e))
-is-long (Some Memory) e = absurd (omega (arith, e))
-is-long (Some TooLong) e = refl
 
 pub has-run : (stop : Option Stop) → HasRunAt (status_at stop) → HasRun stop
 has-run None e = tt

@@ -1,17 +1,15 @@
 -- How a command ends, as private clauses say it: done, or stopped by a cause. `left` and `faults` are what a source tells of its octets,
 -- where it tells them, and its count of faults.
-use Rattle.std.specs.Prelude.{◌≡◌, ◌≢◌, ℕ, ◌<◌, ◌≤◌, List, length, Option, Some, None, IfSome, Err, codes}
+use Rattle.std.specs.Prelude.{◌≡◌, ◌≢◌, ℕ, ◌<◌, ◌≤◌, List, length, Option, Some, None, IfSome, Err}
 use Rattle.std.specs.Io.KnownBytes.{IsAtEnd}
 use Rattle.outside_io.specs.Faults.{one_more}
-use Rattle.script_read.specs.declared.fault.LineKind.TheVariants.{Hex}
 use Rattle.script_read.specs.declared.fault.ScriptFault.{ScriptFault}
 use Rattle.script_read.specs.declared.fault.ScriptFault.TheVariants.{Line, Slip, Spread, Lag}
 use Rattle.script_read.specs.declared.fault.ScriptFault.TheVariants as fault
 use Rattle.script_read.specs.Script.{script_of}
-use Rattle.vcat_walk.specs.declared.stop.Stop.{Stop}
-use Rattle.vcat_walk.specs.declared.stop.Stop.TheVariants.{Usage, Read, TooLong, Fault, NotHex, Write, Memory}
-use Rattle.vcat_walk.specs.Texts.{usage_text, line_text, fault_text}
-use Rattle.vcat_walk.specs.Ended.{most_octets}
+use Rattle.command_parts.specs.declared.stop.Stop.{Stop}
+use Rattle.command_parts.specs.declared.stop.Stop.TheVariants.{Usage, Read, TooLong, Fault, NotHex, Write, Memory}
+use Rattle.command_parts.specs.Status.{most_octets}
 
 -- a script has this fault, and isn't short of memory
 abbrev pub IsToldFault : ScriptFault → Type 0
@@ -42,16 +40,6 @@ HasRun (Some (Fault fault)) = ⊥
 HasRun (Some (NotHex number)) = ⊥
 HasRun (Some Write) = Unit {0}
 HasRun (Some Memory) = ⊥
-
--- what is said on `notes` of a cause
-abbrev pub note_of : Stop → List ℕ
-note_of Usage = usage_text
-note_of Read = codes "fault: read failed\n"
-note_of TooLong = codes "fault: too long\n"
-note_of (Fault fault) = fault_text fault
-note_of (NotHex number) = line_text number Hex
-note_of Write = codes "fault: write failed\n"
-note_of Memory = codes "fault: no memory\n"
 
 -- what reading an input says of it, by the cause why the command stopped
 pub record ReadsInput {S : Type 0} (left : S → Option (List ℕ)) (faults : S → ℕ) (old new : S) (stop : Option Stop) : Type 0 where

@@ -1,11 +1,10 @@
 -- The lines of the refusals so far are written.
 use Rattle.std.proofs.Common.{ℕ, List, ◌++◌, take}
 use Rattle.sink_core.specs.Start.{Start}
-use Rattle.walk_law.specs.Landed.{refusals_of}
 use Rattle.walk_law.specs.Report.{refused_texts}
 use Rattle.got_out.specs.Told.{HasText}
-use Rattle.vcat_walk.proofs.walk.write_refusals.Given as goal
+use Rattle.command_parts.proofs.report.write_refusals.Given as goal
 
 abbrev pub invariant-loop-item : goal.invariant-loop-item
 invariant-loop-item g l = (start : Start) (before : List ℕ) → HasText g.K.ByteSink.written g.K.ByteSink.faults l.fn.got start before
-    → HasText g.K.ByteSink.written g.K.ByteSink.faults l.got start (before ++ refused_texts (take l.item-index (refusals_of l.walk.script l.walk.counts)))
+    → HasText g.K.ByteSink.written g.K.ByteSink.faults l.got start (before ++ refused_texts (take l.item-index l.refusals))

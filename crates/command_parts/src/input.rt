@@ -4,8 +4,8 @@ ghost use Rattle.outside_io.specs.Faults.{one_more};
 ghost use Rattle.outside_io.specs.Transfer.{GivesAll};
 ghost use Rattle.session_model.specs.Valid.{IsValid};
 ghost use Rattle.script_read.specs.Script.{script_of};
-ghost use Rattle.vcat_walk.specs.Ended.{most_octets};
-ghost use Rattle.vcat_walk.specs.Stop.{ReadsScript};
+ghost use Rattle.command_parts.specs.Status.{most_octets};
+ghost use Rattle.command_parts.specs.Stop.{ReadsScript};
 
 use crate::stop::Stop;
 use outside_io::{ByteSource, ReadEnd, read_all};
@@ -14,7 +14,7 @@ use session_model::Script;
 use std::alloc::Global;
 
 /// The most octets that an input may have.
-pub const MOST: usize = 67_108_864;
+const MOST: usize = 67_108_864;
 
 /// Reads the whole input of a command.
 pub fn read_input<S: ByteSource>(alloc: Global, source: &mut S) -> Result<Vec<u8>, Stop>

@@ -1,11 +1,11 @@
-//! The notes of the program, put together in a slice with room for one. Each answers its length.
+//! The notes of the programs, put together in a slice with room for one. Each answers its length.
 ghost use Rattle.std.specs.Prelude.{◌≡◌, ◌+◌, ◌≤◌, length, take, None, IfSome};
 ghost use Rattle.outside_io.specs.Transfer.{Tells};
 ghost use Rattle.script_read.specs.declared.fault.ScriptFault.{ScriptFault};
-ghost use Rattle.vcat_walk.specs.Stop.{note_of};
-ghost use Rattle.vcat_walk.specs.Texts.{kind_text, line_text, fault_text};
+ghost use Rattle.command_parts.specs.Notes.{kind_text, usage_text, line_text, fault_text, note_of};
 
 use crate::stop::Stop;
+use cmd_words::Program;
 use outside_io::{ByteSink, put_all};
 use report_text::LineCursor;
 use script_read::{LineKind, ScriptFault};
@@ -124,17 +124,29 @@ fn fault_note(fault: ScriptFault, out: &mut [u8]) -> usize
     }
 }
 
-/// Writes the note on a cause why a command stopped.
-fn note_line(stop: Stop, out: &mut [u8]) -> usize
+/// Writes which commands a program has.
+fn usage_note(program: Program, out: &mut [u8]) -> usize
     requires { 128 ≤ length out.old }
     ensures within { result ≤ 128 }
-    ensures line { take result out.new ≡ note_of stop }
+    ensures line { take result out.new ≡ usage_text program }
 {
-    match stop {
-        Stop::Usage => fixed_note(
+    match program {
+        Program::Walk => fixed_note(
             b"usage: vcat_walk walk, trace, decode, or make NUMBER LINES TICKS\n",
             out,
         ),
+        Program::Run => fixed_note(b"usage: vcat_run run WORKERS\n", out),
+    }
+}
+
+/// Writes the note on a cause why a command stopped.
+fn note_line(stop: Stop, program: Program, out: &mut [u8]) -> usize
+    requires { 128 ≤ length out.old }
+    ensures within { result ≤ 128 }
+    ensures line { take result out.new ≡ note_of program stop }
+{
+    match stop {
+        Stop::Usage => usage_note(program, out),
         Stop::Read => fixed_note(b"fault: read failed\n", out),
         Stop::TooLong => fixed_note(b"fault: too long\n", out),
         Stop::Fault(fault) => fault_note(fault, out),
@@ -144,15 +156,15 @@ fn note_line(stop: Stop, out: &mut [u8]) -> usize
     }
 }
 
-/// Says on `notes` why a command stopped, where it did and as far as they take it.
-pub fn tell<E: ByteSink>(stop: Option<Stop>, notes: &mut E)
+/// Says on `notes` why a command of a program stopped, where it did and as far as they take it.
+pub fn tell<E: ByteSink>(stop: Option<Stop>, program: Program, notes: &mut E)
     ensures quiet { stop ≡ None → notes.new ≡ notes.old }
     ensures told { IfSome stop (λ cause.
-        Tells E.written E.faults notes.old notes.new (note_of cause)) }
+        Tells E.written E.faults notes.old notes.new (note_of program cause)) }
 {
     if let Some(cause) = stop {
         let mut note = [0u8; NOTE_ROOM];
-        let end = note_line(cause, &mut note);
+        let end = note_line(cause, program, &mut note);
         let _ = put_all(notes, &note[..end]);
     }
 }

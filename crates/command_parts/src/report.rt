@@ -1,0 +1,43 @@
+//! The end of a report, behind the lines of delivered frames.
+ghost use Rattle.std.specs.Prelude.{◌≡◌, ℕ, List, ◌++◌};
+ghost use Rattle.report_text.specs.Report.{total_text};
+ghost use Rattle.walk_law.specs.Report.{refused_texts};
+ghost use Rattle.sink_core.specs.Start.{Start};
+ghost use Rattle.got_out.specs.Told.{HasText};
+
+use got_out::GotOut;
+use outside_io::ByteSink;
+use report_text::{REFUSED_ROOM, Refusal, TOTAL_ROOM, Totals, refused_line, total_line};
+
+/// Writes the lines of refused items.
+fn write_refusals<K: ByteSink>(refusals: &[(u32, Refusal)], got: &mut GotOut<K>)
+    ensures { (start : Start) (before : List ℕ) →
+        HasText K.written K.faults got.old start before →
+        HasText K.written K.faults got.new start (before ++ refused_texts refusals.now) }
+{
+    let mut line = [0u8; REFUSED_ROOM];
+    for (item, why) in refusals {
+        let end = refused_line(*item, why, &mut line);
+        got.line(&line[..end]);
+    }
+}
+
+/// Writes what follows the lines of delivered frames: those of refused items, each with its number, and that of totals.
+pub fn write_rest<K: ByteSink>(refusals: &[(u32, Refusal)], totals: &Totals, got: &mut GotOut<K>)
+    ensures { (start : Start) (before : List ℕ) →
+        HasText K.written K.faults got.old start before →
+        HasText K.written K.faults got.new start
+        (before ++ refused_texts refusals.now ++ total_text totals.now) }
+{
+    write_refusals(refusals, got);
+    let mut line = [0u8; TOTAL_ROOM];
+    let end = total_line(totals, &mut line);
+    got.line(&line[..end]);
+}
+
+/// Ends a loan: what was lent is then what the reference says.
+pub fn take_back<K>(out: &mut K)
+    ensures { out.new ≡ out.old }
+{
+    let _ = out;
+}
