@@ -1,0 +1,4 @@
+pub mod BackLaws
+pub mod BeginLaws
+pub mod OctetLaws
+pub mod RoomLaws

@@ -119,12 +119,19 @@ fn shares_beside<'x, Y: Session, R: Threads + Wait + Sync, G: Gate, D: Duty>(
             requires flags { vec_len shares ≤ vec_len flags.now.lines }
             requires held { (held_room.items ≡ []) × (vec_len shares ≤ vec_capacity held_room) }
             requires back { (back_room.items ≡ []) × (vec_len shares ≤ vec_capacity back_room) }
-            ensures shares { SharesLater shares.entry.items result.0.items }
-            ensures duty { (begun : Begun) → D.stands_for duty.entry begun →
+            ensures shares { SharesLater shares.items result.0.items }
+            ensures duty { (begun : Begun) → D.stands_for duty begun →
                 D.stands_for result.1 begun }
         {
-            let client =
-                start_landing::<Y, R, G>(scope, rt, gate, lock, &flags.client, Who::Client, items);
+            let client = start_landing::<Y, R, G>(
+                scope,
+                rt,
+                gate,
+                lock,
+                &flags.client,
+                Who::Client,
+                items,
+            );
             let operator = start_landing::<Y, R, G>(
                 scope,
                 rt,
@@ -173,7 +180,8 @@ pub(crate) fn lines_beside<Y: Session, R: Threads + Wait + Sync, G: Gate, D: Dut
     } = room;
     let count = lines.len();
     let shares = deal(lines, shares);
-    let (shares, duty) =
-        shares_beside::<Y, R, G, D>(rt, gate, lock, flags, items, shares, held, back, duty);
+    let (shares, duty) = shares_beside::<Y, R, G, D>(
+        rt, gate, lock, flags, items, shares, held, back, duty,
+    );
     (collect(shares, count, place), duty)
 }
