@@ -1,5 +1,11 @@
--- A group before anything has moved is bound to its script.
-use Rattle.std.proofs.Common.{◌≡◌, ℕ, suc, ◌+◌, ◌≤◌, true, false, if◌then◌else◌, List, [], ◌∷◌, take, drop, length, slice_get, Some, refl, sym, ◌∙◌, ap, subst, arith}
+-- A group before anything has moved is bound to its script; and the sink's worker is the script's.
+use Rattle.std.specs.Prelude.{IfOk}
+use Rattle.std.specs.Global.{Vec}
+use Rattle.sink_worker.specs.declared.worker.SinkWorker.{SinkWorker}
+use Rattle.sink_worker.specs.Worker.{Stands as SinkStands, lines_of as sink_lines, size_of as sink_size, taken_of as rows_taken, ticks_of as rows_of, has_failed}
+use Rattle.session_model.specs.Valid.{IsValid}
+use Rattle.session_run.specs.Session.{IsSinkOf}
+use Rattle.std.proofs.Common.{Result, Ok, Err, ◌≡◌, ℕ, suc, ◌+◌, ◌≤◌, true, false, if◌then◌else◌, List, [], ◌∷◌, take, drop, length, slice_get, Some, refl, sym, ◌∙◌, ap, subst, arith}
 use Rattle.vc_cell.specs.declared.BackCell.{BackCell}
 use Rattle.vc_cell.specs.declared.Container.{Container}
 use Rattle.session_model.specs.declared.script.Item.{Item}
@@ -9,7 +15,7 @@ use Rattle.session_model.specs.Counts.{used_in}
 use Rattle.session_model.specs.Sent.{containers_of}
 use Rattle.member_ring.specs.declared.ends.RingOut.{RingOut}
 use Rattle.member_ring.specs.declared.ends.RingIn.{RingIn}
-use Rattle.member_ring.specs.Ends.{SameOut, SameIn}
+use Rattle.member_ring.specs.Ends.{in_passed, SameOut, SameIn}
 use Rattle.source_core.specs.Given.{IsFresh, Stands as HasMade}
 use Rattle.walk_law.specs.Landed.{Numbered, is_client, landed_from, landed_items, landed_scenario}
 use Rattle.group_lock.specs.declared.group.GroupState.{GroupState}
@@ -52,7 +58,7 @@ module _ (script : Script) (g : GroupState) (of_script : IsOf script g) (ticks :
   taken-none : taken_of g ≡ []
   taken-none =
       let none : used_in (lag_of g) (ticks_of g) ≡ 0 = omega (arith, ticks) in
-      ap (λ n. take n (told_from (lost_of g) _)) none
+      ap (λ n. take n (told_from (lost_of g) (in_passed g.back))) none
 
   pub room-begins : slots_of g ≡ length script.items → bytes_of g ≡ octets_in (offers_of script.items) → HasRoom script g
   room-begins slots bytes =
@@ -90,3 +96,24 @@ module _ (script : Script) (g : GroupState) (of_script : IsOf script g) (ticks :
     room = room;
     landed = landed;
   }
+
+-- ---- what is opened
+module _ {E : Type 0} (script : Script) (valid : IsValid script) where
+  pub group-opened : (entries bytes : ℕ) (tx : Vec (RingOut Container)) (back : RingIn BackCell) (r : Result GroupState E) → entries ≡ length script.items →
+      bytes ≡ octets_in (offers_of script.items) → AreUnused tx.items →
+      IfOk r (λ g. IsOf script g) → IfOk r (λ g. ticks_of g ≡ 0) → IfOk r (λ g. (frames_of g ≡ 0) × (commands_of g ≡ 0)) → IfOk r (λ g. journal_of g ≡ []) →
+      IfOk r (λ g. (slots_of g ≡ entries) × (bytes_of g ≡ bytes)) → IfOk r (λ g. refusals_of g ≡ []) → IfOk r (λ g. (g.tx ≡ tx) × (g.back ≡ back)) →
+      IfOk r (λ g. (scenario : Scenario) → IsFresh scenario (lines_of g) (lag_of g) (size_of g) → HasMade (source_of g) scenario []) →
+      IfOk r (λ g. IsBound script g.tx.items (g.back ∷ []) g)
+  group-opened entries bytes tx back (Ok g) count size unused of_script ticks landed journal room refusals ends made =
+      bound-begins script g of_script ticks landed.0 landed.1 journal
+      (room-begins script g of_script ticks landed.0 landed.1 journal (room.0 ∙ count) (room.1 ∙ size))
+      (landed-begins script g of_script ticks landed.0 landed.1 journal refusals (subst (λ (v : Vec (RingOut Container)). AreUnused v.items) (sym ends.0) unused)
+      valid.network.windows_each made)
+  group-opened entries bytes tx back (Err e) count size unused of_script ticks landed journal room refusals ends made = tt
+
+  pub sink-opened : (r : Result SinkWorker E) → IfOk r (λ s. sink_lines s ≡ script.config.lines) → IfOk r (λ s. sink_size s ≡ script.config.size) →
+      IfOk r (λ s. rows_of s ≡ script.config.ticks) → IfOk r (λ s. rows_taken s ≡ 0) → IfOk r (λ s. has_failed s ≡ false) → IfOk r (λ s. SinkStands s) →
+      IfOk r (λ s. IsSinkOf script s)
+  sink-opened (Ok s) lines size rows taken failed stands = record { lines = lines; size = size; rows = rows; taken = taken; failed = failed; stands = stands }
+  sink-opened (Err e) lines size rows taken failed stands = tt

@@ -1,19 +1,23 @@
 //! The opening of a session: all of its memory is taken here.
-ghost use Rattle.std.specs.Prelude.{◌≡◌, ◌<◌, ◌≤◌, IfOk, All, [], ◌∷◌, length, vec_len};
+ghost use Rattle.std.specs.Prelude.{◌≡◌, ◌<◌, ◌≤◌, IfOk, All, [], ◌∷◌, length, replicate, vec_len};
 ghost use Rattle.session_model.specs.Scenario.{offers_of};
 ghost use Rattle.session_model.specs.declared.script.Item.{Item};
 ghost use Rattle.session_model.specs.Valid.{IsValid, IsKind};
-ghost use Rattle.group_lock.specs.Session.{octets_in};
+ghost use Rattle.member_ring.specs.Ends.{out_passed, in_passed};
+ghost use Rattle.sink_worker.specs.Received.{received};
+ghost use Rattle.group_lock.specs.Rings.{AreUnused};
+ghost use Rattle.group_lock.specs.Session.{octets_in, IsBound};
 ghost use Rattle.session_run.specs.Room.{HasRoomFor};
-ghost use Rattle.session_run.specs.Session.{IsOpen};
+ghost use Rattle.session_run.specs.Session.{IsOpen, IsSinkOf};
 
 use crate::room::{Flags, Room};
 use group_lock::GroupState;
-use member_ring::{LineWorker, back_ring};
+use member_ring::{LineWorker, RingIn, RingOut, back_ring};
 use session_model::{Item, ItemKind, Script};
 use session_parts::open_lines;
 use sink_worker::SinkWorker;
 use std::alloc::{AllocError, Global};
+use vc_cell::{BackCell, Cell, Container};
 
 /// A session before anything has moved.
 #[derive(Drop)]
@@ -44,6 +48,56 @@ fn all_octets(items: &[Item]) -> u64
     items.iter().map(octets).sum()
 }
 
+/// The items of a script.
+pub(crate) fn items_of(script: &Script) -> &[Item]
+    ensures { result.now ≡ script.now.items }
+{
+    &script.items.0
+}
+
+/// A group of a script over fresh rings, with room in its journal for all items.
+fn open_group(
+    alloc: Global,
+    script: &Script,
+    tx: Vec<RingOut<Container>>,
+    back: RingIn<BackCell>,
+) -> Result<GroupState, AllocError>
+    requires script { IsValid script.now }
+    requires rings { length tx.items ≡ script.now.config.lines }
+    requires sends { AreUnused tx.items }
+    requires returns { in_passed back ≡ [] }
+    ensures bound { IfOk result (λ g. IsBound script.now g.tx.items (g.back ∷ []) g) }
+    ensures ends { IfOk result (λ g. (g.tx ≡ tx) × (g.back ≡ back)) }
+{
+    let items = items_of(script);
+    GroupState::new(
+        alloc,
+        script,
+        items.len() as u32,
+        all_octets(items),
+        tx,
+        back,
+    )
+}
+
+/// The worker of the sink of a script over fresh rings.
+fn open_sink(
+    alloc: Global,
+    script: &Script,
+    rx: Vec<RingIn<Cell>>,
+    back: RingOut<BackCell>,
+) -> Result<SinkWorker, AllocError>
+    requires script { IsValid script.now }
+    requires rings { length rx.items ≡ script.now.config.lines }
+    requires fresh { received rx.items ≡ replicate script.now.config.lines [] }
+    requires back { out_passed back ≡ [] }
+    ensures sink { IfOk result (λ sink. IsSinkOf script.now sink) }
+    ensures ends { IfOk result (λ sink. (sink.rx ≡ rx) × (sink.back ≡ back)) }
+{
+    let config = &script.config;
+    SinkWorker::new(alloc, config.lines, config.ticks, config.size, rx, back)
+}
+
 /// Opens a session of a script for this number of line threads.
 pub(crate) fn open(alloc: Global, script: &Script, workers: u8) -> Result<Opened, AllocError>
     requires script { IsValid script.now }
@@ -52,31 +106,15 @@ pub(crate) fn open(alloc: Global, script: &Script, workers: u8) -> Result<Opened
     ensures room { IfOk result (λ o.
         HasRoomFor (vec_len o.lines) (vec_len o.flags.lines) o.room) }
 {
-    let config = &script.config;
-    let lines = open_lines(alloc, config)?;
+    let lines = open_lines(alloc, &script.config)?;
     let (back, back_in) = back_ring(alloc)?;
-    let items = &script.items.0;
-    let group = GroupState::new(
-        alloc,
-        script,
-        items.len() as u32,
-        all_octets(items),
-        lines.tx,
-        back_in,
-    )?;
-    let sink = SinkWorker::new(
-        alloc,
-        config.lines,
-        config.ticks,
-        config.size,
-        lines.rx,
-        back,
-    )?;
+    let group = open_group(alloc, script, lines.tx, back_in)?;
+    let sink = open_sink(alloc, script, lines.rx, back)?;
     Ok(Opened {
         group,
         lines: lines.workers,
         sink,
         flags: Flags::new(alloc, workers)?,
-        room: Room::new(alloc, config.lines, workers)?,
+        room: Room::new(alloc, script.config.lines, workers)?,
     })
 }
