@@ -10,3 +10,4 @@ pub mod TickLaws
 pub mod InsertLaws
 pub mod BoundLaws
 pub mod SubmitLaws
+pub mod LayLaws

@@ -16,8 +16,8 @@ use Rattle.group_lock.specs.Group.{ticks_of}
 use Rattle.group_lock.specs.Session.{IsBound}
 
 -- the members of a session are this script, and the ends of this group's rings
-pub record IsSessionOf (of_script : Script) (tx : List (RingOut Container)) (back : List (RingIn BackCell)) (script : Script) (group : GroupState) : Type 0 where
-  pub script : of_script ≡ script
+pub record IsSessionOf (of_script : Script) (tx : List (RingOut Container)) (back : List (RingIn BackCell)) (own : Script) (group : GroupState) : Type 0 where
+  pub script : of_script ≡ own
   pub sends : tx ≡ group.tx.items
   pub returns : back ≡ group.back ∷ []
 

@@ -30,11 +30,11 @@ pub record IsSinkOf (script : Script) (sink : SinkWorker) : Type 0 where
   pub stands : Stands sink
 
 -- a group that is bound to the script, the workers of its lines and of its sink, with the ends of their rings; nothing has moved
-pub record IsOpen (script : Script) (group : GroupState) (workers : List LineWorker) (sink : SinkWorker) : Type 0 where
+pub record IsOpen (script : Script) (group : GroupState) (workers : List LineWorker) (worker : SinkWorker) : Type 0 where
   pub bound : IsBound script group.tx.items (group.back ∷ []) group
-  pub lines : AreOpened script.config script.config.lines group.tx.items workers sink.rx.items
-  pub returns : AreEnds sink.back group.back
-  pub sink : IsSinkOf script sink
+  pub lines : AreOpened script.config script.config.lines group.tx.items workers worker.rx.items
+  pub returns : AreEnds worker.back group.back
+  pub sink : IsSinkOf script worker
 
 -- ---- the end, as far as the workers themselves say
 -- all frames are made, all lines have come to their end, all rows are taken; and the ends of each ring say the same

@@ -119,8 +119,8 @@ fn shares_beside<'x, Y: Session, R: Threads + Wait + Sync, G: Gate, D: Duty>(
             requires flags { vec_len shares ≤ vec_len flags.now.lines }
             requires held { (held_room.items ≡ []) × (vec_len shares ≤ vec_capacity held_room) }
             requires back { (back_room.items ≡ []) × (vec_len shares ≤ vec_capacity back_room) }
-            ensures shares { SharesLater shares.entry.items result.0.items }
-            ensures duty { (begun : Begun) → D.stands_for duty.entry begun →
+            ensures shares { SharesLater shares.items result.0.items }
+            ensures duty { (begun : Begun) → D.stands_for duty begun →
                 D.stands_for result.1 begun }
         {
             let client =

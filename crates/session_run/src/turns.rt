@@ -84,9 +84,12 @@ pub(crate) fn land_all<Y: Session, R: Wait, G: Gate>(
 )
     requires { items.now ≡ Y.script.items }
 {
-    for (number, item) in items.iter().enumerate() {
+    for number in 0..u32::MAX {
+        let Some(item) = items.get(number as usize) else {
+            return;
+        };
         if who_brings(&item.kind) == who
-            && !land::<Y, R, G>(rt, gate, lock, stop, number as u32, &item.kind)
+            && !land::<Y, R, G>(rt, gate, lock, stop, number, &item.kind)
         {
             return;
         }
