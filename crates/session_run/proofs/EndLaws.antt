@@ -237,8 +237,8 @@ module _ (script : Script) (valid : IsValid script) (group : GroupState) (worker
       let landed = ended-landed script valid (frames_of group) (commands_of group) ahead in
       record {
         ticks = ticks-all;
-        frames = ?;
-        commands = ?;
+        frames = omega (arith, landed.0, end.landed.most_frames);
+        commands = omega (arith, landed.1, end.landed.most_commands);
         refusals = refusals-all;
         totals = totals-all;
       }

@@ -1,2 +1,4 @@
 pub mod ToldLaws
 pub mod EndLaws
+pub mod LayLaws
+pub mod RunLaws
