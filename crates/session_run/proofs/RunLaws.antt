@@ -1,6 +1,7 @@
 -- What has come of a session that was opened, once all have done what they had to do.
 use Rattle.std.proofs.Common.{◌≡◌, ℕ, ◌<◌, ◌≤◌, Bool, false, List, [], ◌∷◌, length, slice_get, Option, Some, refl, sym, ◌∙◌, ap, subst, arith}
 use Rattle.std.specs.Prelude.{Contains}
+use Rattle.std.proofs.lemmas.List.{nil_from_length}
 use Rattle.std.proofs.lemmas.Option.{slice_get_within}
 use Rattle.vc_cell.specs.declared.Container.{Container}
 use Rattle.vc_cell.specs.declared.Cell.{Cell}
@@ -50,7 +51,8 @@ bound-own named tx back script first group is bound =
 -- the worker of a sink where a session begins
 pub run-begins : (script : Script) (sink : SinkWorker) (first : Seen) (name : ℕ) → IsSinkOf script sink → HasRun (record { first = first; name = name; sink = sink }) sink first
 run-begins script sink first name is =
-    let none : given_frames (size_of sink) (cells_of sink) (taken_of sink) ≡ [] = frames-none (size_of sink) (cells_of sink) (taken_of sink) is.taken in
+    let none : given_frames (size_of sink) (cells_of sink) (taken_of sink) ≡ [] =
+    nil_from_length (given_frames (size_of sink) (cells_of sink) (taken_of sink)) (frames-none (size_of sink) (cells_of sink) (taken_of sink) is.taken) in
     record {
       stands = is.stands;
       later = (refl, later-refl (parts_of sink));
@@ -88,48 +90,52 @@ module _ (script : Script) (first : GroupState) (begun : List LineWorker) (taker
   counts =
       (omega (arith, bound.sends.count, as-many, open'.lines.tx_count, open'.lines.workers_count), omega (arith, after.1.ends.count, as-many, open'.lines.rx_count, open'.lines.workers_count))
 
-  module _ (made : total_of group ≤ ticks_of group) (done : AreDone lines) (taken : taken_of sink ≡ rows_of sink) (stands : Stands sink)
-      (group' : GroupState) (lines' : List LineWorker) (sink' : SinkWorker) (laid : AreLaid group lines sink group' lines' sink') where
-    line-of : (m : ℕ) (worker : LineWorker) → slice_get lines' m ≡ Some worker → IsLineOf script.config m worker
-    line-of m worker there =
-        let inside = slice_get_within lines' m worker there in
-        let (mid, at) = slice_get-inside lines m (omega (arith, inside, laid.count)) in
-        let (old, was, grew) = old-at m mid at in
-        let looked = laid.workers m mid worker at there in
-        let line = open'.lines.lines m old was in
-        record {
-          number = looked.number ∙ grew.same.number ∙ line.number;
-          delay = looked.delay ∙ grew.same.delay ∙ line.delay;
-          windows = looked.windows ∙ grew.same.windows ∙ line.windows;
-          total = looked.total ∙ grew.same.total ∙ line.total;
-        }
+-- all have done what they had to do, and the ends of all rings were laid beside each other
+module _ (script : Script) (first : GroupState) (begun : List LineWorker) (taker : SinkWorker) (open' : IsOpen script first begun taker)
+    (group : GroupState) (lines : List LineWorker) (sink : SinkWorker) (bound : IsBound script first.tx.items (first.back ∷ []) group) (later : AreLater begun lines) (after : IsSinkLater taker sink)
+    (made : total_of group ≤ ticks_of group) (done : AreDone lines) (taken : taken_of sink ≡ rows_of sink) (stands : Stands sink)
+    (group' : GroupState) (lines' : List LineWorker) (sink' : SinkWorker) (laid : AreLaid group lines sink group' lines' sink') where
+  line-of : (m : ℕ) (worker : LineWorker) → slice_get lines' m ≡ Some worker → IsLineOf script.config m worker
+  line-of m worker there =
+      let inside = slice_get_within lines' m worker there in
+      let (mid, at) = slice_get-inside lines m (omega (arith, inside, laid.count)) in
+      let (old, was, grew) = zip-at IsLater begun lines m mid later at in
+      let looked = laid.workers m mid worker at there in
+      let line = open'.lines.lines m old was in
+      record {
+        number = looked.number ∙ grew.same.number ∙ line.number;
+        delay = looked.delay ∙ grew.same.delay ∙ line.delay;
+        windows = looked.windows ∙ grew.same.windows ∙ line.windows;
+        total = looked.total ∙ grew.same.total ∙ line.total;
+      }
 
-    all-done : AreDone lines'
-    all-done m worker there =
-        let inside = slice_get_within lines' m worker there in
-        let (mid, at) = slice_get-inside lines m (omega (arith, inside, laid.count)) in
-        subst (λ cells. Contains cells End) (sym (laid.workers m mid worker at there).pushed) (done m mid at)
+  all-done : AreDone lines'
+  all-done m worker there =
+      let inside = slice_get_within lines' m worker there in
+      let (mid, at) = slice_get-inside lines m (omega (arith, inside, laid.count)) in
+      subst (λ cells. Contains cells End) (sym (laid.workers m mid worker at there).pushed) (done m mid at)
 
-    pub come-to-end : HasComeToEnd script group' lines' sink'
-    come-to-end =
-        let bound' = laid.landed script first.tx.items (first.back ∷ []) bound in
-        record {
-          of_script = bound'.of_script;
-          landed = bound'.landed;
-          made = omega (arith, made, laid.ticks, bound'.of_script.total, bound.of_script.total);
-          tx_count = laid.tx_count ∙ bound.sends.count ∙ open'.lines.tx_count;
-          workers_count = laid.count ∙ as-many ∙ open'.lines.workers_count;
-          rx_count = laid.rx_count ∙ after.1.ends.count ∙ open'.lines.rx_count;
-          lines = line-of;
-          done = all-done;
-          sends = laid.sends;
-          receives = laid.receives;
-          returns = laid.returns;
-          stands = laid.stands stands;
-          sink_lines = laid.lines_same ∙ after.1.lines ∙ open'.sink.lines;
-          size = laid.size ∙ after.1.size ∙ open'.sink.size;
-          taken = laid.taken ∙ taken ∙ after.0 ∙ open'.sink.rows;
-        }
+  pub come-to-end : HasComeToEnd script group' lines' sink'
+  come-to-end =
+      let bound' = laid.landed script first.tx.items (first.back ∷ []) bound in
+      let as_many : length lines ≡ length begun = zip-length IsLater begun lines later in
+      record {
+        of_script = bound'.of_script;
+        landed = bound'.landed;
+        made = omega (arith, made, laid.ticks, bound'.of_script.total, bound.of_script.total);
+        tx_count = laid.tx_count ∙ bound.sends.count ∙ open'.lines.tx_count;
+        workers_count = laid.count ∙ as_many ∙ open'.lines.workers_count;
+        rx_count = laid.rx_count ∙ after.1.ends.count ∙ open'.lines.rx_count;
+        lines = line-of;
+        done = all-done;
+        sends = laid.sends;
+        receives = laid.receives;
+        returns = laid.returns;
+        stands = laid.stands stands;
+        sink_lines = laid.lines_same ∙ after.1.lines ∙ open'.sink.lines;
+        size = laid.size ∙ after.1.size ∙ open'.sink.size;
+        taken = laid.taken ∙ taken ∙ after.0 ∙ open'.sink.rows;
+      }
 
 -- what was written by the sink is what the sink says that was laid
 pub writes-laid : {K : Type 0} (written : K → Option (List ℕ)) (faults : K → ℕ) (old new : K) (group group' : GroupState) (lines lines' : List LineWorker) (sink sink' : SinkWorker) →
