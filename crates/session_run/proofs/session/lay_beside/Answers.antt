@@ -13,7 +13,7 @@ pub invariant_of-group : goal.invariant_of-group
 invariant_of-group c =
     let laid = rings-laid c.args.group.tx.items c.lay_sends.new.tx.items c.args.lines.items c.lay_sends.new.workers.items c.lay_receives.new.workers.items c.args.sink.rx.items c.lay_receives.new.rx.items
     c.lay_sends.ensures c.lay_receives.ensures c.requires.count.0 c.requires.count.1 in
-    keeps-laid (parts_of c.args.group) (length c.args.group.frame.items) c.lay_sends.new.tx.items c.beside.new.self c.args.group.keeps laid.still c.beside.ensures.popped
+    record { keeps = keeps-laid (parts_of c.args.group) (length c.args.group.frame.items) c.lay_sends.new.tx.items c.beside.new.self c.args.group.keeps laid.still c.beside.ensures.popped }
 
 pub returns : goal.returns
 returns c =
