@@ -1,5 +1,5 @@
 -- What has come of a session that was opened, once all have done what they had to do.
-use Rattle.std.proofs.Common.{◌≡◌, ℕ, ◌<◌, ◌≤◌, Bool, false, List, [], ◌∷◌, length, slice_get, Option, Some, refl, sym, ◌∙◌, ap, subst, arith}
+use Rattle.std.proofs.Common.{◌≡◌, ℕ, ◌<◌, ◌≤◌, Bool, true, false, List, [], ◌∷◌, length, slice_get, Option, Some, refl, sym, ◌∙◌, ap, subst, arith}
 use Rattle.std.specs.Prelude.{Contains}
 use Rattle.std.proofs.lemmas.List.{nil_from_length}
 use Rattle.std.proofs.lemmas.Option.{slice_get_within}
@@ -7,6 +7,7 @@ use Rattle.vc_cell.specs.declared.Container.{Container}
 use Rattle.vc_cell.specs.declared.Cell.{Cell}
 use Rattle.vc_cell.specs.declared.Cell.TheVariants.{End}
 use Rattle.vc_cell.specs.declared.BackCell.{BackCell}
+use Rattle.outside_io.specs.Transfer.{Appends, AppendsPart}
 use Rattle.outside_io.proofs.Parts.{Appends-none}
 use Rattle.line_law.proofs.ListLaws.{slice_get-inside}
 use Rattle.session_model.specs.declared.script.Script.{Script}
@@ -19,7 +20,7 @@ use Rattle.member_ring.specs.Worker.{IsLater}
 use Rattle.member_ring.proofs.EndLaws.{ends-moved}
 use Rattle.sink_core.specs.Given.{given_frames}
 use Rattle.sink_worker.specs.declared.worker.SinkWorker.{SinkWorker}
-use Rattle.sink_worker.specs.Told.{Seen, known_of, faults_of, Told, Writes}
+use Rattle.sink_worker.specs.Told.{Seen, seen, known_of, faults_of, Told, Writes}
 use Rattle.sink_worker.specs.Worker.{Stands, parts_of, cells_of, size_of, taken_of, has_failed, ticks_of as rows_of}
 use Rattle.sink_worker.specs.Worker.{IsLater as IsSinkLater}
 use Rattle.sink_worker.proofs.PartsLaws.{later-refl, frames-none}
@@ -35,13 +36,7 @@ use Rattle.session_parts.proofs.DealLaws.{zip-at}
 use Rattle.session_run.specs.Beside.{AreLaid, IsSessionOf}
 use Rattle.session_run.specs.Session.{IsSinkOf, IsOpen, HasComeToEnd}
 
--- the members of a session say of a group what its own script and ends say
-pub bound-named : (named : Script) (tx : List (RingOut Container)) (back : List (RingIn BackCell)) (script : Script) (first group : GroupState) → IsSessionOf named tx back script first →
-    IsBound script first.tx.items (first.back ∷ []) group → IsBound named tx back group
-bound-named named tx back script first group is bound =
-    subst (λ s. IsBound s tx back group) (sym is.script)
-    (subst (λ l. IsBound script l back group) (sym is.sends) (subst (λ l. IsBound script first.tx.items l group) (sym is.returns) bound))
-
+-- the members of a session are its script, and the ends of its group as they were made
 pub bound-own : (named : Script) (tx : List (RingOut Container)) (back : List (RingIn BackCell)) (script : Script) (first group : GroupState) → IsSessionOf named tx back script first →
     IsBound named tx back group → IsBound script first.tx.items (first.back ∷ []) group
 bound-own named tx back script first group is bound =
@@ -59,6 +54,26 @@ run-begins script sink first name is =
       told = subst (λ failed. Told failed first first (got_texts (given_frames (size_of sink) (cells_of sink) (taken_of sink)))) (sym is.failed)
           (subst (λ frames. Told false first first (got_texts frames)) (sym none) (Appends-none known_of faults_of first));
     }
+
+module _ {K : Type 0} (written : K → Option (List ℕ)) (faults : K → ℕ) where
+  -- how a session begins
+  abbrev pub begun_of : K → ℕ → SinkWorker → Begun
+  begun_of old name sink = record { first = seen (written old) (faults old); name = name; sink = sink }
+
+  -- a worker that is handed on, with what it writes to
+  pub handed-on : (begun : Begun) (a b : SinkWorker) (old new : K) → b ≡ a → new ≡ old → HasRun begun a (seen (written old) (faults old)) → HasRun begun b (seen (written new) (faults new))
+  handed-on begun a b old new is same run =
+      subst (λ (sink : SinkWorker). HasRun begun sink (seen (written new) (faults new))) (sym is)
+      (subst (λ (k : K). HasRun begun a (seen (written k) (faults k))) (sym same) run)
+
+  -- what was written as a whole, or in part
+  pub writes-whole : (failed : Bool) (old new : K) (own text : List ℕ) → own ≡ text → Writes written faults false failed old new own → failed ≡ false → Appends written faults old new text
+  writes-whole false old new own text is writes none = subst (Appends written faults old new) is writes
+  writes-whole true old new own text is writes none = absurd cc
+
+  pub writes-part : (failed : Bool) (old new : K) (own text : List ℕ) → own ≡ text → Writes written faults false failed old new own → failed ≡ true → AppendsPart written faults old new text
+  writes-part false old new own text is writes some = absurd cc
+  writes-part true old new own text is writes some = subst (AppendsPart written faults old new) is writes
 
 module _ (script : Script) (first : GroupState) (begun : List LineWorker) (taker : SinkWorker) (open' : IsOpen script first begun taker)
     (group : GroupState) (lines : List LineWorker) (sink : SinkWorker) (bound : IsBound script first.tx.items (first.back ∷ []) group) (later : AreLater begun lines) (after : IsSinkLater taker sink) where
