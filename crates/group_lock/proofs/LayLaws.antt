@@ -1,24 +1,24 @@
 -- A look at both ends of each ring of a group, which lie beside each other, changes nothing of what is known of it.
-use Rattle.std.proofs.Common.{◌≡◌, ℕ, ◌<◌, List, [], ◌∷◌, length, slice_get, Some, sym, ◌∙◌, ap, subst, arith}
+use Rattle.std.proofs.Common.{◌≡◌, ℕ, List, length, slice_get, Some, sym, ◌∙◌, ap, subst, arith}
 use Rattle.std.specs.Global.{Vec}
 use Rattle.std.proofs.lemmas.Option.{slice_get_within}
 use Rattle.vc_cell.specs.declared.Container.{Container}
 use Rattle.vc_cell.specs.declared.BackCell.{BackCell}
 use Rattle.session_model.specs.declared.script.Script.{Script}
-use Rattle.session_model.specs.Scenario.{scenario_of, offers_of, orders_of}
+use Rattle.session_model.specs.Scenario.{scenario_of}
+use Rattle.session_model.specs.Sent.{containers_of}
 use Rattle.session_model.specs.Counts.{used_in}
 use Rattle.member_ring.specs.declared.ends.RingOut.{RingOut}
 use Rattle.member_ring.specs.declared.ends.RingIn.{RingIn}
-use Rattle.member_ring.specs.Ends.{out_passed, in_passed, SameOut, SameIn}
-use Rattle.session_model.specs.Sent.{containers_of}
+use Rattle.member_ring.specs.Ends.{out_passed, in_passed, SameIn}
 use Rattle.source_core.specs.Given.{Stands as HasMade}
 use Rattle.walk_law.specs.Landed.{landed_items, landed_scenario}
 use Rattle.group_lock.specs.declared.group.GroupState.{GroupState}
 use Rattle.group_lock.specs.Inbox.{told_taken, HasCome}
-use Rattle.group_lock.specs.Journal.{IsLegal, items_in}
+use Rattle.group_lock.specs.Journal.{IsLegal}
 use Rattle.group_lock.specs.Parts.{Parts, parts, scenario_in, told_in_parts, Keeps}
-use Rattle.group_lock.specs.Group.{ticks_of, lag_of, lost_of, journal_of, refusals_of, source_of, taken_of}
-use Rattle.group_lock.specs.Rings.{SameOuts, SameIns}
+use Rattle.group_lock.specs.Group.{ticks_of, lag_of, lost_of, source_of, taken_of}
+use Rattle.group_lock.specs.Rings.{SameOuts}
 use Rattle.group_lock.specs.Session.{counts_of, refusals_by, accepted_frames_by, accepted_commands_by, HasLandedOf, IsBound}
 use Rattle.group_lock.proofs.KeepLaws.{there-at}
 use Rattle.group_lock.proofs.BoundLaws.{outs-then, ins-then}
@@ -56,9 +56,6 @@ keeps-laid at size tx back k still popped =
 module _ (script : Script) (g : GroupState) (tx : Vec (RingOut Container)) (back : RingIn BackCell)
     (keeps : Keeps (parts g.source g.total g.landing g.journal g.inbox tx.items back) (length g.frame.items)) (still : AreStill g.tx.items tx.items) (same : SameIn g.back back)
     (popped : in_passed back ≡ in_passed g.back) where
-  abbrev laid : GroupState
-  laid = record g { tx = tx; back = back; keeps = keeps }
-
   told : taken_of (record g { tx = tx; back = back; keeps = keeps }) ≡ taken_of g
   told = ap (told_taken (lost_of g) (lag_of g) (ticks_of g)) popped
 

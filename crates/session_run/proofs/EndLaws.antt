@@ -1,18 +1,14 @@
 -- A session that has come to its end has ended as its script says.
-use Rattle.std.proofs.Common.{◌≡◌, inl, inr, ℕ, suc, ◌+◌, ◌*◌, ◌-◌, ◌/◌, ◌^◌, ◌<◌, ◌≤◌, min, Bool, not, ◌&&◌, List, [], ◌∷◌, ◌++◌, map, filter, take, length, slice_get, Option, Some, is_none, refl, sym, ◌∙◌, ap, subst, arith}
-use Rattle.std.specs.List.{range_with_len, flat_map}
+use Rattle.std.proofs.Common.{◌≡◌, ℕ, ◌+◌, ◌*◌, ◌-◌, ◌/◌, ◌<◌, ◌≤◌, not, ◌&&◌, List, ◌++◌, map, filter, take, length, slice_get, Option, Some, is_none, sym, ◌∙◌, ap, subst, arith}
+use Rattle.std.specs.List.{range_with_len}
 use Rattle.std.proofs.lemmas.Option.{slice_get_within}
 use Rattle.vc_cell.specs.declared.Container.{Container}
-use Rattle.vc_cell.specs.declared.Cell.{Cell}
-use Rattle.vc_cell.specs.declared.BackCell.{BackCell}
 use Rattle.vc_cell.specs.declared.BackCell.TheVariants.{Packet as Nibbles}
 use Rattle.session_model.specs.Packet.{packet_nibbles}
-use Rattle.session_model.specs.declared.script.Item.{Item}
 use Rattle.session_model.specs.declared.script.Script.{Script}
 use Rattle.session_model.specs.Valid.{IsValid}
 use Rattle.session_model.specs.Path.{cells}
-use Rattle.session_model.specs.Scenario.{Scenario, Order, Offer, scenario_of, carried_by, packets_in, steps_in, offers_of, orders_of}
-use Rattle.session_model.specs.Table.{Told}
+use Rattle.session_model.specs.Scenario.{scenario_of, carried_by, packets_in, steps_in, offers_of, orders_of}
 use Rattle.session_model.specs.Back.{session_cells}
 use Rattle.session_model.specs.Sent.{containers_of}
 use Rattle.session_model.specs.Rows.{return_at}
@@ -32,27 +28,25 @@ use Rattle.walk_law.specs.Delivered.{delivered_of}
 use Rattle.walk_law.specs.Landed.{Numbered, is_client, landed_items, refusal_at, refused_by, is_accepted_frame, is_accepted_command, refusals_among}
 use Rattle.walk_law.specs.Promise.{numbered}
 use Rattle.walk_law.proofs.PlanLaws.{has-lines, valid-walks}
-use Rattle.walk_law.proofs.LandLaws.{Ahead, frame-dues, command-dues}
+use Rattle.walk_law.proofs.LandLaws.{Ahead}
 use Rattle.walk_law.proofs.EndLaws.{ended-landed}
 use Rattle.walk_law.proofs.CountLaws.{delivered-few}
 use Rattle.sink_core.specs.Given.{given_frames}
 use Rattle.sink_worker.specs.Received.{received, backs}
 use Rattle.sink_worker.specs.declared.worker.SinkWorker.{SinkWorker}
 use Rattle.sink_worker.specs.Told.{count_of}
-use Rattle.sink_worker.specs.Worker.{cells_of, size_of, taken_of as rows_taken, got_of}
-use Rattle.member_ring.specs.declared.ends.RingOut.{RingOut}
-use Rattle.member_ring.specs.declared.ends.RingIn.{RingIn}
+use Rattle.sink_worker.specs.Worker.{cells_of, size_of, taken_of as rows_taken}
 use Rattle.member_ring.specs.Ends.{out_passed, in_passed, in_items}
 use Rattle.member_ring.specs.declared.worker.LineWorker.{LineWorker}
 use Rattle.group_lock.specs.declared.group.GroupState.{GroupState}
-use Rattle.group_lock.specs.Group.{ticks_of, items_of, lag_of, lost_of, frames_of, commands_of, journal_of, refusals_of, taken_of, totals_of}
+use Rattle.group_lock.specs.Group.{ticks_of, items_of, lag_of, frames_of, commands_of, journal_of, refusals_of, taken_of, totals_of}
 use Rattle.group_lock.specs.Inbox.{told_taken}
 use Rattle.group_lock.specs.Journal.{items_in}
 use Rattle.group_lock.specs.Session.{counts_of, refusal_by, refusals_by, accepted_frames_by, accepted_commands_by}
 use Rattle.group_lock.proofs.PlaceLaws.{bare-dues}
 use Rattle.group_lock.proofs.AlikeLaws.{alike-cells, refusal-alike}
 use Rattle.group_lock.proofs.BoundLaws.{same-each, same-filter}
-use Rattle.session_parts.specs.Session.{IsGathered, session_backs, IsLineEnded, IsEnded}
+use Rattle.session_parts.specs.Session.{IsGathered, session_backs, IsEnded}
 use Rattle.session_parts.proofs.EndedLaws.{backs-are}
 use Rattle.session_parts.proofs.SessionLaws.{line-ended, all-come, made-session, frames-session, backs-session}
 use Rattle.session_run.specs.Session.{HasComeToEnd, group_totals, IsGroupEnded}
@@ -65,13 +59,6 @@ abbrev totals_by : ℕ → ℕ → ℕ → ℕ → Totals
 totals_by ticks frames commands refused = record { ticks = ticks; taken = 0; frames = frames; commands = commands; refused = refused; got = 0 }
 
 module _ (script : Script) (valid : IsValid script) (group : GroupState) (workers : List LineWorker) (sink : SinkWorker) (end : HasComeToEnd script group workers sink) where
-  abbrev session : Scenario
-  session = scenario_of script
-
-  -- how many return cells the decision steps took
-  abbrev used : ℕ
-  used = used_in script.config.lag script.config.ticks
-
   all-made : ticks_of group ≡ script.config.ticks
   all-made = omega (arith, end.made, group.keeps.ticks, end.of_script.total)
 

@@ -1,5 +1,5 @@
 -- The ends of the rings are those of the opening, later; and the session has come to its end.
-use Rattle.std.proofs.Common.{rules, ◌≡◌, ◌+◌, ◌≤◌, refl, sym, ◌∙◌, subst, arith, false}
+use Rattle.std.proofs.Common.{rules, ◌≤◌, refl, sym, ◌∙◌, subst, arith, false}
 use Rattle.report_text.specs.Report.{got_texts}
 use Rattle.member_ring.specs.Worker.{IsLater}
 use Rattle.member_ring.proofs.LaterLaws.{later-then}
