@@ -56,9 +56,10 @@ use Rattle.group_lock.specs.Parts.{AreSent, ArePast}
 use Rattle.group_lock.specs.Calls.{Submits}
 use Rattle.group_lock.proofs.AlikeLaws.{push-cases, offers-push, orders-push}
 use Rattle.group_lock.proofs.BoundLaws.{of-then}
+use Rattle.group_lock.proofs.MostLaws.{most-next}
 use Rattle.group_lock.specs.Landed.{next_number, due_in, due_at}
 use Rattle.group_lock.specs.Lands.{met_by, with_kind}
-use Rattle.group_lock.specs.Group.{IsOf, HasCounted, counted_by, parts_of, items_of, ticks_of, frames_of, commands_of, taken_of, source_of, next_of, refusal_of, is_number, fault_in, slots_of, bytes_of, journal_of, refusals_of, lag_of, lost_of, entries_by, with_landed, room_for}
+use Rattle.group_lock.specs.Group.{IsOf, HasCounted, parts_of, items_of, ticks_of, frames_of, commands_of, taken_of, source_of, next_of, refusal_of, is_number, fault_in, slots_of, bytes_of, journal_of, refusals_of, lag_of, lost_of, entries_by, with_landed, room_for}
 use Rattle.group_lock.specs.Session.{counts_of, IsItemOf, octets_in, HasRoom, HasLandedOf}
 use Rattle.group_lock.proofs.PlaceLaws.{bare-dues, bare-place, frame-blind, command-blind, number-there, item-there, next-due, all-left, all-right}
 use Rattle.group_lock.proofs.GroupLaws.{refused-is, fault_by}
@@ -499,15 +500,6 @@ offers-next (Some (JournalFull slots bytes)) was now number ticks kind landed sa
 offers-next (Some (Frame_fault why)) was now number ticks kind landed same = refused-next was now kind (same ∙ append-nil was)
 offers-next (Some (Command_fault why)) was now number ticks kind landed same = refused-next was now kind (same ∙ append-nil was)
 
--- no more have landed than there are
-one-counted : (client : Bool) → counted_by client true + counted_by (not client) true ≡ 1
-one-counted true = refl
-one-counted false = refl
-
-most-by : (offers orders frames commands frames' commands' one other : ℕ) → one + other ≡ 1 → frames' ≡ frames + one → commands' ≡ commands + other →
-    (offers - frames) + (orders - commands) ≡ (offers - frames') + (orders - commands') + 1 → frames ≤ offers → commands ≤ orders → (frames' ≤ offers) × (commands' ≤ orders)
-most-by offers orders frames commands frames' commands' one other sum more more' less most most' = (omega arith, omega arith)
-
 past-all : (ticks : ℕ) (items : List Numbered) → ArePast ticks items → All (λ (item : Numbered). item.item.due ≤ ticks) items
 past-all ticks items past k d inside = past k (get_or items k d) (slice_get-get_or items k d inside)
 
@@ -540,20 +532,10 @@ module _ (script : Script) (a b : GroupState) (number : ℕ) (kind : ItemKind) (
       ap (λ l. told_taken l (lag_of b) (ticks_of b) (in_passed b.back)) call.script.lost ∙ ap (λ n. told_taken (lost_of a) n (ticks_of b) (in_passed b.back)) call.script.lag
       ∙ ap (λ n. told_taken (lost_of a) (lag_of a) n (in_passed b.back)) call.rings.ticks ∙ ap (λ (end_ : RingIn BackCell). told_taken (lost_of a) (lag_of a) (ticks_of a) (in_passed end_)) call.rings.back
 
-  most : (frames_of b ≤ length (offers_of script.items)) × (commands_of b ≤ length (orders_of script.items))
-  most =
-      let counted = subst (HasCounted a b kind) landed call.landed in
-      let less = next-is.entries in
-      let offers = length-drop (frames_of a) (offers_of script.items) in
-      let offers' = length-drop (frames_of b) (offers_of script.items) in
-      let orders = length-drop (commands_of a) (orders_of script.items) in
-      let orders' = length-drop (commands_of b) (orders_of script.items) in
-      most-by (length (offers_of script.items)) (length (orders_of script.items)) (frames_of a) (commands_of a) (frames_of b) (commands_of b)
-      (counted_by (is_client kind) true) (counted_by (not (is_client kind)) true) (one-counted (is_client kind)) counted.frames counted.commands (omega arith) has.most_frames has.most_commands
-
   pub landed-submits : HasLandedOf script b
   landed-submits =
       let put = next-is.inserted in
+      let most = most-next script a b kind has (subst (HasCounted a b kind) landed call.landed) next-is.entries in
       let cells : List (Option Told) = taken_of a in
       let sizes = offers-next answer (journal_of a) (journal_of b) number (ticks_of a) kind landed call.journal in
       let frames = inserted-size (λ item. is_client item.item.kind && is_none (refusal_by script cells item)) entry (landed_items script (counts_of a)) (landed_items script (counts_of b)) put in
