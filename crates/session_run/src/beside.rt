@@ -123,8 +123,15 @@ fn shares_beside<'x, Y: Session, R: Threads + Wait + Sync, G: Gate, D: Duty>(
             ensures duty { (begun : Begun) → D.stands_for duty begun →
                 D.stands_for result.1 begun }
         {
-            let client =
-                start_landing::<Y, R, G>(scope, rt, gate, lock, &flags.client, Who::Client, items);
+            let client = start_landing::<Y, R, G>(
+                scope,
+                rt,
+                gate,
+                lock,
+                &flags.client,
+                Who::Client,
+                items,
+            );
             let operator = start_landing::<Y, R, G>(
                 scope,
                 rt,
@@ -173,7 +180,8 @@ pub(crate) fn lines_beside<Y: Session, R: Threads + Wait + Sync, G: Gate, D: Dut
     } = room;
     let count = lines.len();
     let shares = deal(lines, shares);
-    let (shares, duty) =
-        shares_beside::<Y, R, G, D>(rt, gate, lock, flags, items, shares, held, back, duty);
+    let (shares, duty) = shares_beside::<Y, R, G, D>(
+        rt, gate, lock, flags, items, shares, held, back, duty,
+    );
     (collect(shares, count, place), duty)
 }

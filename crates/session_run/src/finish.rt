@@ -32,12 +32,7 @@ fn tick_or_land<Y: Session, G: Gate>(gate: &G, group: &mut BoundGroup<Y>, items:
 }
 
 /// Lands an item that holds a tick.
-fn land_held<Y: Session, G: Gate>(
-    gate: &G,
-    group: &mut BoundGroup<Y>,
-    items: &[Item],
-    number: u32,
-)
+fn land_held<Y: Session, G: Gate>(gate: &G, group: &mut BoundGroup<Y>, items: &[Item], number: u32)
     requires items { items.now ≡ Y.script.items }
 {
     if let Some(item) = items.get(number as usize) {

@@ -64,7 +64,14 @@ pub(crate) fn open(alloc: Global, script: &Script, workers: u8) -> Result<Opened
         lines.tx,
         back_in,
     )?;
-    let sink = SinkWorker::new(alloc, config.lines, config.ticks, config.size, lines.rx, back)?;
+    let sink = SinkWorker::new(
+        alloc,
+        config.lines,
+        config.ticks,
+        config.size,
+        lines.rx,
+        back,
+    )?;
     Ok(Opened {
         group,
         lines: lines.workers,
