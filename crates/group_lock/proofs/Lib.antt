@@ -9,4 +9,6 @@ pub mod GroupLaws
 pub mod TickLaws
 pub mod InsertLaws
 pub mod BoundLaws
+pub mod MostLaws
 pub mod SubmitLaws
+pub mod LayLaws

@@ -18,11 +18,11 @@ ghost use Rattle.session_run.specs.Beside.{AreLaid, IsSessionOf};
 
 use crate::beside::lines_beside;
 use crate::finish::finish;
-use crate::open::Opened;
+use crate::open::{Opened, items_of};
 use group_lock::{BoundGroup, GroupState, Session};
 use member_ring::{Gate, LineWorker};
 use outside_io::ByteSink;
-use session_model::{Item, Script};
+use session_model::Script;
 use session_parts::{SinkDuty, lay_receives, lay_sends, take_back};
 use sink_worker::SinkWorker;
 use std::sync::{Mutex, Wait};
@@ -37,13 +37,6 @@ pub struct Ended {
     pub lines: Vec<LineWorker>,
     /// The worker of the sink.
     pub sink: SinkWorker,
-}
-
-/// The items of a script.
-fn items_of(script: &Script) -> &[Item]
-    ensures { result.now ≡ script.now.items }
-{
-    &script.items.0
 }
 
 /// Lays both ends of each ring beside each other.
