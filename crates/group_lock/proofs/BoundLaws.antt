@@ -187,6 +187,8 @@ module _ (script : Script) (a b : GroupState) (answer : TickAnswer) (of_script :
       let items : List Numbered = landed_items script (counts_of a) in
       record {
         entries = subst (AreItemsOf script) (sym call.landed.journal) has.entries;
+        most_frames = omega (arith, has.most_frames, call.landed.frames);
+        most_commands = omega (arith, has.most_commands, call.landed.commands);
         past = subst (ArePast (ticks_of b)) (sym landed-same) (λ i item there. let low = has.past i item there in let ticks = call.ticks in omega arith);
         refusals = call.landed.refusals ∙ has.refusals
             ∙ same-each (λ item. refused_by item.number (refusal_by script (taken_of a) item)) (λ item. refused_by item.number (refusal_by script (taken_of b) item)) items

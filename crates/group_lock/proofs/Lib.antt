@@ -7,4 +7,6 @@ pub mod KeepLaws
 pub mod GroupLaws
 pub mod TickLaws
 pub mod BoundLaws
+pub mod MostLaws
 pub mod SubmitLaws
+pub mod LayLaws

@@ -55,6 +55,7 @@ use Rattle.group_lock.specs.Parts.{AreSent, ArePast}
 use Rattle.group_lock.specs.Calls.{Submits}
 use Rattle.group_lock.proofs.AlikeLaws.{push-cases, offers-push, orders-push}
 use Rattle.group_lock.proofs.BoundLaws.{of-then}
+use Rattle.group_lock.proofs.MostLaws.{most-next}
 use Rattle.group_lock.specs.Landed.{next_number, due_in, due_at}
 use Rattle.group_lock.specs.Lands.{met_by, with_kind}
 use Rattle.group_lock.specs.Group.{IsOf, HasCounted, parts_of, items_of, ticks_of, frames_of, commands_of, taken_of, source_of, next_of, refusal_of, is_number, fault_met, fault_in, slots_of, bytes_of, journal_of, refusals_of, lag_of, lost_of, entries_by, with_landed, room_for}
@@ -494,6 +495,7 @@ module _ (script : Script) (a b : GroupState) (number : ℕ) (kind : ItemKind) (
   pub landed-submits : HasLandedOf script b
   landed-submits =
       let put = next-is.inserted in
+      let most = most-next script a b kind has (subst (HasCounted a b kind) landed call.landed) next-is.entries in
       let cells : List (Option Told) = taken_of a in
       let sizes = offers-next answer (journal_of a) (journal_of b) number (ticks_of a) kind landed call.journal in
       let frames = one-more (λ item. is_client item.item.kind && is_none (refusal_by script cells item)) entry (landed_items script (counts_of a)) (landed_items script (counts_of b)) put in
@@ -504,6 +506,8 @@ module _ (script : Script) (a b : GroupState) (number : ℕ) (kind : ItemKind) (
             (all-past (ticks_of a) (landed_items script (counts_of b))
             (inserted-all (λ (item : Numbered). item.item.due ≤ ticks_of a) entry (landed_items script (counts_of a)) (landed_items script (counts_of b)) put
             (past-all (ticks_of a) (landed_items script (counts_of a)) has.past) (omega arith)));
+        most_frames = most.0;
+        most_commands = most.1;
         refusals = placed-same number (refused_by number (refusal_told answer)) (refusals_of a) (refusals_of b) (refusals_by script cells (landed_items script (counts_of b))) (call.refusals landed)
             (subst (λ (l : List (ℕ × Refusal)). IsPlaced number (refused_by number (refusal_told answer)) l (refusals_by script cells (landed_items script (counts_of b)))) (sym has.refusals)
             (subst (λ (w : Option Refusal). IsPlaced number (refused_by number w) (refusals_by script cells (landed_items script (counts_of a))) (refusals_by script cells (landed_items script (counts_of b)))) (sym told)

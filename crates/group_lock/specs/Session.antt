@@ -66,11 +66,13 @@ pub record HasRoom (script : Script) (g : GroupState) : Type 0 where
   pub entries : length (drop (frames_of g) (offers_of script.items)) + length (drop (commands_of g) (orders_of script.items)) ≤ slots_of g
   pub octets : octets_in (drop (frames_of g) (offers_of script.items)) ≤ bytes_of g
 
--- what has come of the script so far: the entries and the refusals are those of its items that have landed, by the return cells that decision
--- steps have taken; and each send ring has passed the script's containers of the frames made
+-- what has come of the script so far: no more has landed than there is; the entries and the refusals are those of its items that have landed,
+-- by the return cells that decision steps have taken; and each send ring has passed the script's containers of the frames made
 pub record HasLandedOf (script : Script) (g : GroupState) : Type 0 where
   pub entries : AreItemsOf script (journal_of g)
   pub past : ArePast (ticks_of g) (landed_items script (counts_of g))
+  pub most_frames : frames_of g ≤ length (offers_of script.items)
+  pub most_commands : commands_of g ≤ length (orders_of script.items)
   pub refusals : refusals_of g ≡ refusals_by script (taken_of g) (landed_items script (counts_of g))
   pub frames : length (offers_of (items_in (journal_of g))) ≡ length (accepted_frames_by script (taken_of g) (landed_items script (counts_of g)))
   pub commands : length (orders_of (items_in (journal_of g))) ≡ length (accepted_commands_by script (taken_of g) (landed_items script (counts_of g)))

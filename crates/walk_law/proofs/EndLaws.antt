@@ -21,7 +21,7 @@ use Rattle.walk_law.specs.Report.{report_among, report_of, final_report}
 use Rattle.walk_law.specs.Promise.{numbered, frame_by, accepted_frames, drained}
 use Rattle.walk_law.proofs.PlanLaws.{has-plan, valid-walks}
 use Rattle.walk_law.proofs.WalkLaws.{fits, drains-walked}
-use Rattle.walk_law.proofs.LandLaws.{frame-dues, command-dues, walked-ahead}
+use Rattle.walk_law.proofs.LandLaws.{Ahead, frame-dues, command-dues, walked-ahead}
 use Rattle.walk_law.proofs.ReportLaws.{offers-size, orders-size}
 use Rattle.walk_law.proofs.PromiseLaws.{drain-ends}
 
@@ -86,20 +86,27 @@ all-landed (item ∷ items) a b i frames commands =
           rw (e, some) (ap (λ l. record { number = i; item = item } ∷ l) (all-landed items a (b - 1) (suc i) (omega arith) (omega arith)))
     ]
 
+-- where nothing waits that is due before the last tick
+pub ended-landed : (script : Script) → IsValid script → (frames commands : ℕ) → Ahead (dues_of script.items) script.config.ticks frames commands →
+    (length (offers_of script.items) ≤ frames) × (length (orders_of script.items) ≤ commands) × (landed_from frames commands 0 script.items ≡ numbered 0 script.items)
+ended-landed script valid frames commands ahead =
+    let dues = past-end (frame_dues (dues_of script.items)) script.config.ticks frames (frames-due script.config.ticks script.items valid.items.each)
+    (λ due there. ahead.of_frames frames due (omega arith) there) in
+    let others = past-end (command_dues (dues_of script.items)) script.config.ticks commands (commands-due script.config.ticks script.items valid.items.each)
+    (λ due there. ahead.of_commands commands due (omega arith) there) in
+    let offers = ap length (frame-dues script.items) ∙ length-map (offers_of script.items) (λ (offer : Offer). offer.due) in
+    let orders = ap length (command-dues script.items) ∙ length-map (orders_of script.items) (λ (order : Order). order.due) in
+    let most : length (offers_of script.items) ≤ frames = omega arith in
+    let most_orders : length (orders_of script.items) ≤ commands = omega arith in
+    (most, most_orders, all-landed script.items frames commands 0 most most_orders)
+
 module _ (script : Script) (s : Counts) (valid : IsValid script) (walked : IsWalked script s) where
   can : CanWalk script
   can = valid-walks script valid
 
   pub items-landed : s.ticks ≡ script.config.ticks → landed_items script s ≡ numbered 0 script.items
   items-landed made =
-      let ahead = walked-ahead script s walked in
-      let frames = past-end (frame_dues (dues_of script.items)) script.config.ticks s.frames (frames-due script.config.ticks script.items valid.items.each)
-      (λ due there. subst (λ n. n ≤ due) made (ahead.of_frames s.frames due (omega arith) there)) in
-      let commands = past-end (command_dues (dues_of script.items)) script.config.ticks s.commands (commands-due script.config.ticks script.items valid.items.each)
-      (λ due there. subst (λ n. n ≤ due) made (ahead.of_commands s.commands due (omega arith) there)) in
-      let offers = ap length (frame-dues script.items) ∙ length-map (offers_of script.items) (λ (offer : Offer). offer.due) in
-      let orders = ap length (command-dues script.items) ∙ length-map (orders_of script.items) (λ (order : Order). order.due) in
-      all-landed script.items s.frames s.commands 0 (omega arith) (omega arith)
+      (ended-landed script valid s.frames s.commands (subst (λ ticks. Ahead (dues_of script.items) ticks s.frames s.commands) made (walked-ahead script s walked))).2
 
   pub ticks-made : s.rows ≡ script.config.ticks → s.ticks ≡ script.config.ticks
   ticks-made taken =

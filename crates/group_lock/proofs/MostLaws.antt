@@ -1,0 +1,31 @@
+-- No more lands of a script than there is.
+use Rattle.std.proofs.Common.{◌≡◌, ℕ, ◌+◌, ◌-◌, ◌≤◌, not, Bool, true, false, drop, length, refl, arith}
+use Rattle.std.proofs.lemmas.List.{length-drop}
+use Rattle.session_model.specs.declared.script.Script.{Script}
+use Rattle.session_model.specs.declared.script.ItemKind.{ItemKind}
+use Rattle.session_model.specs.Scenario.{offers_of, orders_of}
+use Rattle.walk_law.specs.Landed.{is_client}
+use Rattle.group_lock.specs.declared.group.GroupState.{GroupState}
+use Rattle.group_lock.specs.Group.{frames_of, commands_of, counted_by, HasCounted}
+use Rattle.group_lock.specs.Session.{HasLandedOf}
+
+one-counted : (client : Bool) → counted_by client true + counted_by (not client) true ≡ 1
+one-counted true = refl
+one-counted false = refl
+
+most-by : (offers orders frames commands frames' commands' one other : ℕ) → one + other ≡ 1 → frames' ≡ frames + one → commands' ≡ commands + other →
+    (offers - frames) + (orders - commands) ≡ (offers - frames') + (orders - commands') + 1 → frames ≤ offers → commands ≤ orders → (frames' ≤ offers) × (commands' ≤ orders)
+most-by offers orders frames commands frames' commands' one other sum more more' less most most' = (omega arith, omega arith)
+
+-- an item has landed, and one less is left
+pub most-next : (script : Script) (a b : GroupState) (kind : ItemKind) → HasLandedOf script a → HasCounted a b kind true →
+    length (drop (frames_of a) (offers_of script.items)) + length (drop (commands_of a) (orders_of script.items))
+    ≡ length (drop (frames_of b) (offers_of script.items)) + length (drop (commands_of b) (orders_of script.items)) + 1 →
+    (frames_of b ≤ length (offers_of script.items)) × (commands_of b ≤ length (orders_of script.items))
+most-next script a b kind has counted less =
+    let offers = length-drop (frames_of a) (offers_of script.items) in
+    let offers' = length-drop (frames_of b) (offers_of script.items) in
+    let orders = length-drop (commands_of a) (orders_of script.items) in
+    let orders' = length-drop (commands_of b) (orders_of script.items) in
+    most-by (length (offers_of script.items)) (length (orders_of script.items)) (frames_of a) (commands_of a) (frames_of b) (commands_of b)
+    (counted_by (is_client kind) true) (counted_by (not (is_client kind)) true) (one-counted (is_client kind)) counted.frames counted.commands (omega arith) has.most_frames has.most_commands

@@ -1,0 +1,120 @@
+//! The opening of a session: all of its memory is taken here.
+ghost use Rattle.std.specs.Prelude.{◌≡◌, ◌<◌, ◌≤◌, IfOk, All, [], ◌∷◌, length, replicate, vec_len};
+ghost use Rattle.session_model.specs.Scenario.{offers_of};
+ghost use Rattle.session_model.specs.declared.script.Item.{Item};
+ghost use Rattle.session_model.specs.Valid.{IsValid, IsKind};
+ghost use Rattle.member_ring.specs.Ends.{out_passed, in_passed};
+ghost use Rattle.sink_worker.specs.Received.{received};
+ghost use Rattle.group_lock.specs.Rings.{AreUnused};
+ghost use Rattle.group_lock.specs.Session.{octets_in, IsBound};
+ghost use Rattle.session_run.specs.Room.{HasRoomFor};
+ghost use Rattle.session_run.specs.Session.{IsOpen, IsSinkOf};
+
+use crate::room::{Flags, Room};
+use group_lock::GroupState;
+use member_ring::{LineWorker, RingIn, RingOut, back_ring};
+use session_model::{Item, ItemKind, Script};
+use session_parts::open_lines;
+use sink_worker::SinkWorker;
+use std::alloc::{AllocError, Global};
+use vc_cell::{BackCell, Cell, Container};
+
+/// A session before anything has moved.
+#[derive(Drop)]
+pub(crate) struct Opened {
+    pub(crate) group: GroupState,
+    pub(crate) lines: Vec<LineWorker>,
+    pub(crate) sink: SinkWorker,
+    pub(crate) flags: Flags,
+    pub(crate) room: Room,
+}
+
+/// The octets of an item's frame.
+fn octets(item: &Item) -> u64
+    ensures { result ≡ octets_in (offers_of (item.now ∷ [])) }
+{
+    match &item.kind {
+        ItemKind::Frame(octets) => octets.0.len() as u64,
+        ItemKind::Add(_) | ItemKind::Remove(_) => 0,
+    }
+}
+
+/// The octets of all frames of a script.
+fn all_octets(items: &[Item]) -> u64
+    requires few { length items.now ≤ 67108864 }
+    requires each { All (λ (item : Item). IsKind item.kind) items.now }
+    ensures { result ≡ octets_in (offers_of items.now) }
+{
+    items.iter().map(octets).sum()
+}
+
+/// The items of a script.
+pub(crate) fn items_of(script: &Script) -> &[Item]
+    ensures { result.now ≡ script.now.items }
+{
+    &script.items.0
+}
+
+/// A group of a script over fresh rings, with room in its journal for all items.
+fn open_group(
+    alloc: Global,
+    script: &Script,
+    tx: Vec<RingOut<Container>>,
+    back: RingIn<BackCell>,
+) -> Result<GroupState, AllocError>
+    requires script { IsValid script.now }
+    requires rings { length tx.items ≡ script.now.config.lines }
+    requires sends { AreUnused tx.items }
+    requires returns { in_passed back ≡ [] }
+    ensures bound { IfOk result (λ g. IsBound script.now g.tx.items (g.back ∷ []) g) }
+    ensures ends { IfOk result (λ g. (g.tx ≡ tx) × (g.back ≡ back)) }
+{
+    let items = items_of(script);
+    GroupState::new(
+        alloc,
+        script,
+        items.len() as u32,
+        all_octets(items),
+        tx,
+        back,
+    )
+}
+
+/// The worker of the sink of a script over fresh rings.
+fn open_sink(
+    alloc: Global,
+    script: &Script,
+    rx: Vec<RingIn<Cell>>,
+    back: RingOut<BackCell>,
+) -> Result<SinkWorker, AllocError>
+    requires script { IsValid script.now }
+    requires rings { length rx.items ≡ script.now.config.lines }
+    requires fresh { received rx.items ≡ replicate script.now.config.lines [] }
+    requires back { out_passed back ≡ [] }
+    ensures sink { IfOk result (λ sink. IsSinkOf script.now sink) }
+    ensures ends { IfOk result (λ sink. (sink.rx ≡ rx) × (sink.back ≡ back)) }
+{
+    let config = &script.config;
+    SinkWorker::new(alloc, config.lines, config.ticks, config.size, rx, back)
+}
+
+/// Opens a session of a script for this number of line threads.
+pub(crate) fn open(alloc: Global, script: &Script, workers: u8) -> Result<Opened, AllocError>
+    requires script { IsValid script.now }
+    requires some { 0 < workers }
+    ensures open { IfOk result (λ o. IsOpen script.now o.group o.lines.items o.sink) }
+    ensures room { IfOk result (λ o.
+        HasRoomFor (vec_len o.lines) (vec_len o.flags.lines) o.room) }
+{
+    let lines = open_lines(alloc, &script.config)?;
+    let (back, back_in) = back_ring(alloc)?;
+    let group = open_group(alloc, script, lines.tx, back_in)?;
+    let sink = open_sink(alloc, script, lines.rx, back)?;
+    Ok(Opened {
+        group,
+        lines: lines.workers,
+        sink,
+        flags: Flags::new(alloc, workers)?,
+        room: Room::new(alloc, script.config.lines, workers)?,
+    })
+}
