@@ -1,0 +1,71 @@
+-- A session of a script at its opening, and at its end.
+use Rattle.std.specs.Prelude.{◌≡◌, ℕ, ◌≤◌, List, [], ◌∷◌, ◌++◌, length, slice_get, Some, false}
+use Rattle.vc_cell.specs.declared.Container.{Container}
+use Rattle.vc_cell.specs.declared.Cell.{Cell}
+use Rattle.session_model.specs.declared.script.Script.{Script}
+use Rattle.session_model.specs.Scenario.{offers_of, orders_of}
+use Rattle.report_text.specs.declared.report.Totals.{Totals}
+use Rattle.member_ring.specs.declared.ends.RingOut.{RingOut}
+use Rattle.member_ring.specs.declared.ends.RingIn.{RingIn}
+use Rattle.member_ring.specs.Ends.{out_passed, in_passed, in_items, AreEnds}
+use Rattle.member_ring.specs.declared.worker.LineWorker.{LineWorker}
+use Rattle.sink_worker.specs.declared.worker.SinkWorker.{SinkWorker}
+use Rattle.sink_worker.specs.Worker.{Stands, lines_of, size_of, taken_of, has_failed, ticks_of as rows_of}
+use Rattle.walk_law.specs.Landed.{refusals_among, totals_among}
+use Rattle.walk_law.specs.Promise.{numbered}
+use Rattle.group_lock.specs.declared.group.GroupState.{GroupState}
+use Rattle.group_lock.specs.Group.{IsOf, ticks_of, total_of, frames_of, commands_of, refusals_of, totals_of}
+use Rattle.group_lock.specs.Session.{IsBound, HasLandedOf}
+use Rattle.session_parts.specs.Laid.{AreDone}
+use Rattle.session_parts.specs.Opened.{IsLineOf, AreOpened}
+
+-- ---- the opening
+-- the worker of the sink before anything has moved
+pub record IsSinkOf (script : Script) (sink : SinkWorker) : Type 0 where
+  pub lines : lines_of sink ≡ script.config.lines
+  pub size : size_of sink ≡ script.config.size
+  pub rows : rows_of sink ≡ script.config.ticks
+  pub taken : taken_of sink ≡ 0
+  pub failed : has_failed sink ≡ false
+  pub stands : Stands sink
+
+-- a group that is bound to the script, the workers of its lines and of its sink, with the ends of their rings; nothing has moved
+pub record IsOpen (script : Script) (group : GroupState) (workers : List LineWorker) (sink : SinkWorker) : Type 0 where
+  pub bound : IsBound script group.tx.items (group.back ∷ []) group
+  pub lines : AreOpened script.config script.config.lines group.tx.items workers sink.rx.items
+  pub returns : AreEnds sink.back group.back
+  pub sink : IsSinkOf script sink
+
+-- ---- the end, as far as the workers themselves say
+-- all frames are made, all lines have come to their end, all rows are taken; and the ends of each ring say the same
+pub record HasComeToEnd (script : Script) (group : GroupState) (workers : List LineWorker) (sink : SinkWorker) : Type 0 where
+  pub of_script : IsOf script group
+  pub landed : HasLandedOf script group
+  pub made : total_of group ≤ ticks_of group
+  pub tx_count : length group.tx.items ≡ script.config.lines
+  pub workers_count : length workers ≡ script.config.lines
+  pub rx_count : length sink.rx.items ≡ script.config.lines
+  pub lines : (m : ℕ) (worker : LineWorker) → slice_get workers m ≡ Some worker → IsLineOf script.config m worker
+  pub done : AreDone workers
+  pub sends : (m : ℕ) (out : RingOut Container) (worker : LineWorker) → slice_get group.tx.items m ≡ Some out → slice_get workers m ≡ Some worker →
+      in_passed worker.consumer ++ in_items worker.consumer ≡ out_passed out
+  pub receives : (m : ℕ) (worker : LineWorker) (into : RingIn Cell) → slice_get workers m ≡ Some worker → slice_get sink.rx.items m ≡ Some into →
+      in_passed into ++ in_items into ≡ out_passed worker.producer
+  pub returns : in_passed group.back ++ in_items group.back ≡ out_passed sink.back
+  pub stands : Stands sink
+  pub sink_lines : lines_of sink ≡ script.config.lines
+  pub size : size_of sink ≡ script.config.size
+  pub taken : taken_of sink ≡ script.config.ticks
+
+-- ---- the end, by the script
+-- the numbers of its ticks, its accepted frames and commands and its refused items; rows and delivered frames are counted elsewhere
+abbrev pub group_totals : Script → Totals
+group_totals script = record (totals_among script script.config.ticks 0 (numbered 0 script.items)) { got = 0 }
+
+-- the group has made all frames and landed all items; those that are refused are the script's
+pub record IsGroupEnded (script : Script) (group : GroupState) : Type 0 where
+  pub ticks : ticks_of group ≡ script.config.ticks
+  pub frames : frames_of group ≡ length (offers_of script.items)
+  pub commands : commands_of group ≡ length (orders_of script.items)
+  pub refusals : refusals_of group ≡ refusals_among script (numbered 0 script.items)
+  pub totals : totals_of group ≡ group_totals script

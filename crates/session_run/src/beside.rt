@@ -1,0 +1,179 @@
+//! All threads of a session beside each other.
+ghost use Rattle.std.specs.Prelude.{◌≡◌, ◌<◌, ◌≤◌, List, [], length, vec_len};
+ghost use Rattle.std.specs.Global.{Vec};
+ghost use Rattle.std.specs.Vec.{vec_capacity};
+ghost use Rattle.member_ring.specs.declared.worker.LineWorker.{LineWorker};
+ghost use Rattle.session_parts.specs.Duty.{Begun};
+ghost use Rattle.session_parts.specs.Held.{AreHeldOf};
+ghost use Rattle.session_parts.specs.Lines.{AreLater, SharesLater, AreNumbered};
+ghost use Rattle.session_run.specs.Room.{HasRoomFor};
+
+use crate::room::{Flags, Room};
+use crate::turns::{land_all, tick_all};
+use group_lock::{BoundGroup, Session};
+use member_ring::{Gate, LineWorker, Who};
+use session_model::Item;
+use session_parts::{
+    Duty, Held, Turned, collect, deal, serve_all_here, start_shares, take_all_back,
+};
+use std::sync::atomic::{AtomicBool, Ordering};
+use std::sync::{Mutex, Wait};
+use std::thread;
+use std::thread::{JoinHandle, Scope, Threads};
+
+/// Starts a thread that lands the items that this one brings; none where it can't be started.
+fn start_landing<'s, 'e, Y: Session, R: Wait + Sync, G: Gate>(
+    scope: &'s Scope<'s, &'e ()>,
+    rt: &'s R,
+    gate: &'s G,
+    lock: &'s Mutex<BoundGroup<Y>>,
+    stop: &'s AtomicBool,
+    who: Who,
+    items: &'s [Item],
+) -> Option<JoinHandle<()>>
+    requires { items.now ≡ Y.script.items }
+{
+    scope
+        .spawn(
+            move || -> ()
+                requires { items.now ≡ Y.script.items }
+            { land_all::<Y, R, G>(rt, gate, lock, stop, who, items) },
+        )
+        .ok()
+}
+
+/// Starts the thread of the source; none where it can't be started.
+fn start_source<'s, 'e, Y: Session, R: Wait + Sync, G: Gate>(
+    scope: &'s Scope<'s, &'e ()>,
+    rt: &'s R,
+    gate: &'s G,
+    lock: &'s Mutex<BoundGroup<Y>>,
+    stop: &'s AtomicBool,
+) -> Option<JoinHandle<()>> {
+    scope
+        .spawn(move || tick_all::<Y, R, G>(rt, gate, lock, stop))
+        .ok()
+}
+
+/// Waits until a thread has ended, where it was started.
+fn join_started<R: Threads>(rt: &R, child: Option<JoinHandle<()>>) {
+    if let Some(child) = child {
+        child.join(rt);
+    }
+}
+
+/// Does a duty until nothing is left of it, and between its turns what has no thread. Not at all where this isn't wanted.
+fn attend<R: Wait, G: Gate, D: Duty>(
+    rt: &R,
+    gate: &G,
+    wanted: bool,
+    duty: D,
+    held: Vec<Held>,
+) -> (D, Vec<Held>)
+    ensures duty { (begun : Begun) → D.stands_for duty begun → D.stands_for result.0 begun }
+    ensures held { (shares : List (Vec LineWorker)) → AreHeldOf shares held.items →
+        AreHeldOf shares result.1.items }
+{
+    let mut duty = duty;
+    let mut held = held;
+    if !wanted {
+        return (duty, held);
+    }
+    for _ in rt.forever() {
+        gate.pass(Who::Sink);
+        match duty.turn() {
+            Turned::Over => return (duty, held),
+            Turned::Moved => gate.moved(Who::Sink),
+            Turned::Waits => thread::yield_now(),
+        }
+        serve_all_here(&mut held, gate);
+    }
+    unreachable!()
+}
+
+/// Runs the client, the operator, the source and the shares of the lines on threads, and the duty here. Where one of the first three
+/// can't be started, the others are stopped at once.
+fn shares_beside<'x, Y: Session, R: Threads + Wait + Sync, G: Gate, D: Duty>(
+    rt: &'x R,
+    gate: &'x G,
+    lock: &'x Mutex<BoundGroup<Y>>,
+    flags: &'x Flags,
+    items: &'x [Item],
+    shares: Vec<Vec<LineWorker>>,
+    held_room: Vec<Held>,
+    back_room: Vec<Vec<LineWorker>>,
+    duty: D,
+) -> (Vec<Vec<LineWorker>>, D)
+    requires items { items.now ≡ Y.script.items }
+    requires flags { vec_len shares ≤ vec_len flags.now.lines }
+    requires held { (held_room.items ≡ []) × (vec_len shares ≤ vec_capacity held_room) }
+    requires back { (back_room.items ≡ []) × (vec_len shares ≤ vec_capacity back_room) }
+    ensures shares { SharesLater shares.items result.0.items }
+    ensures duty { (begun : Begun) → D.stands_for duty begun → D.stands_for result.1 begun }
+{
+    thread::scope(
+        thread::scope_env(),
+        rt,
+        |scope| -> (Vec<Vec<LineWorker>>, D)
+            requires items { items.now ≡ Y.script.items }
+            requires flags { vec_len shares ≤ vec_len flags.now.lines }
+            requires held { (held_room.items ≡ []) × (vec_len shares ≤ vec_capacity held_room) }
+            requires back { (back_room.items ≡ []) × (vec_len shares ≤ vec_capacity back_room) }
+            ensures shares { SharesLater shares.entry.items result.0.items }
+            ensures duty { (begun : Begun) → D.stands_for duty.entry begun →
+                D.stands_for result.1 begun }
+        {
+            let client =
+                start_landing::<Y, R, G>(scope, rt, gate, lock, &flags.client, Who::Client, items);
+            let operator = start_landing::<Y, R, G>(
+                scope,
+                rt,
+                gate,
+                lock,
+                &flags.operator,
+                Who::Operator,
+                items,
+            );
+            let source = start_source::<Y, R, G>(scope, rt, gate, lock, &flags.source);
+            let held = start_shares(scope, rt, gate, flags.lines.as_slice(), shares, held_room);
+            let started = client.is_some() && operator.is_some() && source.is_some();
+            let (duty, held) = attend(rt, gate, started, duty, held);
+            flags.stop_all();
+            let back = take_all_back(rt, held, back_room);
+            join_started(rt, client);
+            join_started(rt, operator);
+            join_started(rt, source);
+            (back, duty)
+        },
+    )
+}
+
+/// Runs the client, the operator, the source and all lines on threads, and the duty here, as long as there is something left of it.
+pub(crate) fn lines_beside<Y: Session, R: Threads + Wait + Sync, G: Gate, D: Duty>(
+    rt: &R,
+    gate: &G,
+    lock: &Mutex<BoundGroup<Y>>,
+    flags: &Flags,
+    items: &[Item],
+    lines: Vec<LineWorker>,
+    room: Room,
+    duty: D,
+) -> (Vec<LineWorker>, D)
+    requires items { items.now ≡ Y.script.items }
+    requires numbers { AreNumbered 0 lines.items }
+    requires room { HasRoomFor (vec_len lines) (vec_len flags.now.lines) room }
+    ensures lines { AreLater lines.items result.0.items }
+    ensures duty { (begun : Begun) → D.stands_for duty begun → D.stands_for result.1 begun }
+{
+    let Room {
+        shares,
+        held,
+        back,
+        lines: place,
+    } = room;
+    let count = lines.len();
+    let shares = deal(lines, shares);
+    let (shares, duty) =
+        shares_beside::<Y, R, G, D>(rt, gate, lock, flags, items, shares, held, back, duty);
+    (collect(shares, count, place), duty)
+}

@@ -1,0 +1,80 @@
+//! What the calling thread goes on with once all others have ended: whatever isn't done, in turn.
+ghost use Rattle.std.specs.Prelude.{◌≡◌, ◌≤◌, true};
+ghost use Rattle.sink_worker.specs.Told.{seen};
+ghost use Rattle.sink_worker.specs.Worker.{taken_of, ticks_of as rows_of};
+ghost use Rattle.group_lock.specs.Group.{ticks_of, total_of};
+ghost use Rattle.session_parts.specs.Duty.{Begun, HasRun};
+ghost use Rattle.session_parts.specs.Lines.{AreLater};
+ghost use Rattle.session_parts.specs.Laid.{AreDone};
+
+use crate::turns::{hand_in, who_brings};
+use group_lock::{BoundGroup, Session, TickAnswer};
+use member_ring::{Gate, LineWorker, Who};
+use outside_io::ByteSink;
+use session_model::Item;
+use session_parts::carry_all;
+use sink_worker::{SinkBurst, SinkWorker};
+use std::sync::Wait;
+
+/// Makes the next frame where it can be made, or else lands the item that holds it. Says whether all were made before.
+fn tick_or_land<Y: Session, G: Gate>(gate: &G, group: &mut BoundGroup<Y>, items: &[Item]) -> bool
+    requires items { items.now ≡ Y.script.items }
+    ensures done { result ≡ true → total_of group.new.state ≤ ticks_of group.new.state }
+{
+    gate.pass(Who::Source);
+    match group.tick() {
+        TickAnswer::Done => return true,
+        TickAnswer::Ticked => gate.moved(Who::Source),
+        TickAnswer::Held { item } => land_held::<Y, G>(gate, group, items, item),
+        TickAnswer::TxFull { line: _ } | TickAnswer::BackMissing { packet: _ } => {}
+    }
+    false
+}
+
+/// Lands an item that holds a tick.
+fn land_held<Y: Session, G: Gate>(
+    gate: &G,
+    group: &mut BoundGroup<Y>,
+    items: &[Item],
+    number: u32,
+)
+    requires items { items.now ≡ Y.script.items }
+{
+    if let Some(item) = items.get(number as usize) {
+        let who = who_brings(&item.kind);
+        gate.pass(who);
+        if hand_in(group, number, &item.kind) {
+            gate.moved(who);
+        }
+    }
+}
+
+/// Goes on until all frames are made, all lines have come to their end and all rows are taken.
+pub(crate) fn finish<Y: Session, R: Wait, K: ByteSink, G: Gate>(
+    rt: &R,
+    gate: &G,
+    items: &[Item],
+    group: &mut BoundGroup<Y>,
+    lines: &mut Vec<LineWorker>,
+    sink: &mut SinkWorker,
+    out: &mut K,
+)
+    requires items { items.now ≡ Y.script.items }
+    ensures ticks { total_of group.new.state ≤ ticks_of group.new.state }
+    ensures lines { AreLater lines.old.items lines.new.items }
+    ensures done { AreDone lines.new.items }
+    ensures taken { taken_of sink.new ≡ rows_of sink.new }
+    ensures run { (begun : Begun) →
+        HasRun begun sink.old (seen (K.written out.old) (K.faults out.old)) →
+        HasRun begun sink.new (seen (K.written out.new) (K.faults out.new)) }
+{
+    for _ in rt.forever() {
+        let made = tick_or_land::<Y, G>(gate, group, items);
+        let carried = carry_all(lines, gate);
+        let taken = sink.burst(out, gate) == SinkBurst::Done;
+        if made && carried && taken {
+            return;
+        }
+    }
+    unreachable!()
+}

@@ -1,0 +1,94 @@
+//! Room for the threads of a session, which is taken before any of them starts, and their flags.
+ghost use Rattle.std.specs.Prelude.{◌≡◌, ◌<◌, ◌≤◌, IfOk, vec_len, [], length};
+ghost use Rattle.std.specs.Vec.{vec_capacity};
+ghost use Rattle.session_parts.specs.Lines.{HaveRoom};
+ghost use Rattle.session_run.specs.Room.{HasRoomFor};
+
+use member_ring::LineWorker;
+use session_parts::Held;
+use std::alloc::{AllocError, Global};
+use std::sync::atomic::{AtomicBool, Ordering};
+
+/// The flags at which threads look before each turn.
+#[derive(Drop)]
+pub(crate) struct Flags {
+    pub(crate) client: AtomicBool,
+    pub(crate) operator: AtomicBool,
+    pub(crate) source: AtomicBool,
+    pub(crate) lines: Vec<AtomicBool>,
+}
+
+impl Flags {
+    ghost use Rattle.std.specs.Prelude.{◌≡◌, IfOk, vec_len};
+
+    /// The flags of a session with this number of line threads. None is set.
+    pub(crate) fn new(alloc: Global, workers: u8) -> Result<Flags, AllocError>
+        ensures { IfOk result (λ flags. vec_len flags.lines ≡ workers) }
+    {
+        let mut lines = Vec::with_capacity(alloc, usize::from(workers))?;
+        for _ in 0..workers {
+            lines.push(AtomicBool::new(false))?;
+        }
+        Ok(Flags {
+            client: AtomicBool::new(false),
+            operator: AtomicBool::new(false),
+            source: AtomicBool::new(false),
+            lines,
+        })
+    }
+
+    /// Sets all of them.
+    pub(crate) fn stop_all(&self) {
+        self.client.store(true, Ordering::SeqCst);
+        self.operator.store(true, Ordering::SeqCst);
+        self.source.store(true, Ordering::SeqCst);
+        for line in self.lines.iter() {
+            line.store(true, Ordering::SeqCst);
+        }
+    }
+}
+
+/// Places for the workers of lines while they are dealt to threads and come back.
+#[derive(Drop)]
+pub(crate) struct Room {
+    pub(crate) shares: Vec<Vec<LineWorker>>,
+    pub(crate) held: Vec<Held>,
+    pub(crate) back: Vec<Vec<LineWorker>>,
+    pub(crate) lines: Vec<LineWorker>,
+}
+
+impl Room {
+    ghost use Rattle.std.specs.Prelude.{◌<◌, IfOk};
+    ghost use Rattle.session_run.specs.Room.{HasRoomFor};
+
+    /// Room for the workers of so many lines and for so many threads.
+    pub(crate) fn new(alloc: Global, lines: u8, workers: u8) -> Result<Room, AllocError>
+        requires { 0 < workers }
+        ensures { IfOk result (λ room. HasRoomFor lines workers room) }
+    {
+        let count = usize::from(lines);
+        let threads = usize::from(workers);
+        Ok(Room {
+            shares: empty_shares(alloc, count, workers)?,
+            held: Vec::with_capacity(alloc, threads)?,
+            back: Vec::with_capacity(alloc, threads)?,
+            lines: Vec::with_capacity(alloc, count)?,
+        })
+    }
+}
+
+/// So many shares that are empty, each with room for so many workers.
+fn empty_shares(
+    alloc: Global,
+    lines: usize,
+    workers: u8,
+) -> Result<Vec<Vec<LineWorker>>, AllocError>
+    ensures count { IfOk result (λ shares. vec_len shares ≡ workers) }
+    ensures room { IfOk result (λ shares. HaveRoom lines shares.items) }
+{
+    let mut shares = Vec::with_capacity(alloc, usize::from(workers))?;
+    for _ in 0..workers {
+        shares.push(Vec::with_capacity(alloc, lines)?)?;
+    }
+    Ok(shares)
+}

@@ -1,0 +1,101 @@
+//! A session from its opening to its end.
+ghost use Rattle.std.specs.Prelude.{◌≡◌, [], ◌∷◌, ◌++◌, List, ℕ, Some, slice_get, length, false, vec_len};
+ghost use Rattle.vc_cell.specs.declared.Container.{Container};
+ghost use Rattle.vc_cell.specs.declared.BackCell.{BackCell};
+ghost use Rattle.session_model.specs.declared.script.Script.{Script};
+ghost use Rattle.member_ring.specs.declared.ends.RingOut.{RingOut};
+ghost use Rattle.member_ring.specs.declared.ends.RingIn.{RingIn};
+ghost use Rattle.member_ring.specs.Ends.{AreEnds, out_passed, in_passed, in_items};
+ghost use Rattle.report_text.specs.Report.{got_texts};
+ghost use Rattle.sink_core.specs.Given.{given_frames};
+ghost use Rattle.sink_worker.specs.Told.{Writes};
+ghost use Rattle.sink_worker.specs.Worker.{cells_of, size_of, taken_of, has_failed};
+ghost use Rattle.group_lock.specs.Session.{IsBound};
+ghost use Rattle.session_parts.specs.Laid.{AreSendEnds, AreReceiveEnds};
+ghost use Rattle.session_run.specs.Room.{HasRoomFor};
+ghost use Rattle.session_run.specs.Session.{IsOpen, HasComeToEnd};
+ghost use Rattle.session_run.specs.Beside.{AreLaid, IsSessionOf};
+
+use crate::beside::lines_beside;
+use crate::finish::finish;
+use crate::open::Opened;
+use group_lock::{BoundGroup, GroupState, Session};
+use member_ring::{Gate, LineWorker};
+use outside_io::ByteSink;
+use session_model::{Item, Script};
+use session_parts::{SinkDuty, lay_receives, lay_sends, take_back};
+use sink_worker::SinkWorker;
+use std::sync::{Mutex, Wait};
+use std::thread::Threads;
+
+/// A session that has ended: both ends of each of its rings.
+#[derive(Drop)]
+pub struct Ended {
+    /// The group: the ends of the send rings where containers were pushed, and of the return ring where return cells were popped.
+    pub group: GroupState,
+    /// The workers of the lines, in the order of the lines.
+    pub lines: Vec<LineWorker>,
+    /// The worker of the sink.
+    pub sink: SinkWorker,
+}
+
+/// The items of a script.
+fn items_of(script: &Script) -> &[Item]
+    ensures { result.now ≡ script.now.items }
+{
+    &script.items.0
+}
+
+/// Lays both ends of each ring beside each other.
+fn lay_beside(group: GroupState, lines: Vec<LineWorker>, sink: SinkWorker) -> Ended
+    requires sends { AreSendEnds group.tx.items lines.items }
+    requires receives { AreReceiveEnds lines.items sink.rx.items }
+    requires returns { AreEnds sink.back group.back }
+    requires count { (length group.tx.items ≡ length lines.items)
+        × (length sink.rx.items ≡ length lines.items) }
+    ensures { AreLaid group lines.items sink result.group result.lines.items result.sink }
+{
+    let mut group = group;
+    let mut lines = lines;
+    let mut sink = sink;
+    lay_sends(&mut group.tx, &mut lines);
+    lay_receives(&mut lines, &mut sink.rx);
+    group.back.beside(&mut sink.back);
+    Ended { group, lines, sink }
+}
+
+/// Runs a session that was opened: its threads beside each other, and then what they haven't done.
+pub(crate) fn run_opened<Y: Session, R: Threads + Wait + Sync, K: ByteSink, G: Gate>(
+    rt: &R,
+    gate: &G,
+    script: &Script,
+    opened: Opened,
+    out: &mut K,
+) -> Ended
+    requires session { IsSessionOf Y.script Y.tx Y.back script.now opened.group }
+    requires open { IsOpen script.now opened.group opened.lines.items opened.sink }
+    requires room { HasRoomFor (vec_len opened.lines) (vec_len opened.flags.lines) opened.room }
+    ensures end { HasComeToEnd script.now result.group result.lines.items result.sink }
+    ensures written { Writes K.written K.faults false (has_failed result.sink) out.old out.new
+        (got_texts (given_frames (size_of result.sink) (cells_of result.sink)
+        (taken_of result.sink))) }
+{
+    let Opened {
+        group,
+        lines,
+        sink,
+        flags,
+        room,
+    } = opened;
+    let items = items_of(script);
+    let lock = Mutex::new(BoundGroup::<Y>::new(group));
+    let duty = SinkDuty::new(sink, out);
+    let (mut lines, duty) = lines_beside::<Y, R, G, SinkDuty<'_, K>>(
+        rt, gate, &lock, &flags, items, lines, room, duty,
+    );
+    let (mut sink, place) = duty.into_parts();
+    let mut group = lock.into_inner();
+    finish::<Y, R, K, G>(rt, gate, items, &mut group, &mut lines, &mut sink, place);
+    take_back(place);
+    lay_beside(group.into_state(), lines, sink)
+}
