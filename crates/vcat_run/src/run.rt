@@ -3,7 +3,8 @@ ghost use Rattle.std.specs.Prelude.{◌≡◌, ◌≢◌, ◌≤◌, ℕ, true, 
 ghost use Rattle.outside_io.specs.Faults.{one_more};
 ghost use Rattle.outside_io.specs.Transfer.{Appends, AppendsPart};
 ghost use Rattle.session_model.specs.declared.script.Script.{Script};
-ghost use Rattle.sink_worker.specs.Worker.{has_failed};
+ghost use Rattle.walk_law.specs.Landed.{totals_among};
+ghost use Rattle.walk_law.specs.Promise.{numbered};
 ghost use Rattle.command_parts.specs.Stop.{HasRun, ReadsScript};
 ghost use Rattle.vcat_run.specs.Ended.{HasEnded, HandsBack, WritesRun, WritesRunPart, end_text};
 
@@ -26,7 +27,10 @@ pub struct Ran {
 }
 
 /// The numbers of a session.
-fn totals(ended: &Ended) -> Totals {
+fn totals(ended: &Ended) -> Totals
+    ensures { (script : Script) → HasEnded script ended.now → result
+        ≡ totals_among script script.config.ticks script.config.ticks (numbered 0 script.items) }
+{
     Totals {
         taken: ended.sink.taken(),
         got: ended.sink.got(),
@@ -80,15 +84,21 @@ pub fn run<R: Threads + Wait + Sync, S: ByteSource, K: ByteSink, G: Gate>(
     let Ok(ended) = run_session(rt, alloc, script, workers, out, gate) else {
         return stopped(Stop::Memory);
     };
-    if ended.sink.failed() || write_end(&ended, out).is_err() {
+    if ended.sink.failed() {
         return Ran {
             stop: Some(Stop::Write),
             ended: Some(ended),
         };
     }
-    Ran {
-        stop: None,
-        ended: Some(ended),
+    match write_end(&ended, out) {
+        Ok(()) => Ran {
+            stop: None,
+            ended: Some(ended),
+        },
+        Err(Failed) => Ran {
+            stop: Some(Stop::Write),
+            ended: Some(ended),
+        },
     }
 }
 
