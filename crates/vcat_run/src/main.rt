@@ -2,6 +2,8 @@
 #![tactic(auto)]
 
 mod run;
+#[cfg(test)]
+mod tests;
 mod top;
 
 use command_parts::{Stop, given_words, status_of};

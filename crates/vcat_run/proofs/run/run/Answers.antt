@@ -15,12 +15,12 @@ pub returns-in-Ok-write_end-clause-written : goal.returns-in-Ok-write_end-clause
 returns-in-Ok-write_end-clause-written g c e =
     writes-run g.K.ByteSink.written g.K.ByteSink.faults (g.S.ByteSource.left c.args.script.now) c.in-Ok.script c.in-Ok.ensures.script c.args.out.now c.run_session.new.out c.write_end.new.out
     (c.in-Ok-run_session.ensures.written (let a = c.failed.ensures in let b = c.if-failed.false in cc))
-    (c.in-Ok-write_end.ensures.ok c.in-Ok.script (record { rings = c.in-Ok-run_session.ensures.rings; group = c.in-Ok-run_session.ensures.group; }))
+    (c.in-Ok-write_end.ensures.ok c.in-Ok.script (record { rings = c.in-Ok-run_session.ensures.rings; group = c.in-Ok-run_session.ensures.group }))
 
 pub returns-in-Ok-write_end-clause-handed : goal.returns-in-Ok-write_end-clause-handed
 returns-in-Ok-write_end-clause-handed g c e =
     hands-back (g.S.ByteSource.left c.args.script.now) c.in-Ok.script c.in-Ok-run_session.ended c.in-Ok.ensures.script
-    (record { rings = c.in-Ok-run_session.ensures.rings; group = c.in-Ok-run_session.ensures.group; })
+    (record { rings = c.in-Ok-run_session.ensures.rings; group = c.in-Ok-run_session.ensures.group })
 
 pub returns-in-Err-write_end-clause-reads : goal.returns-in-Err-write_end-clause-reads
 returns-in-Err-write_end-clause-reads g c =
@@ -30,9 +30,9 @@ pub returns-in-Err-write_end-clause-part : goal.returns-in-Err-write_end-clause-
 returns-in-Err-write_end-clause-part g c e =
     writes-got g.K.ByteSink.written g.K.ByteSink.faults (g.S.ByteSource.left c.args.script.now) c.in-Ok.script c.in-Ok.ensures.script c.args.out.now c.run_session.new.out c.write_end.new.out
     (c.in-Ok-run_session.ensures.written (let a = c.failed.ensures in let b = c.if-failed.false in cc))
-    (c.in-Err-write_end.ensures.err c.in-Ok.script (record { rings = c.in-Ok-run_session.ensures.rings; group = c.in-Ok-run_session.ensures.group; }))
+    (c.in-Err-write_end.ensures.err c.in-Ok.script (record { rings = c.in-Ok-run_session.ensures.rings; group = c.in-Ok-run_session.ensures.group }))
 
 pub returns-in-Err-write_end-clause-handed : goal.returns-in-Err-write_end-clause-handed
 returns-in-Err-write_end-clause-handed g c e =
     hands-back (g.S.ByteSource.left c.args.script.now) c.in-Ok.script c.in-Ok-run_session.ended c.in-Ok.ensures.script
-    (record { rings = c.in-Ok-run_session.ensures.rings; group = c.in-Ok-run_session.ensures.group; })
+    (record { rings = c.in-Ok-run_session.ensures.rings; group = c.in-Ok-run_session.ensures.group })

@@ -1,5 +1,5 @@
 -- By the cause that the status tells.
-use Rattle.std.proofs.Common.{◌≡◌, ℕ, IfSome, Err}
+use Rattle.std.proofs.Common.{◌≡◌, IfSome, Err}
 use Rattle.outside_io.specs.Transfer.{Tells}
 use Rattle.script_read.specs.declared.fault.ScriptFault.{ScriptFault}
 use Rattle.script_read.specs.Script.{script_of}
