@@ -1,0 +1,32 @@
+//! The program `vcat_run`: it runs the script of a group on threads.
+#![tactic(auto)]
+
+mod run;
+#[cfg(test)]
+mod tests;
+mod top;
+
+use command_parts::{Stop, given_words, status_of};
+use member_ring::OpenGate;
+use outside_io::{StdSink, StdSource};
+use std::process::ExitCode;
+use top::run_top;
+
+fn main(rt: HostRuntime) -> ExitCode {
+    let Ok(words) = given_words(&rt) else {
+        return ExitCode::from(status_of(Some(Stop::Memory)));
+    };
+    let mut script = StdSource::new(rt.stdin());
+    let mut out = StdSink::new(rt.stdout());
+    let mut notes = StdSink::new(rt.stderr());
+    let end = run_top(
+        &rt,
+        rt.alloc(),
+        words.as_slice(),
+        &mut script,
+        &mut out,
+        &mut notes,
+        &OpenGate,
+    );
+    ExitCode::from(end.status)
+}
