@@ -19,7 +19,8 @@ use Rattle.member_ring.specs.Worker.{IsLater}
 use Rattle.member_ring.proofs.EndLaws.{ends-moved}
 use Rattle.sink_core.specs.Given.{given_frames}
 use Rattle.sink_worker.specs.declared.worker.SinkWorker.{SinkWorker}
-use Rattle.sink_worker.specs.Told.{Seen, seen, known_of, faults_of, Told, Writes}
+use Rattle.got_out.specs.Told.{Seen, seen, known_of, faults_of}
+use Rattle.sink_worker.specs.Told.{Writes}
 use Rattle.sink_worker.specs.Worker.{Stands, parts_of, cells_of, size_of, taken_of, has_failed, ticks_of as rows_of}
 use Rattle.sink_worker.specs.Worker.{IsLater as IsSinkLater}
 use Rattle.sink_worker.proofs.PartsLaws.{later-refl, frames-none}
@@ -50,8 +51,8 @@ run-begins script sink first name is =
     record {
       stands = is.stands;
       later = (refl, later-refl (parts_of sink));
-      told = subst (λ failed. Told failed first first (got_texts (given_frames (size_of sink) (cells_of sink) (taken_of sink)))) (sym is.failed)
-          (subst (λ frames. Told false first first (got_texts frames)) (sym none) (Appends-none known_of faults_of first));
+      told = subst (λ failed. Writes known_of faults_of false failed first first (got_texts (given_frames (size_of sink) (cells_of sink) (taken_of sink)))) (sym is.failed)
+          (subst (λ frames. Writes known_of faults_of false false first first (got_texts frames)) (sym none) (Appends-none known_of faults_of first));
     }
 
 module _ {K : Type 0} (written : K → Option (List ℕ)) (faults : K → ℕ) where
