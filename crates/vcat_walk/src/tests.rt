@@ -63,17 +63,17 @@ fn push_line(text: &mut Vec<u8>, line: &str) -> Result<(), AllocError> {
 /// The input that a row says.
 fn unfolded(alloc: Global, folded: &str) -> Result<Vec<u8>, AllocError> {
     let mut text = Vec::new(alloc);
-    let mut between = "";
+    let mut between = b"".as_slice();
     for line in folded.split('|') {
-        text.extend_from_slice(between.as_bytes())?;
+        text.extend_from_slice(between)?;
         push_line(&mut text, line)?;
-        between = "\n";
+        between = b"\n".as_slice();
     }
     Ok(text)
 }
 
-/// A line as a row says it.
-fn short(alloc: Global, line: &str) -> Result<String, AllocError> {
+/// Appends a line as a row says it.
+fn push_short(alloc: Global, row: &mut Vec<u8>, line: &str) -> Result<(), AllocError> {
     let digits = line.strip_prefix("got ").unwrap_or("");
     if digits.is_empty()
         || digits
@@ -81,30 +81,33 @@ fn short(alloc: Global, line: &str) -> Result<String, AllocError> {
             .chunks(2)
             .any(|pair| pair != b"5a".as_slice())
     {
-        return String::from_str(alloc, line);
+        return row.extend_from_slice(line.as_bytes());
     }
-    format!(in alloc; "got *{}", digits.len() / 2)
+    let text = format!(in alloc; "got *{}", digits.len() / 2)?;
+    row.extend_from_slice(text.as_bytes())
 }
 
-/// A text as a row says it.
-fn folded(alloc: Global, text: &[u8]) -> Result<String, AllocError> {
-    let mut row = String::new(alloc);
-    let mut between = "";
+/// Appends a text as a row says it.
+fn push_folded(alloc: Global, row: &mut Vec<u8>, text: &[u8]) -> Result<(), AllocError> {
+    let mut between = b"".as_slice();
     for line in str::from_utf8(text).unwrap_or("no UTF-8").split('\n') {
-        row.push_str(between)?;
-        row.push_str(short(alloc, line)?.as_str())?;
-        between = "|";
+        row.extend_from_slice(between)?;
+        push_short(alloc, row, line)?;
+        between = b"|".as_slice();
     }
-    Ok(row)
+    Ok(())
 }
 
 /// What a row says of an answer.
 fn told(alloc: Global, words: &str, input: &[u8], fails: Fails<'_>) -> Result<String, AllocError> {
     let end = called(alloc, words, input, fails)?;
     let walk = if end.walked { " walk" } else { "" };
-    let out = folded(alloc, end.out.as_slice())?;
-    let notes = folded(alloc, end.notes.as_slice())?;
-    format!(in alloc; "{}{walk};{};{}", end.status, out.as_str(), notes.as_str())
+    let status = format!(in alloc; "{}{walk};", end.status)?;
+    let mut row = Vec::from_slice(alloc, status.as_bytes())?;
+    push_folded(alloc, &mut row, end.out.as_slice())?;
+    row.extend_from_slice(b";")?;
+    push_folded(alloc, &mut row, end.notes.as_slice())?;
+    String::from_str(alloc, str::from_utf8(row.as_slice()).unwrap_or("no UTF-8"))
 }
 
 /// The first row that is answered otherwise, with the answer, or nothing.
