@@ -1,11 +1,11 @@
 //! The members of a group are gathered into a row.
-ghost use Rattle.std.specs.Prelude.{◌≡◌, ◌≢◌, ℕ, [], ◌+◌, ◌*◌, ◌%◌, ◌<◌, ◌≤◌, ◌⊎◌, length, slice_index, slice_index_or};
+ghost use Rattle.std.specs.Prelude.{◌≡◌, ◌≢◌, ℕ, [], ◌+◌, ◌*◌, ◌%◌, ◌<◌, ◌≤◌, ◌⊎◌, length, take, slice_index, slice_index_or};
 ghost use Rattle.session_model.specs.Interleave.{octets_from};
 ghost use Rattle.vcat_interleave.specs.Square.{octet_at};
 ghost use Rattle.vcat_interleave.specs.Members.{payloads_of, AreLines};
 
 use crate::member::{put_pairs, put_rank};
-use crate::square::{SIDE, octets_of, put_octets, squares_of, turned};
+use crate::square::{SIDE, octets_of, put_octets, squares_of, squares_over, turned};
 use std::simd::prelude::*;
 use vc_cell::{Container, PAYLOAD};
 
@@ -78,7 +78,7 @@ fn gather_sixteen(containers: &[Container], active: &[u8], place: usize, out: &m
     for k in 0..x.div_ceil(SIDE) {
         let rank = (SIDE * k).min(x - SIDE);
         put_rows(
-            &turned(rows_of(containers, active, rank, place)),
+            &turned(rows_of(containers, active, rank, SIDE, place)),
             rank,
             x,
             out,
@@ -86,17 +86,24 @@ fn gather_sixteen(containers: &[Container], active: &[u8], place: usize, out: &m
     }
 }
 
-// Sixteen places of the members of sixteen ranks.
+// Sixteen places of the members of up to sixteen ranks.
 #[inline]
-fn rows_of(containers: &[Container], active: &[u8], rank: usize, place: usize) -> [u8x16; 16]
+fn rows_of(
+    containers: &[Container],
+    active: &[u8],
+    rank: usize,
+    ranks: usize,
+    place: usize,
+) -> [u8x16; 16]
     requires lines { AreLines (length containers.now) active.now }
-    requires rank { rank + 16 ≤ length active.now }
+    requires few { ranks ≤ 16 }
+    requires ranks { rank + ranks ≤ length active.now }
     requires within { place + 16 ≤ 2340 }
-    ensures { (i j : ℕ) → i < 16 → j < 16 → octet_at result i j
+    ensures { (i j : ℕ) → i < ranks → j < 16 → octet_at result i j
         ≡ octet_at (payloads_of containers.now active.now) (rank + i) (place + j) }
 {
     let mut rows = [u8x16::splat(0); 16];
-    for i in 0..SIDE {
+    for i in 0..ranks {
         rows[i] = octets_of(payload(containers, active, rank + i), place);
     }
     rows
@@ -146,7 +153,7 @@ fn piece<'a>(
     &payload(containers, active, rank)[place..place + places]
 }
 
-// Writes a row member by member.
+// Writes a row of one member, of two or of more.
 fn gather_each(containers: &[Container], active: &[u8], place: usize, places: usize, out: &mut [u8])
     requires lines { AreLines (length containers.now) active.now }
     requires within { place + places ≤ 2340 }
@@ -160,10 +167,93 @@ fn gather_each(containers: &[Container], active: &[u8], place: usize, places: us
             let second = piece(containers, active, 1, place, places);
             put_pairs(first, second, out);
         }
-        x => {
-            for rank in 0..x {
-                put_rank(piece(containers, active, rank, place, places), rank, x, out);
-            }
-        }
+        _ => gather_some(containers, active, place, places, out),
+    }
+}
+
+// Writes a row of some members: by squares as far as these reach, and then member by member.
+fn gather_some(containers: &[Container], active: &[u8], place: usize, places: usize, out: &mut [u8])
+    requires lines { AreLines (length containers.now) active.now }
+    requires within { place + places ≤ 2340 }
+    requires out { length out.old ≡ places * length active.now }
+    ensures { out.new ≡ octets_from place places (payloads_of containers.now active.now) }
+{
+    let x = active.len();
+    let squares = squares_below(x, out.len());
+    let done = squares * SIDE;
+    gather_few(containers, active, place, squares, out);
+    let back = &mut out[done * x..];
+    gather_ranks(containers, active, place + done, places - done, back);
+}
+
+// How many squares of places are gathered where fewer ranks than a square has are there: none that reaches behind the end of the row.
+fn squares_below(x: usize, len: usize) -> usize
+    ensures within { (places : ℕ) → len ≡ places * x → result * 16 ≤ places }
+    ensures few { 0 < result → x ≤ 16 }
+    ensures room { 0 < result → result * 16 * x + 16 ≤ len + x }
+{
+    if x > SIDE { 0 } else { squares_over(x, len) }
+}
+
+// Writes a row of up to sixteen members at a number of places that sixteen divides. The octets behind it change.
+fn gather_few(containers: &[Container], active: &[u8], place: usize, squares: usize, out: &mut [u8])
+    requires lines { AreLines (length containers.now) active.now }
+    requires few { 0 < squares → length active.now ≤ 16 }
+    requires within { place + squares * 16 ≤ 2340 }
+    requires out { 0 < squares →
+        squares * 16 * length active.now + 16 ≤ length out.old + length active.now }
+    ensures { take (squares * 16 * length active.now) out.new
+        ≡ octets_from place (squares * 16) (payloads_of containers.now active.now) }
+{
+    let x = active.len();
+    for k in 0..squares {
+        let done = k * SIDE;
+        let piece = &mut out[done * x..];
+        gather_square(containers, active, place + done, piece);
+    }
+}
+
+// Writes a row of up to sixteen members at sixteen places. The octets behind it change.
+fn gather_square(containers: &[Container], active: &[u8], place: usize, out: &mut [u8])
+    requires lines { AreLines (length containers.now) active.now }
+    requires few { length active.now ≤ 16 }
+    requires within { place + 16 ≤ 2340 }
+    requires out { 15 * length active.now + 16 ≤ length out.old }
+    ensures { take (16 * length active.now) out.new
+        ≡ octets_from place 16 (payloads_of containers.now active.now) }
+{
+    let x = active.len();
+    put_places(&turned(rows_of(containers, active, 0, x, place)), x, out);
+}
+
+// Puts the octets of up to sixteen members at sixteen places, one place after another: what is put behind a place is put over.
+#[inline]
+fn put_places(rows: &[u8x16; 16], x: usize, out: &mut [u8])
+    requires few { x ≤ 16 }
+    requires out { 15 * x + 16 ≤ length out.old }
+    ensures { (j i : ℕ) → j < 16 → i < x →
+        slice_index out.new (j * x + i) ≡ octet_at rows.now j i }
+{
+    for j in 0..SIDE {
+        put_octets(rows[j], j * x, out);
+    }
+}
+
+// Writes a row member by member.
+fn gather_ranks(
+    containers: &[Container],
+    active: &[u8],
+    place: usize,
+    places: usize,
+    out: &mut [u8],
+)
+    requires lines { AreLines (length containers.now) active.now }
+    requires within { place + places ≤ 2340 }
+    requires out { length out.old ≡ places * length active.now }
+    ensures { out.new ≡ octets_from place places (payloads_of containers.now active.now) }
+{
+    let x = active.len();
+    for rank in 0..x {
+        put_rank(piece(containers, active, rank, place, places), rank, x, out);
     }
 }

@@ -7,7 +7,7 @@ ghost use Rattle.vcat_interleave.specs.Members.{AreLines, with_octets};
 ghost use Rattle.vcat_interleave.specs.Spread.{SpreadsOver, Spreads, AreDistinct};
 
 use crate::member::take_rank;
-use crate::square::{SIDE, octets_of, put_octets, turned};
+use crate::square::{SIDE, octets_of, put_octets, squares_over, turned};
 use std::simd::prelude::*;
 use vc_cell::{Container, PAYLOAD};
 
@@ -50,20 +50,6 @@ pub fn spread_places(
     spread_squares(row, active, place, squares, containers);
     let back = &row[done * x..];
     spread_each(back, active, place + done, places - done, containers);
-}
-
-// How many squares of places are spread: none over one member, whose row is copied, and none that
-// reaches behind the end of the row.
-fn squares_over(x: usize, len: usize) -> usize
-    ensures within { (places : ℕ) → len ≡ places * x → result * 16 ≤ places }
-    ensures room { 0 < result → result * 16 * x + overhang x ≤ len }
-{
-    let beyond = (SIDE - x % SIDE) % SIDE;
-    if x < 2 || len < beyond {
-        0
-    } else {
-        (len - beyond) / x / SIDE
-    }
 }
 
 // Spreads a row at a number of places that sixteen divides. No more than sixteen payloads are written at once: caches follow these.

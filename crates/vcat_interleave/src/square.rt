@@ -1,6 +1,6 @@
 //! Squares of sixteen rows by sixteen columns of octets, each row in a vector.
 ghost use Rattle.std.specs.Prelude.{◌≡◌, ℕ, ◌+◌, ◌*◌, ◌/◌, ◌%◌, ◌<◌, ◌≤◌, ◌⊎◌, ◌++◌, length, take, drop, slice_index};
-ghost use Rattle.vcat_interleave.specs.Square.{octet_at};
+ghost use Rattle.vcat_interleave.specs.Square.{octet_at, overhang};
 
 use std::simd::prelude::*;
 
@@ -73,4 +73,18 @@ pub(crate) fn squares_of(x: usize, places: usize) -> usize
     ensures least { 0 < result → 16 ≤ x }
 {
     if x < SIDE { 0 } else { places / SIDE }
+}
+
+// How many squares of places are done in a row: none of one member, whose row is copied, and none that reaches behind its end.
+pub(crate) fn squares_over(x: usize, len: usize) -> usize
+    ensures within { (places : ℕ) → len ≡ places * x → result * 16 ≤ places }
+    ensures room { 0 < result → result * 16 * x + overhang x ≤ len }
+    ensures some { 0 < result → 1 < x }
+{
+    let beyond = (SIDE - x % SIDE) % SIDE;
+    if x < 2 || len < beyond {
+        0
+    } else {
+        (len - beyond) / x / SIDE
+    }
 }

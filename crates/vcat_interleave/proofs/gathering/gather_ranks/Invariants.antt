@@ -2,7 +2,7 @@
 use Rattle.std.proofs.Common.{◌≡◌, ℕ, ◌+◌, ◌*◌, ◌<◌, slice_index}
 use Rattle.vcat_interleave.specs.Square.{octet_at}
 use Rattle.vcat_interleave.specs.Members.{payloads_of}
-use Rattle.vcat_interleave.proofs.gathering.gather_each.Given as goal
+use Rattle.vcat_interleave.proofs.gathering.gather_ranks.Given as goal
 
 abbrev pub invariant-loop-rank : goal.invariant-loop-rank
 invariant-loop-rank l = (p r : ℕ) → p < l.places → r < l.rank →
