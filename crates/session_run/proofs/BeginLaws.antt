@@ -76,8 +76,6 @@ module _ (script : Script) (g : GroupState) (of_script : IsOf script g) (ticks :
     past = subst (ArePast (ticks_of g)) (sym landed-none) (λ i entry there. absurd cc);
     most_frames = omega (arith, frames);
     most_commands = omega (arith, commands);
-    most_frames = subst (λ n. n ≤ length (offers_of script.items)) (sym frames) (omega arith);
-    most_commands = subst (λ n. n ≤ length (orders_of script.items)) (sym commands) (omega arith);
     refusals = refusals ∙ sym (ap (refusals_by script (taken_of g)) landed-none);
     frames = ap (λ (l : List Numbered). length (offers_of (items_in l))) journal ∙ sym (ap (λ (l : List Numbered). length (accepted_frames_by script (taken_of g) l)) landed-none);
     commands = ap (λ (l : List Numbered). length (orders_of (items_in l))) journal ∙ sym (ap (λ (l : List Numbered). length (accepted_commands_by script (taken_of g) l)) landed-none);
