@@ -80,7 +80,9 @@ fn main(rt: HostRuntime) -> io::Result<()> {
     let first = args.next();
     let count = args.next();
     let Some((first, count)) = read_words(first.as_deref(), count.as_deref()) else {
-        return println!(rt; "usage: script_bench, the number of the first text, and how many texts");
+        return println!(rt;
+            "usage: script_bench, the number of the first text, and how many texts"
+        );
     };
     let Ok(counts) = count_texts(alloc, first, count) else {
         return println!(rt; "no memory");
