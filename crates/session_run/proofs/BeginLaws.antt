@@ -5,7 +5,7 @@ use Rattle.sink_worker.specs.declared.worker.SinkWorker.{SinkWorker}
 use Rattle.sink_worker.specs.Worker.{Stands as SinkStands, lines_of as sink_lines, size_of as sink_size, taken_of as rows_taken, ticks_of as rows_of, has_failed}
 use Rattle.session_model.specs.Valid.{IsValid}
 use Rattle.session_run.specs.Session.{IsSinkOf}
-use Rattle.std.proofs.Common.{Result, Ok, Err, ◌≡◌, ℕ, suc, ◌+◌, ◌≤◌, true, false, if◌then◌else◌, List, [], ◌∷◌, take, drop, length, slice_get, Some, refl, sym, ◌∙◌, ap, subst, arith}
+use Rattle.std.proofs.Common.{Result, Ok, Err, ◌≡◌, ℕ, suc, ◌+◌, ◌≤◌, true, false, if◌then◌else◌, List, [], ◌∷◌, take, drop, length, Some, refl, sym, ◌∙◌, ap, subst, arith}
 use Rattle.vc_cell.specs.declared.BackCell.{BackCell}
 use Rattle.vc_cell.specs.declared.Container.{Container}
 use Rattle.session_model.specs.declared.script.Item.{Item}

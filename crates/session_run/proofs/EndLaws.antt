@@ -32,7 +32,7 @@ use Rattle.walk_law.proofs.LandLaws.{Ahead}
 use Rattle.walk_law.proofs.EndLaws.{ended-landed}
 use Rattle.walk_law.proofs.CountLaws.{delivered-few}
 use Rattle.sink_core.specs.Given.{given_frames}
-use Rattle.sink_worker.specs.Received.{received, backs}
+use Rattle.sink_worker.specs.Received.{backs}
 use Rattle.sink_worker.specs.declared.worker.SinkWorker.{SinkWorker}
 use Rattle.sink_worker.specs.Told.{count_of}
 use Rattle.sink_worker.specs.Worker.{cells_of, size_of, taken_of as rows_taken}

@@ -1,5 +1,5 @@
 -- Room that is taken before threads are started.
-use Rattle.std.specs.Prelude.{◌≡◌, ℕ, ◌<◌, ◌≤◌, [], length, vec_len}
+use Rattle.std.specs.Prelude.{◌≡◌, ℕ, ◌<◌, ◌≤◌, [], vec_len}
 use Rattle.std.specs.Vec.{vec_capacity}
 use Rattle.session_parts.specs.Lines.{HaveRoom}
 use Rattle.session_run.specs.declared.room.Room.{Room}

@@ -1,5 +1,5 @@
 -- The octets of the items in turn.
-use Rattle.std.proofs.Common.{ℕ, ◌^◌, sym, ◌∙◌, rules}
+use Rattle.std.proofs.Common.{◌^◌, sym, ◌∙◌, rules}
 use Rattle.std.proofs.lemmas.Iterator.{YieldsList-from_map, YieldsList-from_slice}
 use Rattle.std.proofs.lemmas.Iterator.Consumers.{sum_by_from_yields_List, fits_by_from_yields_list}
 use Rattle.session_run.proofs.OctetLaws.{own_octets, octets-sum, octets-few}

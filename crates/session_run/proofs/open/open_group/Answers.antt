@@ -1,5 +1,5 @@
 -- Nothing has landed, and there is room for all items.
-use Rattle.std.proofs.Common.{◌≡◌, length, ◌∙◌, ap}
+use Rattle.std.proofs.Common.{length, ◌∙◌, ap}
 use Rattle.session_model.specs.declared.script.Item.{Item}
 use Rattle.session_model.specs.Scenario.{offers_of}
 use Rattle.group_lock.specs.Session.{octets_in}
