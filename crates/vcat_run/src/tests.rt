@@ -1,4 +1,5 @@
-//! The program by words, scripts, faults and numbers of threads. What is expected is counted by hand.
+//! The program by words, scripts, faults and numbers of threads. What is expected comes of a model of the definitions, or is counted
+//! by hand.
 //!
 //! A row is `WORDS;INPUT => STATUS;OUT;NOTES`, where ` session` follows the status if a session is handed back. `|` stands for LF, and
 //! at the end of a line of the input, or of a got line, `07*9` stands for nine octets of 07. Rows stand behind functions, so that no
@@ -286,14 +287,15 @@ impl Gate for Meeting {
 
 /// A frame and a command over two lines.
 fn one_frame() -> &'static str {
-    "lines 2|delays 0 3|ring 64|lag 4|ticks 80|add 0 0|frame 60 07*64|"
+    "lines 2|delays 0 3|ring 64|lag 4|ticks 200|add 0 0|frame 60 07*64|"
 }
 
 #[test]
 fn all_are_under_way_at_once(rt: HostRuntime) -> Result<(), Fail> {
     let gate = Meeting::new();
     let answer = told(&rt, rt.alloc(), "run 2", one_frame(), NONE, &gate)?;
-    let want = "0 session;got 07*64|total ticks 80 taken 80 frames 1 commands 1 refused 0 got 1|;";
+    let want =
+        "0 session;got 07*64|total ticks 200 taken 200 frames 1 commands 1 refused 0 got 1|;";
     assert_eq!(rt; answer.as_str(), want);
     assert_eq!(rt; gate.missed.load(Ordering::SeqCst), false);
     Ok(())
