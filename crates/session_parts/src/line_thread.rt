@@ -3,6 +3,7 @@ ghost use Rattle.std.specs.Prelude.{◌≡◌, ◌≤◌, List, [], length, vec_
 ghost use Rattle.std.specs.Global.{Vec};
 ghost use Rattle.std.specs.Vec.{vec_capacity};
 ghost use Rattle.member_ring.specs.declared.worker.LineWorker.{LineWorker};
+ghost use Rattle.member_ring.specs.Worker.{IsLater};
 ghost use Rattle.session_parts.specs.Lines.{AreLater, SharesLater};
 ghost use Rattle.session_parts.specs.Held.{IsHeldOf, AreHeldOf};
 
@@ -32,13 +33,25 @@ pub enum Held {
     Here(Vec<LineWorker>),
 }
 
-/// Makes a burst of each worker, and says whether one of them moved.
-fn serve_once<G: Gate>(workers: &mut Vec<LineWorker>, gate: &G) -> bool
+/// Makes a burst of a worker, but not where a flag is set. Says whether it moved.
+fn serve_one<G: Gate>(worker: &mut LineWorker, gate: &G, stop: Option<&AtomicBool>) -> bool
+    ensures { IsLater worker.old worker.new }
+{
+    if let Some(stop) = stop {
+        if stop.load(Ordering::SeqCst) {
+            return false;
+        }
+    }
+    worker.burst(gate) == Burst::Moved
+}
+
+/// Makes a burst of each worker, as long as no flag is set, and says whether one of them moved.
+fn serve_once<G: Gate>(workers: &mut Vec<LineWorker>, gate: &G, stop: Option<&AtomicBool>) -> bool
     ensures { AreLater workers.old.items workers.new.items }
 {
     let mut moved = false;
     for worker in workers.iter_mut() {
-        if worker.burst(gate) == Burst::Moved {
+        if serve_one(worker, gate, stop) {
             moved = true;
         }
     }
@@ -59,7 +72,7 @@ fn serve<R: Wait, G: Gate>(
         if stop.load(Ordering::SeqCst) {
             return own;
         }
-        if !serve_once(&mut own, gate) {
+        if !serve_once(&mut own, gate, Some(stop)) {
             thread::yield_now();
         }
     }
@@ -114,7 +127,7 @@ fn serve_here<G: Gate>(held: &mut Held, gate: &G)
     ensures { (workers : List LineWorker) → IsHeldOf workers held.old → IsHeldOf workers held.new }
 {
     if let Held::Here(workers) = held {
-        serve_once(workers, gate);
+        serve_once(workers, gate, None);
     }
 }
 

@@ -13,8 +13,8 @@ loop-worker-init g c = subst (AreLater c.args.workers.now.items) (sym c.deref_mu
 
 pub loop-worker-preserved : goal.loop-worker-preserved
 loop-worker-preserved g c =
-    zip-set IsLater c.args.workers.now.items c.loop-worker.worker-items c.loop-worker.worker-index c.worker-item.result c.burst.new.self
-    (omega (arith, c.loop-worker-test.true, c.loop-worker.auto.worker-items)) (λ x later. later-then x _ c.burst.new.self later c.burst.ensures.later) c.loop-worker.invariant
+    zip-set IsLater c.args.workers.now.items c.loop-worker.worker-items c.loop-worker.worker-index c.worker-item.result c.serve_one.new.worker
+    (omega (arith, c.loop-worker-test.true, c.loop-worker.auto.worker-items)) (λ x later. later-then x _ c.serve_one.new.worker later c.serve_one.ensures) c.loop-worker.invariant
 
 pub returns : goal.returns
 returns g c =

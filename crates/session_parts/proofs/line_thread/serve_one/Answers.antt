@@ -1,0 +1,6 @@
+-- A worker that is not served is as it was.
+use Rattle.member_ring.proofs.LaterLaws.{later-refl}
+use Rattle.session_parts.proofs.line_thread.serve_one.Goals as goal
+
+pub returns-then-load : goal.returns-then-load
+returns-then-load g c = later-refl _
