@@ -9,8 +9,6 @@ mod open;
 mod room;
 mod run;
 mod session;
-#[cfg(test)]
-mod tests;
 mod turns;
 
 pub use run::run_session;
