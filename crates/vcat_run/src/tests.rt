@@ -79,11 +79,13 @@ fn push_line(text: &mut Vec<u8>, line: &str) -> Result<(), AllocError> {
 /// The input that a row says.
 fn unfolded(alloc: Global, folded: &str) -> Result<Vec<u8>, AllocError> {
     let mut text = Vec::new(alloc);
-    let mut between = "";
+    let mut first = true;
     for line in folded.split('|') {
-        text.extend_from_slice(between.as_bytes())?;
+        if !first {
+            text.push(b'\n')?;
+        }
         push_line(&mut text, line)?;
-        between = "\n";
+        first = false;
     }
     Ok(text)
 }
@@ -110,11 +112,13 @@ fn short(alloc: Global, line: &str) -> Result<String, AllocError> {
 /// A text as a row says it.
 fn folded(alloc: Global, text: &[u8]) -> Result<String, AllocError> {
     let mut row = String::new(alloc);
-    let mut between = "";
+    let mut first = true;
     for line in str::from_utf8(text).unwrap_or("no UTF-8").split('\n') {
-        row.push_str(between)?;
+        if !first {
+            row.push_str("|")?;
+        }
         row.push_str(short(alloc, line)?.as_str())?;
-        between = "|";
+        first = false;
     }
     Ok(row)
 }
