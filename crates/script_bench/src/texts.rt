@@ -172,7 +172,7 @@ const BODY: &[&str] = &[
 
 fn push_octets(draws: &mut Draws, text: &mut Vec<u8>) -> Result<(), AllocError> {
     for _ in 0..draws.below(200) {
-        text.push(draws.below(256) as u8)?;
+        text.push((draws.below(256) % 256) as u8)?;
     }
     Ok(())
 }
