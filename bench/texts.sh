@@ -14,7 +14,7 @@ echo "a million texts: $("$reader" 1 1000000)" || exit 1
 
 # The file, the place and the octet of each change, drawn from a number.
 ls examples/*.vcat | awk -v count=10000 '
-    { files[NR] = $0; "wc -c < " $0 | getline sizes[NR] }
+    { files[NR] = $0; count_of = "wc -c < " $0; count_of | getline sizes[NR]; close(count_of) }
     END {
         srand(16)
         for (i = 0; i < count; i++) {
