@@ -5,8 +5,6 @@
 
 mod fault;
 mod laws;
-#[cfg(test)]
-mod tests;
 mod windows;
 
 pub use fault::WindowFault;

@@ -196,6 +196,3 @@ pub fn delivery_law()
         delivered longest (take place (stream_of (opening frames idles)))
         ≡ frames_by place (opening frames idles) }
 {}
-
-#[cfg(test)]
-mod tests;

@@ -11,8 +11,6 @@ ghost use Rattle.gfp_fill.specs.Stream.{next_pieces, unsent};
 mod filler;
 mod octets;
 mod queue;
-#[cfg(test)]
-mod tests;
 
 pub use filler::Filler;
 pub use queue::{FrameQueue, MAX_FRAME, MAX_WAITING, MIN_FRAME};

@@ -11,8 +11,6 @@ mod item;
 mod journal;
 mod landing;
 mod sends;
-#[cfg(test)]
-mod tests;
 
 pub use answer::{SubmitFault, TickAnswer};
 pub use bound::{BoundGroup, Session};

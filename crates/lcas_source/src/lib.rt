@@ -43,6 +43,3 @@ pub fn group_bit_law()
     ensures first { (k : ℕ) → k < 15 → group_bit k ≡ true }
     ensures later { (k : ℕ) → group_bit (k + 15) ≡ xor (group_bit k) (group_bit (k + 1)) }
 {}
-
-#[cfg(test)]
-mod tests;

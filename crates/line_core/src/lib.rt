@@ -7,8 +7,6 @@ mod carry;
 mod laws;
 mod line;
 mod store;
-#[cfg(test)]
-mod tests;
 
 pub use carry::{Carry, Out};
 pub use failure_window::Windows;

@@ -43,6 +43,3 @@ pub fn cell_ref(cell: &Cell) -> CellRef<'_>
         Cell::End => CellRef::End,
     }
 }
-
-#[cfg(test)]
-mod tests;

@@ -4,7 +4,5 @@
 
 mod draws;
 mod load;
-#[cfg(test)]
-mod tests;
 
 pub use load::make;

@@ -6,8 +6,6 @@
 mod ends;
 mod gate;
 mod rings;
-#[cfg(test)]
-mod tests;
 mod worker;
 
 pub use ends::{RingIn, RingOut};

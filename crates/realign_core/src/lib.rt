@@ -19,6 +19,3 @@ pub enum RowAnswer {
         line: u8,
     },
 }
-
-#[cfg(test)]
-mod tests;

@@ -14,8 +14,6 @@ mod limits;
 mod network;
 mod script;
 mod statement;
-#[cfg(test)]
-mod tests;
 mod words;
 
 pub use fault::{LineKind, ScriptFault};

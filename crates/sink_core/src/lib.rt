@@ -14,6 +14,3 @@ mod sink;
 pub use frames::{FrameOut, KeptFrames};
 pub use laws::{session_sink_law, sink_law};
 pub use sink::{SinkCore, TakeAnswer};
-
-#[cfg(test)]
-mod tests;

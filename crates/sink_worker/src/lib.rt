@@ -7,8 +7,6 @@ mod burst;
 mod got;
 mod rows;
 mod step;
-#[cfg(test)]
-mod tests;
 mod worker;
 
 pub use burst::{SinkBurst, SinkIdle};

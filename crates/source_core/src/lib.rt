@@ -7,8 +7,6 @@ mod frame;
 mod laws;
 mod step;
 mod terminal;
-#[cfg(test)]
-mod tests;
 
 pub use gfp_fill::AcceptFault;
 pub use laws::{accepted_law, landed_law, membership_law, needed_law};

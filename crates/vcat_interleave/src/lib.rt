@@ -8,8 +8,6 @@ mod laws;
 mod member;
 mod spreading;
 mod square;
-#[cfg(test)]
-mod tests;
 
 pub use gathering::{gather, gather_places};
 pub use laws::{gather_law, interleave_law};

@@ -1,16 +1,11 @@
 //! The program `vcat_run`: it runs the script of a group on threads.
 #![tactic(auto)]
 
-mod run;
-#[cfg(test)]
-mod tests;
-mod top;
-
 use command_parts::{Stop, given_words, status_of};
 use member_ring::OpenGate;
 use outside_io::{StdSink, StdSource};
+use run_command::run_top;
 use std::process::ExitCode;
-use top::run_top;
 
 fn main(rt: HostRuntime) -> ExitCode {
     let Ok(words) = given_words(&rt) else {

@@ -1,19 +1,10 @@
 //! The program `vcat_walk`: it runs the scripts and loads of a group on one thread, and decodes the control packets of a line.
 #![tactic(auto)]
 
-mod decode;
-mod hex_lines;
-mod make;
-#[cfg(test)]
-mod tests;
-mod top;
-mod trace;
-mod walk;
-
 use command_parts::{Stop, given_words, status_of};
 use outside_io::{StdSink, StdSource};
 use std::process::ExitCode;
-use top::walk_top;
+use walk_command::walk_top;
 
 fn main(rt: HostRuntime) -> ExitCode {
     let Ok(words) = given_words(&rt) else {

@@ -12,6 +12,3 @@ mod walk;
 pub use moved::{Moved, StepNote};
 pub use session_model::{Event, StallCause};
 pub use walk::Walk;
-
-#[cfg(test)]
-mod tests;

@@ -6,8 +6,6 @@
 mod items;
 mod line;
 mod path;
-#[cfg(test)]
-mod tests;
 
 pub use items::{held_item, next_command, next_frame};
 pub use line::WalkLine;

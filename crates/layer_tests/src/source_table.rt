@@ -1,0 +1,282 @@
+//! Worked steps of a table.
+
+ghost use Rattle.std.specs.Prelude.{◌≡◌, ◌<◌};
+
+use lcas_source::{CommandFault, SourceState, SourceTable};
+use lcas_packet::Packet;
+use session_model::Command;
+use std::process::Abort;
+use vc_cell::{BackCell, Ctrl};
+
+/// The return packet that says this member status and this RS-Ack.
+fn back(mst: u8, rs_ack: bool) -> BackCell {
+    let packet = Packet {
+        mst,
+        rs_ack,
+        chg: false,
+        sq: 255,
+        mfi2: 0,
+        ctrl: Ctrl::Idle,
+        gid: false,
+        act: 0,
+    };
+    BackCell::Packet(packet.nibbles())
+}
+
+#[test]
+fn one_line(rt: HostRuntime) {
+    for (rs_ack, ctrl, act) in [(true, Ctrl::Eos, 1), (false, Ctrl::Add, 0)] {
+        let mut table = SourceTable::new(1);
+        assert_eq!(rt; table.state(0), SourceState::Idle);
+        assert_eq!(rt; table.add(0), Ok(()));
+        table.decide(None);
+        let packet = table.packet(0);
+        assert_eq!(rt; (packet.ctrl, packet.sq, packet.chg), (Ctrl::Add, 0, true));
+        assert_eq!(rt; table.state(0), SourceState::Add);
+        table.decide(Some(back(0x7f, rs_ack)));
+        let packet = table.packet(0);
+        assert_eq!(rt; (packet.ctrl, packet.sq, packet.act), (ctrl, 0, act));
+        assert_eq!(rt; table.active().len(), usize::from(act));
+    }
+}
+
+#[test]
+fn refusals(rt: HostRuntime) {
+    let mut table = SourceTable::new(2);
+    assert_eq!(rt; table.add(2), Err(CommandFault::UnknownLine { lines: 2 }));
+    assert_eq!(rt; table.remove(0), Err(CommandFault::NotIn));
+    for _ in 0..32 {
+        assert_eq!(rt; table.add(0), Ok(()));
+        assert_eq!(rt; table.add(0), Err(CommandFault::AlreadyIn));
+        assert_eq!(rt; table.remove(0), Ok(()));
+    }
+    assert_eq!(rt;
+        table.add(0),
+        Err(CommandFault::TooManyPending { pending: 64 })
+    );
+    table.decide(None);
+    assert_eq!(rt; table.add(0), Ok(()));
+}
+
+/// What the packets of three lines say: CHG, ACT, and of each line its control word and its sequence number.
+type Said = (bool, u8, [(Ctrl, u8); 3]);
+
+fn said(table: &SourceTable) -> Said
+    requires { 0 < table.now.steps }
+{
+    let [first, second, third] = [table.packet(0), table.packet(1), table.packet(2)];
+    (
+        first.chg,
+        first.act,
+        [first, second, third].map(|packet| (packet.ctrl, packet.sq)),
+    )
+}
+
+/// The return packet of a sink that reads the packets of three lines but one.
+fn answer(table: &SourceTable, group: u8, silent: Option<u8>) -> BackCell
+    requires { 0 < table.now.steps }
+{
+    let mut mst = 0xff;
+    let mut rs_ack = false;
+    for line in 0..3 {
+        let packet = table.packet(line);
+        if silent != Some(line) {
+            rs_ack = packet.chg;
+            if packet.ctrl != Ctrl::Idle && packet.sq / 8 == group {
+                mst &= !(0x80 >> (packet.sq % 8));
+            }
+        }
+    }
+    back(mst, rs_ack)
+}
+
+const IDLE: (Ctrl, u8) = (Ctrl::Idle, 255);
+
+/// Three lines are added one after the other, and the second one is removed.
+#[test]
+fn a_removal(rt: HostRuntime) {
+    let commands = [
+        (0, Command::Add(0)),
+        (0, Command::Add(1)),
+        (0, Command::Add(2)),
+        (37, Command::Remove(1)),
+    ];
+    let packets = [
+        (1, (false, 1, [(Ctrl::Eos, 0), (Ctrl::Add, 1), IDLE])),
+        (
+            2,
+            (true, 1, [(Ctrl::Eos, 0), (Ctrl::Add, 1), (Ctrl::Add, 2)]),
+        ),
+        (
+            17,
+            (true, 3, [(Ctrl::Norm, 0), (Ctrl::Norm, 1), (Ctrl::Eos, 2)]),
+        ),
+        (
+            33,
+            (true, 3, [(Ctrl::Norm, 0), (Ctrl::Norm, 1), (Ctrl::Eos, 2)]),
+        ),
+        (37, (false, 2, [(Ctrl::Norm, 0), IDLE, (Ctrl::Eos, 1)])),
+    ];
+    follow(&rt, 1, None, &commands, &packets);
+}
+
+/// A change waits for its acknowledgement, and a status of before it is not used.
+#[test]
+fn a_change_that_waits(rt: HostRuntime) {
+    let commands = [
+        (0, Command::Add(0)),
+        (34, Command::Remove(0)),
+        (34, Command::Add(1)),
+    ];
+    let packets = [
+        (34, (false, 0, [IDLE, IDLE, IDLE])),
+        (36, (false, 0, [IDLE, IDLE, IDLE])),
+        (38, (true, 0, [IDLE, (Ctrl::Add, 0), IDLE])),
+        (68, (true, 1, [IDLE, (Ctrl::Eos, 0), IDLE])),
+    ];
+    follow(&rt, 4, None, &commands, &packets);
+}
+
+/// The first line is not seen, and the second one goes before it.
+#[test]
+fn a_line_that_is_not_seen(rt: HostRuntime) {
+    let commands = [(0, Command::Add(0)), (0, Command::Add(1))];
+    let packets = [
+        (0, (true, 0, [(Ctrl::Add, 0), IDLE, IDLE])),
+        (1, (false, 0, [(Ctrl::Add, 0), (Ctrl::Add, 1), IDLE])),
+        (17, (true, 0, [(Ctrl::Add, 1), (Ctrl::Add, 0), IDLE])),
+        (33, (true, 1, [(Ctrl::Add, 1), (Ctrl::Eos, 0), IDLE])),
+    ];
+    follow(&rt, 1, Some(0), &commands, &packets);
+}
+
+/// Makes 69 steps of three lines with these commands, each before its step, where the sink does not read one of the lines, and each
+/// return packet comes after a lag. Tries what packets say.
+fn follow(
+    rt: &impl Abort,
+    lag: usize,
+    silent: Option<u8>,
+    commands: &[(usize, Command)],
+    packets: &[(usize, Said)],
+) {
+    let mut table = SourceTable::new(3);
+    let mut cells = [BackCell::Lost; 69];
+    for step in 0..69 {
+        for (at, command) in commands {
+            if *at == step {
+                let accepted = match *command {
+                    Command::Add(line) => table.add(line),
+                    Command::Remove(line) => table.remove(line),
+                };
+                assert_eq!(rt; accepted, Ok(()));
+            }
+        }
+        table.decide(step.checked_sub(lag).map(|k| cells[k]));
+        cells[step] = answer(&table, (step % 16) as u8, silent);
+        for (at, packet) in packets {
+            if *at == step {
+                assert_eq!(rt; said(&table), *packet, "packet {step}");
+            }
+        }
+    }
+}
+
+/// Draws of a generator of 64 bits.
+#[derive(Drop)]
+struct Draws(u64);
+
+impl Draws {
+    fn below(&mut self, n: u8) -> u8
+        requires { 0 < n }
+        ensures { result < n }
+    {
+        self.0 = self
+            .0
+            .wrapping_mul(6_364_136_223_846_793_005)
+            .wrapping_add(1_442_695_040_888_963_407);
+        ((self.0 >> 33) % u64::from(n)) as u8
+    }
+}
+
+/// Goes on with a digest.
+fn digest(sum: &mut u64, n: u8) {
+    *sum = sum.wrapping_mul(31).wrapping_add(u64::from(n));
+}
+
+/// A command that is drawn, and how it is answered.
+fn ask(draws: &mut Draws, table: &mut SourceTable) -> u8
+    ensures { table.new.steps ≡ table.old.steps }
+{
+    let adds = draws.below(3) > 0;
+    let line = draws.below(26);
+    let answer = if adds {
+        table.add(line)
+    } else {
+        table.remove(line)
+    };
+    match answer {
+        Ok(()) => 0,
+        Err(CommandFault::UnknownLine { .. }) => 1,
+        Err(CommandFault::AlreadyIn) => 2,
+        Err(CommandFault::NotIn) => 3,
+        Err(CommandFault::TooManyPending { .. }) => 4,
+    }
+}
+
+/// A return cell that is drawn, where the table's change bit is this.
+fn cell(draws: &mut Draws, chg: bool) -> Option<BackCell> {
+    let kind = draws.below(8);
+    if kind == 0 {
+        return None;
+    }
+    if kind == 1 {
+        return Some(BackCell::Lost);
+    }
+    let mst = draws.below(255);
+    let rs_ack = if draws.below(4) > 0 { chg } else { !chg };
+    match back(mst, rs_ack) {
+        // A number that is no nibble.
+        BackCell::Packet(mut nibbles) if kind == 2 => {
+            nibbles[12] = 16;
+            Some(BackCell::Packet(nibbles))
+        }
+        cell => Some(cell),
+    }
+}
+
+/// Four hundred steps of twenty-four lines, whose digests another program has found.
+#[test]
+fn drawn_steps(rt: HostRuntime) {
+    let digests = [
+        12_623_802_893_827_361_614,
+        7_182_069_404_687_115_738,
+        15_216_215_860_832_197_499,
+        7_203_910_142_382_186_676,
+        10_308_447_038_577_744_894,
+        5_425_546_910_549_275_549,
+        334_643_379_268_468_692,
+        14_997_702_163_969_560_106,
+    ];
+    let mut draws = Draws(7);
+    let mut table = SourceTable::new(24);
+    let mut chg = false;
+    let mut sum = 0;
+    for step in 0..400usize {
+        if draws.below(5) == 0 {
+            digest(&mut sum, ask(&mut draws, &mut table));
+        }
+        table.decide(cell(&mut draws, chg));
+        let packet = table.packet(0);
+        chg = packet.chg;
+        digest(&mut sum, u8::from(chg));
+        digest(&mut sum, packet.act);
+        for line in 0..24 {
+            let packet = table.packet(line);
+            digest(&mut sum, packet.ctrl.code());
+            digest(&mut sum, packet.sq);
+        }
+        if step % 50 == 49 {
+            assert_eq!(rt; sum, digests[step / 50], "step {step}");
+        }
+    }
+}

@@ -1,0 +1,11 @@
+//! Tests of scripts, of walks by single events and whole, and of a group for a lock. Nothing is here but tests.
+#![tactic(auto)]
+
+#[cfg(test)]
+mod groups;
+#[cfg(test)]
+mod loads;
+#[cfg(test)]
+mod scripts;
+#[cfg(test)]
+mod walks;

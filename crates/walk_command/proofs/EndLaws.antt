@@ -1,0 +1,102 @@
+-- How a traced walk ends: its text and its trace are written, or prefixes of them.
+use Rattle.std.proofs.Common.{◌≡◌, ℕ, false, not, List, [], ◌++◌, Option, IfSome, Ok, inl, inr, sym, ◌∙◌, ap, subst, arith}
+use Rattle.std.proofs.lemmas.Option.{IfSome_then}
+use Rattle.outside_io.specs.Transfer.{Appends}
+use Rattle.outside_io.proofs.Parts.{Appends-none}
+use Rattle.session_model.specs.declared.script.Script.{Script}
+use Rattle.session_model.specs.Counts.{Counts, begin}
+use Rattle.report_text.specs.Report.{got_texts, total_text}
+use Rattle.sink_core.specs.Start.{Start}
+use Rattle.got_out.specs.declared.got.GotOut.{GotOut}
+use Rattle.got_out.specs.Told.{GivesUp, HasText, has_failed, name_of, start_at}
+use Rattle.walk_law.specs.Walk.{walk_plan}
+use Rattle.walk_law.specs.Delivered.{delivered_of}
+use Rattle.walk_law.specs.Landed.{refusals_of, totals_of}
+use Rattle.walk_law.specs.Report.{refused_texts, report_of}
+use Rattle.walk_core.specs.Moved.{Walked}
+use Rattle.script_read.specs.Script.{script_of}
+use Rattle.walk_command.specs.Ended.{WritesTrace, StopsBoth, StopsInTrace, FailsOnce}
+use Rattle.walk_command.specs.Texts.{counts_in, decisions_text, walk_text, trace_text}
+use Rattle.walk_command.specs.Trace.{TellsAll, TellsPart}
+use Rattle.walk_command.proofs.MakeLaws.{none-delivered}
+use Rattle.walk_command.proofs.TraceLaws.{stops-both, walk-given_up}
+
+module _ {K E : Type 0} (k_written : K → Option (List ℕ)) (k_faults : K → ℕ) (e_written : E → Option (List ℕ)) (e_faults : E → ℕ) (out : K) (first : E) where
+  -- what stands for frames is their lines
+  abbrev lines_of : GotOut K → Start → List (List ℕ) → Type 0
+  lines_of got start frames = HasText k_written k_faults got start (got_texts frames)
+
+  -- nothing is told before any event
+  pub begun-told : (got : GotOut K) (walk : Walked) → has_failed got ≡ false → HasText k_written k_faults got (start_at k_written k_faults out (name_of got)) [] → walk.counts ≡ begin (walk_plan walk.script)
+      → TellsAll lines_of has_failed e_written e_faults (start_at k_written k_faults out (name_of got)) first got first walk
+  begun-told got walk whole fresh begun =
+      let P : List ℕ → Type 0 = λ text. HasText k_written k_faults got (start_at k_written k_faults out (name_of got)) text in
+      let Q : List ℕ → Type 0 = λ text. Appends e_written e_faults first first text in
+      let none : got_texts (delivered_of walk.script walk.counts.rows) ≡ [] = ap (λ (s : Counts). got_texts (delivered_of walk.script s.rows)) begun ∙ ap got_texts (none-delivered walk.script) in
+      let quiet : decisions_text walk.script walk.counts.ticks ≡ [] = ap (λ (s : Counts). decisions_text walk.script s.ticks) begun in
+      record {
+        whole = whole;
+        gives = subst P (sym none) fresh;
+        lines = subst Q (sym quiet) (Appends-none e_written e_faults first);
+      }
+
+  module _ (script : Script) (was got : GotOut K) (notes : E) (walk : Walked) (same : walk.script ≡ script) (counts : walk.counts ≡ counts_in script) where
+    abbrev start : Start
+    start = start_at k_written k_faults out (name_of was)
+
+    -- a write failed, and the lines that wait are given up
+    pub part-told : (new : K) → TellsPart lines_of has_failed e_written e_faults (start_at k_written k_faults out (name_of was)) first got notes walk
+        → ((at : K) (text : List ℕ) → HasText k_written k_faults got (start_at k_written k_faults at (name_of got)) text → GivesUp (has_failed got) k_written k_faults at new text)
+        → StopsBoth k_written k_faults out new (walk_text script) e_written e_faults first notes (trace_text script)
+    part-told new told gives_up =
+        let P : Script → Type 0 = λ s. GivesUp (has_failed got) k_written k_faults out new (got_texts (delivered_of s told.rows)) in
+        let Q : List ℕ → Type 0 = λ text. GivesUp (not (has_failed got)) e_written e_faults first notes text in
+        let N : ℕ → Type 0 = λ n. HasText k_written k_faults got (start_at k_written k_faults out n) (got_texts (delivered_of walk.script told.rows)) in
+        let end : walk.counts.rows ≡ (counts_in script).rows = ap (λ (s : Counts). s.rows) counts in
+        let low = told.low in
+        let trace : decisions_text walk.script walk.counts.ticks ≡ trace_text script =
+        ap (λ s. decisions_text s walk.counts.ticks) same ∙ ap (λ (s : Counts). decisions_text script s.ticks) counts in
+        stops-both (has_failed got) k_written k_faults out new (walk_text script) e_written e_faults first notes (trace_text script)
+        (walk-given_up (has_failed got) k_written k_faults out new script told.rows (omega (arith, low, end))
+        (subst P same (gives_up out (got_texts (delivered_of walk.script told.rows)) (subst N (sym told.gives.0) told.gives))))
+        (subst Q trace told.lines)
+
+    -- no write failed in the walk: the rest of its text is written
+    pub whole-told : (last : GotOut K) → TellsAll lines_of has_failed e_written e_faults (start_at k_written k_faults out (name_of was)) first got notes walk
+        → ((at : Start) (before : List ℕ) → HasText k_written k_faults got at before
+        → HasText k_written k_faults last at (before ++ refused_texts (refusals_of walk.script walk.counts) ++ total_text (totals_of walk.script walk.counts)))
+        → HasText k_written k_faults last (start_at k_written k_faults out (name_of last)) (walk_text script)
+    whole-told last told rest =
+        let T : List ℕ → Type 0 = λ text. HasText k_written k_faults last (start_at k_written k_faults out (name_of was)) text in
+        let all : report_of walk.script walk.counts ≡ walk_text script = ap (λ s. report_of s walk.counts) same ∙ ap (report_of script) counts in
+        let text = subst T all (rest (start_at k_written k_faults out (name_of was)) (got_texts (delivered_of walk.script walk.counts.rows)) told.gives) in
+        let N : ℕ → Type 0 = λ n. HasText k_written k_faults last (start_at k_written k_faults out n) (walk_text script) in
+        subst N (sym text.0) text
+
+    pub trace-told : TellsAll lines_of has_failed e_written e_faults (start_at k_written k_faults out (name_of was)) first got notes walk → Appends e_written e_faults first notes (trace_text script)
+    trace-told told =
+        let Q : List ℕ → Type 0 = λ text. Appends e_written e_faults first notes text in
+        let trace : decisions_text walk.script walk.counts.ticks ≡ trace_text script =
+        ap (λ s. decisions_text s walk.counts.ticks) same ∙ ap (λ (s : Counts). decisions_text script s.ticks) counts in
+        subst Q trace told.lines
+
+-- ---- what is known of an input's octets
+pub writes-trace : {E : Type 0} (written : E → Option (List ℕ)) (faults : E → ℕ) (known : Option (List ℕ)) (script other : Script) (old new : E) → other ≡ script
+    → IfSome known (λ text. script_of text ≡ Ok script) → Appends written faults old new (trace_text other) → IfSome known (WritesTrace written faults old new)
+writes-trace written faults known script other old new same is appends =
+    let P : Script → Type 0 = λ script. Appends written faults old new (trace_text script) in
+    IfSome_then known is (λ text e. (script, e, subst P same appends))
+
+module _ {K E : Type 0} (k_written : K → Option (List ℕ)) (k_faults : K → ℕ) (k_old k_new : K) (e_written : E → Option (List ℕ)) (e_faults : E → ℕ) (e_old e_new : E) where
+  pub stops-in-trace : (known : Option (List ℕ)) (script other : Script) → other ≡ script → IfSome known (λ text. script_of text ≡ Ok script)
+      → StopsBoth k_written k_faults k_old k_new (walk_text other) e_written e_faults e_old e_new (trace_text other)
+      → IfSome known (StopsInTrace k_written k_faults k_old k_new e_written e_faults e_old e_new)
+  stops-in-trace known script other same is stops =
+      let P : Script → Type 0 = λ script. StopsBoth k_written k_faults k_old k_new (walk_text script) e_written e_faults e_old e_new (trace_text script) in
+      IfSome_then known is (λ text e. (script, e, subst P same stops))
+
+  -- one fault is counted, on one of the two
+  pub fails-once : (text trace : List ℕ) → StopsBoth k_written k_faults k_old k_new text e_written e_faults e_old e_new trace
+      → FailsOnce (k_faults k_old) (k_faults k_new) (e_faults e_old) (e_faults e_new)
+  fails-once text trace (inl (part, some)) = inl (part.counted, some.quiet)
+  fails-once text trace (inr (some, part)) = inr (some.quiet, part.counted)

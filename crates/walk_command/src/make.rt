@@ -1,0 +1,152 @@
+//! A load from a number is run, and what came of it is written in three lines.
+ghost use Rattle.std.specs.Prelude.{◌≡◌, ◌≢◌, ◌≤◌, ◌*◌, length, take, sum, Some, None, OnOk, OnErr};
+ghost use Rattle.outside_io.specs.Transfer.{Appends, AppendsPart};
+ghost use Rattle.session_model.specs.Valid.{IsValid, IsWithin};
+ghost use Rattle.session_model.specs.Counts.{begin, drain, bound};
+ghost use Rattle.make_load.specs.Load.{load};
+ghost use Rattle.walk_law.specs.Walk.{walk_plan};
+ghost use Rattle.walk_law.specs.Delivered.{delivered_of};
+ghost use Rattle.command_parts.specs.Stop.{HasRun, IsLate};
+ghost use Rattle.walk_command.specs.Ended.{IsWalkOf};
+ghost use Rattle.walk_command.specs.Make.{octet_count, octet_sum, made_text, sum_text, lines_text, make_text};
+
+use crate::walk::{Ended, stopped};
+use command_parts::Stop;
+use outside_io::{ByteSink, Failed, put_all};
+use report_text::{LineCursor, Totals, total_line};
+use sink_core::FrameOut;
+use std::alloc::Global;
+use walk_core::Walk;
+
+/// Room for the three lines.
+const MADE_ROOM: usize = 256;
+
+/// Counts the octets of the frames that it is given, and adds them up. Both stop at 2^64 - 1.
+#[derive(Drop)]
+struct SumOut {
+    octets: u64,
+    total: u64,
+}
+
+impl FrameOut for SumOut {
+    ghost use Rattle.walk_command.specs.Make.{HasSummed};
+
+    ghost stands_for = { λ out start frames. HasSummed out.octets out.total frames };
+
+    fn frame(&mut self, frame: &[u8]) {
+        self.octets = self.octets.saturating_add(frame.len() as u64);
+        self.total = self.total.saturating_add(sum_of(frame));
+    }
+}
+
+/// The sum of octets.
+fn sum_of(octets: &[u8]) -> u64
+    requires { length octets.now ≤ 9600 }
+    ensures sum { result ≡ sum octets.now }
+    ensures small { result ≤ 255 * length octets.now }
+{
+    let mut total: u64 = 0;
+    for octet in octets {
+        total += u64::from(*octet);
+    }
+    total
+}
+
+/// Writes the first line: what was made.
+fn made_line(lines: u8, ticks: u32, out: &mut [u8]) -> usize
+    requires { 64 ≤ length out.old }
+    ensures within { result ≤ 64 }
+    ensures line { take result out.new ≡ made_text lines ticks }
+{
+    let mut line = LineCursor::new(out);
+    line.text(b"made lines ");
+    line.decimal(lines);
+    line.text(b" ticks ");
+    line.decimal(ticks);
+    line.text(b"\n");
+    line.end()
+}
+
+/// Writes the last line: how many octets were delivered, and their sum.
+fn sum_line(octets: u64, total: u64, out: &mut [u8]) -> usize
+    requires { 64 ≤ length out.old }
+    ensures within { result ≤ 64 }
+    ensures line { take result out.new ≡ sum_text octets total }
+{
+    let mut line = LineCursor::new(out);
+    line.text(b"octets ");
+    line.decimal(octets);
+    line.text(b" sum ");
+    line.decimal(total);
+    line.text(b"\n");
+    line.end()
+}
+
+/// Writes the three lines.
+fn write_made<K: ByteSink>(
+    lines: u8,
+    ticks: u32,
+    totals: &Totals,
+    sums: &SumOut,
+    out: &mut K,
+) -> Result<(), Failed>
+    ensures ok { let text = lines_text lines ticks totals.now sums.now.octets sums.now.total in
+        OnOk result (Appends K.written K.faults out.old out.new text) }
+    ensures err { let text = lines_text lines ticks totals.now sums.now.octets sums.now.total in
+        OnErr result (AppendsPart K.written K.faults out.old out.new text) }
+{
+    let mut text = [0u8; MADE_ROOM];
+    let first = made_line(lines, ticks, &mut text);
+    let second = first + total_line(totals, &mut text[first..]);
+    let third = second + sum_line(sums.octets, sums.total, &mut text[second..]);
+    put_all(out, &text[..third])
+}
+
+/// Drains a walk of which no event was made, and counts the octets of the frames that it delivers.
+fn drain_sums(walk: &mut Walk) -> SumOut
+    requires valid { IsValid walk.old.script }
+    requires begun { walk.old.counts ≡ begin (walk_plan walk.old.script) }
+    ensures script { walk.new.script ≡ walk.old.script }
+    ensures counts { walk.new.counts ≡ drain (bound (walk_plan walk.old.script))
+        (walk_plan walk.old.script) walk.old.counts }
+    ensures octets { result.octets
+        ≡ octet_count (delivered_of walk.old.script walk.new.counts.rows) }
+    ensures total { result.total ≡ octet_sum (delivered_of walk.old.script walk.new.counts.rows) }
+{
+    let mut sums = SumOut {
+        octets: 0,
+        total: 0,
+    };
+    walk.drain(&mut sums);
+    sums
+}
+
+/// Makes the load of a number, of 1 to 64 lines and 1 to 1,000,000 ticks, runs it and writes three lines.
+pub fn make<K: ByteSink>(alloc: Global, number: u64, lines: u8, ticks: u32, out: &mut K) -> Ended
+    requires lines { IsWithin 1 64 lines }
+    requires ticks { IsWithin 1 1000000 ticks }
+    ensures stops { IsLate result.stop }
+    ensures made { result.stop ≡ None →
+        Appends K.written K.faults out.old out.new (make_text number lines ticks) }
+    ensures part { result.stop ≡ Some Stop.Write →
+        AppendsPart K.written K.faults out.old out.new (make_text number lines ticks) }
+    ensures handed { HasRun result.stop → IsWalkOf (load number lines ticks) result.walk }
+    ensures kept { (¬ HasRun result.stop) → result.walk ≡ None }
+    ensures nothing { (¬ HasRun result.stop) → out.new ≡ out.old }
+{
+    let Ok(script) = make_load::make(alloc, number, lines, ticks) else {
+        return stopped(Stop::Memory);
+    };
+    let Ok(mut walk) = Walk::new(alloc, script) else {
+        return stopped(Stop::Memory);
+    };
+    let sums = drain_sums(&mut walk);
+    let stop = match write_made(lines, ticks, &walk.totals(), &sums, out) {
+        Ok(()) => None,
+        Err(Failed) => Some(Stop::Write),
+    };
+    Ended {
+        stop,
+        walk: Some(walk),
+    }
+}
