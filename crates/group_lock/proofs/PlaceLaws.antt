@@ -11,6 +11,7 @@ use Rattle.report_text.specs.declared.report.Refusal.{Refusal}
 use Rattle.walk_law.specs.Landed.{is_client, IsPlaced}
 use Rattle.walk_law.proofs.LandLaws.{Ahead}
 use Rattle.walk_parts.specs.Place.{is_frame, is_command, place_of}
+use Rattle.walk_parts.proofs.PlaceLaws.{place-next, due_found, frame-due, command-due}
 use Rattle.group_lock.specs.Item.{bare, bare_kind, bare_items}
 use Rattle.std.specs.List.Sorted.{IsNonDecreasing}
 use Rattle.group_lock.specs.Landed.{Landed, none_landed, next_place, next_number, due_in, due_at, AreBefore, AreAfter, AreInOrder, AreOthers, AreOfLanded, IsLanded}
@@ -46,39 +47,6 @@ pub command-blind : (kind : ItemKind) → is_command (bare_kind kind) ≡ is_com
 command-blind (Frame octets) = refl
 command-blind (Add line) = refl
 command-blind (Remove line) = refl
-
--- ---- where the next item of a kind stands
--- the next place is the first after it
-next-suc : (is : ItemKind → Bool) (items : List Item) (k : ℕ) → place_of is k items < length items →
-    place_of is (suc k) items ≡ suc (place_of is k items) + place_of is 0 (drop (suc (place_of is k items)) items)
-unfolding place_of
-next-suc is [] k there = absurd (omega arith)
-next-suc is (first ∷ items) zero there =
-    elim (cases_Bool (is first.kind)) [
-      | inl e ↦ rw e (let f : suc (place_of is 0 items) ≡ 1 + place_of is 0 items = omega arith in f)
-      | inr e ↦
-          let low : suc (place_of is 0 items) < suc (length items) = rw e at there in
-          let rest = next-suc is items zero (omega arith) in
-          rw e (let f : suc (place_of is 1 items) ≡ suc (suc (place_of is 0 items)) + place_of is 0 (drop (suc (place_of is 0 items)) items) = omega (arith, rest) in f)
-    ]
-next-suc is (first ∷ items) (suc k) there =
-    elim (cases_Bool (is first.kind)) [
-      | inl e ↦
-          let low : suc (place_of is k items) < suc (length items) = rw e at there in
-          let rest = next-suc is items k (omega arith) in
-          rw e (let f : suc (place_of is (suc k) items) ≡ suc (suc (place_of is k items)) + place_of is 0 (drop (suc (place_of is k items)) items) = omega (arith, rest) in f)
-      | inr e ↦
-          let low : suc (place_of is (suc k) items) < suc (length items) = rw e at there in
-          let rest = next-suc is items (suc k) (omega arith) in
-          rw e (let f : suc (place_of is (suc (suc k)) items) ≡ suc (suc (place_of is (suc k) items)) + place_of is 0 (drop (suc (place_of is (suc k) items)) items) = omega (arith, rest) in f)
-    ]
-
-pub place-next : (is : ItemKind → Bool) (items : List Item) (k i : ℕ) → i ≡ place_of is k items → i < length items →
-    (i + 1) + place_of is 0 (drop (i + 1) items) ≡ place_of is (k + 1) items
-place-next is items k i at there =
-    let rest = next-suc is items k (omega arith) in
-    let up : i + 1 ≡ suc (place_of is k items) = omega (arith, at) in
-    ap (λ n. n + place_of is 0 (drop n items)) up ∙ sym rest ∙ ap (λ n. place_of is n items) (let e : suc k ≡ k + 1 = omega arith in e)
 
 -- so many items of a kind are before its place
 frames-by : (due : ℕ) (kind : ItemKind) (items : List Item) (k : ℕ) → ((k : ℕ) → place_of is_frame k items < length items → k < length (frame_dues (dues_of items))) →
@@ -376,41 +344,7 @@ wider landed frame command space more low is = record {
   room = let room = is.room in omega arith;
 }
 
--- ---- when the next item of a kind is due
-abbrev due_found : List Item → ℕ → Option ℕ
-due_found items i = option_map (λ (item : Item). item.due) (slice_get items i)
-
-frame-due_by : (due : ℕ) (kind : ItemKind) (items : List Item) (k : ℕ) → ((k : ℕ) → slice_get (frame_dues (dues_of items)) k ≡ due_found items (place_of is_frame k items)) →
-    slice_get (frame_dues (due_of due kind ∷ dues_of items)) k ≡ due_found (record { due = due; kind = kind } ∷ items) (place_of is_frame k (record { due = due; kind = kind } ∷ items))
-unfolding frame_dues place_of
-frame-due_by due (Frame octets) items zero rest = refl
-frame-due_by due (Frame octets) items (suc k) rest = rest k
-frame-due_by due (Add line) items zero rest = rest zero
-frame-due_by due (Add line) items (suc k) rest = rest (suc k)
-frame-due_by due (Remove line) items zero rest = rest zero
-frame-due_by due (Remove line) items (suc k) rest = rest (suc k)
-
-frame-due : (items : List Item) (k : ℕ) → slice_get (frame_dues (dues_of items)) k ≡ due_found items (place_of is_frame k items)
-unfolding frame_dues place_of
-frame-due [] k = refl
-frame-due (item ∷ items) k = frame-due_by item.due item.kind items k (frame-due items)
-
-command-due_by : (due : ℕ) (kind : ItemKind) (items : List Item) (k : ℕ) → ((k : ℕ) → slice_get (command_dues (dues_of items)) k ≡ due_found items (place_of is_command k items)) →
-    slice_get (command_dues (due_of due kind ∷ dues_of items)) k ≡ due_found (record { due = due; kind = kind } ∷ items) (place_of is_command k (record { due = due; kind = kind } ∷ items))
-unfolding command_dues place_of
-command-due_by due (Frame octets) items zero rest = rest zero
-command-due_by due (Frame octets) items (suc k) rest = rest (suc k)
-command-due_by due (Add line) items zero rest = refl
-command-due_by due (Add line) items (suc k) rest = rest k
-command-due_by due (Remove line) items zero rest = refl
-command-due_by due (Remove line) items (suc k) rest = rest k
-
-command-due : (items : List Item) (k : ℕ) → slice_get (command_dues (dues_of items)) k ≡ due_found items (place_of is_command k items)
-unfolding command_dues place_of
-command-due [] k = refl
-command-due (item ∷ items) k = command-due_by item.due item.kind items k (command-due items)
-
--- it isn't due before the ticks made, where what hasn't landed isn't
+-- ---- an item that hasn't landed isn't due before the ticks made, where what hasn't landed isn't
 pub next-due : (landed : Landed) (client : Bool) (number ticks : ℕ) → next_number landed client ≡ Some number → Ahead (dues_of landed.items) ticks landed.frames landed.commands →
     ticks ≤ due_at landed.items number
 next-due landed client number ticks e ahead =

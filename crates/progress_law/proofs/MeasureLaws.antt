@@ -5,10 +5,6 @@ use Rattle.session_model.specs.Counts.{Plan, Counts, step, run, round, drain, bo
 use Rattle.progress_law.specs.Progress.{IsPlan, Fits, made}
 use Rattle.progress_law.proofs.MoveLaws.{step-fits, run-fits, bounded, round-rises, drain-turn}
 
--- each event keeps the bounds
-pub step-keeps : (plan : Plan) (s : Counts) (event : Event) → IsPlan plan → Fits plan s → Fits plan (step plan s event).counts
-step-keeps plan s event is fits = (step-fits is.slow is.fast is.slip plan is.is s event fits).0
-
 -- the measure falls
 pub round-less : (plan : Plan) (s : Counts) → IsPlan plan → Fits plan s → s.rows < plan.ticks →
     bound plan - made (run plan s (round plan)) < bound plan - made s

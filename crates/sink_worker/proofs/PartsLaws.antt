@@ -86,10 +86,6 @@ added-then size cells longer a b c low high more decided =
     ∙ ap (λ l. l ++ added_frames size longer b c) (sym (frames-grow size a b cells low) ∙ sym (frames-stay size b cells longer more decided))
     ∙ sym (frames-grow size b c longer high) ∙ frames-grow size a c longer (omega (arith, low, high)))
 
-pub gives-still : {A : Type 0} (stands_for : A → Start → List (List ℕ) → Type 0) (out : A) (a b : Parts) → b.core.taken ≡ a.core.taken → Gives stands_for out out a b
-gives-still stands_for out a b same start frames stands =
-    subst (stands_for out start) (sym (ap (λ l. frames ++ l) (added-none b.core.size (received b.rx) a.core.taken b.core.taken same) ∙ append-nil frames)) stands
-
 pub gives-then : {A : Type 0} (stands_for : A → Start → List (List ℕ) → Type 0) (first middle last : A) (a b c : Parts) → Keeps b → Later a b → Later b c →
     Gives stands_for first middle a b → Gives stands_for middle last b c → Gives stands_for first last a c
 gives-then stands_for first middle last a b c keeps before after one two start frames stands =
@@ -162,30 +158,6 @@ keeps-cell was now core rx after back line took ends keeps =
       rows = took.grew.rows ∙ keeps.rows;
       sent = keeps.sent ∙ sym (ap (λ cells. backs cells core.taken) took.passed ∙ backs-stay core.taken (received rx) (with_cell (received rx) line took.cell) longer keeps.stands.decided);
     }
-
--- ---- a look missed
-pub later-miss : (was now : Gather) (core : Core) (rx after : List (RingIn Cell)) (back : RingOut BackCell) → received after ≡ received rx →
-    AreSameIns rx after → Later (parts was core rx back) (parts now core after back)
-later-miss was now core rx after back same ends = record {
-  lines = refl;
-  size = refl;
-  taken = omega arith;
-  popped = (let e = ap popped same in omega (arith, e));
-  longer = longer-same (received rx) (received after) same;
-  ends = ends;
-  back = ((refl, refl, refl, refl), refl);
-}
-
-pub keeps-miss : (was now : Gather) (core : Core) (rx after : List (RingIn Cell)) (back : RingOut BackCell) → now ≡ was → received after ≡ received rx →
-    AreSameIns rx after → Keeps (parts was core rx back) → Keeps (parts now core after back)
-keeps-miss was now core rx after back rows same ends keeps = record {
-  gathers = subst (λ g. Gathers g (received after)) (sym rows) (subst (Gathers was) (sym same) keeps.gathers);
-  stands = subst (Stands core) (sym same) keeps.stands;
-  lines = ap line_count rows ∙ keeps.lines;
-  rings = ends.count ∙ keeps.rings;
-  rows = ap (λ g. g.rows) rows ∙ keeps.rows;
-  sent = keeps.sent ∙ sym (ap (λ cells. backs cells core.taken) same);
-}
 
 -- ---- a return packet has room
 pub back-room : (cells : List (List Cell)) (t free : ℕ) → (22 < t → t % 16 ≡ 7 → 0 < free) → length (back_cells (back_at cells t)) ≤ free

@@ -20,10 +20,6 @@ pub texts-more : (f : ℕ → List ℕ) (n : ℕ) → flat_map f (range_with_len
 texts-more f n =
     ap (flat_map f) (range-more n) ∙ flat_map-append f (range_with_len 0 n) (n ∷ []) ∙ ap (λ l. flat_map f (range_with_len 0 n) ++ l) (append-nil (f n))
 
--- nothing is added
-pub Extends-none : (line : LineCursor) → Extends line line []
-Extends-none line = record { text = sym (append-nil (text_of line)); end = omega arith; size = refl; slice = refl }
-
 -- a line more
 pub places-next : (first middle now : LineCursor) (table : Table) (n : ℕ) → Extends first middle (place_texts table n)
     → Extends middle now (place_text (place_in table.order 0 n)) → Extends first now (place_texts table (n + 1))

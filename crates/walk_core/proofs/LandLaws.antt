@@ -19,6 +19,7 @@ use Rattle.source_core.specs.Terminal.{Terminal}
 use Rattle.source_core.specs.Given.{with_frame, with_command}
 use Rattle.walk_law.specs.Walk.{walk_plan}
 use Rattle.walk_parts.specs.Place.{is_frame, is_command, place_of}
+use Rattle.walk_parts.proofs.PlaceLaws.{due_found, frame-due, command-due}
 use Rattle.report_text.specs.declared.report.Refusal.{Refusal}
 use Rattle.walk_law.specs.Landed.{refusal_at}
 use Rattle.walk_core.specs.Landing.{stall_by, met_by, with_kind}
@@ -55,29 +56,6 @@ place-found is (first ∷ items) (suc k) item there =
       | inr e ↦ (let (a, b) = place-found is items (suc k) item (rw e at there) in (a, rw (e, e) b))
     ]
 
--- and the next place is the first after it
-next-suc : (is : ItemKind → Bool) (items : List Item) (k : ℕ) (item : Item) → slice_get items (place_of is k items) ≡ Some item →
-    place_of is (suc k) items ≡ suc (place_of is k items) + place_of is 0 (drop (suc (place_of is k items)) items)
-unfolding place_of
-next-suc is [] k item there = absurd cc
-next-suc is (first ∷ items) zero item there =
-    elim (cases_Bool (is first.kind)) [
-      | inl e ↦ rw e (let f : suc (place_of is 0 items) ≡ 1 + place_of is 0 items = omega arith in f)
-      | inr e ↦ (let rest = next-suc is items zero item (rw e at there) in rw e (let f : suc (place_of is 1 items) ≡ suc (suc (place_of is 0 items)) + place_of is 0 (drop (suc (place_of is 0 items)) items) = omega (arith, rest) in f))
-    ]
-next-suc is (first ∷ items) (suc k) item there =
-    elim (cases_Bool (is first.kind)) [
-      | inl e ↦ (let rest = next-suc is items k item (rw e at there) in rw e (let f : suc (place_of is (suc k) items) ≡ suc (suc (place_of is k items)) + place_of is 0 (drop (suc (place_of is k items)) items) = omega (arith, rest) in f))
-      | inr e ↦ (let rest = next-suc is items (suc k) item (rw e at there) in rw e (let f : suc (place_of is (suc (suc k)) items) ≡ suc (suc (place_of is (suc k) items)) + place_of is 0 (drop (suc (place_of is (suc k) items)) items) = omega (arith, rest) in f))
-    ]
-
-pub place-next : (is : ItemKind → Bool) (items : List Item) (k i : ℕ) (item : Item) → i ≡ place_of is k items → slice_get items i ≡ Some item →
-    (i + 1) + place_of is 0 (drop (i + 1) items) ≡ place_of is (k + 1) items
-place-next is items k i item at there =
-    let rest = next-suc is items k item (sym (ap (λ n. slice_get items n) at) ∙ there) in
-    let up : i + 1 ≡ suc (place_of is k items) = omega (arith, at) in
-    ap (λ n. n + place_of is 0 (drop n items)) up ∙ sym rest ∙ ap (λ n. place_of is n items) (let e : suc k ≡ k + 1 = omega arith in e)
-
 -- ---- frames are counted as offers, and commands as orders
 offers-size_by : (due : ℕ) (kind : ItemKind) (items : List Item) → length (offers_of items) ≡ count_of is_frame items →
     length (offer_of due kind ++ offers_of items) ≡ (if is_frame kind then suc (count_of is_frame items) else count_of is_frame items)
@@ -102,40 +80,6 @@ pub orders-size : (items : List Item) → length (orders_of items) ≡ count_of 
 unfolding count_of
 orders-size [] = refl
 orders-size (item ∷ items) = orders-size_by item.due item.kind items (orders-size items)
-
--- ---- the due tick of the next item
-abbrev due_at : List Item → ℕ → Option ℕ
-due_at items i = option_map (λ (item : Item). item.due) (slice_get items i)
-
-frame-due_by : (due : ℕ) (kind : ItemKind) (items : List Item) (k : ℕ) → ((k : ℕ) → slice_get (frame_dues (dues_of items)) k ≡ due_at items (place_of is_frame k items)) →
-    slice_get (frame_dues (due_of due kind ∷ dues_of items)) k ≡ due_at (record { due = due; kind = kind } ∷ items) (place_of is_frame k (record { due = due; kind = kind } ∷ items))
-unfolding frame_dues place_of
-frame-due_by due (Frame octets) items zero rest = refl
-frame-due_by due (Frame octets) items (suc k) rest = rest k
-frame-due_by due (Add line) items zero rest = rest zero
-frame-due_by due (Add line) items (suc k) rest = rest (suc k)
-frame-due_by due (Remove line) items zero rest = rest zero
-frame-due_by due (Remove line) items (suc k) rest = rest (suc k)
-
-frame-due : (items : List Item) (k : ℕ) → slice_get (frame_dues (dues_of items)) k ≡ due_at items (place_of is_frame k items)
-unfolding frame_dues place_of
-frame-due [] k = refl
-frame-due (item ∷ items) k = frame-due_by item.due item.kind items k (frame-due items)
-
-command-due_by : (due : ℕ) (kind : ItemKind) (items : List Item) (k : ℕ) → ((k : ℕ) → slice_get (command_dues (dues_of items)) k ≡ due_at items (place_of is_command k items)) →
-    slice_get (command_dues (due_of due kind ∷ dues_of items)) k ≡ due_at (record { due = due; kind = kind } ∷ items) (place_of is_command k (record { due = due; kind = kind } ∷ items))
-unfolding command_dues place_of
-command-due_by due (Frame octets) items zero rest = rest zero
-command-due_by due (Frame octets) items (suc k) rest = rest (suc k)
-command-due_by due (Add line) items zero rest = refl
-command-due_by due (Add line) items (suc k) rest = rest k
-command-due_by due (Remove line) items zero rest = refl
-command-due_by due (Remove line) items (suc k) rest = rest k
-
-command-due : (items : List Item) (k : ℕ) → slice_get (command_dues (dues_of items)) k ≡ due_at items (place_of is_command k items)
-unfolding command_dues place_of
-command-due [] k = refl
-command-due (item ∷ items) k = command-due_by item.due item.kind items k (command-due items)
 
 -- ---- why the next item doesn't land
 stall-cause : (ticks : ℕ) (found : Option Item) (s next : Counts) → (land_due ticks (option_map (λ (item : Item). item.due) found) s next).cause ≡ stall_by ticks found
@@ -188,18 +132,18 @@ order-here due (Remove line) e = (record { due = due; command = remove line }, r
 
 -- ---- an event lands the next item of its kind, which is at place i, or stalls
 pub record IsNext (script : Script) (s next : Counts) (event : Event) (i : ℕ) : Type 0 where
-  pub steps : step (walk_plan script) s event ≡ land_due s.ticks (due_at script.items i) s next
+  pub steps : step (walk_plan script) s event ≡ land_due s.ticks (due_found script.items i) s next
   pub why : refusal_in_event script s event ≡ refusal_of_item script i (slice_get script.items i)
 
 pub frame-next : (script : Script) (s : Counts) (i : ℕ) → i ≡ place_of is_frame s.frames script.items → IsNext script s (record s { frames = s.frames + 1 }) Accept i
 frame-next script s i at = record {
-  steps = ap (λ due. land_due s.ticks due s (record s { frames = s.frames + 1 })) (frame-due script.items s.frames ∙ ap (due_at script.items) (sym at));
+  steps = ap (λ due. land_due s.ticks due s (record s { frames = s.frames + 1 })) (frame-due script.items s.frames ∙ ap (due_found script.items) (sym at));
   why = ap (λ n. refusal_of_item script n (slice_get script.items n)) (sym at);
 }
 
 pub command-next : (script : Script) (s : Counts) (i : ℕ) → i ≡ place_of is_command s.commands script.items → IsNext script s (record s { commands = s.commands + 1 }) Command i
 command-next script s i at = record {
-  steps = ap (λ due. land_due s.ticks due s (record s { commands = s.commands + 1 })) (command-due script.items s.commands ∙ ap (due_at script.items) (sym at));
+  steps = ap (λ due. land_due s.ticks due s (record s { commands = s.commands + 1 })) (command-due script.items s.commands ∙ ap (due_found script.items) (sym at));
   why = ap (λ n. refusal_of_item script n (slice_get script.items n)) (sym at);
 }
 
@@ -214,14 +158,14 @@ module _ (script : Script) (s next : Counts) (event : Event) (i : ℕ) (is : IsN
   pub next-stays : (cause : StallCause) → (step (walk_plan script) s event).cause ≡ Some cause →
       (s ≡ counts_after script s event) × (Stalled cause ≡ moved_of script s event)
   next-stays cause e = (
-    sym (ap (λ (done : Step). done.counts) is.steps ∙ land-stays s.ticks (due_at script.items i) s next cause (sym (ap (λ (done : Step). done.cause) is.steps) ∙ e)),
+    sym (ap (λ (done : Step). done.counts) is.steps ∙ land-stays s.ticks (due_found script.items i) s next cause (sym (ap (λ (done : Step). done.cause) is.steps) ∙ e)),
     stalled-moved cause (step (walk_plan script) s event).cause (refusal_in_event script s event) e,
   )
 
   pub next-moves : (item : Item) → slice_get script.items i ≡ Some item → (step (walk_plan script) s event).cause ≡ None →
       (next ≡ counts_after script s event) × (answer_of (refusal_at script (record { number = i; item = item })) ≡ moved_of script s event)
   next-moves item there e = (
-    sym (ap (λ (done : Step). done.counts) is.steps ∙ land-moves s.ticks (due_at script.items i) s next (sym (ap (λ (done : Step). done.cause) is.steps) ∙ e)),
+    sym (ap (λ (done : Step). done.counts) is.steps ∙ land-moves s.ticks (due_found script.items i) s next (sym (ap (λ (done : Step). done.cause) is.steps) ∙ e)),
     ap (λ found. answer_of (refusal_of_item script i found)) (sym there) ∙ ap answer_of (sym is.why)
         ∙ ap (λ cause. answer_by cause (refusal_in_event script s event)) (sym e),
   )

@@ -42,7 +42,7 @@ use Rattle.walk_core.specs.declared.moved.Moved.TheVariants.{Stalled}
 use Rattle.walk_core.specs.Moved.{Walked, moved_of, counts_after}
 use Rattle.walk_core.proofs.EventLaws.{walked-next}
 use Rattle.walk_core.proofs.CarryLaws.{same-some}
-use Rattle.walk_core.proofs.LandLaws.{count_of, count-few, place-found, place-next, offers-size, orders-size, offer-here, order-here, item-there, IsNext, frame-next, command-next, answer_of, next-cause, next-stays, next-moves}
+use Rattle.walk_core.proofs.LandLaws.{count_of, count-few, place-found, offers-size, orders-size, offer-here, order-here, item-there, IsNext, frame-next, command-next, answer_of, next-cause, next-stays, next-moves}
 
 take-next : {X : Type 0} (xs : List X) (n : ℕ) (x : X) → slice_get xs n ≡ Some x → take (n + 1) xs ≡ take n xs ++ x ∷ []
 take-next xs n x there =
@@ -398,7 +398,7 @@ module _ (script : Script) (parts : Parts) (landing : Landing) (got : ℕ) (last
           let most = is.landed.room in
           let has = turn.has why place refusals room
           (at ∙ ap (λ (xs : List Item). side.place + 1 + place_of side.kind 0 (drop (side.place + 1) xs)) all
-          ∙ place-next side.kind script.items side.landed side.place item turn.at there)
+          ∙ place-next side.kind script.items side.landed side.place turn.at (slice_get_within script.items side.place item there))
           (put (refusals_of script next) placed) (omega (arith, most, same))
           (lands.totals ∙ ap (λ found. side.tell found (totals_of script before)) same-why) in
           record {

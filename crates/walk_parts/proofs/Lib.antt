@@ -1,3 +1,4 @@
 pub mod ItemLaws
+pub mod PlaceLaws
 pub mod RingLaws
 pub mod PopLaws
