@@ -18,21 +18,10 @@ use Rattle.script_read.specs.declared.draft.Draft.{Draft}
 use Rattle.script_read.specs.Words.{word_at, is_number, number_of, number_at, octets_of}
 
 -- ---- the first word
--- the words that may begin a line
-abbrev pub keyword_of : List ℕ → Option Keyword
-keyword_of w =
-    if bytes_eq w (codes "container") then Some word.Container
-    else if bytes_eq w (codes "lines") then Some word.Lines
-    else if bytes_eq w (codes "delays") then Some word.Delays
-    else if bytes_eq w (codes "ring") then Some word.Ring
-    else if bytes_eq w (codes "lag") then Some word.Lag
-    else if bytes_eq w (codes "ticks") then Some word.Ticks
-    else if bytes_eq w (codes "fail") then Some word.Fail
-    else if bytes_eq w (codes "lost") then Some word.Lost
-    else if bytes_eq w (codes "frame") then Some word.Frame
-    else if bytes_eq w (codes "add") then Some word.Add
-    else if bytes_eq w (codes "remove") then Some word.Remove
-    else if bytes_eq w (codes "client") then Some word.Client
+-- the words that may begin an event line
+abbrev pub event_keyword : List ℕ → Option Keyword
+event_keyword w =
+    if bytes_eq w (codes "client") then Some word.Client
     else if bytes_eq w (codes "operator") then Some word.Operator
     else if bytes_eq w (codes "tick") then Some word.Tick
     else if bytes_eq w (codes "carry") then Some word.Carry
@@ -41,6 +30,27 @@ keyword_of w =
     else if bytes_eq w (codes "round") then Some word.Round
     else if bytes_eq w (codes "drain") then Some word.Drain
     else None
+
+-- those and the words of windows and items
+abbrev pub item_keyword : List ℕ → Option Keyword
+item_keyword w =
+    if bytes_eq w (codes "fail") then Some word.Fail
+    else if bytes_eq w (codes "lost") then Some word.Lost
+    else if bytes_eq w (codes "frame") then Some word.Frame
+    else if bytes_eq w (codes "add") then Some word.Add
+    else if bytes_eq w (codes "remove") then Some word.Remove
+    else event_keyword w
+
+-- all words that may begin a line
+abbrev pub keyword_of : List ℕ → Option Keyword
+keyword_of w =
+    if bytes_eq w (codes "container") then Some word.Container
+    else if bytes_eq w (codes "lines") then Some word.Lines
+    else if bytes_eq w (codes "delays") then Some word.Delays
+    else if bytes_eq w (codes "ring") then Some word.Ring
+    else if bytes_eq w (codes "lag") then Some word.Lag
+    else if bytes_eq w (codes "ticks") then Some word.Ticks
+    else item_keyword w
 
 -- the place of a line in a script: 0 to 5 are the lines of the configuration, 6 is that of windows, 7 of items, 8 of event lines
 abbrev pub place : Keyword → ℕ

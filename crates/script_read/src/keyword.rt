@@ -1,6 +1,6 @@
 //! The words that may begin a line, and the place of each in the order of a script.
 ghost use Rattle.std.specs.Prelude.{◌≡◌, IfErr, OnOk, None, Some};
-ghost use Rattle.script_read.specs.Statements.{keyword_of, place, place_fault};
+ghost use Rattle.script_read.specs.Statements.{keyword_of, item_keyword, event_keyword, place, place_fault};
 ghost use Rattle.script_read.specs.Drafts.{IsPlaced};
 
 use crate::fault::LineKind;
@@ -65,7 +65,16 @@ impl Keyword {
             Some(Keyword::Lag)
         } else if word == b"ticks".as_slice() {
             Some(Keyword::Ticks)
-        } else if word == b"fail".as_slice() {
+        } else {
+            Keyword::of_item(word)
+        }
+    }
+
+    /// The keyword of a window, an item or an event line that a word is.
+    fn of_item(word: &[u8]) -> Option<Keyword>
+        ensures { result ≡ item_keyword word.now }
+    {
+        if word == b"fail".as_slice() {
             Some(Keyword::Fail)
         } else if word == b"lost".as_slice() {
             Some(Keyword::Lost)
@@ -75,7 +84,16 @@ impl Keyword {
             Some(Keyword::Add)
         } else if word == b"remove".as_slice() {
             Some(Keyword::Remove)
-        } else if word == b"client".as_slice() {
+        } else {
+            Keyword::of_event(word)
+        }
+    }
+
+    /// The keyword of an event line that a word is.
+    fn of_event(word: &[u8]) -> Option<Keyword>
+        ensures { result ≡ event_keyword word.now }
+    {
+        if word == b"client".as_slice() {
             Some(Keyword::Client)
         } else if word == b"operator".as_slice() {
             Some(Keyword::Operator)

@@ -2,6 +2,7 @@
 ghost use Rattle.std.specs.Prelude.{◌≡◌, ◌≤◌, IfOk, IfErr, None, Some};
 ghost use Rattle.script_read.specs.Words.{words, number_at};
 ghost use Rattle.script_read.specs.Statements.{place, rest_fault, words_fault, words_said, said};
+ghost use Rattle.script_read.specs.declared.draft.Statement.TheVariants.{Event};
 ghost use Rattle.script_read.specs.Drafts.{IsStop, IsDraft, IsPlaced, Fits, one_fault};
 ghost use Rattle.session_model.specs.Valid.{IsCount};
 
@@ -22,6 +23,36 @@ fn read_count(rest: &[u8]) -> Result<u32, Stop>
     ensures err { IfErr result (λ stop. IsStop stop (one_fault 1 1000000 (words rest.now))) }
 {
     Ok(read_one(rest, 1, 1_000_000)? as u32)
+}
+
+// What the words after the keyword of an event line say.
+fn read_event(draft: &Draft, keyword: Keyword, rest: &[u8]) -> Result<EventLine, Stop>
+    requires event { place keyword ≡ 8 }
+    requires stands { IsPlaced draft.now.next (place keyword) }
+    requires config { IsDraft draft.now }
+    ensures ok { IfOk result (λ read. (rest_fault draft.now keyword (words rest.now) ≡ None)
+        × (Event read ≡ said keyword (words rest.now))) }
+    ensures fits { IfOk result (λ read. Fits draft.now (Event read)) }
+    ensures err { IfErr result (λ stop.
+        IsStop stop (rest_fault draft.now keyword (words rest.now))) }
+{
+    match keyword {
+        Keyword::Client => Ok(EventLine::Client(read_count(rest)?)),
+        Keyword::Operator => Ok(EventLine::Operator(read_count(rest)?)),
+        Keyword::Tick => Ok(EventLine::Tick(read_count(rest)?)),
+        Keyword::Carry => {
+            let (m, count) = read_carry(draft, rest)?;
+            Ok(EventLine::Carry(m, count))
+        }
+        Keyword::Back => Ok(EventLine::Back(read_count(rest)?)),
+        Keyword::Take => Ok(EventLine::Take(read_count(rest)?)),
+        Keyword::Round => Ok(EventLine::Round(read_count(rest)?)),
+        Keyword::Drain => match next_word(rest) {
+            None => Ok(EventLine::Drain),
+            Some(_) => Err(Stop::Line(LineKind::Word)),
+        },
+        _ => unreachable!(),
+    }
 }
 
 // What the words after a keyword say that stands in its place.
@@ -64,20 +95,14 @@ fn read_rest(alloc: Global, draft: &Draft, keyword: Keyword, rest: &[u8]) -> Res
                 kind: ItemKind::Remove(line),
             }))
         }
-        Keyword::Client => Ok(Statement::Event(EventLine::Client(read_count(rest)?))),
-        Keyword::Operator => Ok(Statement::Event(EventLine::Operator(read_count(rest)?))),
-        Keyword::Tick => Ok(Statement::Event(EventLine::Tick(read_count(rest)?))),
-        Keyword::Carry => {
-            let (m, count) = read_carry(draft, rest)?;
-            Ok(Statement::Event(EventLine::Carry(m, count)))
-        }
-        Keyword::Back => Ok(Statement::Event(EventLine::Back(read_count(rest)?))),
-        Keyword::Take => Ok(Statement::Event(EventLine::Take(read_count(rest)?))),
-        Keyword::Round => Ok(Statement::Event(EventLine::Round(read_count(rest)?))),
-        Keyword::Drain => match next_word(rest) {
-            None => Ok(Statement::Event(EventLine::Drain)),
-            Some(_) => Err(Stop::Line(LineKind::Word)),
-        },
+        Keyword::Client
+        | Keyword::Operator
+        | Keyword::Tick
+        | Keyword::Carry
+        | Keyword::Back
+        | Keyword::Take
+        | Keyword::Round
+        | Keyword::Drain => Ok(Statement::Event(read_event(draft, keyword, rest)?)),
     }
 }
 
