@@ -5,6 +5,8 @@ use Rattle.vc_cell.specs.declared.Cell.{Cell}
 use Rattle.vc_cell.specs.declared.Cell.TheVariants.{Good, Fail, End}
 use Rattle.line_reader.specs.declared.CellRef.{CellRef}
 use Rattle.line_reader.specs.declared.CellRef.TheVariants.{Good as GoodRef, Fail as FailRef, End as EndRef}
+use Rattle.line_reader.specs.declared.CellSign.{CellSign}
+use Rattle.line_reader.specs.declared.CellSign.TheVariants.{Good as GoodSign, Fail as FailSign, End as EndSign}
 use Rattle.line_reader.specs.declared.Verdict.{Verdict}
 use Rattle.line_reader.specs.declared.Verdict.TheVariants.{Whole, Bad}
 
@@ -13,6 +15,12 @@ abbrev pub cell_of : CellRef → Cell
 cell_of (GoodRef container) = Good container.now
 cell_of FailRef = Fail
 cell_of EndRef = End
+
+-- the cell of a sign, where the container of a good cell lies in this place
+abbrev pub cell_with : CellSign → Container → Cell
+cell_with GoodSign place = Good place
+cell_with FailSign place = Fail
+cell_with EndSign place = End
 
 -- the container of a number that is whole, and none of a bad one
 abbrev pub told_by : Verdict → Option Container

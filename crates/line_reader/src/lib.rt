@@ -1,6 +1,7 @@
 //! What the cells of a line say of its numbers (G.707): of each number that they decide whether it is whole, and then its container.
 //! It knows one line; rows over all lines are not made here. Begin with `LineReader`, which keeps the container itself. What it
-//! keeps besides is `LineNumbers`, for one who has a place for the container of each line, so that a payload is copied once.
+//! keeps besides is `LineNumbers`, for one who has a place for the container of each line, so that a payload is copied once, or, where
+//! the containers lie in boxes, never.
 #![tactic(auto)]
 
 mod numbers;
@@ -18,6 +19,17 @@ use vc_cell::{Cell, Container};
 pub enum CellRef<'a> {
     /// The container as it was sent.
     Good(&'a Container),
+    /// The sign of a failure.
+    Fail,
+    /// The end.
+    End,
+}
+
+/// What a line gives in the place of a container, where the container of a good cell lies in a place of its own.
+#[derive(Clone, Copy, Debug, PartialEq, Eq)]
+pub enum CellSign {
+    /// The container in that place, as it was sent.
+    Good,
     /// The sign of a failure.
     Fail,
     /// The end.

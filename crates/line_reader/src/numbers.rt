@@ -1,15 +1,16 @@
 //! The numbers of a line's cells, whose containers lie elsewhere.
 
-ghost use Rattle.std.specs.Prelude.{◌≡◌, ℕ, ◌+◌, ◌<◌, List, [], ◌∷◌, ◌++◌, Option, IfSome, IfNone, IsTrue, ◌↔◌, option_map};
+ghost use Rattle.std.specs.Prelude.{◌≡◌, ℕ, ◌+◌, ◌<◌, List, [], ◌∷◌, ◌++◌, Option, IfSome, IfNone, IsTrue, IsFalse, ◌↔◌, option_map};
 ghost use Rattle.vc_cell.specs.declared.Container.{Container};
 ghost use Rattle.vc_cell.specs.declared.Cell.{Cell};
 ghost use Rattle.session_model.specs.Number.{ahead, verdict};
-ghost use Rattle.line_reader.specs.Told.{cell_of, told_by};
+ghost use Rattle.line_reader.specs.Told.{cell_of, cell_with, told_by};
 ghost use Rattle.line_reader.specs.Numbers.{IsOpen, is_open, Stands};
 
-use crate::{CellRef, Verdict};
+use crate::{CellRef, CellSign, Verdict};
 use h4_multiframe::{MfiLock, Place};
 use std::marker::Model;
+use std::mem;
 use vc_cell::Container;
 
 /// How many numbers the multiframe tells apart.
@@ -69,20 +70,74 @@ impl LineNumbers {
             Stands self.new place.new (cells ++ cell_of cell.entry ∷ []) t }
     {
         match cell {
-            CellRef::Good(container) => match self.lock.good(container.h4) {
-                Place::Unknown => self.bad = 1,
-                Place::Locks(number) => self.bad = ahead_of(self.next, number) + 1,
-                Place::At(_) => {
+            CellRef::Good(container) => {
+                if self.good(container) {
                     *place = *container;
-                    self.whole = true;
                 }
-            },
-            CellRef::Fail => {
-                self.lock.fail();
-                self.bad = 1;
             }
-            CellRef::End => self.ended = true,
+            CellRef::Fail => self.fail(),
+            CellRef::End => self.end(),
         }
+    }
+
+    /// Takes the next cell as `cell` does, but changes the boxes where the container of a good cell is whole. What lies in
+    /// `container` afterwards says nothing.
+    pub fn cell_boxed(
+        &mut self,
+        sign: CellSign,
+        container: &mut Box<Container>,
+        place: &mut Box<Container>,
+    )
+        requires open { IsOpen self.old }
+        ensures stands { (cells : List Cell) (t : ℕ) → Stands self.old place.old.value cells t →
+            Stands self.new place.new.value (cells ++ cell_with sign container.old.value ∷ []) t }
+    {
+        match sign {
+            CellSign::Good => {
+                if self.good(container) {
+                    mem::swap(container, place);
+                }
+            }
+            CellSign::Fail => self.fail(),
+            CellSign::End => self.end(),
+        }
+    }
+
+    /// Takes the cell of a container. Answers whether it has a number of its own, so that the container is to be kept.
+    fn good(&mut self, container: &Container) -> bool
+        requires open { IsOpen self.old }
+        ensures kept { IsTrue result → (place : Container) (cells : List Cell) (t : ℕ) →
+            Stands self.old place cells t →
+            Stands self.new container.now (cells ++ Cell.Good container.now ∷ []) t }
+        ensures bad { IsFalse result → (place : Container) (cells : List Cell) (t : ℕ) →
+            Stands self.old place cells t →
+            Stands self.new place (cells ++ Cell.Good container.now ∷ []) t }
+    {
+        match self.lock.good(container.h4) {
+            Place::Unknown => self.bad = 1,
+            Place::Locks(number) => self.bad = ahead_of(self.next, number) + 1,
+            Place::At(_) => self.whole = true,
+        }
+        self.whole
+    }
+
+    /// Takes the sign of a failure.
+    fn fail(&mut self)
+        requires open { IsOpen self.old }
+        ensures stands { (place : Container) (cells : List Cell) (t : ℕ) →
+            Stands self.old place cells t → Stands self.new place (cells ++ Cell.Fail ∷ []) t }
+    {
+        self.lock.fail();
+        self.bad = 1;
+    }
+
+    /// Takes the end.
+    fn end(&mut self)
+        requires open { IsOpen self.old }
+        ensures stands { (place : Container) (cells : List Cell) (t : ℕ) →
+            Stands self.old place cells t → Stands self.new place (cells ++ Cell.End ∷ []) t }
+    {
+        self.ended = true;
     }
 
     /// What is said of the next number that was not passed, or `None` where the cells don't decide it.

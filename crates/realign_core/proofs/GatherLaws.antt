@@ -2,10 +2,13 @@
 use Rattle.std.proofs.Common.{◌≡◌, ℕ, zero, suc, ◌+◌, ◌%◌, ◌<◌, ◌≤◌, List, [], ◌∷◌, ◌++◌, length, replicate, slice_get, slice_set, Option, Some, None, refl, sym, ◌∙◌, ap, subst, arith, inl, inr, length-append}
 use Rattle.std.proofs.lemmas.Bool.{cases_eq, cases_lt}
 use Rattle.vc_bits.proofs.LockLaws.{slice_get-append}
-use Rattle.std.proofs.lemmas.List.{length-replicate}
-use Rattle.std.proofs.lemmas.Option.{slice_get_within}
+use Rattle.std.specs.Prelude.{option_map}
+use Rattle.std.specs.Global.{Box}
+use Rattle.std.proofs.lemmas.List.{length-replicate, map-set}
+use Rattle.std.proofs.lemmas.Option.{slice_get_within, slice_get-map}
 use Rattle.vc_cell.specs.declared.Container.{Container}
 use Rattle.vc_cell.specs.declared.Cell.{Cell}
+use Rattle.vc_cell.specs.Held.{held}
 use Rattle.session_model.specs.declared.packet.Packet.{Packet}
 use Rattle.session_model.specs.Number.{verdict}
 use Rattle.session_model.specs.Rows.{first_open}
@@ -132,6 +135,18 @@ offered_stands lines places packets rows m before after place place' cell cells 
   packets = stands.packets ∙ sym (governing-with_cell cells m rows cell
       (λ own told s low. passed-decided before.numbers place own rows s (stands.each m before place own was lay told).numbers low));
 }
+
+-- the same, where the containers lie in boxes
+pub offered_held : (lines : List Line) (boxes : List (Box Container)) (packets : List (Option Packet)) (rows m : ℕ) (before after : Line) (box box' : Box Container) (cell : Cell) (cells : List (List Cell)) →
+    slice_get lines m ≡ Some before → slice_get boxes m ≡ Some box →
+    ((own : List Cell) (t : ℕ) → LineStands before box.value own t → LineStands after box'.value (own ++ cell ∷ []) t) →
+    Stands (record { lines = lines; places = held boxes; packets = packets; rows = rows }) cells →
+    Stands (record { lines = slice_set lines m after; places = held (slice_set boxes m box'); packets = packets; rows = rows }) (with_cell cells m cell)
+offered_held lines boxes packets rows m before after box box' cell cells was lay next stands =
+    let inside : slice_get (held boxes) m ≡ Some box.value = slice_get-map (λ (b : Box Container). b.value) boxes m ∙ ap (option_map (λ (b : Box Container). b.value)) lay in
+    subst (λ places. Stands (record { lines = slice_set lines m after; places = places; packets = packets; rows = rows }) (with_cell cells m cell))
+    (sym (map-set (λ (b : Box Container). b.value) boxes m box'))
+    (offered_stands lines (held boxes) packets rows m before after box.value box'.value cell cells was inside next stands)
 
 -- ---- one row more
 pub passed_more : (m j : ℕ) (places : List Container) (old new : List Line) (before after : Line) (here : Container) → ArePassed m j places old new → slice_get new m ≡ Some before → slice_get places m ≡ Some here →

@@ -1,11 +1,14 @@
 //! All lines of a group.
 
-ghost use Rattle.std.specs.Prelude.{◌≡◌, ℕ, ◌+◌, ◌%◌, ◌<◌, ◌≤◌, List, [], length, replicate, slice_get, Some, None, IfOk};
+ghost use Rattle.std.specs.Prelude.{◌≡◌, ℕ, ◌+◌, ◌%◌, ◌<◌, ◌≤◌, List, [], length, replicate, slice_get, slice_set, Some, None, IfOk};
 ghost use Rattle.vc_cell.specs.declared.Container.{Container};
 ghost use Rattle.vc_cell.specs.declared.Cell.{Cell};
+ghost use Rattle.vc_cell.specs.Held.{held};
 ghost use Rattle.session_model.specs.Number.{verdict};
 ghost use Rattle.session_model.specs.Rows.{governing, first_open};
-ghost use Rattle.line_reader.specs.Told.{cell_of, told_by};
+ghost use Rattle.line_reader.specs.Told.{cell_of, cell_with, told_by};
+ghost use Rattle.line_reader.specs.Numbers.{IsOpen};
+ghost use Rattle.realign_core.specs.Line.{Line};
 ghost use Rattle.realign_core.specs.Gather.{Stands, line_count, IsOpenAt, AreDecided, decided_lines, waiting_of, Allows, with_cell};
 ghost use Rattle.realign_core.specs.Loops.{AreNew, ArePassed, AreRead};
 
@@ -13,7 +16,7 @@ use crate::RowAnswer;
 use crate::line::GatherLine;
 use crate::nibbles::NIBBLES;
 use lcas_packet::Packet;
-use line_reader::{CellRef, Verdict, cell_ref};
+use line_reader::{CellRef, CellSign, Verdict, cell_ref};
 use std::alloc::{AllocError, Global};
 use std::marker::Model;
 use vc_cell::{Cell, Container, PAYLOAD};
@@ -28,7 +31,8 @@ const EMPTY: Container = Container {
 #[derive(Drop)]
 pub struct RowGather {
     lines: Vec<GatherLine>,
-    places: Vec<Container>,
+    /// The container of each line, in a box that it may be taken into and given back in.
+    places: Vec<Box<Container>>,
     packets: Vec<Option<Packet>>,
     /// How many lines before the first one on which the next row isn't decided.
     decided: usize,
@@ -37,6 +41,7 @@ pub struct RowGather {
 
 impl Model for RowGather {
     ghost use Rattle.std.specs.Prelude.{◌≡◌, ◌≤◌, length};
+    ghost use Rattle.vc_cell.specs.Held.{held};
     ghost use Rattle.realign_core.specs.Gather.{Gather, decided_lines};
 
     ghost Value = { Gather };
@@ -45,7 +50,7 @@ impl Model for RowGather {
         × (length gather.packets.items ≡ length gather.lines.items)
         × (gather.decided ≡ decided_lines gather.lines.items) };
 
-    ghost view = { λ gather. record { lines = gather.lines.items; places = gather.places.items; packets = gather.packets.items; rows = gather.rows } };
+    ghost view = { λ gather. record { lines = gather.lines.items; places = held gather.places.items; packets = gather.packets.items; rows = gather.rows } };
 }
 
 impl RowGather {
@@ -59,7 +64,7 @@ impl RowGather {
     {
         Ok(RowGather {
             lines: new_lines(alloc, lines)?,
-            places: vec![in alloc; EMPTY; usize::from(lines)]?,
+            places: blank_places(alloc, lines)?,
             packets: no_packets(alloc, lines)?,
             decided: 0,
             rows: 0,
@@ -104,9 +109,22 @@ impl RowGather {
     {
         let m = usize::from(line);
         self.lines[m].cell(cell, &mut self.places[m]);
-        if m == self.decided {
-            self.decided += decided_lines(&self.lines[m..]);
-        }
+        self.decided = decided_after(&self.lines, m, self.decided);
+    }
+
+    /// Takes the next cell as `offer` does, but changes the boxes where the container of a good cell is whole, and copies nothing.
+    /// What lies in `container` afterwards says nothing.
+    pub fn offer_boxed(&mut self, line: u8, sign: CellSign, container: &mut Box<Container>)
+        requires line { line < line_count self.old }
+        requires open { IsOpenAt self.old line }
+        ensures stands { (cells : List (List Cell)) → Stands self.old cells →
+            Stands self.new (with_cell cells line (cell_with sign container.old.value)) }
+        ensures lines { line_count self.new ≡ line_count self.old }
+        ensures rows { self.new.rows ≡ self.old.rows }
+    {
+        let m = usize::from(line);
+        self.lines[m].cell_boxed(sign, container, &mut self.places[m]);
+        self.decided = decided_after(&self.lines, m, self.decided);
     }
 
     /// What is said of the next row on a line, once it is decided on each line.
@@ -122,12 +140,12 @@ impl RowGather {
 
     /// The containers of the lines on which the next row is decided as whole, each at the place of its line. What stands at the other
     /// places says nothing.
-    pub fn containers(&self) -> &[Container]
+    pub fn containers(&self) -> &[Box<Container>]
         ensures lines { length result.now ≡ line_count self.now }
         ensures whole { (cells : List (List Cell)) (m : ℕ) (own : List Cell) (found : Container) →
             Stands self.now cells → slice_get cells m ≡ Some own →
             verdict own self.now.rows ≡ Some (Some found) →
-            slice_get result.now m ≡ Some found }
+            slice_get (held result.now) m ≡ Some found }
     {
         &self.places
     }
@@ -172,6 +190,17 @@ fn new_lines(alloc: Global, count: u8) -> Result<Vec<GatherLine>, AllocError>
     Ok(lines)
 }
 
+/// A box for the container of each line.
+fn blank_places(alloc: Global, count: u8) -> Result<Vec<Box<Container>>, AllocError>
+    ensures { IfOk result (λ places. length places.items ≡ count) }
+{
+    let mut places = Vec::with_capacity(alloc, usize::from(count))?;
+    for _ in 0..count {
+        places.push(Box::new(alloc, EMPTY)?)?;
+    }
+    Ok(places)
+}
+
 /// No packet on a count of lines.
 fn no_packets(alloc: Global, count: u8) -> Result<Vec<Option<Packet>>, AllocError>
     ensures { IfOk result (λ packets. packets.items ≡ replicate count None) }
@@ -195,12 +224,27 @@ fn decided_lines(lines: &[GatherLine]) -> usize
     lines.len()
 }
 
+/// How many they are after line `m`, which was one on which it wasn't, has taken a cell, where they were `before`.
+fn decided_after(lines: &[GatherLine], m: usize, before: usize) -> usize
+    requires line { m < length lines.now }
+    requires few { length lines.now ≤ 128 }
+    ensures { (old : List Line) (was now : Line) → lines.now ≡ slice_set old m now →
+        before ≡ decided_lines old → slice_get old m ≡ Some was → IsOpen was.numbers →
+        result ≡ decided_lines lines.now }
+{
+    if m == before {
+        before + decided_lines(&lines[m..])
+    } else {
+        before
+    }
+}
+
 /// Passes the next number of each line, which is number `j` of a packet.
-fn pass_all(lines: &mut [GatherLine], places: &[Container], j: usize)
+fn pass_all(lines: &mut [GatherLine], places: &[Box<Container>], j: usize)
     requires places { length places.now ≡ length lines.old }
     requires decided { decided_lines lines.old ≡ length lines.old }
     requires place { j < 16 }
-    ensures passed { ArePassed (length lines.old) j places.now lines.old lines.new }
+    ensures passed { ArePassed (length lines.old) j (held places.now) lines.old lines.new }
 {
     for m in 0..lines.len() {
         lines[m].pass(&places[m], j);

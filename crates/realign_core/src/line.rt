@@ -5,14 +5,14 @@ ghost use Rattle.vc_cell.specs.declared.Container.{Container};
 ghost use Rattle.vc_cell.specs.declared.Cell.{Cell};
 ghost use Rattle.session_model.specs.Number.{verdict};
 ghost use Rattle.session_model.specs.MemberPacket.{upper_of};
-ghost use Rattle.line_reader.specs.Told.{cell_of, told_by};
+ghost use Rattle.line_reader.specs.Told.{cell_of, cell_with, told_by};
 ghost use Rattle.line_reader.specs.Numbers.{IsOpen, is_open};
 ghost use Rattle.realign_core.specs.Begun.{packet_at};
 ghost use Rattle.realign_core.specs.Line.{LineStands};
 
 use crate::nibbles::PacketNibbles;
 use lcas_packet::Packet;
-use line_reader::{CellRef, LineNumbers, Verdict};
+use line_reader::{CellRef, CellSign, LineNumbers, Verdict};
 use std::marker::Model;
 use vc_bits::nibble_hi;
 use vc_cell::Container;
@@ -51,6 +51,21 @@ impl GatherLine {
             LineStands self.new place.new (own ++ cell_of cell.entry ∷ []) t }
     {
         self.numbers.cell(cell, place);
+    }
+
+    /// Takes the next cell as `cell` does, but changes the boxes where the container of a good cell is whole.
+    pub(crate) fn cell_boxed(
+        &mut self,
+        sign: CellSign,
+        container: &mut Box<Container>,
+        place: &mut Box<Container>,
+    )
+        requires open { IsOpen self.old.numbers }
+        ensures stands { (own : List Cell) (t : ℕ) → LineStands self.old place.old.value own t →
+            LineStands self.new place.new.value
+            (own ++ cell_with sign container.old.value ∷ []) t }
+    {
+        self.numbers.cell_boxed(sign, container, place);
     }
 
     /// Whether the next number isn't decided.

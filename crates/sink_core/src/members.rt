@@ -3,6 +3,7 @@
 ghost use Rattle.std.specs.Prelude.{◌≡◌, ℕ, ◌+◌, ◌*◌, ◌/◌, ◌%◌, ◌<◌, ◌≤◌, Bool, true, false, List, [], ◌++◌, length, take, drop, slice_index, IfSome, IsSome};
 ghost use Rattle.std.specs.Int.{to_le_bytes, w64};
 ghost use Rattle.std.specs.Option.{option_to_list};
+ghost use Rattle.vc_cell.specs.Held.{held};
 ghost use Rattle.gfp_delineate.specs.Receiver.{frame_of, StandsIn};
 ghost use Rattle.gfp_delineate.specs.Repeated.{idles_from};
 ghost use Rattle.session_model.specs.Core.{core_header};
@@ -109,31 +110,37 @@ fn idle_word(first: usize, x: usize) -> u64
 
 /// What a line carries.
 #[inline]
-fn payload_of(containers: &[Container], line: u8) -> &[u8; PAYLOAD]
+fn payload_of(containers: &[Box<Container>], line: u8) -> &[u8; PAYLOAD]
     requires { line < length containers.now }
-    ensures { result.now ≡ payload_at containers.now line }
+    ensures { result.now ≡ payload_at (held containers.now) line }
 {
     &containers[usize::from(line)].payload
 }
 
 /// The octets that a line carries at some places.
 #[inline]
-fn part_of(containers: &[Container], line: u8, place: usize, places: usize) -> &[u8]
+fn part_of(containers: &[Box<Container>], line: u8, place: usize, places: usize) -> &[u8]
     requires line { line < length containers.now }
     requires within { place + places ≤ 2340 }
     ensures size { length result.now ≡ places }
-    ensures octets { result.now ≡ take places (drop place (payload_at containers.now line)) }
+    ensures octets { result.now ≡ take places (drop place (payload_at (held containers.now) line)) }
 {
     &payload_of(containers, line)[place..place + places]
 }
 
 /// Whether what a line carries at some places, a multiple of eight, is a word again and again.
-fn carries_word(containers: &[Container], line: u8, place: usize, places: usize, word: u64) -> bool
+fn carries_word(
+    containers: &[Box<Container>],
+    line: u8,
+    place: usize,
+    places: usize,
+    word: u64,
+) -> bool
     requires line { line < length containers.now }
     requires within { place + places ≤ 2340 }
     requires eights { places % 8 ≡ 0 }
     ensures { result ≡ true → (p : ℕ) → p < places →
-        slice_index (payload_at containers.now line) (place + p)
+        slice_index (payload_at (held containers.now) line) (place + p)
         ≡ slice_index (to_le_bytes w64 word) (p % 8) }
 {
     word_run(part_of(containers, line, place, places), word) == places / 8
@@ -141,7 +148,7 @@ fn carries_word(containers: &[Container], line: u8, place: usize, places: usize,
 
 /// Whether the octets of a row at some places, a multiple of eight, are those of idle frames from place `have` of a header on.
 fn are_idle(
-    containers: &[Container],
+    containers: &[Box<Container>],
     active: &[u8],
     place: usize,
     places: usize,
@@ -152,7 +159,8 @@ fn are_idle(
     requires within { place + places ≤ 2340 }
     requires eights { places % 8 ≡ 0 }
     requires have { have < 4 }
-    ensures { result ≡ true → octets_from place places (payloads_of containers.now active.now)
+    ensures { result ≡ true →
+        octets_from place places (payloads_of (held containers.now) active.now)
         ≡ idles_from have (places / 4 * length active.now) }
 {
     let x = active.len();
@@ -174,7 +182,7 @@ fn are_idle(
 /// eight, or none.
 fn idle_places(
     delineator: &Delineator,
-    containers: &[Container],
+    containers: &[Box<Container>],
     active: &[u8],
     place: usize,
     size: usize,
@@ -185,7 +193,7 @@ fn idle_places(
     requires size { size ≤ 2340 }
     ensures within { place + result ≤ size }
     ensures idle { IsIdle delineator.now
-        (octets_from place result (payloads_of containers.now active.now)) }
+        (octets_from place result (payloads_of (held containers.now) active.now)) }
 {
     let places = (size - place) / 8 * 8;
     match delineator.idle_place() {
@@ -195,22 +203,22 @@ fn idle_places(
 }
 
 /// The octets of a row that one line carries alone.
-fn only_payload(containers: &[Container], line: u8, size: usize) -> &[u8]
+fn only_payload(containers: &[Box<Container>], line: u8, size: usize) -> &[u8]
     requires line { line < length containers.now }
     requires size { size ≤ 2340 }
     ensures size { length result.now ≡ size }
-    ensures octets { result.now ≡ take size (payload_at containers.now line) }
+    ensures octets { result.now ≡ take size (payload_at (held containers.now) line) }
 {
     &containers[usize::from(line)].payload[..size]
 }
 
 /// Gives the octets of a row to a receiver, block by block, or as they lie where one line carries them alone. Where all that are left
 /// are idle frames that change nothing, they aren't gathered. `active` has the lines that carry payload, by rank, and `containers` has
-/// the container of each line.
+/// the container of each line, each in a box.
 pub(crate) fn take_members<F: FrameOut>(
     delineator: &mut Delineator,
     block: &mut [u8],
-    containers: &[Container],
+    containers: &[Box<Container>],
     active: &[u8],
     size: usize,
     out: &mut F,
@@ -221,9 +229,9 @@ pub(crate) fn take_members<F: FrameOut>(
     requires size { size ≤ 2340 }
     requires block { length block.old ≡ 4096 }
     ensures grows { Grows delineator.old delineator.new
-        (octets_from 0 size (payloads_of containers.now active.now)) }
+        (octets_from 0 size (payloads_of (held containers.now) active.now)) }
     ensures gives { (start : Start) → Gives (λ o. F.stands_for o start) delineator.old
-        (octets_from 0 size (payloads_of containers.now active.now)) out.old out.new }
+        (octets_from 0 size (payloads_of (held containers.now) active.now)) out.old out.new }
 {
     if active.is_empty() {
         return;

@@ -1,5 +1,6 @@
 //! The members of a group are gathered into a row.
 ghost use Rattle.std.specs.Prelude.{◌≡◌, ◌≢◌, ℕ, [], ◌+◌, ◌*◌, ◌%◌, ◌<◌, ◌≤◌, ◌⊎◌, length, take, slice_index, slice_index_or};
+ghost use Rattle.vc_cell.specs.Held.{held};
 ghost use Rattle.session_model.specs.Interleave.{octets_from};
 ghost use Rattle.vcat_interleave.specs.Square.{octet_at};
 ghost use Rattle.vcat_interleave.specs.Members.{payloads_of, AreLines};
@@ -23,9 +24,9 @@ pub fn gather(part: &[u8; PAYLOAD], rank: usize, x: usize, size: usize, out: &mu
 }
 
 /// Writes the row of all members at `places` places from `place` on. `active` has the lines that carry payload, by rank, and
-/// `containers` has the container of each line.
+/// `containers` has the container of each line, each in a box.
 pub fn gather_places(
-    containers: &[Container],
+    containers: &[Box<Container>],
     active: &[u8],
     place: usize,
     places: usize,
@@ -34,7 +35,7 @@ pub fn gather_places(
     requires lines { AreLines (length containers.now) active.now }
     requires within { place + places ≤ 2340 }
     requires out { length out.old ≡ places * length active.now }
-    ensures { out.new ≡ octets_from place places (payloads_of containers.now active.now) }
+    ensures { out.new ≡ octets_from place places (payloads_of (held containers.now) active.now) }
 {
     let x = active.len();
     let squares = squares_of(x, places);
@@ -46,7 +47,7 @@ pub fn gather_places(
 
 // Writes a row of at least sixteen members at a number of places that sixteen divides.
 fn gather_squares(
-    containers: &[Container],
+    containers: &[Box<Container>],
     active: &[u8],
     place: usize,
     squares: usize,
@@ -56,7 +57,8 @@ fn gather_squares(
     requires least { 0 < squares → 16 ≤ length active.now }
     requires within { place + squares * 16 ≤ 2340 }
     requires out { length out.old ≡ squares * 16 * length active.now }
-    ensures { out.new ≡ octets_from place (squares * 16) (payloads_of containers.now active.now) }
+    ensures { out.new ≡ octets_from place (squares * 16)
+        (payloads_of (held containers.now) active.now) }
 {
     let x = active.len();
     for k in 0..squares {
@@ -67,12 +69,12 @@ fn gather_squares(
 }
 
 // Writes a row of at least sixteen members at sixteen places. The last square begins where sixteen ranks are left.
-fn gather_sixteen(containers: &[Container], active: &[u8], place: usize, out: &mut [u8])
+fn gather_sixteen(containers: &[Box<Container>], active: &[u8], place: usize, out: &mut [u8])
     requires lines { AreLines (length containers.now) active.now }
     requires least { 16 ≤ length active.now }
     requires within { place + 16 ≤ 2340 }
     requires out { length out.old ≡ 16 * length active.now }
-    ensures { out.new ≡ octets_from place 16 (payloads_of containers.now active.now) }
+    ensures { out.new ≡ octets_from place 16 (payloads_of (held containers.now) active.now) }
 {
     let x = active.len();
     for k in 0..x.div_ceil(SIDE) {
@@ -89,7 +91,7 @@ fn gather_sixteen(containers: &[Container], active: &[u8], place: usize, out: &m
 // Sixteen places of the members of up to sixteen ranks.
 #[inline]
 fn rows_of(
-    containers: &[Container],
+    containers: &[Box<Container>],
     active: &[u8],
     rank: usize,
     ranks: usize,
@@ -100,7 +102,7 @@ fn rows_of(
     requires ranks { rank + ranks ≤ length active.now }
     requires within { place + 16 ≤ 2340 }
     ensures { (i j : ℕ) → i < ranks → j < 16 → octet_at result i j
-        ≡ octet_at (payloads_of containers.now active.now) (rank + i) (place + j) }
+        ≡ octet_at (payloads_of (held containers.now) active.now) (rank + i) (place + j) }
 {
     let mut rows = [u8x16::splat(0); 16];
     for i in 0..ranks {
@@ -111,10 +113,10 @@ fn rows_of(
 
 // What the member of a rank carries.
 #[inline]
-fn payload<'a>(containers: &'a [Container], active: &[u8], rank: usize) -> &'a [u8; PAYLOAD]
+fn payload<'a>(containers: &'a [Box<Container>], active: &[u8], rank: usize) -> &'a [u8; PAYLOAD]
     requires lines { AreLines (length containers.now) active.now }
     requires rank { rank < length active.now }
-    ensures { result.now ≡ slice_index_or (payloads_of containers.now active.now) rank [] }
+    ensures { result.now ≡ slice_index_or (payloads_of (held containers.now) active.now) rank [] }
 {
     &containers[usize::from(active[rank])].payload
 }
@@ -137,7 +139,7 @@ fn put_rows(rows: &[u8x16; 16], rank: usize, x: usize, out: &mut [u8])
 // What the member of a rank carries at `places` places from `place` on.
 #[inline]
 fn piece<'a>(
-    containers: &'a [Container],
+    containers: &'a [Box<Container>],
     active: &[u8],
     rank: usize,
     place: usize,
@@ -148,17 +150,23 @@ fn piece<'a>(
     requires within { place + places ≤ 2340 }
     ensures size { length result.now ≡ places }
     ensures octets { (p : ℕ) → p < places → slice_index result.now p
-        ≡ octet_at (payloads_of containers.now active.now) rank (place + p) }
+        ≡ octet_at (payloads_of (held containers.now) active.now) rank (place + p) }
 {
     &payload(containers, active, rank)[place..place + places]
 }
 
 // Writes a row of one member, of two or of more.
-fn gather_each(containers: &[Container], active: &[u8], place: usize, places: usize, out: &mut [u8])
+fn gather_each(
+    containers: &[Box<Container>],
+    active: &[u8],
+    place: usize,
+    places: usize,
+    out: &mut [u8],
+)
     requires lines { AreLines (length containers.now) active.now }
     requires within { place + places ≤ 2340 }
     requires out { length out.old ≡ places * length active.now }
-    ensures { out.new ≡ octets_from place places (payloads_of containers.now active.now) }
+    ensures { out.new ≡ octets_from place places (payloads_of (held containers.now) active.now) }
 {
     match active.len() {
         1 => out.copy_from_slice(piece(containers, active, 0, place, places)),
@@ -172,11 +180,17 @@ fn gather_each(containers: &[Container], active: &[u8], place: usize, places: us
 }
 
 // Writes a row of some members: by squares as far as these reach, and then member by member.
-fn gather_some(containers: &[Container], active: &[u8], place: usize, places: usize, out: &mut [u8])
+fn gather_some(
+    containers: &[Box<Container>],
+    active: &[u8],
+    place: usize,
+    places: usize,
+    out: &mut [u8],
+)
     requires lines { AreLines (length containers.now) active.now }
     requires within { place + places ≤ 2340 }
     requires out { length out.old ≡ places * length active.now }
-    ensures { out.new ≡ octets_from place places (payloads_of containers.now active.now) }
+    ensures { out.new ≡ octets_from place places (payloads_of (held containers.now) active.now) }
 {
     let x = active.len();
     let squares = squares_below(x, out.len());
@@ -196,14 +210,20 @@ fn squares_below(x: usize, len: usize) -> usize
 }
 
 // Writes a row of up to sixteen members at a number of places that sixteen divides. The octets behind it change.
-fn gather_few(containers: &[Container], active: &[u8], place: usize, squares: usize, out: &mut [u8])
+fn gather_few(
+    containers: &[Box<Container>],
+    active: &[u8],
+    place: usize,
+    squares: usize,
+    out: &mut [u8],
+)
     requires lines { AreLines (length containers.now) active.now }
     requires few { 0 < squares → length active.now ≤ 16 }
     requires within { place + squares * 16 ≤ 2340 }
     requires out { 0 < squares →
         squares * 16 * length active.now + 16 ≤ length out.old + length active.now }
     ensures { take (squares * 16 * length active.now) out.new
-        ≡ octets_from place (squares * 16) (payloads_of containers.now active.now) }
+        ≡ octets_from place (squares * 16) (payloads_of (held containers.now) active.now) }
 {
     let x = active.len();
     for k in 0..squares {
@@ -214,13 +234,13 @@ fn gather_few(containers: &[Container], active: &[u8], place: usize, squares: us
 }
 
 // Writes a row of up to sixteen members at sixteen places. The octets behind it change.
-fn gather_square(containers: &[Container], active: &[u8], place: usize, out: &mut [u8])
+fn gather_square(containers: &[Box<Container>], active: &[u8], place: usize, out: &mut [u8])
     requires lines { AreLines (length containers.now) active.now }
     requires few { length active.now ≤ 16 }
     requires within { place + 16 ≤ 2340 }
     requires out { 15 * length active.now + 16 ≤ length out.old }
     ensures { take (16 * length active.now) out.new
-        ≡ octets_from place 16 (payloads_of containers.now active.now) }
+        ≡ octets_from place 16 (payloads_of (held containers.now) active.now) }
 {
     let x = active.len();
     put_places(&turned(rows_of(containers, active, 0, x, place)), x, out);
@@ -241,7 +261,7 @@ fn put_places(rows: &[u8x16; 16], x: usize, out: &mut [u8])
 
 // Writes a row member by member.
 fn gather_ranks(
-    containers: &[Container],
+    containers: &[Box<Container>],
     active: &[u8],
     place: usize,
     places: usize,
@@ -250,7 +270,7 @@ fn gather_ranks(
     requires lines { AreLines (length containers.now) active.now }
     requires within { place + places ≤ 2340 }
     requires out { length out.old ≡ places * length active.now }
-    ensures { out.new ≡ octets_from place places (payloads_of containers.now active.now) }
+    ensures { out.new ≡ octets_from place places (payloads_of (held containers.now) active.now) }
 {
     let x = active.len();
     for rank in 0..x {

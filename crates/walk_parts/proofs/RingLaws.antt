@@ -8,6 +8,7 @@ use Rattle.std.proofs.lemmas.Option.{slice_get-map}
 use Rattle.circular_buffer.proofs.Places.{slice_get-set_same, slice_get-set_other, slice_get-append_left, slice_get-append_right}
 use Rattle.vc_cell.specs.declared.Container.{Container}
 use Rattle.vc_cell.specs.declared.Cell.{Cell}
+use Rattle.vc_cell.specs.Held.{held}
 use Rattle.line_core.specs.declared.carry.Carry.{Carry}
 use Rattle.line_core.specs.declared.carry.Carry.TheVariants.{Nothing, Good, Fail, End}
 use Rattle.line_core.specs.Carry.{carry_cells}
@@ -16,7 +17,7 @@ use Rattle.session_model.specs.Path.{path}
 use Rattle.line_core.specs.Line.{Line, Calls, opened, carries_of, path_cells, Stands}
 use Rattle.realign_core.proofs.GatherLaws.{length-slice_set}
 use Rattle.walk_parts.proofs.ItemLaws.{at-index}
-use Rattle.walk_parts.specs.Ringed.{Ringed, cell_in, cell_at, contents, with_sign, count_of, Has}
+use Rattle.walk_parts.specs.Ringed.{Ringed, cell_in, cell_at, with_sign, count_of, Has}
 
 -- two numbers less than r apart differ modulo r
 mod-apart : (r y d : ℕ) → 0 < d → d < r → (y + d) % r ≡ y % r → ⊥
@@ -138,6 +139,20 @@ has-changed line calls places has some pops room others = record {
       ∙ has.holds y cell low under told;
 }
 
+-- a cell is popped, whatever its place has then
+pub has-popped : (line : Ringed) (calls : Calls) (place : Container) → Has line calls → line.popped < line.given → line.given ≤ line.popped + length line.signs →
+    Has (record { core = line.core; signs = line.signs; places = slice_set line.places (line.popped % length line.signs) place; carried = line.carried; given = line.given; popped = line.popped + 1 }) calls
+has-popped line calls place has more room = record {
+  core = has.core;
+  carried = has.carried;
+  given = has.given;
+  holds = λ y cell low under told.
+      let size : ℕ = length line.signs in
+      let apart : y % size ≢ line.popped % size = λ same. slot-apart size line.popped y line.popped (omega arith) (omega (arith, low)) (omega (arith, under, room, low)) (sym same) in
+      ap (cell_in (slice_get line.signs (y % size))) (slice_get-set_other line.places (line.popped % size) (y % size) place apart)
+      ∙ has.holds y cell (omega (arith, low)) under told;
+}
+
 -- no carry
 pub has-none : (core : Line) (signs : List Carry) (places : List Container) (delay : ℕ) (windows : List Window) (total : ℕ) → Stands core (opened delay windows total) →
     Has (record { core = core; signs = signs; places = places; carried = 0; given = 0; popped = 0 }) (opened delay windows total)
@@ -154,10 +169,10 @@ has-none core signs places delay windows total stands = record {
 
 -- a cell that is read where it lies
 pub cell-read : (signs : List Carry) (boxes : List (Box Container)) (y len : ℕ) (sign : Carry) (place : Box Container) → 0 < length signs → length boxes ≡ length signs → len ≡ length signs →
-    sign ≡ slice_index_or signs (y % len) sign → place ≡ slice_index_or boxes (y % len) place → cell_at signs (contents boxes) y ≡ carry_cells sign place.value
+    sign ≡ slice_index_or signs (y % len) sign → place ≡ slice_index_or boxes (y % len) place → cell_at signs (held boxes) y ≡ carry_cells sign place.value
 cell-read signs boxes y len sign place some beside size at put =
     let low : y % length signs < length signs = mod-lt y some in
     let one = at-index signs (y % length signs) sign low (at ∙ ap (λ n. slice_index_or signs (y % n) sign) size) in
     let two = at-index boxes (y % length signs) place (omega (arith, low, beside)) (put ∙ ap (λ n. slice_index_or boxes (y % n) place) size) in
     let inside = slice_get-map (λ (b : Box Container). b.value) boxes (y % length signs) ∙ ap (option_map (λ (b : Box Container). b.value)) two in
-    ap (λ s. cell_in s (slice_get (contents boxes) (y % length signs))) one ∙ ap (λ p. cell_in (Some sign) p) inside
+    ap (λ s. cell_in s (slice_get (held boxes) (y % length signs))) one ∙ ap (λ p. cell_in (Some sign) p) inside

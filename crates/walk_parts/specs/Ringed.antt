@@ -1,6 +1,5 @@
 -- A line with its receive ring.
-use Rattle.std.specs.Prelude.{◌≡◌, ℕ, zero, suc, ◌+◌, ◌%◌, ◌<◌, ◌≤◌, Bool, false, ◌==◌, if◌then◌else◌, List, [], ◌∷◌, map, length, take, slice_get, slice_set, Option, Some, None, is_none, IsSome}
-use Rattle.std.specs.Global.{Box}
+use Rattle.std.specs.Prelude.{◌≡◌, ℕ, zero, suc, ◌+◌, ◌%◌, ◌<◌, ◌≤◌, Bool, false, ◌==◌, if◌then◌else◌, List, [], ◌∷◌, length, take, slice_get, slice_set, Option, Some, None, is_none, IsSome}
 use Rattle.vc_cell.specs.declared.Container.{Container}
 use Rattle.vc_cell.specs.declared.Cell.{Cell}
 use Rattle.line_core.specs.declared.carry.Carry.{Carry}
@@ -19,10 +18,6 @@ pub record Ringed : Type 0 where
   pub carried : ℕ
   pub given : ℕ
   pub popped : ℕ
-
--- what lies in some boxes
-abbrev pub contents : List (Box Container) → List Container
-contents boxes = map (λ (place : Box Container). place.value) boxes
 
 -- how many cells the ring has places for
 abbrev pub ring_of : Ringed → ℕ
@@ -61,6 +56,14 @@ pub record Has (line : Ringed) (calls : Calls) : Type 0 where
 -- the cells that were popped
 abbrev pub popped_cells : Ringed → Calls → List Cell
 popped_cells line calls = take line.popped (path_cells calls)
+
+-- cells were popped, and nothing else has changed but what lies in the places of the ring
+pub record IsPopped (before after : Ringed) : Type 0 where
+  pub core : after.core ≡ before.core
+  pub signs : after.signs ≡ before.signs
+  pub size : length after.places ≡ length before.places
+  pub carried : after.carried ≡ before.carried
+  pub given : after.given ≡ before.given
 
 -- the cells that were popped of each line are those that were gathered; this one is of number m, and those before it decide the next row
 pub record IsNext (line : Ringed) (calls : Calls) (rows : Gather) (cells : List (List Cell)) (m : ℕ) : Type 0 where

@@ -1,19 +1,20 @@
 //! A line of a walk with its receive ring.
 
 ghost use Rattle.std.specs.Prelude.{◌≡◌, ◌≢◌, ℕ, ◌+◌, ◌-◌, ◌<◌, ◌≤◌, ◌↔◌, [], ◌∷◌, true, List, length, slice_get, slice_set, IfOk, IsTrue, is_some};
+ghost use Rattle.vc_cell.specs.declared.Container.{Container};
 ghost use Rattle.vc_cell.specs.declared.Cell.{Cell};
 ghost use Rattle.line_core.specs.Carry.{carry_cells};
 ghost use Rattle.line_core.specs.Line.{Calls, opened, and_push, and_flush, path_cells, IsEnded};
-ghost use Rattle.line_reader.specs.Told.{cell_of};
+ghost use Rattle.line_reader.specs.Told.{cell_with};
 ghost use Rattle.session_model.specs.Damage.{AreWindows};
 ghost use Rattle.session_model.specs.Number.{verdict};
 ghost use Rattle.realign_core.specs.Gather.{Stands as Gathers, line_count, IsOpenAt};
 ghost use Rattle.session_model.specs.Rows.{first_open};
-ghost use Rattle.walk_parts.specs.Ringed.{Ringed, ring_of, Has, popped_cells, IsNext, popped_until, leaves_open, with_sign, count_of, is_at};
+ghost use Rattle.walk_parts.specs.Ringed.{Ringed, ring_of, Has, popped_cells, IsNext, IsPopped, popped_until, leaves_open, with_sign, count_of, is_at};
 
 use failure_window::{Window, Windows};
 use line_core::{Carry, LineCore};
-use line_reader::CellRef;
+use line_reader::CellSign;
 use realign_core::{RowAnswer, RowGather};
 use std::alloc::{AllocError, Global};
 use std::marker::Model;
@@ -26,13 +27,13 @@ const EMPTY: Container = Container {
 };
 
 /// A line with its receive ring: the cells that it gave and that weren't popped. Only its making takes memory, and a container is
-/// copied once on its way into the line and once out of the ring.
+/// copied once, on its way into the line.
 #[derive(Drop)]
 pub struct WalkLine {
     core: LineCore,
     /// What carries gave: that of cell `y` at place `y` modulo the size of the ring.
     signs: Vec<Carry>,
-    /// The containers of those that are good, each in a box that it may leave the line in.
+    /// The containers of those that are good, each in a box that it may come from the line and go into a row in.
     places: Vec<Box<Container>>,
     /// How many carries were made.
     carried: u32,
@@ -43,13 +44,14 @@ pub struct WalkLine {
 }
 
 impl Model for WalkLine {
-    ghost use Rattle.walk_parts.specs.Ringed.{Ringed, IsRinged, contents};
+    ghost use Rattle.vc_cell.specs.Held.{held};
+    ghost use Rattle.walk_parts.specs.Ringed.{Ringed, IsRinged};
 
     ghost Value = { Ringed };
 
-    ghost view = { λ line. record { core = line.core; signs = line.signs.items; places = contents line.places.items; carried = line.carried; given = line.given; popped = line.popped } };
+    ghost view = { λ line. record { core = line.core; signs = line.signs.items; places = held line.places.items; carried = line.carried; given = line.given; popped = line.popped } };
 
-    ghost invariant = { λ line. IsRinged (record { core = line.core; signs = line.signs.items; places = contents line.places.items; carried = line.carried; given = line.given; popped = line.popped }) };
+    ghost invariant = { λ line. IsRinged (record { core = line.core; signs = line.signs.items; places = held line.places.items; carried = line.carried; given = line.given; popped = line.popped }) };
 }
 
 impl WalkLine {
@@ -151,7 +153,8 @@ impl WalkLine {
         self.given += keep(&mut self.signs, slot, carry);
     }
 
-    /// Pops cells of line number `line` into `rows` until it decides the next row, or its ring is empty. Answers whether it does.
+    /// Pops cells of line number `line` into `rows` until it decides the next row, or its ring is empty. Answers whether it does. What
+    /// then lies in the places of the cells that were popped says nothing.
     pub fn pop_into(&mut self, rows: &mut RowGather, line: u8) -> bool
         ensures popped { (calls : Calls) (cells : List (List Cell)) →
             IsNext self.old calls rows.old cells line →
@@ -164,7 +167,7 @@ impl WalkLine {
         ensures gathers { (calls : Calls) (cells : List (List Cell)) →
             IsNext self.old calls rows.old cells line →
             Gathers rows.new (slice_set cells line (popped_cells self.new calls)) }
-        ensures others { self.new ≡ record self.old { popped = self.new.popped } }
+        ensures others { IsPopped self.old self.new }
         ensures lines { line_count rows.new ≡ line_count rows.old }
         ensures rows { rows.new.rows ≡ rows.old.rows }
     {
@@ -173,7 +176,8 @@ impl WalkLine {
                 return true;
             }
             let slot = self.popped as usize % self.signs.len();
-            rows.offer_from(line, cell_ref(self.signs[slot], &self.places[slot]));
+            let sign = sign_of(self.signs[slot]);
+            rows.offer_boxed(line, sign, &mut self.places[slot]);
             self.popped += 1;
         }
         !waits_for(rows, line)
@@ -230,13 +234,14 @@ fn waits_for(rows: &RowGather, line: u8) -> bool
     }
 }
 
-/// The cell of a carry that gave one.
-fn cell_ref(sign: Carry, place: &Container) -> CellRef<'_>
-    ensures { (cell : Cell) → carry_cells sign place.now ≡ cell ∷ [] → cell_of result ≡ cell }
+/// The sign of the cell that a carry gave.
+fn sign_of(carry: Carry) -> CellSign
+    ensures { (place : Container) (cell : Cell) → carry_cells carry place ≡ cell ∷ [] →
+        cell_with result place ≡ cell }
 {
-    match sign {
-        Carry::Good => CellRef::Good(place),
-        Carry::End => CellRef::End,
-        Carry::Fail | Carry::Nothing => CellRef::Fail,
+    match carry {
+        Carry::Good => CellSign::Good,
+        Carry::End => CellSign::End,
+        Carry::Fail | Carry::Nothing => CellSign::Fail,
     }
 }

@@ -1,6 +1,10 @@
 -- One more line has passed its number.
-use Rattle.std.proofs.Common.{◌<◌, [], length, sym, ◌∙◌, arith}
-use Rattle.std.proofs.lemmas.Option.{slice_get-get_or}
+use Rattle.std.proofs.Common.{◌<◌, length, Some, sym, ◌∙◌, ap, arith}
+use Rattle.std.specs.Prelude.{option_map}
+use Rattle.std.specs.Global.{Box}
+use Rattle.std.proofs.lemmas.Option.{slice_get-get_or, slice_get-map}
+use Rattle.vc_cell.specs.declared.Container.{Container}
+use Rattle.vc_cell.specs.Held.{held}
 use Rattle.realign_core.proofs.DecidedLaws.{decided-shut}
 use Rattle.realign_core.proofs.GatherLaws.{passed_more}
 use Rattle.realign_core.proofs.gather.pass_all.Goals as goal
@@ -16,5 +20,6 @@ pub loop-m-preserved : goal.loop-m-preserved
 loop-m-preserved c =
     let m = c.loop-m.m in
     let line = slice_get-get_or c.loop-m.lines m c.index-lines-m.result (omega arith) in
-    let place = slice_get-get_or c.args.places.now m (record { h4 = 0; payload = [] }) (omega arith) in
-    passed_more m c.args.j c.args.places.now c.args.lines.now c.loop-m.lines _ c.pass.new.self _ c.loop-m.invariant line place c.pass.ensures.stands
+    let box = slice_get-get_or c.args.places.now m c.index-places-m.result (omega arith) ∙ ap Some (sym c.index-places-m.is) in
+    let place = slice_get-map (λ (b : Box Container). b.value) c.args.places.now m ∙ ap (option_map (λ (b : Box Container). b.value)) box ∙ ap Some (sym c.deref.ensures) in
+    passed_more m c.args.j (held c.args.places.now) c.args.lines.now c.loop-m.lines _ c.pass.new.self _ c.loop-m.invariant line place c.pass.ensures.stands

@@ -2,13 +2,14 @@ use Rattle.std.proofs.Common.{◌≡◌, ℕ, List, ◌+◌, ◌*◌, ◌%◌, l
 use Rattle.std.proofs.lemmas.Bool.{cases_lt}
 use Rattle.session_model.specs.Core.{core_header}
 use Rattle.vc_cell.specs.declared.Container.{Container}
+use Rattle.vc_cell.specs.Held.{held}
 use Rattle.vcat_interleave.specs.Members.{payload_at}
 use Rattle.sink_core.proofs.IdleLaws.{idles-dealt}
 use Rattle.sink_core.proofs.members.are_idle.Goals as goal
 
 pub loop-rank-preserved : goal.loop-rank-preserved
 loop-rank-preserved c rank p below low =
-    let containers : List Container = c.args.containers.now in
+    let containers : List Container = held c.args.containers.now in
     let active : List ℕ = c.args.active.now in
     elim (cases_lt rank c.loop-rank.rank) [
       | inl before ↦ c.loop-rank.invariant rank p before low
@@ -20,5 +21,5 @@ loop-rank-preserved c rank p below low =
 
 pub returns : goal.returns
 returns c = λ _.
-    idles-dealt c.args.have c.args.place c.args.places c.args.containers.now c.args.active.now c.requires.have c.requires.eights
+    idles-dealt c.args.have c.args.place c.args.places (held c.args.containers.now) c.args.active.now c.requires.have c.requires.eights
     (λ rank p below low. c.loop-rank.invariant rank p (omega (arith, below, c.loop-rank-test.false)) low)

@@ -1,7 +1,8 @@
-use Rattle.std.proofs.Common.{◌≡◌, ℕ, List, ◌*◌, ◌/◌, ◌<◌, take, drop, slice_index, refl, sym, ◌∙◌, ap, arith}
+use Rattle.std.proofs.Common.{◌≡◌, ℕ, List, ◌*◌, ◌/◌, ◌<◌, drop, slice_index, refl, sym, ◌∙◌, ap, arith}
 use Rattle.std.specs.Int.{to_le_bytes, w64}
 use Rattle.std.proofs.lemmas.Bool.{eqb-true}
 use Rattle.std.proofs.lemmas.List.{get_or-take, get_or-drop}
+use Rattle.vc_cell.specs.Held.{held}
 use Rattle.vcat_interleave.specs.Members.{payload_at}
 use Rattle.sink_core.proofs.IdleLaws.{get-eights}
 use Rattle.sink_core.proofs.members.carries_word.Goals as goal
@@ -10,7 +11,7 @@ pub returns : goal.returns
 returns c same p low =
     let place : ℕ = c.args.place in
     let places : ℕ = c.args.places in
-    let payload : List ℕ = payload_at c.args.containers.now c.args.line in
+    let payload : List ℕ = payload_at (held c.args.containers.now) c.args.line in
     let part : List ℕ = c.part_of.result.now in
     let octets : List ℕ = to_le_bytes w64 c.args.word in
     let often : ℕ = c.word_run.result in

@@ -1,4 +1,5 @@
 use Rattle.std.proofs.Common.{ℕ, ◌-◌, ◌*◌, ◌/◌, length, sym, subst}
+use Rattle.vc_cell.specs.Held.{held}
 use Rattle.session_model.specs.Interleave.{octets_from}
 use Rattle.vcat_interleave.specs.Members.{payloads_of}
 use Rattle.vcat_interleave.proofs.RowLaws.{octets_from-none}
@@ -17,10 +18,10 @@ returns-in-Some-clause-idle c =
 
 pub returns-in_default-clause-idle : goal.returns-in_default-clause-idle
 returns-in_default-clause-idle c =
-    let parts = payloads_of c.args.containers.now c.args.active.now in
+    let parts = payloads_of (held c.args.containers.now) c.args.active.now in
     idle-none c.args.delineator.now (octets_from c.args.place 0 parts) (octets_from-none c.args.place parts)
 
 pub returns-in_default-2-clause-idle : goal.returns-in_default-2-clause-idle
 returns-in_default-2-clause-idle c =
-    let parts = payloads_of c.args.containers.now c.args.active.now in
+    let parts = payloads_of (held c.args.containers.now) c.args.active.now in
     idle-none c.args.delineator.now (octets_from c.args.place 0 parts) (octets_from-none c.args.place parts)

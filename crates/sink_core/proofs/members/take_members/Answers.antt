@@ -9,6 +9,7 @@ use Rattle.vcat_interleave.proofs.MemberLaws.{length-payloads}
 use Rattle.sink_core.specs.Receives.{Grows, Gives}
 use Rattle.std.proofs.lemmas.List.{take_all}
 use Rattle.vc_cell.specs.declared.Container.{Container}
+use Rattle.vc_cell.specs.Held.{held}
 use Rattle.vcat_interleave.specs.Members.{payload_at}
 use Rattle.gfp_delineate.proofs.ListLaws.{take_one}
 use Rattle.sink_core.proofs.GivingLaws.{octets_from-single, long-enough, known-grows, grows-none, grows-more, gives-none, gives-more, idle-grows, idle-gives}
@@ -17,9 +18,9 @@ use Rattle.sink_core.proofs.members.take_members.Goals as goal
 pub returns-then-is_empty : goal.returns-then-is_empty
 returns-then-is_empty g c =
     let active = c.args.active.now in
-    let parts = payloads_of c.args.containers.now active in
+    let parts = payloads_of (held c.args.containers.now) active in
     let zero : length active ≡ 0 = grind (arith, nat_tests, c.if-is_empty.ensures) in
-    let many : length parts ≡ 0 = length-payloads c.args.containers.now active ∙ zero in
+    let many : length parts ≡ 0 = length-payloads (held c.args.containers.now) active ∙ zero in
     let none : octets_from 0 c.args.size parts ≡ [] =
     nil_from_length (octets_from 0 c.args.size parts) (length-octets_from 0 c.args.size parts ∙ ap (λ n. c.args.size * n) many ∙ (let e : c.args.size * 0 ≡ 0 = omega arith in e)) in
     let was = c.args.delineator.now in
@@ -30,7 +31,7 @@ returns-then-is_empty g c =
 
 pub loop-place-init : goal.loop-place-init
 loop-place-init g c =
-    let parts = payloads_of c.args.containers.now c.args.active.now in
+    let parts = payloads_of (held c.args.containers.now) c.args.active.now in
     let none : octets_from 0 0 parts ≡ [] = octets_from-none 0 parts in
     let was = c.args.delineator.now in
     record {
@@ -50,7 +51,7 @@ loop-place-preserved g c =
     let place = c.loop-place.place in
     let skipped = c.idle_places-place.result in
     let n = c.min-places.result in
-    let parts = payloads_of c.args.containers.now c.args.active.now in
+    let parts = payloads_of (held c.args.containers.now) c.args.active.now in
     let was = c.args.delineator.now in
     let then' = c.loop-place.delineator in
     let now = c.take_piece-in-loop-place.new.delineator in
@@ -75,7 +76,7 @@ loop-place-preserved g c =
 pub returns : goal.returns
 returns g c =
     let place = c.loop-place.place in
-    let parts = payloads_of c.args.containers.now c.args.active.now in
+    let parts = payloads_of (held c.args.containers.now) c.args.active.now in
     let all : octets_from 0 place parts ≡ octets_from 0 c.args.size parts =
     ap (λ n. octets_from 0 n parts) (let e : place ≡ c.args.size = omega (arith, c.loop-place-test.false, c.loop-place.invariant.within) in e) in
     record {
@@ -95,11 +96,11 @@ only containers active size octets some few long is =
 pub returns-in-len1-clause-grows : goal.returns-in-len1-clause-grows
 returns-in-len1-clause-grows g c =
     subst (Grows c.args.delineator.now c.take_piece.new.delineator)
-    (only c.args.containers.now c.args.active.now c.args.size c.only_payload.result.now c.in-len1.len_at_least c.in-len1.len_below c.only_payload.ensures.size c.only_payload.ensures.octets)
+    (only (held c.args.containers.now) c.args.active.now c.args.size c.only_payload.result.now c.in-len1.len_at_least c.in-len1.len_below c.only_payload.ensures.size c.only_payload.ensures.octets)
     c.take_piece.ensures.grows
 
 pub returns-in-len1-clause-gives : goal.returns-in-len1-clause-gives
 returns-in-len1-clause-gives g c start =
     subst (λ l. Gives (λ o. g.F.FrameOut.stands_for o start) c.args.delineator.now l c.args.out.now c.take_piece.new.out)
-    (only c.args.containers.now c.args.active.now c.args.size c.only_payload.result.now c.in-len1.len_at_least c.in-len1.len_below c.only_payload.ensures.size c.only_payload.ensures.octets)
+    (only (held c.args.containers.now) c.args.active.now c.args.size c.only_payload.result.now c.in-len1.len_at_least c.in-len1.len_below c.only_payload.ensures.size c.only_payload.ensures.octets)
     (c.take_piece.ensures.gives start)

@@ -1,4 +1,5 @@
 use Rattle.std.proofs.Common.{◌≤◌, ◌-◌}
+use Rattle.vc_cell.specs.Held.{held}
 use Rattle.session_model.specs.Interleave.{octets_from}
 use Rattle.vcat_interleave.specs.Members.{payloads_of}
 use Rattle.sink_core.specs.Start.{Start}
@@ -9,8 +10,8 @@ abbrev pub invariant-loop-place : goal.invariant-loop-place
 invariant-loop-place g l = record {
   within : l.place ≤ l.size;
   known : IsKnown l.delineator;
-  grows : Grows l.fn.delineator l.delineator (octets_from 0 l.place (payloads_of l.containers l.active));
-  gives : (start : Start) → Gives (λ o. g.F.FrameOut.stands_for o start) l.fn.delineator (octets_from 0 l.place (payloads_of l.containers l.active)) l.fn.out l.out;
+  grows : Grows l.fn.delineator l.delineator (octets_from 0 l.place (payloads_of (held l.containers) l.active));
+  gives : (start : Start) → Gives (λ o. g.F.FrameOut.stands_for o start) l.fn.delineator (octets_from 0 l.place (payloads_of (held l.containers) l.active)) l.fn.out l.out;
 }
 
 abbrev pub decreases-loop-place : goal.decreases-loop-place

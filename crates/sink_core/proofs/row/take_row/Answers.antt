@@ -10,6 +10,7 @@ use Rattle.sink_core.specs.Given.{row_in}
 use Rattle.sink_core.specs.Receives.{Receives}
 use Rattle.vc_cell.specs.declared.Cell.{Cell}
 use Rattle.vc_cell.specs.declared.Container.{Container}
+use Rattle.vc_cell.specs.Held.{held}
 use Rattle.sink_core.proofs.WholeLaws.{hold-some}
 use Rattle.sink_core.proofs.GivingLaws.{grows-none, gives-none}
 use Rattle.sink_core.proofs.ReceivedLaws.{receives-whole, receives-lost, gives-whole, gives-lost, row-early, row-late}
@@ -44,7 +45,7 @@ is-no-row size cells t t' late row is = row-late size cells t late ∙ ap (λ t.
 
 pub returns-then-is_whole-clause-receives : goal.returns-then-is_whole-clause-receives
 returns-then-is_whole-clause-receives g c cells come stands carry has =
-    let places = c.containers.result.now in
+    let places = held c.containers.result.now in
     let octets = octets_from 0 c.from.result (payloads_of places c.args.active.now) in
     let hold : Hold places cells c.args.rows.now.rows = λ m own found here said. c.containers.ensures.whole cells m own found stands here said in
     let late : 24 ≤ c.args.t = omega (arith, c.if-t-lt-FIRST_ROW.false) in
@@ -56,7 +57,7 @@ returns-then-is_whole-clause-receives g c cells come stands carry has =
 
 pub returns-then-is_whole-clause-gives : goal.returns-then-is_whole-clause-gives
 returns-then-is_whole-clause-gives g c cells come stands carry has start frames given =
-    let places = c.containers.result.now in
+    let places = held c.containers.result.now in
     let octets = octets_from 0 c.from.result (payloads_of places c.args.active.now) in
     let hold : Hold places cells c.args.rows.now.rows = λ m own found here said. c.containers.ensures.whole cells m own found stands here said in
     let late : 24 ≤ c.args.t = omega (arith, c.if-t-lt-FIRST_ROW.false) in

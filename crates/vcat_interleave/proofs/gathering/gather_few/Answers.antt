@@ -1,6 +1,7 @@
 -- One more square of places goes on where those before it end.
 use Rattle.std.proofs.Common.{◌≡◌, ℕ, ◌+◌, ◌-◌, ◌*◌, ◌≤◌, take, drop, length, ◌++◌, refl, sym, ap, ap₂, ◌∙◌, arith, length-drop}
 use Rattle.std.proofs.lemmas.List.{length-take-le}
+use Rattle.vc_cell.specs.Held.{held}
 use Rattle.session_model.specs.Interleave.{octets_from}
 use Rattle.vcat_interleave.specs.Members.{payloads_of}
 use Rattle.vcat_interleave.proofs.RowLaws.{octets_from-add, octets_from-none}
@@ -10,13 +11,13 @@ use Rattle.vcat_interleave.proofs.gathering.gather_few.Goals as goal
 pub loop-k-init : goal.loop-k-init
 loop-k-init c =
     ap (λ n. take n c.args.out.now) (let e : 0 * length c.args.active.now ≡ 0 = omega arith in e)
-    ∙ sym (octets_from-none c.args.place (payloads_of c.args.containers.now c.args.active.now))
+    ∙ sym (octets_from-none c.args.place (payloads_of (held c.args.containers.now) c.args.active.now))
 
 pub loop-k-preserved : goal.loop-k-preserved
 loop-k-preserved c =
     let x = length c.args.active.now in
     let done = c.loop-k.k * 16 in
-    let parts = payloads_of c.args.containers.now c.args.active.now in
+    let parts = payloads_of (held c.args.containers.now) c.args.active.now in
     let row = c.loop-k.out in
     let piece = c.gather_square.new.out in
     let rest : ℕ = length row - done * x in

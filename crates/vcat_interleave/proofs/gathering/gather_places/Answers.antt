@@ -1,5 +1,6 @@
 -- The places done by squares, and those after them.
 use Rattle.std.proofs.Common.{◌*◌, length, ◌∙◌}
+use Rattle.vc_cell.specs.Held.{held}
 use Rattle.vcat_interleave.specs.Members.{payloads_of}
 use Rattle.vcat_interleave.proofs.PlaceLaws.{rest-size}
 use Rattle.vcat_interleave.proofs.MemberLaws.{rows-add}
@@ -12,5 +13,5 @@ gather_each-requires-clause-out c =
 
 pub returns : goal.returns
 returns c =
-    rows-add (c.squares_of-squares.result * 16) c.args.places c.args.place (payloads_of c.args.containers.now c.args.active.now) _ _
+    rows-add (c.squares_of-squares.result * 16) c.args.places c.args.place (payloads_of (held c.args.containers.now) c.args.active.now) _ _
     c.squares_of-squares.ensures.within c.gather_squares.ensures c.gather_each.ensures

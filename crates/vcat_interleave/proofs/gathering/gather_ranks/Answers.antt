@@ -1,6 +1,7 @@
 -- One more member is written at the places of its rank.
 use Rattle.std.proofs.Common.{◌+◌, ◌*◌, inl, inr, length, slice_index, sym, ap, ◌∙◌, arith}
 use Rattle.std.proofs.lemmas.Bool.{cases_eq}
+use Rattle.vc_cell.specs.Held.{held}
 use Rattle.vcat_interleave.specs.Square.{octet_at}
 use Rattle.vcat_interleave.specs.Members.{payloads_of}
 use Rattle.vcat_interleave.proofs.RowLaws.{rank-place}
@@ -16,7 +17,7 @@ loop-rank-preserved c p r low below =
           ap (λ n. slice_index c.put_rank.new.row (p * x + n)) same
           ∙ c.put_rank.ensures.placed p (omega (arith, c.piece.ensures.size))
           ∙ c.piece.ensures.octets p low
-          ∙ ap (λ n. octet_at (payloads_of c.args.containers.now c.args.active.now) n (c.args.place + p)) (sym same)
+          ∙ ap (λ n. octet_at (payloads_of (held c.args.containers.now) c.args.active.now) n (c.args.place + p)) (sym same)
       | inr other ↦
           c.put_rank.ensures.others (p * x + r) (λ is. other (sym (rank-place x p r (omega arith)).0 ∙ is))
           ∙ c.loop-rank.invariant p r low (omega arith)
@@ -24,5 +25,5 @@ loop-rank-preserved c p r low below =
 
 pub returns : goal.returns
 returns c =
-    is-row c.args.containers.now c.args.active.now c.args.place c.args.places c.loop-rank.out
+    is-row (held c.args.containers.now) c.args.active.now c.args.place c.args.places c.loop-rank.out
     (c.loop-rank.auto.out ∙ c.requires.out) (λ p rank low below. c.loop-rank.invariant p rank low (omega (arith, c.loop-rank-test.false, below)))

@@ -2,6 +2,7 @@
 use Rattle.std.proofs.Common.{◌≡◌, ◌+◌, ◌-◌, ◌*◌, ◌<◌, inl, inr, length, slice_index, sym, ap, ◌∙◌, arith}
 use Rattle.std.proofs.lemmas.Bool.{cases_lt}
 use Rattle.std.proofs.lemmas.Grind.{div_ceil_times}
+use Rattle.vc_cell.specs.Held.{held}
 use Rattle.vcat_interleave.specs.Square.{octet_at}
 use Rattle.vcat_interleave.specs.Members.{payloads_of}
 use Rattle.vcat_interleave.proofs.MemberLaws.{is-row}
@@ -9,7 +10,7 @@ use Rattle.vcat_interleave.proofs.gathering.gather_sixteen.Goals as goal
 
 pub loop-k-preserved : goal.loop-k-preserved
 loop-k-preserved c j r h below =
-    let parts = payloads_of c.args.containers.now c.args.active.now in
+    let parts = payloads_of (held c.args.containers.now) c.args.active.now in
     let x = length c.args.active.now in
     let rank = c.min-rank.result in
     let place = c.args.place in
@@ -31,6 +32,6 @@ loop-k-preserved c j r h below =
 
 pub returns : goal.returns
 returns c =
-    is-row c.args.containers.now c.args.active.now c.args.place 16 c.loop-k.out
+    is-row (held c.args.containers.now) c.args.active.now c.args.place 16 c.loop-k.out
     (c.loop-k.auto.out ∙ c.requires.out) (λ p rank low below. c.loop-k.invariant p rank low
     (omega (arith, (div_ceil_times (length c.args.active.now) 16 (omega arith)).0, c.div_ceil-k-end.ensures, c.loop-k-test.false)))

@@ -2,6 +2,7 @@
 use Rattle.std.proofs.Common.{◌≡◌, ◌-◌, ◌*◌, ◌≤◌, [], ◌++◌, take, drop, length, ap, ◌∙◌, arith, length-drop}
 use Rattle.std.proofs.lemmas.List.{take_rest, drop_all, append-nil}
 use Rattle.std.proofs.lemmas.Nat.{mul-le}
+use Rattle.vc_cell.specs.Held.{held}
 use Rattle.vcat_interleave.specs.Members.{payloads_of}
 use Rattle.vcat_interleave.proofs.PlaceLaws.{rest-size}
 use Rattle.vcat_interleave.proofs.MemberLaws.{rows-add}
@@ -27,5 +28,5 @@ returns c =
     let none : drop (length row - done * x) (drop (done * x) row) ≡ [] = drop_all (length row - done * x) (drop (done * x) row) (omega (arith, length-drop (done * x) row)) in
     ap (λ l. take (done * x) row ++ (back ++ l)) none
     ∙ ap (λ l. take (done * x) row ++ l) (append-nil back)
-    ∙ rows-add done c.args.places c.args.place (payloads_of c.args.containers.now c.args.active.now) (take (done * x) row) back
+    ∙ rows-add done c.args.places c.args.place (payloads_of (held c.args.containers.now) c.args.active.now) (take (done * x) row) back
     (c.squares_below-squares.ensures.within c.args.places c.requires.out) c.gather_few.ensures c.gather_ranks.ensures

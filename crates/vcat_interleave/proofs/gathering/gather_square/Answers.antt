@@ -1,6 +1,7 @@
 -- The octets of the square, as far as members are there.
 use Rattle.std.proofs.Common.{◌≡◌, ◌+◌, ◌*◌, take, length, ap, ◌∙◌, arith}
 use Rattle.std.proofs.lemmas.List.{get_or-take, length-take-le}
+use Rattle.vc_cell.specs.Held.{held}
 use Rattle.vcat_interleave.specs.Square.{octet_at}
 use Rattle.vcat_interleave.specs.Members.{payloads_of}
 use Rattle.vcat_interleave.proofs.RowLaws.{within-row}
@@ -11,8 +12,8 @@ pub returns : goal.returns
 returns c =
     let x = length c.args.active.now in
     let out = c.put_places.new.out in
-    let parts = payloads_of c.args.containers.now c.args.active.now in
-    is-row c.args.containers.now c.args.active.now c.args.place 16 (take (16 * x) out) (length-take-le (16 * x) out (omega (arith, c.put_places.auto.out, c.requires.out, c.requires.few)))
+    let parts = payloads_of (held c.args.containers.now) c.args.active.now in
+    is-row (held c.args.containers.now) c.args.active.now c.args.place 16 (take (16 * x) out) (length-take-le (16 * x) out (omega (arith, c.put_places.auto.out, c.requires.out, c.requires.few)))
     (λ p rank low below.
     get_or-take (16 * x) out (p * x + rank) 0 (within-row x 16 p rank low below)
     ∙ c.put_places.ensures p rank low below

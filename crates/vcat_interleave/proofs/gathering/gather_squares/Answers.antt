@@ -1,6 +1,7 @@
 -- One more square of places goes on where those before it end.
 use Rattle.std.proofs.Common.{◌≡◌, ◌+◌, ◌-◌, ◌*◌, take, length, ◌++◌, refl, sym, ap, ap₂, ◌∙◌, arith}
 use Rattle.std.proofs.lemmas.Slice.{take-put_mid}
+use Rattle.vc_cell.specs.Held.{held}
 use Rattle.session_model.specs.Interleave.{octets_from}
 use Rattle.vcat_interleave.specs.Members.{payloads_of}
 use Rattle.vcat_interleave.proofs.RowLaws.{octets_from-add, octets_from-none, length-octets_from}
@@ -11,15 +12,15 @@ use Rattle.vcat_interleave.proofs.gathering.gather_squares.Goals as goal
 pub loop-k-init : goal.loop-k-init
 loop-k-init c =
     ap (λ n. take n c.args.out.now) (let e : 0 * length c.args.active.now ≡ 0 = omega arith in e)
-    ∙ sym (octets_from-none c.args.place (payloads_of c.args.containers.now c.args.active.now))
+    ∙ sym (octets_from-none c.args.place (payloads_of (held c.args.containers.now) c.args.active.now))
 
 pub loop-k-preserved : goal.loop-k-preserved
 loop-k-preserved c =
     let x = length c.args.active.now in
     let done = c.loop-k.k * 16 in
-    let parts = payloads_of c.args.containers.now c.args.active.now in
+    let parts = payloads_of (held c.args.containers.now) c.args.active.now in
     let piece = c.gather_sixteen.new.out in
-    let size = ap length c.gather_sixteen.ensures ∙ length-octets_from (c.args.place + done) 16 parts ∙ ap (λ n. 16 * n) (length-payloads c.args.containers.now c.args.active.now) in
+    let size = ap length c.gather_sixteen.ensures ∙ length-octets_from (c.args.place + done) 16 parts ∙ ap (λ n. 16 * n) (length-payloads (held c.args.containers.now) c.args.active.now) in
     let within = done-within done c.args.squares c.loop-k.k x refl c.loop-k-test.true in
     take-put_mid (done * x) ((done + 16) * x - done * x) c.loop-k.out piece ((c.loop-k.k + 1) * 16 * x) (omega (arith, size)) (omega (arith, within, c.loop-k.auto.out, c.requires.out))
     ∙ ap₂ (λ a b. a ++ b) c.loop-k.invariant c.gather_sixteen.ensures

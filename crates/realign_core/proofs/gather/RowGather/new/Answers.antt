@@ -1,6 +1,7 @@
 -- No cell came on any line.
 use Rattle.std.proofs.Common.{length, None, ◌∙◌, ap, arith}
 use Rattle.std.proofs.lemmas.List.{length-replicate}
+use Rattle.vc_cell.specs.Held.{held}
 use Rattle.realign_core.proofs.GatherLaws.{new_stands, decided-new}
 use Rattle.realign_core.proofs.gather.RowGather.new.Goals as goal
 
@@ -10,7 +11,7 @@ invariant_of-result c =
     let size = lines.size in
     let none = ap length c.in_ok-no_packets.ensures ∙ length-replicate c.args.lines None in (
       omega arith,
-      omega (arith, c.in_ok-vec.ensures.len, c.in_ok-vec.field-0.ok.0, c.from.ensures, size),
+      omega (arith, c.in_ok-blank_places.ensures, size),
       omega (arith, none, size),
       decided-new c.args.lines c.in_ok-new_lines.field-0.items lines,
     )
@@ -18,5 +19,5 @@ invariant_of-result c =
 pub returns-clause-stands : goal.returns-clause-stands
 returns-clause-stands c =
     let lines = c.in_ok-new_lines.ensures in
-    new_stands c.args.lines c.in_ok-new_lines.field-0.items c.in_ok-vec.field-0.items c.in_ok-no_packets.field-0.items lines.size c.in_ok-no_packets.ensures
+    new_stands c.args.lines c.in_ok-new_lines.field-0.items (held c.in_ok-blank_places.field-0.items) c.in_ok-no_packets.field-0.items lines.size c.in_ok-no_packets.ensures
     (λ m line place here. lines.fresh m line place here)

@@ -3,8 +3,9 @@ use Rattle.std.proofs.Common.{rules, ◌≡◌, ◌%◌, ◌∙◌, length, slic
 use Rattle.std.specs.Global.{Box}
 use Rattle.std.proofs.lemmas.List.{map-set}
 use Rattle.vc_cell.specs.declared.Container.{Container}
+use Rattle.vc_cell.specs.Held.{held}
 use Rattle.line_core.specs.Line.{and_flush}
-use Rattle.walk_parts.specs.Ringed.{Ringed, contents, Has, with_sign}
+use Rattle.walk_parts.specs.Ringed.{Ringed, Has, with_sign}
 use Rattle.walk_parts.proofs.RingLaws.{has-more}
 use Rattle.walk_parts.proofs.line.WalkLine.flush.Goals as goal
 
@@ -21,5 +22,5 @@ returns-clause-has c calls has =
     (omega (arith, room, given, popped, size)) (c.flush_to-carry.ensures.stands calls own.core) (omega arith) (c.flush_to-carry.ensures.cells calls own.core)
     (c.keep.ensures.signs ∙ ap (λ n. with_sign c.flush_to-carry.result (c.self.inside.given % n) c.self.inside.signs.items) count)
     (map-set (λ (b : Box Container). b.value) c.self.inside.places.items (c.self.inside.given % c.len.result) _
-    ∙ ap (λ n. slice_set (contents c.self.inside.places.items) (c.self.inside.given % n) c.flush_to-carry.new.out) count)
+    ∙ ap (λ n. slice_set (held c.self.inside.places.items) (c.self.inside.given % n) c.flush_to-carry.new.out) count)
     c.keep.ensures.count

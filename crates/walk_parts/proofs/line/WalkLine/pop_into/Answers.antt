@@ -1,20 +1,21 @@
 -- Each cell leaves the line open, up to the last one.
-use Rattle.std.proofs.Common.{rules, ◌≡◌, ℕ, ◌-◌, true, false, List, length, take, slice_set, refl, sym, ◌∙◌, ap, subst, arith}
+use Rattle.std.proofs.Common.{rules, ◌≡◌, ◌+◌, ◌-◌, ◌%◌, true, false, List, length, take, slice_set, refl, sym, ◌∙◌, ap, subst, arith}
 use Rattle.std.specs.Prelude.{is_none}
 use Rattle.std.specs.Global.{Box}
-use Rattle.std.proofs.lemmas.List.{length-map}
+use Rattle.std.proofs.lemmas.List.{length-map, map-set}
 use Rattle.vc_cell.specs.declared.Container.{Container}
 use Rattle.std.proofs.lemmas.Option.{slice_get_within}
 use Rattle.circular_buffer.proofs.Places.{slice_get-some}
 use Rattle.vc_cell.specs.declared.Cell.{Cell}
-use Rattle.line_core.specs.Carry.{carry_cells}
+use Rattle.vc_cell.specs.Held.{held}
 use Rattle.line_core.specs.Line.{path_cells}
 use Rattle.session_model.specs.Number.{verdict}
 use Rattle.session_model.specs.Rows.{first_open}
-use Rattle.line_reader.specs.Told.{cell_of}
+use Rattle.line_reader.specs.Told.{cell_with}
+use Rattle.realign_core.proofs.GatherLaws.{length-slice_set}
 use Rattle.realign_core.specs.Gather.{Stands as Gathers, with_cell}
-use Rattle.walk_parts.specs.Ringed.{Ringed, contents, cell_at, is_at, popped_until, leaves_open}
-use Rattle.walk_parts.proofs.RingLaws.{cell-read}
+use Rattle.walk_parts.specs.Ringed.{Ringed, Has, is_at, popped_until, leaves_open}
+use Rattle.walk_parts.proofs.RingLaws.{cell-read, has-popped}
 use Rattle.walk_parts.proofs.PopLaws.{waits-is, with-set, set-same, take-next, until-shut, until-none, until-next, none-some}
 use Rattle.walk_parts.proofs.line.WalkLine.pop_into.Goals as goal
 
@@ -27,13 +28,14 @@ loop-self-init c =
     record {
       core = ap (λ (line : Ringed). line.core) c.self.view_is;
       signs = ap (λ (line : Ringed). line.signs) c.self.view_is;
-      places = ap (λ (line : Ringed). line.places) c.self.view_is;
+      size = sym (length-map c.self.inside.places.items (λ (b : Box Container). b.value)) ∙ ap (λ (line : Ringed). length line.places) c.self.view_is;
       carried = ap (λ (line : Ringed). line.carried) c.self.view_is;
       given = given;
       more = omega (arith, popped);
       pops = omega (arith, pops, given);
       lines = refl;
       rows = refl;
+      has = λ calls has. subst (λ (line : Ringed). Has line calls) (sym c.self.view_is) has;
       gathers = λ calls cells next.
           subst (Gathers c.args.rows.now) (sym (ap (λ y. slice_set cells c.args.line (take y (path_cells calls))) popped ∙ set-same cells c.args.line _ next.own)) next.gathers;
       until = λ calls cells next.
@@ -66,37 +68,49 @@ loop-self-preserved c =
     let inv = c.loop-self.invariant in
     let given = inv.given in
     let more = inv.more in
+    let size = inv.size in
     let test = c.loop-self-test.true in
+    let known = c.self.invariant in
+    let boxes = c.loop-self.self-inside.places.items in
+    let y = c.loop-self.self-inside.popped in
+    let signs = ap length inv.signs ∙ sym (ap (λ (line : Ringed). length line.signs) c.self.view_is) in
+    let places = size ∙ sym (ap (λ (line : Ringed). length line.places) c.self.view_is) in
+    let some = known.some in
+    let beside = known.beside in
+    let room = known.room in
+    let was = ap (λ (line : Ringed). line.popped) c.self.view_is in
+    let is = ap (λ (line : Ringed). line.given) c.self.view_is in
+    let count : c.len.result ≡ length c.loop-self.self-inside.signs.items = search (rules, c.len.ensures) in
     record {
       core = inv.core;
       signs = inv.signs;
-      places = inv.places;
+      size = length-slice_set boxes (y % c.len.result) c.offer_boxed.new.container ∙ size;
       carried = inv.carried;
       given = inv.given;
       more = omega (arith, more);
       pops = omega (arith, given, test);
-      lines = c.offer_from.ensures.lines ∙ inv.lines;
-      rows = c.offer_from.ensures.rows ∙ inv.rows;
+      lines = c.offer_boxed.ensures.lines ∙ inv.lines;
+      rows = c.offer_boxed.ensures.rows ∙ inv.rows;
+      has = λ calls has.
+          let put = map-set (λ (b : Box Container). b.value) boxes (y % c.len.result) c.offer_boxed.new.container
+          ∙ ap (λ n. slice_set (held boxes) (y % n) c.offer_boxed.new.container.value) count in
+          let before = inv.has calls has in
+          let inside = c.loop-self.self-inside in
+          subst (λ p. Has (record { core = inside.core; signs = inside.signs.items; places = p; carried = inside.carried; given = inside.given; popped = y + 1 }) calls) (sym put)
+          (has-popped _ calls c.offer_boxed.new.container.value before test (omega (arith, given, more, signs, room, was, is)));
       gathers = λ calls cells next.
-          let y : ℕ = c.loop-self.self-inside.popped in
           let path : List Cell = path_cells calls in
-          let size = next.has.given in
-          let (cell, there) = slice_get-some path y (omega (arith, size, given, test)) in
-          let held = next.has.holds y cell more (omega (arith, given, test)) there in
-          let known = c.self.invariant in
-          let signs = ap length inv.signs ∙ sym (ap (λ (line : Ringed). length line.signs) c.self.view_is) in
-          let places = sym (length-map c.loop-self.self-inside.places.items (λ (b : Box Container). b.value)) ∙ ap length inv.places ∙ sym (ap (λ (line : Ringed). length line.places) c.self.view_is) in
-          let some = known.some in
-          let beside = known.beside in
-          let count : c.len.result ≡ length c.loop-self.self-inside.signs.items = search (rules, c.len.ensures) in
-          let read = cell-read c.loop-self.self-inside.signs.items c.loop-self.self-inside.places.items y c.len.result c.index.result.now c.index-in-loop-self.result.now
-          (omega (arith, signs, some)) (omega (arith, signs, places, beside)) count c.index.ensures c.index-in-loop-self.ensures in
-          let is : cell_of c.cell_ref.result ≡ cell =
-          c.cell_ref.ensures cell (ap (carry_cells c.index.result.now) c.deref.ensures ∙ sym read ∙ ap (λ s. cell_at s (contents c.loop-self.self-inside.places.items) y) inv.signs ∙ ap (λ p. cell_at c.args.self.now.signs p y) inv.places ∙ held) in
+          let before = inv.has calls next.has in
+          let count_given = before.given in
+          let (cell, there) = slice_get-some path y (omega (arith, count_given, test)) in
+          let read = cell-read c.loop-self.self-inside.signs.items boxes y c.len.result c.index.result.now c.index_mut.result.now
+          (omega (arith, signs, some)) (omega (arith, signs, places, beside)) count c.index.ensures c.index_mut.ensures.value in
+          let is : cell_with c.sign_of-sign.result c.index_mut.result.now.value ≡ cell =
+          c.sign_of-sign.ensures c.index_mut.result.now.value cell (sym read ∙ before.holds y cell (omega arith) test there) in
           let low = slice_get_within cells c.args.line _ next.own in
-          subst (Gathers c.offer_from.new.self)
+          subst (Gathers c.offer_boxed.new.self)
           (ap (λ x. with_cell (slice_set cells c.args.line (take y path)) c.args.line x) is ∙ with-set cells c.args.line (take y path) cell low ∙ ap (slice_set cells c.args.line) (sym (take-next path y cell there)))
-          (c.offer_from.ensures.stands _ (inv.gathers calls cells next));
+          (c.offer_boxed.ensures.stands _ (inv.gathers calls cells next));
       until = λ calls cells next.
           let open' : c.waits_for.result ≡ true = search (rules, c.if-not-waits_for.false) in
           let own : List Cell = take c.loop-self.self-inside.popped (path_cells calls) in

@@ -5,8 +5,9 @@ use Rattle.std.specs.Prelude.{option_map}
 use Rattle.std.proofs.lemmas.List.{map-set, length-map}
 use Rattle.std.proofs.lemmas.Option.{slice_get-map}
 use Rattle.vc_cell.specs.declared.Container.{Container}
+use Rattle.vc_cell.specs.Held.{held}
 use Rattle.line_core.specs.Line.{and_push}
-use Rattle.walk_parts.specs.Ringed.{Ringed, contents, Has, with_sign}
+use Rattle.walk_parts.specs.Ringed.{Ringed, Has, with_sign}
 use Rattle.walk_parts.proofs.RingLaws.{has-more, has-changed}
 use Rattle.walk_parts.proofs.line.WalkLine.push.Goals as goal
 
@@ -22,7 +23,7 @@ returns-clause-has c calls has =
     let count : c.len-size.result ≡ length c.self.inside.signs.items = search (rules, c.len-size.ensures) in
     let few : c.self.inside.given < c.self.inside.popped + length c.self.inside.signs.items = omega (arith, room, given, popped, size) in
     let same = length-map c.exchange.new.places.items (λ (b : Box Container). b.value) ∙ c.exchange.ensures.size ∙ sym (length-map c.self.inside.places.items (λ (b : Box Container). b.value)) in
-    let changed = has-changed _ calls (contents c.exchange.new.places.items) own is.some is.pops few
+    let changed = has-changed _ calls (held c.exchange.new.places.items) own is.some is.pops few
     (λ k apart free. slice_get-map (λ (b : Box Container). b.value) c.exchange.new.places.items k
     ∙ ap (option_map (λ (b : Box Container). b.value))
     (c.exchange.ensures.others k (λ e. apart (e ∙ ap (λ n. c.self.inside.given % n) count)) (λ e. free (e ∙ ap (λ n. (c.self.inside.popped + n - 1) % n) count)))
@@ -31,5 +32,5 @@ returns-clause-has c calls has =
     few (c.push_boxed-carry.ensures.stands calls own.core) (omega (arith, grown)) (c.push_boxed-carry.ensures.cells calls own.core)
     (c.keep.ensures.signs ∙ ap (λ n. with_sign c.push_boxed-carry.result (c.self.inside.given % n) c.self.inside.signs.items) count)
     (map-set (λ (b : Box Container). b.value) c.exchange.new.places.items (c.self.inside.given % c.len-size.result) c.push_boxed-carry.new.out
-    ∙ ap (λ n. slice_set (contents c.exchange.new.places.items) (c.self.inside.given % n) c.push_boxed-carry.new.out.value) count)
+    ∙ ap (λ n. slice_set (held c.exchange.new.places.items) (c.self.inside.given % n) c.push_boxed-carry.new.out.value) count)
     c.keep.ensures.count
