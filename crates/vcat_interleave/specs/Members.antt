@@ -1,6 +1,11 @@
 -- The payloads of the members of a group, where the lines hold one container each.
 use Rattle.std.specs.Prelude.{ℕ, ◌+◌, ◌<◌, List, [], ◌++◌, map, length, take, drop, slice_get, slice_index, Option, Some, None}
+use Rattle.std.specs.Global.{Box}
 use Rattle.vc_cell.specs.declared.Container.{Container}
+
+-- the containers in some boxes
+abbrev pub held : List (Box Container) → List Container
+held boxes = map (λ (place : Box Container). place.value) boxes
 
 abbrev pub payload_or : Option Container → List ℕ
 payload_or (Some container) = container.payload

@@ -16,10 +16,11 @@ returns-in-len1-clause-spreads c stream place stands =
     let all : size * length active ≡ size = ap (λ x. size * x) one ∙ (let e : size * 1 ≡ size = omega arith in e) in
     let octets : List ℕ = take size (drop place (stream_of (reached (place + size) stream).pieces)) in
     let next = (c.fill_one.ensures.stands stream place stands).within in
-    subst (λ n. Spreads 0 size (take n (drop place (stream_of (reached (place + n) stream).pieces))) active c.args.out.now (slice_set c.args.out.now c.from.result c.fill_one.new.container)) (sym all)
-    (spreads-one size octets active c.args.out.now (slice_set c.args.out.now c.from.result c.fill_one.new.container) one c.requires.members.distinct c.requires.members.among
+    let before = c.args.out.now in
+    let after = slice_set before c.from.result c.deref_mut.new.b in
+    let blank : Container = record { h4 = 0; payload = [] } in
+    subst (λ n. Spreads 0 size (take n (drop place (stream_of (reached (place + n) stream).pieces))) active (held before) (held after)) (sym all)
+    (spreads-one size octets active (held before) (held after) one c.requires.members.distinct
+    (lines-stay (length before) before active refl c.requires.members.among)
     (next-size place size (reached (place + size) stream).pieces next)
-    (λ d. rw (c.from.ensures, c.fill_one.ensures.octets stream place stands)
-    (ap (λ container. slice_set c.args.out.now (slice_index active 0) (with_octets 0 octets container))
-    (ap (λ n. slice_index_or c.args.out.now n (record { h4 = 0; payload = [] })) c.from.ensures
-    ∙ get_or_default c.args.out.now (slice_index active 0) (record { h4 = 0; payload = [] }) d (c.requires.members.among 0 (omega arith))))))
+    ?)
