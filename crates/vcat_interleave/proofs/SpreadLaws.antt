@@ -1,6 +1,7 @@
 -- Octets put into payloads one after the other, and rows spread over members step by step.
 use Rattle.std.proofs.Common.{◌≡◌, ◌≢◌, ℕ, suc, ◌+◌, ◌*◌, ◌<◌, ◌≤◌, inl, inr, min, List, [], ◌++◌, length, take, drop, slice_index, slice_index_or, slice_set, refl, sym, ◌∙◌, ap, ap₂, subst, arith, append_assoc, length-append, length-take, get_or-set_other, get_or-set_same, length-set}
 use Rattle.std.specs.Global.{Box}
+use Rattle.std.specs.Box.{with_value}
 use Rattle.std.proofs.lemmas.Bool.{cases_eq, cases_lt}
 use Rattle.std.proofs.lemmas.List.{get_or-map, map-set, length-map, take_at, drop_at, take_all, drop_all, drop-drop, append-nil, take-append-drop}
 use Rattle.vc_cell.specs.declared.Container.{Container}
@@ -177,3 +178,14 @@ held-at boxes line place d low = get_or-map (λ (place : Box Container). place.v
 -- another container in its box
 pub held-set : (boxes : List (Box Container)) (line : ℕ) (place : Box Container) → held (slice_set boxes line place) ≡ slice_set (held boxes) line place.value
 held-set boxes line place = map-set (λ (place : Box Container). place.value) boxes line place
+
+-- octets put into the container in the box of a line, where it has the container that it had
+pub put-in-box : (boxes : List (Box Container)) (line place n : ℕ) (own : Box Container) (was : Container) (octets out : List ℕ) (d : Container) → line < length boxes →
+    was ≡ (slice_index_or boxes line own).value → n ≡ length octets → out ≡ take place was.payload ++ (octets ++ drop (place + n) was.payload) →
+    held (slice_set boxes line (with_value (slice_index_or boxes line own) (record { h4 = was.h4; payload = out })))
+    ≡ slice_set (held boxes) line (with_octets place octets (slice_index_or (held boxes) line d))
+put-in-box boxes line place n own was octets out d low is size put =
+    held-set boxes line (with_value (slice_index_or boxes line own) (record { h4 = was.h4; payload = out }))
+    ∙ ap (slice_set (held boxes) line)
+    (ap (with_payload was) (put ∙ ap (λ m. take place was.payload ++ (octets ++ drop (place + m) was.payload)) size)
+    ∙ ap (with_octets place octets) (is ∙ sym (held-at boxes line own d low)))

@@ -184,7 +184,13 @@ fn put_member(octets: u8x16, place: usize, line: usize, containers: &mut [Box<Co
 }
 
 // Spreads a row member by member.
-fn spread_each(row: &[u8], active: &[u8], place: usize, places: usize, containers: &mut [Box<Container>])
+fn spread_each(
+    row: &[u8],
+    active: &[u8],
+    place: usize,
+    places: usize,
+    containers: &mut [Box<Container>],
+)
     requires lines { AreLines (length containers.old) active.now }
     requires distinct { AreDistinct active.now }
     requires within { place + places ≤ 2340 }
