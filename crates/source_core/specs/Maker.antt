@@ -14,5 +14,5 @@ IsMaker maker = IsTerminal (terminal_in maker) (length maker.row.items)
 
 -- and beside them there is a box for each line
 pub record IsCore (maker : Maker) (boxes : ℕ) : Type 0 where
-  pub maker : IsMaker maker
-  pub boxes : boxes ≡ maker.table.lines
+  pub made : IsMaker maker
+  pub places : boxes ≡ maker.table.lines

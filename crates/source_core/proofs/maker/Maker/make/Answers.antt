@@ -1,6 +1,5 @@
 -- A tick keeps what is true of the fields, makes the frame of the scenario, and leads to the next one.
-use Rattle.std.proofs.Common.{◌≡◌, ◌↔◌, true, ℕ, ◌+◌, ◌*◌, List, take, drop, length, sym, ◌∙◌, ap, subst, arith}
-use Rattle.std.specs.Option.{is_some}
+use Rattle.std.proofs.Common.{◌≡◌, ℕ, ◌+◌, ◌*◌, List, take, drop, length, sym, ◌∙◌, ap, subst, arith}
 use Rattle.std.specs.Vec.{with_items}
 use Rattle.std.specs.Global.{Box}
 use Rattle.std.proofs.lemmas.List.{with_items_is, length-map}
@@ -8,14 +7,12 @@ use Rattle.vc_cell.specs.declared.Container.{Container}
 use Rattle.session_model.specs.Piece.{stream_of}
 use Rattle.session_model.specs.Client.{reached, place_of}
 use Rattle.session_model.specs.Payload.{payload_of}
-use Rattle.session_model.specs.Sent.{frame_of}
 use Rattle.gfp_fill.specs.Stream.{Stands as HasWritten}
-use Rattle.source_core.specs.Terminal.{Terminal, needed}
 use Rattle.vcat_interleave.specs.Members.{held}
 use Rattle.vcat_interleave.specs.Spread.{Spreads}
 use Rattle.source_core.specs.Frame.{AreBegun}
 use Rattle.source_core.specs.Step.{is_step, nibbles_by, AreMembers}
-use Rattle.source_core.specs.Given.{with_cell, stream_now, Stands}
+use Rattle.source_core.specs.Given.{with_cell, stream_now}
 use Rattle.source_core.proofs.FieldSteps.{next-members, nibbles_by-length, IsTerminal-ticked, frame-fits}
 use Rattle.source_core.proofs.FrameLaws.{sent-frame}
 use Rattle.source_core.proofs.TickSteps.{is-due, next-fields, Stands-ticked, row-ticked, frame-ticked}

@@ -12,8 +12,8 @@ pub invariant_of-self : goal.invariant_of-self
 invariant_of-self c =
     let f = c.self.inside.maker in
     record {
-      maker = IsTerminal-asked f.lag f.size f.ticks f.queue f.filler f.table c.add.new.self f.active.items f.nibbles.items (length f.row.items) (add c.args.line) c.add.ensures.asked c.self.invariant.maker;
-      boxes = c.self.invariant.boxes ∙ sym (ap (λ (course : Course). course.lines) c.add.ensures.asked);
+      made = IsTerminal-asked f.lag f.size f.ticks f.queue f.filler f.table c.add.new.self f.active.items f.nibbles.items (length f.row.items) (add c.args.line) c.add.ensures.asked c.self.invariant.made;
+      places = c.self.invariant.places ∙ sym (ap (λ (course : Course). course.lines) c.add.ensures.asked);
     }
 
 pub returns-clause-stands : goal.returns-clause-stands

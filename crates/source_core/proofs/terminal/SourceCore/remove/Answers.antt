@@ -12,8 +12,8 @@ pub invariant_of-self : goal.invariant_of-self
 invariant_of-self c =
     let f = c.self.inside.maker in
     record {
-      maker = IsTerminal-asked f.lag f.size f.ticks f.queue f.filler f.table c.remove.new.self f.active.items f.nibbles.items (length f.row.items) (remove c.args.line) c.remove.ensures.asked c.self.invariant.maker;
-      boxes = c.self.invariant.boxes ∙ sym (ap (λ (course : Course). course.lines) c.remove.ensures.asked);
+      made = IsTerminal-asked f.lag f.size f.ticks f.queue f.filler f.table c.remove.new.self f.active.items f.nibbles.items (length f.row.items) (remove c.args.line) c.remove.ensures.asked c.self.invariant.made;
+      places = c.self.invariant.places ∙ sym (ap (λ (course : Course). course.lines) c.remove.ensures.asked);
     }
 
 pub returns-clause-stands : goal.returns-clause-stands
