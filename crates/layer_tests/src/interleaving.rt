@@ -37,6 +37,28 @@ fn lines(alloc: Global, members: usize) -> Result<Vec<u8>, AllocError>
     Ok(lines)
 }
 
+// So many boxes, each with this container.
+fn boxes(alloc: Global, blank: &Container, members: usize) -> Result<Vec<Box<Container>>, AllocError>
+    ensures { IfOk result (λ boxes. length boxes.items ≡ members) }
+{
+    let mut boxes = Vec::with_capacity(alloc, members)?;
+    for _ in 0..members {
+        boxes.push(Box::new(alloc, *blank)?)?;
+    }
+    Ok(boxes)
+}
+
+// The containers in boxes.
+fn contents(alloc: Global, boxes: &[Box<Container>]) -> Result<Vec<Container>, AllocError>
+    ensures { IfOk result (λ containers. length containers.items ≡ length boxes.now) }
+{
+    let mut containers = Vec::with_capacity(alloc, boxes.len())?;
+    for place in boxes {
+        containers.push(**place)?;
+    }
+    Ok(containers)
+}
+
 // An octet of a row that differs from those near it.
 fn octet(i: usize) -> u8 {
     (i % 251) as u8
@@ -52,7 +74,7 @@ fn all_members_are_spread_and_gathered(rt: HostRuntime) -> Result<(), Fail> {
                 h4: 7,
                 payload: [0xff; PAYLOAD],
             };
-            let mut containers = vec![in alloc; blank; members]?;
+            let mut containers = boxes(alloc, &blank, members)?;
             let mut row = vec![in alloc; 0u8; places * members]?;
             for (i, place) in row.iter_mut().enumerate() {
                 *place = octet(i);
@@ -75,7 +97,7 @@ fn all_members_are_spread_and_gathered(rt: HostRuntime) -> Result<(), Fail> {
                 );
             }
             let mut back = vec![in alloc; 0u8; places * members]?;
-            gather_places(&containers, &active, 0, places, &mut back);
+            gather_places(&contents(alloc, &containers)?, &active, 0, places, &mut back);
             assert!(rt; back.as_slice() == row.as_slice(), "{members} members");
         }
     }

@@ -13,10 +13,11 @@ const CONTAINER: Container = Container {
     payload: [7; PAYLOAD],
 };
 
-// A push, where the line can take one.
-fn push(line: &mut WalkLine) {
+// A push, where the line can take one. The container lies in a box of the caller's.
+fn push(line: &mut WalkLine, place: &mut Box<Container>) {
     if !line.all_pushed() && !line.is_full() {
-        line.push(&CONTAINER);
+        **place = CONTAINER;
+        line.push(place);
     }
 }
 
@@ -30,16 +31,17 @@ fn a_ring_fills_and_is_popped(rt: HostRuntime) -> Result<(), Fail> {
     };
     let mut line = WalkLine::new(rt.alloc(), 0, &[window], 4, 2)?;
     let mut rows = RowGather::new(rt.alloc(), 1)?;
+    let mut place = Box::new(rt.alloc(), CONTAINER)?;
     assert!(rt; !line.pop_into(&mut rows, 0));
     // A cell, the sign of a failure, and nothing.
-    push(&mut line);
+    push(&mut line, &mut place);
     assert!(rt; !line.is_full());
-    push(&mut line);
+    push(&mut line, &mut place);
     assert!(rt; line.is_full());
     assert!(rt; line.pop_into(&mut rows, 0));
     assert_eq!(rt; rows.row(), RowAnswer::Row);
     assert!(rt; !line.is_full());
-    push(&mut line);
+    push(&mut line, &mut place);
     assert!(rt; !line.is_full());
     assert_eq!(rt; line.carried(), 3);
     Ok(())

@@ -95,13 +95,14 @@ impl LineCore {
         }
     }
 
-    /// Carries a container on as `push_from` does, but changes `out` for the box of a good cell's container.
-    pub fn push_boxed(&mut self, container: &Container, out: &mut Box<Container>) -> Carry
+    /// Carries a container on as `push_from` does, but takes its box, and gives that of a good cell's container. Another box lies in
+    /// `container` afterwards.
+    pub fn push_box(&mut self, container: &mut Box<Container>, out: &mut Box<Container>) -> Carry
         requires { self.old.pushed < self.old.total }
         ensures stands { (calls : Calls) → Stands self.old calls →
-            Stands self.new (and_push calls container.now) }
+            Stands self.new (and_push calls container.old.value) }
         ensures cells { (calls : Calls) → Stands self.old calls →
-            path_cells (and_push calls container.now)
+            path_cells (and_push calls container.old.value)
             ≡ path_cells calls ++ carry_cells result out.new.value }
         ensures kept { result ≢ Carry.Good → out.new.value ≡ out.old.value }
         ensures counts { Counts self.old self.new 1 0 }
@@ -109,9 +110,9 @@ impl LineCore {
         let fate = self.next_fate();
         self.pushed += 1;
         match fate {
-            Some(fate) => self.store.pass_boxed(fate, container, out),
+            Some(fate) => self.store.pass_box(fate, container, out),
             None => {
-                self.store.keep(container);
+                self.store.keep_box(container);
                 Carry::Nothing
             }
         }

@@ -71,6 +71,22 @@ impl Store {
         }
     }
 
+    /// Puts a container after those on their way, in its box, and leaves a spare box for it.
+    pub(crate) fn keep_box(&mut self, container: &mut Box<Container>)
+        requires room { length self.old.items < self.old.capacity }
+        requires spare { 0 < self.old.spare }
+        ensures { self.new ≡ stored (self.old.items ++ container.old.value ∷ [])
+            self.old.capacity (self.old.spare - 1) }
+    {
+        match self.spare.pop() {
+            Some(mut place) => {
+                mem::swap(&mut place, container);
+                self.append(place);
+            }
+            None => unreachable!(),
+        }
+    }
+
     /// Puts a container after those on their way, into this box.
     fn put(&mut self, mut place: Box<Container>, container: &Container)
         requires { length self.old.items < self.old.capacity }
@@ -78,6 +94,15 @@ impl Store {
             self.old.capacity self.old.spare }
     {
         *place = *container;
+        self.append(place);
+    }
+
+    /// Puts a box after those on their way.
+    fn append(&mut self, place: Box<Container>)
+        requires { length self.old.items < self.old.capacity }
+        ensures { self.new ≡ stored (self.old.items ++ place.value ∷ [])
+            self.old.capacity self.old.spare }
+    {
         let _none = self.kept.push_back(place);
     }
 
@@ -128,26 +153,29 @@ impl Store {
         carry
     }
 
-    /// Puts a container into a full store and takes the oldest out as `pass` does, but gives its box, where it comes whole.
-    pub(crate) fn pass_boxed(
+    /// Puts a container into a full store and takes the oldest out as `pass` does, but takes its box, and gives that of the oldest,
+    /// where it comes whole. Another box lies in `container` afterwards.
+    pub(crate) fn pass_box(
         &mut self,
         fate: Carried,
-        container: &Container,
+        container: &mut Box<Container>,
         out: &mut Box<Container>,
     ) -> Carry
         requires { length self.old.items ≡ self.old.capacity }
-        ensures store { self.new ≡ stored (drop 1 (self.old.items ++ container.now ∷ []))
+        ensures store { self.new ≡ stored (drop 1 (self.old.items ++ container.old.value ∷ []))
             self.old.capacity self.old.spare }
-        ensures cells { (x : Container) → slice_get (self.old.items ++ container.now ∷ []) 0 ≡ Some x →
+        ensures cells { (x : Container) →
+            slice_get (self.old.items ++ container.old.value ∷ []) 0 ≡ Some x →
             carry_cells result out.new.value ≡ cells_of fate x }
         ensures kept { result ≢ Carry.Good → out.new.value ≡ out.old.value }
     {
         if self.is_empty() {
-            return go_by(fate, container, out);
+            return change(fate, container, out);
         }
         let mut oldest = self.take_oldest();
         let carry = change(fate, &mut oldest, out);
-        self.put(oldest, container);
+        mem::swap(&mut oldest, container);
+        self.append(oldest);
         carry
     }
 }

@@ -1,9 +1,10 @@
 //! The containers of a frame.
 
-ghost use Rattle.std.specs.Prelude.{◌≡◌, ℕ, ◌+◌, ◌-◌, ◌*◌, ◌<◌, ◌≤◌, if◌then◌else◌, All, false, length, take, drop, replicate, slice_index_or};
+ghost use Rattle.std.specs.Prelude.{◌≡◌, IfOk, ℕ, ◌+◌, ◌-◌, ◌*◌, ◌<◌, ◌≤◌, if◌then◌else◌, All, false, length, take, drop, replicate, slice_index_or};
 ghost use Rattle.session_model.specs.Piece.{stream_of};
 ghost use Rattle.session_model.specs.Client.{Stream, reached};
 ghost use Rattle.gfp_fill.specs.Stream.{Stands};
+ghost use Rattle.vc_cell.specs.Held.{held};
 ghost use Rattle.vcat_interleave.specs.Members.{AreLines, with_octets};
 ghost use Rattle.vcat_interleave.specs.Spread.{Spreads};
 ghost use Rattle.source_core.specs.Frame.{h4_by, carries, IsBegun, AreBegun};
@@ -12,11 +13,39 @@ ghost use Rattle.source_core.specs.Step.{AreMembers, AreNibbles};
 use crate::step::NIBBLES;
 use gfp_fill::{Filler, FrameQueue};
 use h4_multiframe::h4;
-use vc_cell::Container;
+use std::alloc::{AllocError, Global};
+use vc_cell::{Container, PAYLOAD};
 use vcat_interleave::spread_places;
 
 /// The most lines of a group.
 const LINES: usize = 128;
+
+/// What stands in a box before the first frame.
+const EMPTY: Container = Container {
+    h4: 0,
+    payload: [0; PAYLOAD],
+};
+
+/// A box for the container of each line.
+pub(crate) fn boxes(alloc: Global, lines: u8) -> Result<Vec<Box<Container>>, AllocError>
+    ensures { IfOk result (λ boxes. length boxes.items ≡ lines) }
+{
+    let mut boxes = Vec::with_capacity(alloc, usize::from(lines))?;
+    for _ in 0..lines {
+        boxes.push(Box::new(alloc, EMPTY)?)?;
+    }
+    Ok(boxes)
+}
+
+/// Copies the containers out of their boxes.
+pub(crate) fn copy_out(boxes: &[Box<Container>], out: &mut [Container])
+    requires { length out.old ≡ length boxes.now }
+    ensures { out.new ≡ held boxes.now }
+{
+    for line in 0..boxes.len() {
+        out[line] = *boxes[line];
+    }
+}
 
 /// Writes H4 of all lines, by the nibbles of their packets, and zeros where no octet of the stream is carried.
 pub(crate) fn begin_all(
@@ -24,19 +53,19 @@ pub(crate) fn begin_all(
     nibbles: &[[u8; NIBBLES]],
     active: &[u8],
     size: usize,
-    out: &mut [Container],
+    out: &mut [Box<Container>],
 )
     requires lines { length nibbles.now ≡ length out.old }
     requires few { length out.old ≤ 128 }
     requires below { AreNibbles nibbles.now }
     requires members { AreMembers (length out.old) active.now }
     requires size { size ≤ 2340 }
-    ensures { AreBegun ticks nibbles.now active.now size (length out.old) out.new }
+    ensures { AreBegun ticks nibbles.now active.now size (length out.old) (held out.new) }
 {
     let carry = carriers(active);
     for line in 0..out.len() {
         let filled = filled(carry[line], size);
-        begin(h4_of(ticks, &nibbles[line]), filled, &mut out[line]);
+        begin(h4_of(ticks, &nibbles[line]), filled, &mut *out[line]);
     }
 }
 
@@ -91,7 +120,7 @@ pub(crate) fn fill_all(
     active: &[u8],
     size: usize,
     row: &mut [u8],
-    out: &mut [Container],
+    out: &mut [Box<Container>],
 )
     requires members { AreMembers (length out.old) active.now }
     requires size { size ≤ 2340 }
@@ -102,11 +131,11 @@ pub(crate) fn fill_all(
     ensures spreads { (stream : Stream) (place : ℕ) → Stands filler.old queue.old stream place →
         let len = size * length active.now in
         let octets = take len (drop place (stream_of (reached (place + len) stream).pieces)) in
-        Spreads 0 size octets active.now out.old out.new }
+        Spreads 0 size octets active.now (held out.old) (held out.new) }
 {
     match active {
         // The row of one member is what it carries.
-        [line] => fill_one(filler, queue, size, &mut out[usize::from(*line)]),
+        [line] => fill_one(filler, queue, size, &mut *out[usize::from(*line)]),
         _ => {
             let row = &mut row[..size * active.len()];
             filler.fill(queue, row);

@@ -5,6 +5,7 @@
 
 mod frame;
 mod laws;
+mod maker;
 mod step;
 mod terminal;
 

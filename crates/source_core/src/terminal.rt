@@ -8,13 +8,13 @@ ghost use Rattle.session_model.specs.Source.{refusal};
 ghost use Rattle.session_model.specs.Client.{refusal_while};
 ghost use Rattle.session_model.specs.Accepted.{refusal_in};
 ghost use Rattle.session_model.specs.Sent.{frame_of};
+ghost use Rattle.vc_cell.specs.Held.{held};
 ghost use Rattle.source_core.specs.Terminal.{needed, SameKind};
 ghost use Rattle.source_core.specs.Given.{with_frame, with_command, with_cell, IsFresh, Stands};
 
-use crate::frame::{begin_all, fill_all};
-use crate::step::{NIBBLES, no_packets, take_step};
-use arrayvec::ArrayVec;
-use gfp_fill::{AcceptFault, Filler, FrameQueue};
+use crate::frame::{boxes, copy_out};
+use crate::maker::Maker;
+use gfp_fill::AcceptFault;
 use lcas_source::{CommandFault, SourceTable};
 use session_model::Command;
 use std::alloc::{AllocError, Global};
@@ -24,36 +24,21 @@ use vc_cell::{BackCell, Container};
 /// The source terminal of a group.
 #[derive(Drop)]
 pub struct SourceCore {
-    /// The accepted frames of which no octet is sent yet.
-    queue: FrameQueue,
-    /// The stream that the frames are put into.
-    filler: Filler,
-    /// The table of the lines.
-    table: SourceTable,
-    /// The return cell of packet `k` is taken in decision step `k + lag`.
-    lag: u16,
-    /// The payload octets of a container.
-    size: u16,
-    /// How many frames were made.
-    ticks: u32,
-    /// The lines that carry payload.
-    active: ArrayVec<u8, 128>,
-    /// The nibbles of the packet of each line.
-    nibbles: Vec<[u8; NIBBLES]>,
-    /// The payload of one frame, over all lines.
-    row: Vec<u8>,
+    maker: Maker,
+    /// A frame in boxes, for a caller that has none.
+    frame: Vec<Box<Container>>,
 }
 
 impl Model for SourceCore {
     ghost use Rattle.std.specs.Prelude.{length};
     ghost use Rattle.source_core.specs.Terminal.{Terminal};
-    ghost use Rattle.source_core.specs.Step.{terminal_of, IsTerminal};
+    ghost use Rattle.source_core.specs.Maker.{terminal_in, IsCore};
 
     ghost Value = { Terminal };
 
-    ghost view = { λ s. terminal_of s.lag s.size s.ticks s.queue s.filler s.table s.active.items s.nibbles.items };
+    ghost view = { λ s. terminal_in s.maker };
 
-    ghost invariant = { λ s. IsTerminal (terminal_of s.lag s.size s.ticks s.queue s.filler s.table s.active.items s.nibbles.items) (length s.row.items) };
+    ghost invariant = { λ s. IsCore s.maker (length s.frame.items) };
 }
 
 impl SourceCore {
@@ -70,15 +55,8 @@ impl SourceCore {
         ensures ticks { IfOk result (λ core. core.ticks ≡ 0) }
     {
         Ok(SourceCore {
-            queue: FrameQueue::new(alloc)?,
-            filler: Filler::new(),
-            table: SourceTable::new(lines),
-            lag,
-            size,
-            ticks: 0,
-            active: ArrayVec::new(),
-            nibbles: no_packets(alloc, lines)?,
-            row: vec![in alloc; 0u8; usize::from(size) * usize::from(lines)]?,
+            maker: Maker::new(alloc, lines, lag, size)?,
+            frame: boxes(alloc, lines)?,
         })
     }
 
@@ -92,7 +70,7 @@ impl SourceCore {
         ensures ticks { self.new.ticks ≡ self.old.ticks }
         ensures kind { SameKind self.new self.old }
     {
-        self.queue.push(frame)
+        self.maker.queue.push(frame)
     }
 
     /// Asks for a line to become a member. A refusal tells its first cause, and changes nothing.
@@ -105,7 +83,7 @@ impl SourceCore {
         ensures ticks { self.new.ticks ≡ self.old.ticks }
         ensures kind { SameKind self.new self.old }
     {
-        self.table.add(line)
+        self.maker.table.add(line)
     }
 
     /// Asks for a line to be no member any more. A refusal tells its first cause, and changes nothing.
@@ -119,21 +97,21 @@ impl SourceCore {
         ensures ticks { self.new.ticks ≡ self.old.ticks }
         ensures kind { SameKind self.new self.old }
     {
-        self.table.remove(line)
+        self.maker.table.remove(line)
     }
 
     /// The first cause for which a frame would be refused now; none where it would be taken.
     pub fn frame_refusal(&self, frame: &[u8]) -> Option<AcceptFault>
         ensures { result ≡ refusal_while self.now.queue.waiting frame.now }
     {
-        self.queue.refusal(frame)
+        self.maker.queue.refusal(frame)
     }
 
     /// The first cause for which a command would be refused now; none where it would be taken.
     pub fn command_refusal(&self, command: Command) -> Option<CommandFault>
         ensures { result ≡ refusal self.now.lines command self.now.table.source }
     {
-        self.table.refusal(command)
+        self.maker.table.refusal(command)
     }
 
     /// The number of the return cell that the next tick takes. It takes one exactly where it makes decision step `j`, so that the
@@ -141,9 +119,9 @@ impl SourceCore {
     pub fn needs_back(&self) -> Option<u32>
         ensures { result ≡ needed self.now }
     {
-        let step = self.ticks / 16;
-        let lag = u32::from(self.lag);
-        if self.ticks % 16 == 8 && step >= lag {
+        let step = self.maker.ticks / 16;
+        let lag = u32::from(self.maker.lag);
+        if self.maker.ticks % 16 == 8 && step >= lag {
             Some(step - lag)
         } else {
             None
@@ -165,31 +143,32 @@ impl SourceCore {
         ensures ticks { self.new.ticks ≡ self.old.ticks + 1 }
         ensures kind { SameKind self.new self.old }
     {
-        take_step(
-            self.ticks,
-            back,
-            &mut self.table,
-            &mut self.active,
-            &mut self.nibbles,
-        );
-        let size = usize::from(self.size);
-        begin_all(self.ticks, &self.nibbles, &self.active, size, out);
-        fill_all(
-            &mut self.filler,
-            &mut self.queue,
-            &self.active,
-            size,
-            &mut self.row,
-            out,
-        );
-        self.ticks += 1;
+        self.maker.make(back, &mut self.frame);
+        copy_out(&self.frame, out);
+    }
+
+    /// Makes the next frame as `tick` does, each container in the box of its line.
+    pub fn tick_boxed(&mut self, back: Option<BackCell>, out: &mut [Box<Container>])
+        requires places { length out.old ≡ self.old.lines }
+        requires back { IsSome back ↔ IsSome (needed self.old) }
+        requires few { self.old.ticks < 4294967295 }
+        ensures stands { (scenario : Scenario) (cells : List (Option Told)) →
+            Stands self.old scenario cells →
+            Stands self.new scenario (with_cell cells back) }
+        ensures frame { (scenario : Scenario) (cells : List (Option Told)) →
+            Stands self.old scenario cells →
+            held out.new ≡ frame_of scenario (with_cell cells back) self.old.ticks }
+        ensures ticks { self.new.ticks ≡ self.old.ticks + 1 }
+        ensures kind { SameKind self.new self.old }
+    {
+        self.maker.make(back, out);
     }
 
     /// How many frames were made.
     pub fn ticks(&self) -> u32
         ensures { result ≡ self.now.ticks }
     {
-        self.ticks
+        self.maker.ticks
     }
 
     /// The table of the lines after the last decision step.
@@ -197,6 +176,6 @@ impl SourceCore {
         ensures table { result.now ≡ self.now.table }
         ensures steps { result.now.steps ≡ steps_in self.now.ticks }
     {
-        &self.table
+        &self.maker.table
     }
 }

@@ -17,6 +17,12 @@ const PIECE: usize = 2048;
 /// The most members of a group.
 const MEMBERS: usize = 128;
 
+/// What stands in a place at first.
+const BLANK: Container = Container {
+    h4: 0,
+    payload: [0x5a; PAYLOAD],
+};
+
 /// What is done with a row.
 #[derive(Clone, Copy)]
 enum Pass {
@@ -62,7 +68,7 @@ fn spread(
     places: usize,
     active: &[u8],
     row: &mut [u8],
-    containers: &mut [Container],
+    containers: &mut [Box<Container>],
 ) -> u64
     requires some { 0 < places }
     requires row { length row.old ≡ places * length active.now }
@@ -125,6 +131,17 @@ fn run(alloc: Global, way: Way, members: usize, octets: u64) -> Result<(u64, u64
     }
 }
 
+/// As many boxes as there are members.
+fn boxes(alloc: Global, members: usize) -> Result<Vec<Box<Container>>, AllocError>
+    ensures { IfOk result (λ boxes. length boxes.items ≡ members) }
+{
+    let mut boxes = Vec::with_capacity(alloc, members)?;
+    for _ in 0..members {
+        boxes.push(Box::new(alloc, BLANK)?)?;
+    }
+    Ok(boxes)
+}
+
 /// Spreads or gathers at least `octets` octets.
 fn run_rows(
     alloc: Global,
@@ -134,14 +151,9 @@ fn run_rows(
 ) -> Result<(u64, u64), AllocError>
     requires { members ≤ 128 }
 {
-    let blank = Container {
-        h4: 0,
-        payload: [0x5a; PAYLOAD],
-    };
     let active = lines(alloc, members)?;
     let places = places_of(members);
     let mut row = vec![in alloc; 0x5au8; places * members]?;
-    let mut containers = vec![in alloc; blank; members]?;
     let a_round = (PAYLOAD / places * places * members) as u64;
     let rounds = if a_round == 0 {
         0
@@ -149,8 +161,14 @@ fn run_rows(
         octets.div_ceil(a_round)
     };
     let sum = match pass {
-        Pass::Spread => spread(rounds, places, &active, &mut row, &mut containers),
-        Pass::Gather => gather(rounds, places, &active, &mut row, &mut containers),
+        Pass::Spread => {
+            let mut containers = boxes(alloc, members)?;
+            spread(rounds, places, &active, &mut row, &mut containers)
+        }
+        Pass::Gather => {
+            let mut containers = vec![in alloc; BLANK; members]?;
+            gather(rounds, places, &active, &mut row, &mut containers)
+        }
     };
     Ok((rounds.wrapping_mul(a_round), sum))
 }

@@ -1,9 +1,12 @@
 -- Octets put into payloads one after the other, and rows spread over members step by step.
 use Rattle.std.proofs.Common.{◌≡◌, ◌≢◌, ℕ, suc, ◌+◌, ◌*◌, ◌<◌, ◌≤◌, inl, inr, min, List, [], ◌++◌, length, take, drop, slice_index, slice_index_or, slice_set, refl, sym, ◌∙◌, ap, ap₂, subst, arith, append_assoc, length-append, length-take, get_or-set_other, get_or-set_same, length-set}
+use Rattle.std.specs.Global.{Box}
+use Rattle.std.specs.Box.{with_value}
 use Rattle.std.proofs.lemmas.Bool.{cases_eq, cases_lt}
-use Rattle.std.proofs.lemmas.List.{take_at, drop_at, take_all, drop_all, drop-drop, append-nil, take-append-drop}
+use Rattle.std.proofs.lemmas.List.{get_or-map, map-set, length-map, take_at, drop_at, take_all, drop_all, drop-drop, append-nil, take-append-drop}
 use Rattle.vc_cell.specs.declared.Container.{Container}
 use Rattle.session_model.specs.Interleave.{part_of}
+use Rattle.vc_cell.specs.Held.{held}
 use Rattle.vcat_interleave.specs.Members.{with_octets, AreLines}
 use Rattle.vcat_interleave.specs.Spread.{SpreadsOver, AreDistinct}
 use Rattle.vcat_interleave.proofs.PlaceLaws.{put_at}
@@ -161,5 +164,29 @@ spreads-empty from upto place row active containers = record {
 }
 
 -- the lines are as many as before
-pub lines-stay : (n m : ℕ) (active : List ℕ) → m ≡ n → AreLines n active → AreLines m active
-lines-stay n m active same lines rank below = rw same (lines rank below)
+pub lines-stay : (n : ℕ) (boxes : List (Box Container)) (active : List ℕ) → length boxes ≡ n → AreLines n active → AreLines (length (held boxes)) active
+lines-stay n boxes active same lines rank below =
+    let size : length (held boxes) ≡ n = length-map boxes (λ (place : Box Container). place.value) ∙ same in
+    let low : slice_index active rank < n = lines rank below in
+    omega (arith, size, low)
+
+-- ---- the boxes of the lines
+-- the container in the box of a line
+pub held-at : (boxes : List (Box Container)) (line : ℕ) (place : Box Container) (d : Container) → line < length boxes →
+    slice_index_or (held boxes) line d ≡ (slice_index_or boxes line place).value
+held-at boxes line place d low = get_or-map (λ (place : Box Container). place.value) boxes line place d low
+
+-- another container in its box
+pub held-set : (boxes : List (Box Container)) (line : ℕ) (place : Box Container) → held (slice_set boxes line place) ≡ slice_set (held boxes) line place.value
+held-set boxes line place = map-set (λ (place : Box Container). place.value) boxes line place
+
+-- octets put into the container in the box of a line, where it has the container that it had
+pub put-in-box : (boxes : List (Box Container)) (line place n : ℕ) (own : Box Container) (was : Container) (octets out : List ℕ) (d : Container) → line < length boxes →
+    was ≡ (slice_index_or boxes line own).value → n ≡ length octets → out ≡ take place was.payload ++ (octets ++ drop (place + n) was.payload) →
+    held (slice_set boxes line (with_value (slice_index_or boxes line own) (record { h4 = was.h4; payload = out })))
+    ≡ slice_set (held boxes) line (with_octets place octets (slice_index_or (held boxes) line d))
+put-in-box boxes line place n own was octets out d low is size put =
+    held-set boxes line (with_value (slice_index_or boxes line own) (record { h4 = was.h4; payload = out }))
+    ∙ ap (slice_set (held boxes) line)
+    (ap (with_payload was) (put ∙ ap (λ m. take place was.payload ++ (octets ++ drop (place + m) was.payload)) size)
+    ∙ ap (with_octets place octets) (is ∙ sym (held-at boxes line own d low)))

@@ -3,6 +3,7 @@ ghost use Rattle.std.specs.Prelude.{◌≡◌, ◌≢◌, ℕ, ◌+◌, ◌-◌,
 ghost use Rattle.vc_cell.specs.declared.Container.{Container};
 ghost use Rattle.session_model.specs.Interleave.{part_of};
 ghost use Rattle.vcat_interleave.specs.Square.{octet_at, overhang};
+ghost use Rattle.vc_cell.specs.Held.{held};
 ghost use Rattle.vcat_interleave.specs.Members.{AreLines, with_octets};
 ghost use Rattle.vcat_interleave.specs.Spread.{SpreadsOver, Spreads, AreDistinct};
 
@@ -30,19 +31,20 @@ pub fn spread_places(
     active: &[u8],
     place: usize,
     places: usize,
-    containers: &mut [Container],
+    containers: &mut [Box<Container>],
 )
     requires lines { AreLines (length containers.old) active.now }
     requires distinct { AreDistinct active.now }
     requires within { place + places ≤ 2340 }
     requires row { length row.now ≡ places * length active.now }
     ensures members { (rank : ℕ) (c : Container) → rank < length active.now →
-        slice_index_or containers.new (slice_index active.now rank) c
+        slice_index_or (held containers.new) (slice_index active.now rank) c
         ≡ with_octets place (part_of rank (length active.now) places row.now)
-        (slice_index_or containers.old (slice_index active.now rank) c) }
+        (slice_index_or (held containers.old) (slice_index active.now rank) c) }
     ensures others { (line : ℕ) (c : Container) →
         ((rank : ℕ) → rank < length active.now → slice_index active.now rank ≢ line) →
-        slice_index_or containers.new line c ≡ slice_index_or containers.old line c }
+        slice_index_or (held containers.new) line c
+        ≡ slice_index_or (held containers.old) line c }
 {
     let x = active.len();
     let squares = squares_over(x, row.len());
@@ -58,14 +60,15 @@ fn spread_squares(
     active: &[u8],
     place: usize,
     squares: usize,
-    containers: &mut [Container],
+    containers: &mut [Box<Container>],
 )
     requires lines { AreLines (length containers.old) active.now }
     requires distinct { AreDistinct active.now }
     requires within { place + squares * 16 ≤ 2340 }
     requires room { 0 < squares →
         squares * 16 * length active.now + overhang (length active.now) ≤ length row.now }
-    ensures { Spreads place (squares * 16) row.now active.now containers.old containers.new }
+    ensures { Spreads place (squares * 16) row.now active.now
+        (held containers.old) (held containers.new) }
 {
     let x = active.len();
     for k in 0..x / SIDE {
@@ -81,7 +84,7 @@ fn spread_last(
     rank: usize,
     place: usize,
     squares: usize,
-    containers: &mut [Container],
+    containers: &mut [Box<Container>],
 )
     requires lines { AreLines (length containers.old) active.now }
     requires distinct { AreDistinct active.now }
@@ -90,7 +93,7 @@ fn spread_last(
     requires room { 0 < squares →
         squares * 16 * length active.now + overhang (length active.now) ≤ length row.now }
     ensures { SpreadsOver rank (length active.now) place (squares * 16) row.now active.now
-        containers.old containers.new }
+        (held containers.old) (held containers.new) }
 {
     let ranks = active.len() - rank;
     if ranks > 0 {
@@ -107,7 +110,7 @@ fn spread_ranks(
     ranks: usize,
     place: usize,
     squares: usize,
-    containers: &mut [Container],
+    containers: &mut [Box<Container>],
 )
     requires lines { AreLines (length containers.old) active.now }
     requires distinct { AreDistinct active.now }
@@ -117,7 +120,7 @@ fn spread_ranks(
     requires room { 0 < squares →
         squares * 16 * length active.now + (rank + 16) ≤ length row.now + length active.now }
     ensures { SpreadsOver rank (rank + ranks) place (squares * 16) row.now active.now
-        containers.old containers.new }
+        (held containers.old) (held containers.new) }
 {
     let x = active.len();
     for k in 0..squares {
@@ -135,7 +138,7 @@ fn spread_square(
     rank: usize,
     ranks: usize,
     place: usize,
-    containers: &mut [Container],
+    containers: &mut [Box<Container>],
 )
     requires lines { AreLines (length containers.old) active.now }
     requires distinct { AreDistinct active.now }
@@ -144,7 +147,7 @@ fn spread_square(
     requires within { place + 16 ≤ 2340 }
     requires room { 15 * length active.now + (rank + 16) ≤ length row.now }
     ensures { SpreadsOver rank (rank + ranks) place 16 row.now active.now
-        containers.old containers.new }
+        (held containers.old) (held containers.new) }
 {
     let columns = turned(rows_between(row, rank, active.len()));
     for i in 0..ranks {
@@ -168,25 +171,33 @@ fn rows_between(row: &[u8], rank: usize, x: usize) -> [u8x16; 16]
 
 // Puts sixteen octets at a place of a line's payload.
 #[inline]
-fn put_member(octets: u8x16, place: usize, line: usize, containers: &mut [Container])
+fn put_member(octets: u8x16, place: usize, line: usize, containers: &mut [Box<Container>])
     requires line { line < length containers.old }
     requires within { place + 16 ≤ 2340 }
-    ensures put { (c : Container) → containers.new
-        ≡ slice_set containers.old line
-        (with_octets place octets (slice_index_or containers.old line c)) }
+    ensures put { (c : Container) → held containers.new
+        ≡ slice_set (held containers.old) line
+        (with_octets place octets (slice_index_or (held containers.old) line c)) }
     ensures octets { length octets ≡ 16 }
-    ensures size { (c : Container) → length (slice_index_or containers.old line c).payload ≡ 2340 }
+    ensures size { (c : Container) →
+        length (slice_index_or (held containers.old) line c).payload ≡ 2340 }
 {
     put_octets(octets, place, &mut containers[line].payload);
 }
 
 // Spreads a row member by member.
-fn spread_each(row: &[u8], active: &[u8], place: usize, places: usize, containers: &mut [Container])
+fn spread_each(
+    row: &[u8],
+    active: &[u8],
+    place: usize,
+    places: usize,
+    containers: &mut [Box<Container>],
+)
     requires lines { AreLines (length containers.old) active.now }
     requires distinct { AreDistinct active.now }
     requires within { place + places ≤ 2340 }
     requires row { length row.now ≡ places * length active.now }
-    ensures { Spreads place places row.now active.now containers.old containers.new }
+    ensures { Spreads place places row.now active.now
+        (held containers.old) (held containers.new) }
 {
     let x = active.len();
     for rank in 0..x {
@@ -203,15 +214,17 @@ fn put_part(
     place: usize,
     places: usize,
     line: usize,
-    containers: &mut [Container],
+    containers: &mut [Box<Container>],
 )
     requires rank { rank < x }
     requires line { line < length containers.old }
     requires within { place + places ≤ 2340 }
     requires row { length row.now ≡ places * x }
-    ensures put { (c : Container) → containers.new ≡ slice_set containers.old line
-        (with_octets place (part_of rank x places row.now) (slice_index_or containers.old line c)) }
-    ensures size { (c : Container) → length (slice_index_or containers.old line c).payload ≡ 2340 }
+    ensures put { (c : Container) → held containers.new ≡ slice_set (held containers.old) line
+        (with_octets place (part_of rank x places row.now)
+        (slice_index_or (held containers.old) line c)) }
+    ensures size { (c : Container) →
+        length (slice_index_or (held containers.old) line c).payload ≡ 2340 }
 {
     put_piece(row, rank, x, place, places, &mut containers[line].payload);
 }

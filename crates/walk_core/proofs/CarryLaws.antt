@@ -1,7 +1,7 @@
 -- A line carries, by its numbers.
 use Rattle.std.proofs.Common.{◌≡◌, ℕ, zero, suc, ◌+◌, ◌-◌, ◌%◌, ◌<◌, ◌≤◌, ◌&&◌, min, nat_le, nat_lt, true, false, List, [], ◌∷◌, length, take, map, slice_get, slice_set, Option, Some, None, refl, sym, ◌∙◌, ap, subst, arith, inl, inr}
 use Rattle.std.proofs.lemmas.List.{length-take, length-map}
-use Rattle.std.specs.Global.{Vec}
+use Rattle.std.specs.Global.{Vec, Box}
 use Rattle.session_model.specs.Sent.{container_of, frame_of}
 use Rattle.std.proofs.lemmas.Bool.{cases_lt, cases_Bool, cases_eq}
 use Rattle.vc_cell.specs.declared.Container.{Container}
@@ -33,10 +33,10 @@ use Rattle.walk_parts.specs.Ringed.{Ringed, ring_of}
 use Rattle.walk_core.specs.declared.moved.StepNote.{StepNote}
 use Rattle.walk_core.specs.declared.moved.Moved.TheVariants.{Yes, Stalled}
 use Rattle.walk_core.specs.Moved.{answer_by, moved_of, counts_after}
-use Rattle.walk_core.specs.Parts.{Parts, Landing, HasSent, counts_of, calls_on, line_counts, HasLine, IsWalk}
-use Rattle.walk_core.specs.Carry.{carry_cause, CanCarry, HasRoom, IsSentOn}
+use Rattle.walk_core.specs.Parts.{Parts, Landing, frame_in, HasSent, counts_of, calls_on, line_counts, HasLine, IsWalk}
+use Rattle.walk_core.specs.Carry.{carry_cause, CanCarry, HasRoom, IsSentOn, IsCarriedAt}
 use Rattle.walk_core.proofs.EventLaws.{walked-next}
-use Rattle.walk_core.proofs.SendLaws.{sent-later, set-carries, counts-of}
+use Rattle.walk_core.proofs.SendLaws.{sent-carried, counts-here, counts-of}
 
 -- a line in numbers
 pub record AreNumbers (script : Script) (m : ℕ) (line : Ringed) : Type 0 where
@@ -186,7 +186,7 @@ map-get f [] m x e = absurd cc
 map-get f (y ∷ xs) zero x e = ap Some (ap f (let h : y ≡ x = cc in h))
 map-get f (y ∷ xs) (suc m) x e = map-get f xs m x e
 
-frame-at : (script : Script) (m x : ℕ) → m < length script.config.windows → slice_get (frame_of (scenario_of script) (session_cells (scenario_of script)) x) m ≡ Some (sent_at script m x)
+pub frame-at : (script : Script) (m x : ℕ) → m < length script.config.windows → slice_get (frame_of (scenario_of script) (session_cells (scenario_of script)) x) m ≡ Some (sent_at script m x)
 frame-at script m x inside =
     map-get (λ line. container_of (scenario_of script) (session_cells (scenario_of script)) line x) (range_with_len 0 (length script.config.windows)) m m
     (range-at 0 (length script.config.windows) m inside ∙ ap Some (let e : 0 + m ≡ m = omega arith in e))
@@ -233,16 +233,18 @@ module _ (script : Script) (parts : Parts) (landing : Landing) (got : ℕ) (last
   pub line-room : HasRoom script m line
   line-room =
       let fits = line-fits script (counts_of parts landing) (valid-walks script is.valid) is.walked m windows in
-      let same = at-counts (counts_of parts landing).lines m (line_counts line) here in
+      let same = counts-here (counts_of parts landing).lines m (line_counts line) here in
       record {
         pops = subst (λ (l : LineCounts). l.popped ≤ (path_on script m).given l.carried) same fits.pops;
         room = subst (λ (l : LineCounts). (path_on script m).given l.carried ≤ l.popped + script.config.ring) same fits.receive;
       }
-    where
-      at-counts : (lines : List LineCounts) (m : ℕ) (line : LineCounts) → slice_get lines m ≡ Some line → counts_at lines m ≡ line
-      at-counts [] m line e = absurd cc
-      at-counts (x ∷ lines) zero line e = cc
-      at-counts (x ∷ lines) (suc m) line e = at-counts lines m line e
+
+  line-send : parts.source.ticks ≤ line.carried + 32
+  line-send =
+      let fits = line-fits script (counts_of parts landing) (valid-walks script is.valid) is.walked m windows in
+      let same = counts-here (counts_of parts landing).lines m (line_counts line) here in
+      let send = subst (λ (l : LineCounts). parts.source.ticks ≤ min l.carried script.config.ticks + 32) same fits.send in
+      omega (arith, send)
 
   pub carry-stays : (cause : StallCause) → Some cause ≡ carry_cause script.config.ticks script.config.ring parts.source.ticks m (path_on script m) (line_counts line) →
       (counts_of parts landing ≡ counts_after script (counts_of parts landing) (Carry m)) × (Stalled cause ≡ moved_of script (counts_of parts landing) (Carry m))
@@ -266,53 +268,53 @@ module _ (script : Script) (parts : Parts) (landing : Landing) (got : ℕ) (last
     pub carry-moved : Yes ≡ moved_of script (counts_of parts landing) (Carry m)
     carry-moved = ap (λ o. answer_by o None) (sym (ap (λ (x : Step). x.cause) moves))
 
-    pub carry-kept : IsWalk script (record parts { lines = slice_set parts.lines m after }) landing got last
-    carry-kept =
-        let cells : popped_cells script (counts_of parts landing).lines ≡ popped_cells script (map line_counts (slice_set parts.lines m after)) =
-        cells-same script (counts_of parts landing).lines m (line_counts line) (line_counts after) here popped ∙ ap (popped_cells script) (sym (map-set line_counts parts.lines m after)) in
-        record {
-          valid = is.valid;
-          walked = walked-next script (counts_of parts landing) _ (Carry m) is.walked carry-counts;
-          source = record { made = is.source.made; lines = is.source.lines; lag = is.source.lag; size = is.source.size };
-          sent = sent-later script parts.source.ticks _ _ parts.sent is.sent
-              (λ k. subst (λ ls. (counts_at (counts_of parts landing).lines k).carried ≤ (counts_at ls k).carried) (sym lines-are)
-              (set-carries (counts_of parts landing).lines m k (line_counts line) (record { carried = line.carried + 1; popped = line.popped }) here (omega arith)));
-          lines = record {
-            size = length-slice_set parts.lines m after ∙ is.lines.size;
-            each = λ k other e. elim (cases_eq k m) [
-              | inl same ↦ subst (λ (l : Ringed). HasLine script k l) (sym (set-here parts.lines m after other (sym (ap (slice_get (slice_set parts.lines m after)) same) ∙ e))) (subst (λ j. HasLine script j after) (sym same) has)
-              | inr apart ↦ is.lines.each k other (sym (slice_get-set_other parts.lines m k after apart) ∙ e)
-            ];
-          };
-          sink = record { gathers = subst (Gathers parts.rows) cells is.sink.gathers; taken = subst (HasTaken parts.sink) cells is.sink.taken; passed = is.sink.passed; lines = is.sink.lines; all = is.sink.all; size = is.sink.size };
-          back = record { ring = is.back.ring; inbox = is.back.inbox; room = is.back.room };
-          landed = record { frame = is.landed.frame; command = is.landed.command; refusals = is.landed.refusals; room = is.landed.room; frames = is.landed.frames; commands = is.landed.commands; refused = is.landed.refused };
-          counted = is.counted;
-          noted = is.noted;
-        }
+    module _ (sent : List (List Container)) (changed : IsCarriedAt (line.carried % 32) m parts.sent sent) where
+      pub carry-kept : IsWalk script (record parts { lines = slice_set parts.lines m after; sent = sent }) landing got last
+      carry-kept =
+          let cells : popped_cells script (counts_of parts landing).lines ≡ popped_cells script (map line_counts (slice_set parts.lines m after)) =
+          cells-same script (counts_of parts landing).lines m (line_counts line) (line_counts after) here popped ∙ ap (popped_cells script) (sym (map-set line_counts parts.lines m after)) in
+          record {
+            valid = is.valid;
+            walked = walked-next script (counts_of parts landing) _ (Carry m) is.walked carry-counts;
+            source = record { made = is.source.made; lines = is.source.lines; lag = is.source.lag; size = is.source.size };
+            sent = subst (λ ls. HasSent script parts.source.ticks ls sent) (sym lines-are)
+                (sent-carried script parts.source.ticks m (counts_of parts landing).lines (line_counts line) (record { carried = line.carried + 1; popped = line.popped }) parts.sent sent
+                is.sent here refl line-send changed);
+            lines = record {
+              size = length-slice_set parts.lines m after ∙ is.lines.size;
+              each = λ k other e. elim (cases_eq k m) [
+                | inl same ↦ subst (λ (l : Ringed). HasLine script k l) (sym (set-here parts.lines m after other (sym (ap (slice_get (slice_set parts.lines m after)) same) ∙ e))) (subst (λ j. HasLine script j after) (sym same) has)
+                | inr apart ↦ is.lines.each k other (sym (slice_get-set_other parts.lines m k after apart) ∙ e)
+              ];
+            };
+            sink = record { gathers = subst (Gathers parts.rows) cells is.sink.gathers; taken = subst (HasTaken parts.sink) cells is.sink.taken; passed = is.sink.passed; lines = is.sink.lines; all = is.sink.all; size = is.sink.size };
+            back = record { ring = is.back.ring; inbox = is.back.inbox; room = is.back.room };
+            landed = record { frame = is.landed.frame; command = is.landed.command; refusals = is.landed.refusals; room = is.landed.room; frames = is.landed.frames; commands = is.landed.commands; refused = is.landed.refused };
+            counted = is.counted;
+            noted = is.noted;
+          }
 
-    -- by a number that is the line's
-    pub carry-kept_at : (k : ℕ) → k ≡ m → IsWalk script (record parts { lines = slice_set parts.lines k after }) landing got last
-    carry-kept_at k same = subst (λ (j : ℕ). IsWalk script (record parts { lines = slice_set parts.lines j after }) landing got last) (sym same) carry-kept
+      -- by a number that is the line's
+      pub carry-kept_at : (k : ℕ) → k ≡ m → IsWalk script (record parts { lines = slice_set parts.lines k after; sent = sent }) landing got last
+      carry-kept_at k same = subst (λ (j : ℕ). IsWalk script (record parts { lines = slice_set parts.lines j after; sent = sent }) landing got last) (sym same) carry-kept
 
-    pub carry-counts_at : (k : ℕ) → k ≡ m → counts_of (record parts { lines = slice_set parts.lines k after }) landing ≡ counts_after script (counts_of parts landing) (Carry m)
-    carry-counts_at k same = ap (λ (j : ℕ). counts_of (record parts { lines = slice_set parts.lines j after }) landing) same ∙ carry-counts
+      pub carry-counts_at : (k : ℕ) → k ≡ m → counts_of (record parts { lines = slice_set parts.lines k after; sent = sent }) landing ≡ counts_after script (counts_of parts landing) (Carry m)
+      carry-counts_at k same = ap (λ (j : ℕ). counts_of (record parts { lines = slice_set parts.lines j after; sent = sent }) landing) same ∙ carry-counts
 
 -- a place of the send rings
-pub frame-size : (script : Script) (ticks : ℕ) (counts : List LineCounts) (sent : List (Vec Container)) → HasSent script ticks counts (map (λ (row : Vec Container). row.items) sent) → (k : ℕ) (frame : Vec Container) → slice_get sent k ≡ Some frame →
+pub frame-size : (script : Script) (ticks : ℕ) (counts : List LineCounts) (sent : List (Vec (Box Container))) → HasSent script ticks counts (map frame_in sent) → (k : ℕ) (frame : Vec (Box Container)) → slice_get sent k ≡ Some frame →
     length frame.items ≡ script.config.lines
-frame-size script ticks counts sent has k frame e = has.lines k frame.items (map-get (λ (row : Vec Container). row.items) sent k frame e)
+frame-size script ticks counts sent has k frame e =
+    sym (length-map frame.items (λ (b : Box Container). b.value)) ∙ has.lines k (frame_in frame) (map-get frame_in sent k frame e)
 
-pub sent-places : (script : Script) (ticks : ℕ) (counts : List LineCounts) (sent : List (Vec Container)) → HasSent script ticks counts (map (λ (row : Vec Container). row.items) sent) → length sent ≡ 32
-sent-places script ticks counts sent has = sym (length-map sent (λ (row : Vec Container). row.items)) ∙ has.places
+pub sent-places : (script : Script) (ticks : ℕ) (counts : List LineCounts) (sent : List (Vec (Box Container))) → HasSent script ticks counts (map frame_in sent) → length sent ≡ 32
+sent-places script ticks counts sent has = sym (length-map sent frame_in) ∙ has.places
 
 -- the container that a carry takes
-pub is-sent : (script : Script) (ticks : ℕ) (counts : List LineCounts) (sent : List (Vec Container)) (m x : ℕ) → HasSent script ticks counts (map (λ (row : Vec Container). row.items) sent) → m < length script.config.windows →
+pub is-sent : (script : Script) (ticks : ℕ) (counts : List LineCounts) (sent : List (Vec (Box Container))) (m x : ℕ) → HasSent script ticks counts (map frame_in sent) →
     m < script.config.lines → (counts_at counts m).carried ≤ x → (x < script.config.ticks → x < ticks) → (x < script.config.ticks → ticks ≤ x + 32) → IsSentOn script m x sent
-is-sent script ticks counts sent m x has inside own held some room low frame e =
-    let row = map-get (λ (row : Vec Container). row.items) sent (x % 32) frame e in
-    let same = same-some frame.items (frame_of (scenario_of script) (session_cells (scenario_of script)) x) (sym row ∙ has.frames x m own held (some low) (room low)) in
-    ap (λ xs. slice_get xs m) same ∙ frame-at script m x inside
+is-sent script ticks counts sent m x has own late some room low frame e =
+    has.frames x m (frame_in frame) own late (some low) (room low) (map-get frame_in sent (x % 32) frame e)
 
 module _ (script : Script) (parts : Parts) (landing : Landing) (got : ℕ) (last : Option StepNote) (is : IsWalk script parts landing got last)
     (m : ℕ) (low : m < script.config.lines) (line : Ringed) (there : slice_get parts.lines m ≡ Some line) where
@@ -320,21 +322,15 @@ module _ (script : Script) (parts : Parts) (landing : Landing) (got : ℕ) (last
   fits-line =
       let e = is.valid.network.windows_each in
       let fits = line-fits script (counts_of parts landing) (valid-walks script is.valid) is.walked m (omega (arith, low, e)) in
-      subst (LineFits script.config.ticks script.config.ring parts.source.ticks parts.sink.taken (path_on script m)) (at-line (counts_of parts landing).lines m (line_counts line) (map-get line_counts parts.lines m line there)) fits
-    where
-      at-line : (lines : List LineCounts) (m : ℕ) (line : LineCounts) → slice_get lines m ≡ Some line → counts_at lines m ≡ line
-      at-line [] m line e = absurd cc
-      at-line (x ∷ lines) zero line e = cc
-      at-line (x ∷ lines) (suc m) line e = at-line lines m line e
+      subst (LineFits script.config.ticks script.config.ring parts.source.ticks parts.sink.taken (path_on script m)) (counts-here (counts_of parts landing).lines m (line_counts line) (map-get line_counts parts.lines m line there)) fits
 
-  pub line-sent : (sent : List (Vec Container)) → map (λ (row : Vec Container). row.items) sent ≡ parts.sent → CanCarry line parts.source.ticks → IsSentOn script m line.carried sent
+  pub line-sent : (sent : List (Vec (Box Container))) → map frame_in sent ≡ parts.sent → CanCarry line parts.source.ticks → IsSentOn script m line.carried sent
   line-sent sent same can =
-      let e = is.valid.network.windows_each in
       let n = numbers script m line (is.lines.each m line there) in
       let a = n.pushed in let b = n.total in
       let fits = fits-line in
       let send = fits.send in
-      is-sent script parts.source.ticks (map line_counts parts.lines) sent m line.carried (subst (HasSent script parts.source.ticks (map line_counts parts.lines)) (sym same) is.sent) (omega (arith, low, e))
+      is-sent script parts.source.ticks (map line_counts parts.lines) sent m line.carried (subst (HasSent script parts.source.ticks (map line_counts parts.lines)) (sym same) is.sent)
       low (let own = ap (λ (l : LineCounts). l.carried) (counts-of parts.lines m line there) in omega (arith, own))
       (λ left. can.wet (omega (arith, a, b, left))) (λ left. omega (arith, send, left))
 

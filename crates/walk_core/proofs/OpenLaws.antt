@@ -1,7 +1,7 @@
 -- A walk of which no event was made.
 use Rattle.std.proofs.Common.{◌≡◌, ◌⊎◌, ℕ, zero, suc, ◌+◌, ◌-◌, ◌<◌, ◌≤◌, min, List, [], ◌∷◌, ◌++◌, All, length, take, drop, map, filter, replicate, slice_get, slice_index_or, Some, None, refl, sym, ◌∙◌, ap, subst, arith, inl, inr}
 use Rattle.std.specs.List.{range_with_len, flat_map}
-use Rattle.std.specs.Global.{Vec}
+use Rattle.std.specs.Global.{Vec, Box}
 use Rattle.std.proofs.lemmas.Bool.{cases_Bool}
 use Rattle.std.proofs.lemmas.List.{length-map}
 use Rattle.std.proofs.lemmas.List.FromFn.{length-range_with_len}
@@ -36,7 +36,7 @@ use Rattle.walk_parts.specs.Place.{is_frame, is_command, place_of}
 use Rattle.walk_parts.specs.Return.{Return, empty_return}
 use Rattle.walk_parts.specs.Ringed.{Ringed, ring_of, Has}
 use Rattle.walk_core.specs.Opened.{IsOpened, AreOpened}
-use Rattle.walk_core.specs.Parts.{HasSource, HasSent, HasLines, HasBack, counts_of, line_counts, calls_on, note_of, IsWalk}
+use Rattle.walk_core.specs.Parts.{frame_in, HasSource, HasSent, HasLines, HasBack, counts_of, line_counts, calls_on, note_of, IsWalk}
 
 -- ---- the lines
 get-last : {X : Type 0} (xs : List X) (x : X) (m : ℕ) (y : X) → slice_get (xs ++ x ∷ []) m ≡ Some y → (slice_get xs m ≡ Some y) ⊎ ((m ≡ length xs) × (y ≡ x))
@@ -119,18 +119,18 @@ none-landed (item ∷ items) i =
     ]
 
 -- ---- the send rings
-sent-long : (sent : List (Vec Container)) (n : ℕ) → All (λ (row : Vec Container). length row.items ≡ n) sent → (k : ℕ) (frame : List Container) →
-    slice_get (map (λ (row : Vec Container). row.items) sent) k ≡ Some frame → length frame ≡ n
+sent-long : (sent : List (Vec (Box Container))) (n : ℕ) → All (λ (row : Vec (Box Container)). length row.items ≡ n) sent → (k : ℕ) (frame : List Container) →
+    slice_get (map frame_in sent) k ≡ Some frame → length frame ≡ n
 sent-long [] n all k frame e = absurd cc
-sent-long (row ∷ rows) n all zero frame e = ap length (let h : frame ≡ row.items = cc in h) ∙ all 0 row (omega arith)
+sent-long (row ∷ rows) n all zero frame e = ap length (let h : frame ≡ frame_in row = cc in h) ∙ length-map row.items (λ (b : Box Container). b.value) ∙ all 0 row (omega arith)
 sent-long (row ∷ rows) n all (suc k) frame e = sent-long rows n (λ i d low. all (suc i) d (omega (arith, low))) k frame e
 
-pub sent-opened : (script : Script) (counts : List LineCounts) (sent : List (Vec Container)) → length sent ≡ 32 → All (λ (row : Vec Container). length row.items ≡ script.config.lines) sent →
-    HasSent script 0 counts (map (λ (row : Vec Container). row.items) sent)
+pub sent-opened : (script : Script) (counts : List LineCounts) (sent : List (Vec (Box Container))) → length sent ≡ 32 → All (λ (row : Vec (Box Container)). length row.items ≡ script.config.lines) sent →
+    HasSent script 0 counts (map frame_in sent)
 sent-opened script counts sent places long = record {
-  places = length-map sent (λ (row : Vec Container). row.items) ∙ places;
+  places = length-map sent frame_in ∙ places;
   lines = sent-long sent script.config.lines long;
-  frames = λ t m inside held low high. absurd (omega (arith, low));
+  frames = λ t m frame inside late low high told. absurd (omega (arith, low));
 }
 
 -- ---- nothing was told, nothing is on its way, and nothing was delivered
@@ -161,14 +161,14 @@ abbrev counts_from : ℕ → List LineCounts → ℕ → ℕ → Counts
 counts_from ticks lines rows backs = record { ticks = ticks; frames = 0; commands = 0; lines = lines; rows = rows; backs = backs }
 
 -- what is made of a script before any event
-pub record IsNew (script : Script) (source : Terminal) (sent : List (Vec Container)) (lines : List Ringed) (rows : Gather) (sink : Core) (back : Return) : Type 0 where
+pub record IsNew (script : Script) (source : Terminal) (sent : List (Vec (Box Container))) (lines : List Ringed) (rows : Gather) (sink : Core) (back : Return) : Type 0 where
   pub stands : (scenario : Scenario) → IsFresh scenario script.config.lines script.config.lag script.config.size → HasMade source scenario []
   pub lines_of : source.lines ≡ script.config.lines
   pub lag_of : source.lag ≡ script.config.lag
   pub size_of : source.size ≡ script.config.size
   pub no_ticks : source.ticks ≡ 0
   pub places : length sent ≡ 32
-  pub long : All (λ (row : Vec Container). length row.items ≡ script.config.lines) sent
+  pub long : All (λ (row : Vec (Box Container)). length row.items ≡ script.config.lines) sent
   pub are : AreOpened script.config script.config.lines lines
   pub gathers : Gathers rows (replicate script.config.lines [])
   pub row_lines : line_count rows ≡ script.config.lines
@@ -179,7 +179,7 @@ pub record IsNew (script : Script) (source : Terminal) (sent : List (Vec Contain
   pub taken : (cells : List (List Cell)) → length cells ≡ script.config.lines → HasTaken sink cells
   pub no_back : back ≡ empty_return script.config.lag
 
-module _ (script : Script) (source : Terminal) (sent : List (Vec Container)) (lines : List Ringed) (rows : Gather) (sink : Core) (back : Return) (is : IsNew script source sent lines rows sink back) (valid : IsValid script)
+module _ (script : Script) (source : Terminal) (sent : List (Vec (Box Container))) (lines : List Ringed) (rows : Gather) (sink : Core) (back : Return) (is : IsNew script source sent lines rows sink back) (valid : IsValid script)
     (refusals : List (ℕ × Refusal)) (room frame command : ℕ) (none : refusals ≡ []) (wide : length script.items ≤ room)
     (frame_at : frame ≡ 0 + place_of is_frame 0 (drop 0 script.items)) (command_at : command ≡ 0 + place_of is_command 0 (drop 0 script.items)) where
   paths-size : length (walk_plan script).paths ≡ script.config.lines
@@ -192,7 +192,7 @@ module _ (script : Script) (source : Terminal) (sent : List (Vec Container)) (li
       ∙ ap (λ n. counts_from 0 (replicate (length (walk_plan script).paths) no_counts) n back.backs) is.no_taken
       ∙ ap (λ (b : Return). counts_from 0 (replicate (length (walk_plan script).paths) no_counts) 0 b.backs) is.no_back
 
-  pub new-counts : counts_of (record { source = source; sent = map (λ (row : Vec Container). row.items) sent; lines = lines; rows = rows; sink = sink; back = back })
+  pub new-counts : counts_of (record { source = source; sent = map frame_in sent; lines = lines; rows = rows; sink = sink; back = back })
       (record { refusals = refusals; room = room; frame = frame; command = command; frames = 0; commands = 0; refused_frames = 0; refused_commands = 0 }) ≡ begin (walk_plan script)
   new-counts = begin-counts
 
@@ -206,7 +206,7 @@ module _ (script : Script) (source : Terminal) (sent : List (Vec Container)) (li
       length-map (range_with_len 0 (length script.config.windows)) (popped_on script (map line_counts lines)) ∙ length-range_with_len 0 (length script.config.windows)
       ∙ valid.network.windows_each
 
-  pub new-walk : IsWalk script (record { source = source; sent = map (λ (row : Vec Container). row.items) sent; lines = lines; rows = rows; sink = sink; back = back })
+  pub new-walk : IsWalk script (record { source = source; sent = map frame_in sent; lines = lines; rows = rows; sink = sink; back = back })
       (record { refusals = refusals; room = room; frame = frame; command = command; frames = 0; commands = 0; refused_frames = 0; refused_commands = 0 }) 0 None
   new-walk = record {
     valid = valid;
@@ -219,7 +219,7 @@ module _ (script : Script) (source : Terminal) (sent : List (Vec Container)) (li
       lag = is.lag_of;
       size = is.size_of;
     });
-    sent = subst (λ n. HasSent script n (map line_counts lines) (map (λ (row : Vec Container). row.items) sent)) (sym is.no_ticks) (sent-opened script (map line_counts lines) sent is.places is.long);
+    sent = subst (λ n. HasSent script n (map line_counts lines) (map frame_in sent)) (sym is.no_ticks) (sent-opened script (map line_counts lines) sent is.places is.long);
     lines = opened-lines script lines is.are;
     sink = record {
       gathers = subst (Gathers rows) (sym cells-are) is.gathers;

@@ -1,9 +1,9 @@
 -- What the send rings hold while lines carry, and where the places of two frames change their containers.
-use Rattle.std.proofs.Common.{◌≡◌, ◌≢◌, ℕ, zero, suc, ◌<◌, ◌≤◌, List, [], ◌∷◌, map, length, slice_get, slice_set, slice_index_or, Some, refl, sym, ◌∙◌, ap, subst, arith, inl, inr}
+use Rattle.std.proofs.Common.{◌≡◌, ◌≢◌, ℕ, zero, suc, ◌+◌, ◌%◌, ◌<◌, ◌≤◌, List, [], ◌∷◌, map, length, slice_get, slice_set, slice_index_or, Some, refl, sym, ◌∙◌, ap, subst, arith, inl, inr}
 use Rattle.std.specs.List.{swap}
-use Rattle.std.specs.Global.{Vec}
+use Rattle.std.specs.Global.{Vec, Box}
 use Rattle.std.proofs.lemmas.Bool.{cases_eq}
-use Rattle.std.proofs.lemmas.List.{length-map}
+use Rattle.std.proofs.lemmas.List.{length-map, map-set}
 use Rattle.std.specs.Prelude.{option_map}
 use Rattle.std.proofs.lemmas.Option.{get_or_from_slice_get, slice_get_within, slice_get-map}
 use Rattle.circular_buffer.proofs.Places.{slice_get-some, slice_get-set_same, slice_get-set_other}
@@ -13,7 +13,8 @@ use Rattle.session_model.specs.Counts.{LineCounts}
 use Rattle.walk_law.specs.Walk.{counts_at}
 use Rattle.walk_parts.specs.Ringed.{Ringed}
 use Rattle.realign_core.proofs.GatherLaws.{length-slice_set}
-use Rattle.walk_core.specs.Parts.{line_counts, HasSent}
+use Rattle.walk_core.specs.Parts.{line_counts, frame_in, HasSent}
+use Rattle.walk_core.specs.Carry.{IsCarriedAt}
 
 -- ---- lines that have carried more
 pub sent-later : (script : Script) (ticks : ℕ) (counts more : List LineCounts) (sent : List (List Container)) → HasSent script ticks counts sent →
@@ -21,7 +22,7 @@ pub sent-later : (script : Script) (ticks : ℕ) (counts more : List LineCounts)
 sent-later script ticks counts more sent has grows = record {
   places = has.places;
   lines = has.lines;
-  frames = λ t m inside held low high. has.frames t m inside (let g = grows m in omega (arith, g, held)) low high;
+  frames = λ t m frame inside late low high told. has.frames t m frame inside (let g = grows m in omega (arith, g, late)) low high told;
 }
 
 pub set-carries : (lines : List LineCounts) (m k : ℕ) (line more : LineCounts) → slice_get lines m ≡ Some line → line.carried ≤ more.carried →
@@ -31,6 +32,71 @@ set-carries (x ∷ lines) zero zero line more there grows = let same : x ≡ lin
 set-carries (x ∷ lines) zero (suc k) line more there grows = omega arith
 set-carries (x ∷ lines) (suc m) zero line more there grows = omega arith
 set-carries (x ∷ lines) (suc m) (suc k) line more there grows = set-carries lines m k line more there grows
+
+pub counts-here : (lines : List LineCounts) (m : ℕ) (line : LineCounts) → slice_get lines m ≡ Some line → counts_at lines m ≡ line
+counts-here [] m line there = absurd cc
+counts-here (x ∷ lines) zero line there = cc
+counts-here (x ∷ lines) (suc m) line there = counts-here lines m line there
+
+counts-set : (lines : List LineCounts) (m : ℕ) (line more : LineCounts) → slice_get lines m ≡ Some line → counts_at (slice_set lines m more) m ≡ more
+counts-set [] m line more there = absurd cc
+counts-set (x ∷ lines) zero line more there = refl
+counts-set (x ∷ lines) (suc m) line more there = counts-set lines m line more there
+
+-- ---- a line that has carried one container more
+other-place : (x t ticks : ℕ) → x + 1 ≤ t → t < ticks → ticks ≤ x + 32 → t % 32 ≡ x % 32 → ⊥
+other-place x t ticks later low few same = omega (arith, later, low, few, same)
+
+pub sent-carried : (script : Script) (ticks m : ℕ) (counts : List LineCounts) (line more : LineCounts) (sent after : List (List Container)) → HasSent script ticks counts sent →
+    slice_get counts m ≡ Some line → more.carried ≡ line.carried + 1 → ticks ≤ line.carried + 32 → IsCarriedAt (line.carried % 32) m sent after →
+    HasSent script ticks (slice_set counts m more) after
+sent-carried script ticks m counts line more sent after has there one few changed = record {
+  places = changed.places ∙ has.places;
+  lines = λ k frame told. let found = changed.lines k frame told in found.2 ∙ has.lines k found.0 found.1;
+  frames = λ t k frame inside late low high told.
+      let found = changed.lines (t % 32) frame told in
+      let grown = set-carries counts m k line more there (omega (arith, one)) in
+      let same : slice_get frame k ≡ slice_get found.0 k = elim (cases_eq k m) [
+        | inl own ↦
+            let at = ap (λ (l : LineCounts). l.carried) (ap (counts_at (slice_set counts m more)) own ∙ counts-set counts m line more there) in
+            found.3 k (λ place. absurd (other-place line.carried t ticks (omega (arith, late, at, one)) low few place))
+        | inr apart ↦ found.3 k (λ place. apart)
+      ] in
+      same ∙ has.frames t k found.0 inside (omega (arith, grown, late)) low high found.1;
+}
+
+one-frame : (frame other : List Container) → Some frame ≡ Some other → frame ≡ other
+one-frame frame other e = cc
+
+-- a frame of which the box of a line is another one, and frames of which none is
+pub changed-at : (sent : List (Vec (Box Container))) (place m : ℕ) (row other : Vec (Box Container)) (container : Box Container) → slice_get sent place ≡ Some row →
+    other.items ≡ slice_set row.items m container → IsCarriedAt place m (map frame_in sent) (map frame_in (slice_set sent place other))
+changed-at sent place m row other container there put = record {
+  places =
+      length-map (slice_set sent place other) frame_in ∙ length-slice_set sent place other ∙ sym (length-map sent frame_in);
+  lines = λ k frame told. elim (cases_eq k place) [
+    | inl same ↦ (
+        frame_in row,
+        slice_get-map frame_in sent k ∙ ap (λ j. option_map frame_in (slice_get sent j)) same ∙ ap (option_map frame_in) there,
+        ap length (is k frame same told) ∙ length-slice_set (frame_in row) m container.value,
+        λ line apart. ap (λ xs. slice_get xs line) (is k frame same told) ∙ slice_get-set_other (frame_in row) m line container.value (apart same),
+      )
+    | inr apart ↦ (
+        frame,
+        slice_get-map frame_in sent k ∙ ap (option_map frame_in) (sym (slice_get-set_other sent place k other apart)) ∙ sym (slice_get-map frame_in (slice_set sent place other) k) ∙ told,
+        refl,
+        λ line away. refl,
+      )
+  ];
+} where
+  is : (k : ℕ) (frame : List Container) → k ≡ place → slice_get (map frame_in (slice_set sent place other)) k ≡ Some frame → frame ≡ slice_set (frame_in row) m container.value
+  is k frame same told =
+      let now = sym told ∙ slice_get-map frame_in (slice_set sent place other) k ∙ ap (λ j. option_map frame_in (slice_get (slice_set sent place other) j)) same
+      ∙ ap (option_map frame_in) (slice_get-set_same sent place other (slice_get_within sent place row there)) in
+      one-frame frame (frame_in other) now ∙ ap (map (λ (b : Box Container). b.value)) put ∙ map-set (λ (b : Box Container). b.value) row.items m container
+
+pub unchanged-at : (place m : ℕ) (sent : List (List Container)) → IsCarriedAt place m sent sent
+unchanged-at place m sent = record { places = refl; lines = λ k frame told. (frame, told, refl, λ line apart. refl) }
 
 -- ---- two places that change their containers
 pub length-swap : {X : Type 0} (xs : List X) (a b : ℕ) → length (swap xs a b) ≡ length xs
@@ -64,21 +130,21 @@ counts-of (x ∷ lines) zero line there = ap line_counts (let h : x ≡ line = c
 counts-of (x ∷ lines) (suc m) line there = counts-of lines m line there
 
 -- where each line has carried all frames
-pub sent-swapped : (script : Script) (ticks : ℕ) (lines : List Ringed) (sent : List (Vec Container)) (a b : ℕ) → length lines ≡ script.config.lines →
-    HasSent script ticks (map line_counts lines) (map (λ (row : Vec Container). row.items) sent) → a < length sent → b < length sent →
+pub sent-swapped : (script : Script) (ticks : ℕ) (lines : List Ringed) (sent : List (Vec (Box Container))) (a b : ℕ) → length lines ≡ script.config.lines →
+    HasSent script ticks (map line_counts lines) (map frame_in sent) → a < length sent → b < length sent →
     ((m : ℕ) (line : Ringed) → slice_get lines m ≡ Some line → ticks ≤ line.carried) →
-    HasSent script ticks (map line_counts lines) (map (λ (row : Vec Container). row.items) (swap sent a b))
+    HasSent script ticks (map line_counts lines) (map frame_in (swap sent a b))
 sent-swapped script ticks lines sent a b size has low under all = record {
-  places = length-map (swap sent a b) (λ (row : Vec Container). row.items) ∙ length-swap sent a b ∙ sym (length-map sent (λ (row : Vec Container). row.items)) ∙ has.places;
+  places = length-map (swap sent a b) frame_in ∙ length-swap sent a b ∙ sym (length-map sent frame_in) ∙ has.places;
   lines = λ k frame told.
       let inside = slice_get_within _ k frame told in
-      let (row, there) = slice_get-some (swap sent a b) k (let e = length-map (swap sent a b) (λ (row : Vec Container). row.items) in omega (arith, inside, e)) in
-      let same : Some row.items ≡ Some frame = sym (slice_get-map (λ (row : Vec Container). row.items) (swap sent a b) k ∙ ap (option_map (λ (row : Vec Container). row.items)) there) ∙ told in
+      let (row, there) = slice_get-some (swap sent a b) k (let e = length-map (swap sent a b) frame_in in omega (arith, inside, e)) in
+      let same : Some (frame_in row) ≡ Some frame = sym (slice_get-map frame_in (swap sent a b) k ∙ ap (option_map frame_in) there) ∙ told in
       let (j, was) = swap-from sent a b k row low under there in
-      has.lines j frame (slice_get-map (λ (row : Vec Container). row.items) sent j ∙ ap (option_map (λ (row : Vec Container). row.items)) was ∙ same);
-  frames = λ t m inside held before high.
+      has.lines j frame (slice_get-map frame_in sent j ∙ ap (option_map frame_in) was ∙ same);
+  frames = λ t m frame inside late before high told.
       let (line, there) = slice_get-some lines m (omega (arith, inside, size)) in
       let carried = all m line there in
       let is = ap (λ (l : LineCounts). l.carried) (counts-of lines m line there) in
-      absurd (omega (arith, held, is, carried, before));
+      absurd (omega (arith, late, is, carried, before));
 }

@@ -2,7 +2,7 @@
 use Rattle.std.proofs.Common.{◌≡◌, ℕ, zero, suc, ◌+◌, ◌-◌, ◌*◌, ◌/◌, ◌%◌, ◌==◌, ◌&&◌, ◌<◌, ◌≤◌, min, nat_le, true, false, if◌then◌else◌, List, [], ◌∷◌, length, drop, map, slice_get, slice_set, slice_index_or, Option, Some, None, refl, sym, ◌∙◌, ap, subst, arith, inl, inr}
 use Rattle.std.specs.Option.{is_some}
 use Rattle.std.specs.List.{range_with_len}
-use Rattle.std.specs.Global.{Vec}
+use Rattle.std.specs.Global.{Vec, Box}
 use Rattle.std.proofs.lemmas.Bool.{cases_Bool, cases_lt, cases_eq, eqb-true, leb-true, leb-false}
 use Rattle.std.proofs.lemmas.List.{length-map}
 use Rattle.std.proofs.lemmas.List.FromFn.{length-range_with_len}
@@ -25,7 +25,7 @@ use Rattle.source_core.specs.Given.{with_cell, Stands as HasMade}
 use Rattle.progress_law.specs.Progress.{ChangesNothing}
 use Rattle.progress_law.proofs.StallLaws.{stalled-same}
 use Rattle.walk_law.specs.Walk.{walk_plan, CanWalk, IsWalked, counts_at}
-use Rattle.walk_law.specs.Rings.{back_cell, inbox}
+use Rattle.walk_law.specs.Rings.{sent_at, back_cell, inbox}
 use Rattle.walk_law.specs.Landed.{landed_scenario, told_before}
 use Rattle.walk_law.specs.Step.{last_packet, cell_taken, table_in}
 use Rattle.walk_law.proofs.PlanLaws.{valid-walks}
@@ -38,9 +38,9 @@ use Rattle.walk_parts.specs.Ringed.{Ringed}
 use Rattle.walk_core.specs.declared.moved.StepNote.{StepNote}
 use Rattle.walk_core.specs.declared.moved.Moved.TheVariants.{Yes, Stalled}
 use Rattle.walk_core.specs.Moved.{answer_by, moved_of, counts_after}
-use Rattle.walk_core.specs.Parts.{Parts, Landing, HasSource, HasSent, HasBack, counts_of, line_counts, note_of, IsWalk}
+use Rattle.walk_core.specs.Parts.{Parts, Landing, frame_in, HasSource, HasSent, HasBack, counts_of, line_counts, note_of, IsWalk}
 use Rattle.walk_core.proofs.EventLaws.{walk-fits, walked-next}
-use Rattle.walk_core.proofs.CarryLaws.{map-set}
+use Rattle.walk_core.proofs.CarryLaws.{map-set, frame-at}
 
 drop-at : {X : Type 0} (xs : List X) (i : ℕ) (x : X) → slice_get xs i ≡ Some x → drop i xs ≡ x ∷ drop (suc i) xs
 drop-at [] i x e = absurd cc
@@ -195,11 +195,6 @@ taken script s back path cell can walked rows has there first left =
     ]
 
 -- ---- the send rings
-set-here-yes : {X : Type 0} (xs : List X) (k : ℕ) (x : X) → k < length xs → slice_get (slice_set xs k x) k ≡ Some x
-set-here-yes [] k x low = absurd (omega arith)
-set-here-yes (y ∷ xs) zero x low = refl
-set-here-yes (y ∷ xs) (suc k) x low = set-here-yes xs k x (omega arith)
-
 apart-places : (t n : ℕ) → t < n → n ≤ t + 31 → t % 32 ≡ n % 32 → ⊥
 apart-places t n low high e = omega (arith, low, high, e)
 
@@ -216,13 +211,16 @@ sent-more script ticks counts sent frame has is long = record {
     | inl same ↦ ap length (set-here sent (ticks % 32) frame other (sym (ap (slice_get (slice_set sent (ticks % 32) frame)) same) ∙ e)) ∙ long
     | inr apart ↦ has.lines k other (sym (slice_get-set_other sent (ticks % 32) k frame apart) ∙ e)
   ];
-  frames = λ t m inside held low high. elim (cases_lt t ticks) [
-    | inl before ↦ slice_get-set_other sent (ticks % 32) (t % 32) frame (apart-places t ticks before (omega (arith, high))) ∙ has.frames t m inside held before (omega (arith, high))
+  frames = λ t m other inside late low high told. elim (cases_lt t ticks) [
+    | inl before ↦
+        has.frames t m other inside late before (omega (arith, high))
+        (sym (slice_get-set_other sent (ticks % 32) (t % 32) frame (apart-places t ticks before (omega (arith, high)))) ∙ told)
     | inr now ↦
         let e : t ≡ ticks = omega (arith, low, now) in
-        let size = has.places in
-        ap (λ n. slice_get (slice_set sent (ticks % 32) frame) (n % 32)) e ∙ set-here-yes sent (ticks % 32) frame (omega (arith, size)) ∙ ap Some is
-        ∙ ap (λ n. Some (frame_of (scenario_of script) (session_cells (scenario_of script)) n)) (sym e)
+        let windows = ap length is ∙ frame-long script ticks in
+        ap (λ xs. slice_get xs m) (set-here sent (ticks % 32) frame other (sym (ap (λ n. slice_get (slice_set sent (ticks % 32) frame) (n % 32)) e) ∙ told) ∙ is)
+        ∙ frame-at script m ticks (omega (arith, inside, windows, long))
+        ∙ ap (λ n. Some (sent_at script m n)) (sym e)
   ];
 }
 
@@ -349,13 +347,13 @@ module _ (script : Script) (parts : Parts) (landing : Landing) (got : ℕ) (last
         }
 
         -- by the rings as they are kept, at a number that is that of the frame
-        module _ (rows : List (Vec Container)) (row : Vec Container) (own : row.items ≡ frame) (same : map (λ (row : Vec Container). row.items) rows ≡ parts.sent) (k : ℕ) (at : k ≡ parts.source.ticks % 32) where
-          rows-are : slice_set parts.sent (parts.source.ticks % 32) frame ≡ map (λ (row : Vec Container). row.items) (slice_set rows k row)
+        module _ (rows : List (Vec (Box Container))) (row : Vec (Box Container)) (own : frame_in row ≡ frame) (same : map frame_in rows ≡ parts.sent) (k : ℕ) (at : k ≡ parts.source.ticks % 32) where
+          rows-are : slice_set parts.sent (parts.source.ticks % 32) frame ≡ map frame_in (slice_set rows k row)
           rows-are =
-              sym (map-set (λ (row : Vec Container). row.items) rows k row ∙ ap (slice_set (map (λ (row : Vec Container). row.items) rows) k) own
-              ∙ ap (λ j. slice_set (map (λ (row : Vec Container). row.items) rows) j frame) at ∙ ap (λ sent. slice_set sent (parts.source.ticks % 32) frame) same)
+              sym (map-set frame_in rows k row ∙ ap (slice_set (map frame_in rows) k) own
+              ∙ ap (λ j. slice_set (map frame_in rows) j frame) at ∙ ap (λ sent. slice_set sent (parts.source.ticks % 32) frame) same)
 
-          pub tick-kept_at : IsWalk script (record parts { source = source; sent = map (λ (row : Vec Container). row.items) (slice_set rows k row); back = path }) landing got note
+          pub tick-kept_at : IsWalk script (record parts { source = source; sent = map frame_in (slice_set rows k row); back = path }) landing got note
           tick-kept_at = subst (λ sent. IsWalk script (record parts { source = source; sent = sent; back = path }) landing got note) rows-are tick-kept
 
 -- ---- the send rings before a frame is put into them

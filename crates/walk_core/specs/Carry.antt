@@ -1,7 +1,8 @@
 -- Why a line carries nothing.
-use Rattle.std.specs.Prelude.{◌≡◌, ◌≢◌, ◌<◌, ◌≤◌, ◌%◌, List, slice_get, ℕ, ◌+◌, nat_le, nat_lt, ◌&&◌, if◌then◌else◌, Option, Some, None}
-use Rattle.std.specs.Global.{Vec}
+use Rattle.std.specs.Prelude.{◌≡◌, ◌≢◌, ◌<◌, ◌≤◌, ◌%◌, List, length, slice_get, ℕ, ◌+◌, nat_le, nat_lt, ◌&&◌, if◌then◌else◌, Option, Some, None}
+use Rattle.std.specs.Global.{Vec, Box}
 use Rattle.vc_cell.specs.declared.Container.{Container}
+use Rattle.vc_cell.specs.Held.{held}
 use Rattle.session_model.specs.declared.script.Script.{Script}
 use Rattle.walk_law.specs.Rings.{sent_at}
 use Rattle.walk_law.specs.Walk.{path_on}
@@ -29,6 +30,13 @@ pub record HasRoom (script : Script) (m : ℕ) (line : Ringed) : Type 0 where
   pub room : (path_on script m).given line.carried ≤ line.popped + script.config.ring
 
 -- the container of frame t of a line is in the send rings
-abbrev pub IsSentOn : Script → ℕ → ℕ → List (Vec Container) → Type 0
+abbrev pub IsSentOn : Script → ℕ → ℕ → List (Vec (Box Container)) → Type 0
 IsSentOn script m t sent = t < script.config.ticks →
-    (frame : Vec Container) → slice_get sent (t % 32) ≡ Some frame → slice_get frame.items m ≡ Some (sent_at script m t)
+    (frame : Vec (Box Container)) → slice_get sent (t % 32) ≡ Some frame → slice_get (held frame.items) m ≡ Some (sent_at script m t)
+
+-- in the send rings, of the frame at a place at most the container of line m has changed, and no other frame
+pub record IsCarriedAt (place m : ℕ) (before after : List (List Container)) : Type 0 where
+  pub places : length after ≡ length before
+  pub lines : (k : ℕ) (frame : List Container) → slice_get after k ≡ Some frame →
+      (was : List Container) × (slice_get before k ≡ Some was) × (length frame ≡ length was)
+      × ((line : ℕ) → (k ≡ place → line ≢ m) → slice_get frame line ≡ slice_get was line)

@@ -1,6 +1,6 @@
 -- What a walk holds, by its script and its counts.
 use Rattle.std.specs.Prelude.{◌≡◌, ℕ, ◌+◌, ◌-◌, ◌%◌, ◌<◌, ◌≤◌, min, List, [], map, length, slice_get, slice_index_or, Option, Some, None}
-use Rattle.std.specs.Global.{Vec}
+use Rattle.std.specs.Global.{Vec, Box}
 use Rattle.vc_cell.specs.declared.Container.{Container}
 use Rattle.session_model.specs.declared.script.Script.{Script}
 use Rattle.session_model.specs.Valid.{IsValid}
@@ -8,6 +8,7 @@ use Rattle.session_model.specs.Scenario.{scenario_of}
 use Rattle.session_model.specs.Back.{session_cells}
 use Rattle.session_model.specs.Sent.{frame_of}
 use Rattle.session_model.specs.Counts.{LineCounts, Counts}
+use Rattle.vc_cell.specs.Held.{held}
 use Rattle.report_text.specs.declared.report.Refusal.{Refusal}
 use Rattle.line_core.specs.Line.{Calls}
 use Rattle.realign_core.specs.Gather.{Gather, Stands as Gathers, line_count}
@@ -15,7 +16,7 @@ use Rattle.source_core.specs.Terminal.{Terminal}
 use Rattle.source_core.specs.Given.{Stands as HasMade}
 use Rattle.sink_core.specs.Core.{Core, Stands as HasTaken}
 use Rattle.walk_law.specs.Walk.{IsWalked, counts_at, popped_cells}
-use Rattle.walk_law.specs.Rings.{delay_on, taken_by, return_ring, inbox}
+use Rattle.walk_law.specs.Rings.{sent_at, delay_on, taken_by, return_ring, inbox}
 use Rattle.walk_law.specs.Landed.{landed_scenario, told_before, refusals_of, totals_of}
 use Rattle.walk_law.specs.Delivered.{delivered_of}
 use Rattle.walk_law.specs.Step.{last_packet, cell_taken}
@@ -34,9 +35,13 @@ pub record Parts : Type 0 where
   pub sink : Core
   pub back : Return
 
--- the containers of the send rings
-abbrev pub sent_frames : Vec (Vec Container) → List (List Container)
-sent_frames sent = map (λ (row : Vec Container). row.items) sent.items
+-- the containers of a frame
+abbrev pub frame_in : Vec (Box Container) → List Container
+frame_in row = held row.items
+
+-- those of the send rings
+abbrev pub sent_frames : Vec (Vec (Box Container)) → List (List Container)
+sent_frames sent = map frame_in sent.items
 
 -- what has landed: the refusals and the room for them, the places of the next frame and the next command, and how many of each have
 -- landed and were refused
@@ -81,12 +86,12 @@ pub record HasSource (script : Script) (s : Counts) (source : Terminal) : Type 0
   pub lag : source.lag ≡ script.config.lag
   pub size : source.size ≡ script.config.size
 
--- of the frames, those that some line hasn't carried
+-- of the containers of the frames, those that their line hasn't carried
 pub record HasSent (script : Script) (ticks : ℕ) (counts : List LineCounts) (sent : List (List Container)) : Type 0 where
   pub places : length sent ≡ 32
   pub lines : (k : ℕ) (frame : List Container) → slice_get sent k ≡ Some frame → length frame ≡ script.config.lines
-  pub frames : (t m : ℕ) → m < script.config.lines → (counts_at counts m).carried ≤ t → t < ticks → ticks ≤ t + 32 →
-      slice_get sent (t % 32) ≡ Some (frame_of (scenario_of script) (session_cells (scenario_of script)) t)
+  pub frames : (t m : ℕ) (frame : List Container) → m < script.config.lines → (counts_at counts m).carried ≤ t → t < ticks → ticks ≤ t + 32 →
+      slice_get sent (t % 32) ≡ Some frame → slice_get frame m ≡ Some (sent_at script m t)
 
 pub record HasLine (script : Script) (m : ℕ) (line : Ringed) : Type 0 where
   pub has : Has line (calls_on script m line.carried)

@@ -16,13 +16,14 @@ ghost use Rattle.sink_core.specs.Start.{Start};
 ghost use Rattle.source_core.specs.Terminal.{needed, SameKind};
 ghost use Rattle.source_core.specs.Given.{with_cell, Stands, Stands as HasMade};
 ghost use Rattle.walk_core.specs.Moved.{counts_after, moved_of, delivered_since, GivesRows};
-ghost use Rattle.std.specs.Global.{Vec};
+ghost use Rattle.std.specs.Global.{Vec, Box};
+ghost use Rattle.vc_cell.specs.Held.{held};
 ghost use Rattle.vc_cell.specs.declared.Container.{Container};
 ghost use Rattle.session_model.specs.declared.script.Script.{Script};
 ghost use Rattle.walk_law.specs.Walk.{path_on};
 ghost use Rattle.walk_parts.specs.Ringed.{Ringed, ring_of};
 ghost use Rattle.walk_core.specs.Opened.{AreOpened};
-ghost use Rattle.walk_core.specs.Carry.{carry_cause, CanCarry, IsSentOn, HasRoom};
+ghost use Rattle.walk_core.specs.Carry.{carry_cause, CanCarry, IsSentOn, IsCarriedAt, HasRoom};
 ghost use Rattle.std.specs.Vec.{vec_capacity};
 ghost use Rattle.walk_core.specs.Landing.{stall_by, met_by, with_kind, IsParted};
 ghost use Rattle.walk_core.specs.Parts.{note_of, line_counts, sent_frames, HasSent, HasLine as HasLineOn};
@@ -62,8 +63,8 @@ const EMPTY: Container = Container {
 pub struct Walk {
     script: Script,
     source: SourceCore,
-    /// The send rings of all lines: each place holds the containers of a frame, of a number modulo 32, until each line carried it.
-    sent: Vec<Vec<Container>>,
+    /// The send rings of all lines: each place holds the containers of a frame, of a number modulo 32, each until its line carried it.
+    sent: Vec<Vec<Box<Container>>>,
     lines: Vec<WalkLine>,
     rows: RowGather,
     sink: SinkCore,
@@ -433,7 +434,7 @@ impl Walk {
         match carry_stall(&self.lines[m], line, self.source.ticks()) {
             Some(cause) => Moved::Stalled(cause),
             None => {
-                carry_on(&mut self.lines[m], m, &self.sent);
+                carry_on(&mut self.lines[m], m, &mut self.sent);
                 Moved::Yes
             }
         }
@@ -507,15 +508,27 @@ fn ends_packet(row: u32) -> bool
 }
 
 /// Send rings of a number of lines, all empty.
-fn new_sent(alloc: Global, lines: u8) -> Result<Vec<Vec<Container>>, AllocError>
+fn new_sent(alloc: Global, lines: u8) -> Result<Vec<Vec<Box<Container>>>, AllocError>
     ensures places { IfOk result (λ sent. length sent.items ≡ 32) }
-    ensures lines { IfOk result (λ sent. All (λ (frame : Vec Container). length frame.items ≡ lines) sent.items) }
+    ensures lines { IfOk result (λ sent.
+        All (λ (frame : Vec (Box Container)). length frame.items ≡ lines) sent.items) }
 {
     let mut sent = Vec::with_capacity(alloc, SENDS)?;
     for _ in 0..SENDS {
-        sent.push(vec![in alloc; EMPTY; usize::from(lines)]?)?;
+        sent.push(new_frame(alloc, lines)?)?;
     }
     Ok(sent)
+}
+
+/// An empty box for each line.
+fn new_frame(alloc: Global, lines: u8) -> Result<Vec<Box<Container>>, AllocError>
+    ensures { IfOk result (λ frame. length frame.items ≡ lines) }
+{
+    let mut frame = Vec::with_capacity(alloc, usize::from(lines))?;
+    for _ in 0..lines {
+        frame.push(Box::new(alloc, EMPTY)?)?;
+    }
+    Ok(frame)
 }
 
 /// The lines of a script, before any carry.
@@ -615,7 +628,7 @@ fn next_note(ticks: u32, back: Option<BackCell>, last: Option<StepNote>) -> Opti
 }
 
 /// Makes the next frame, a container for each line.
-fn make_frame(source: &mut SourceCore, back: Option<BackCell>, frame: &mut Vec<Container>)
+fn make_frame(source: &mut SourceCore, back: Option<BackCell>, frame: &mut Vec<Box<Container>>)
     requires places { length frame.old.items ≡ source.old.lines }
     requires back { IsSome back ↔ IsSome (needed source.old) }
     requires few { source.old.ticks < 4294967295 }
@@ -623,16 +636,16 @@ fn make_frame(source: &mut SourceCore, back: Option<BackCell>, frame: &mut Vec<C
         Stands source.old scenario cells → Stands source.new scenario (with_cell cells back) }
     ensures frame { (scenario : Scenario) (cells : List (Option Told)) →
         Stands source.old scenario cells →
-        frame.new.items ≡ frame_of scenario (with_cell cells back) source.old.ticks }
+        held frame.new.items ≡ frame_of scenario (with_cell cells back) source.old.ticks }
     ensures ticks { source.new.ticks ≡ source.old.ticks + 1 }
     ensures kind { SameKind source.new source.old }
 {
-    source.tick(back, frame);
+    source.tick_boxed(back, frame);
 }
 
 /// The place of the next frame. It gets the containers of the frame before where each line has carried that, since these lie nearest
 /// in the caches of the processor.
-fn next_place(sent: &mut Vec<Vec<Container>>, lines: &[WalkLine], ticks: u32) -> usize
+fn next_place(sent: &mut Vec<Vec<Box<Container>>>, lines: &[WalkLine], ticks: u32) -> usize
     requires places { length sent.old.items ≡ 32 }
     ensures place { result ≡ ticks % 32 }
     ensures places { length sent.new.items ≡ 32 }
@@ -702,22 +715,25 @@ fn carry_stall(own: &WalkLine, line: u8, ticks: u32) -> Option<StallCause>
     }
 }
 
-/// Makes a carry of line `m`.
-fn carry_on(own: &mut WalkLine, m: usize, sent: &[Vec<Container>])
+/// Makes a carry of line `m`. It takes the box of the container that it carries, and leaves another one.
+fn carry_on(own: &mut WalkLine, m: usize, sent: &mut Vec<Vec<Box<Container>>>)
     requires runs { own.old.core.flushed ≤ own.old.core.delay }
     requires room { own.old.given < own.old.popped + ring_of own.old }
-    requires places { length sent.now ≡ 32 }
-    requires lines { (k : ℕ) (frame : Vec Container) → slice_get sent.now k ≡ Some frame →
-        m < length frame.items }
+    requires places { length sent.old.items ≡ 32 }
+    requires lines { (k : ℕ) (frame : Vec (Box Container)) →
+        slice_get sent.old.items k ≡ Some frame → m < length frame.items }
     ensures has { (script : Script) → HasLineOn script m own.old →
-        IsSentOn script m own.old.carried sent.now → HasLineOn script m own.new }
+        IsSentOn script m own.old.carried sent.old.items → HasLineOn script m own.new }
     ensures carried { own.new.carried ≡ own.old.carried + 1 }
     ensures popped { own.new.popped ≡ own.old.popped }
+    ensures sent { IsCarriedAt (own.old.carried % 32) m
+        (sent_frames sent.old) (sent_frames sent.new) }
 {
     if own.all_pushed() {
         own.flush();
     } else {
-        own.push(&sent[own.carried() as usize % SENDS][m]);
+        let slot = own.carried() as usize % SENDS;
+        own.push(&mut sent[slot][m]);
     }
 }
 

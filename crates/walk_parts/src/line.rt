@@ -27,7 +27,7 @@ const EMPTY: Container = Container {
 };
 
 /// A line with its receive ring: the cells that it gave and that weren't popped. Only its making takes memory, and a container is
-/// copied once, on its way into the line.
+/// copied nowhere on its way into the line, through it and out of the ring.
 #[derive(Drop)]
 pub struct WalkLine {
     core: LineCore,
@@ -115,12 +115,12 @@ impl WalkLine {
         (self.given - self.popped) as usize == self.signs.len()
     }
 
-    /// Carries a container on, and keeps the cell that comes out, if any.
-    pub fn push(&mut self, container: &Container)
+    /// Carries a container on, and keeps the cell that comes out, if any. It takes the container's box, and leaves another one.
+    pub fn push(&mut self, container: &mut Box<Container>)
         requires left { self.old.core.pushed < self.old.core.total }
         requires room { self.old.given < self.old.popped + ring_of self.old }
         ensures has { (calls : Calls) → Has self.old calls →
-            Has self.new (and_push calls container.now) }
+            Has self.new (and_push calls container.old.value) }
         ensures ring { ring_of self.new ≡ ring_of self.old }
         ensures carried { self.new.carried ≡ self.old.carried + 1 }
         ensures popped { self.new.popped ≡ self.old.popped }
@@ -132,7 +132,7 @@ impl WalkLine {
             slot,
             (self.popped as usize + size - 1) % size,
         );
-        let carry = self.core.push_boxed(container, &mut self.places[slot]);
+        let carry = self.core.push_box(container, &mut self.places[slot]);
         self.carried += 1;
         self.given += keep(&mut self.signs, slot, carry);
     }

@@ -1,10 +1,12 @@
 -- The row of one member is put into its container.
-use Rattle.std.proofs.Common.{◌≡◌, ℕ, ◌+◌, ◌*◌, List, [], take, drop, length, slice_index, slice_index_or, slice_set, sym, ◌∙◌, ap, subst, arith}
-use Rattle.std.proofs.lemmas.List.{get_or_default}
+use Rattle.std.proofs.Common.{◌≡◌, ℕ, ◌+◌, ◌*◌, ◌<◌, List, refl, take, drop, length, slice_index, slice_index_or, slice_set, sym, ◌∙◌, ap, subst, arith}
 use Rattle.session_model.specs.Piece.{stream_of}
 use Rattle.session_model.specs.Client.{reached}
+use Rattle.std.specs.Box.{with_value}
+use Rattle.vc_cell.specs.Held.{held}
 use Rattle.vcat_interleave.specs.Members.{with_octets}
 use Rattle.vcat_interleave.specs.Spread.{Spreads}
+use Rattle.vcat_interleave.proofs.SpreadLaws.{held-at, held-set, lines-stay}
 use Rattle.source_core.proofs.FrameLaws.{spreads-one, next-size}
 use Rattle.source_core.proofs.frame.fill_all.Goals as goal
 
@@ -16,10 +18,15 @@ returns-in-len1-clause-spreads c stream place stands =
     let all : size * length active ≡ size = ap (λ x. size * x) one ∙ (let e : size * 1 ≡ size = omega arith in e) in
     let octets : List ℕ = take size (drop place (stream_of (reached (place + size) stream).pieces)) in
     let next = (c.fill_one.ensures.stands stream place stands).within in
-    subst (λ n. Spreads 0 size (take n (drop place (stream_of (reached (place + n) stream).pieces))) active c.args.out.now (slice_set c.args.out.now c.from.result c.fill_one.new.container)) (sym all)
-    (spreads-one size octets active c.args.out.now (slice_set c.args.out.now c.from.result c.fill_one.new.container) one c.requires.members.distinct c.requires.members.among
-    (next-size place size (reached (place + size) stream).pieces next)
-    (λ d. rw (c.from.ensures, c.fill_one.ensures.octets stream place stands)
-    (ap (λ container. slice_set c.args.out.now (slice_index active 0) (with_octets 0 octets container))
-    (ap (λ n. slice_index_or c.args.out.now n (record { h4 = 0; payload = [] })) c.from.ensures
-    ∙ get_or_default c.args.out.now (slice_index active 0) (record { h4 = 0; payload = [] }) d (c.requires.members.among 0 (omega arith))))))
+    let out = c.args.out.now in
+    let own = c.index-out-from.result in
+    let after = slice_set out c.from.result (with_value (slice_index_or out c.from.result own) c.fill_one.new.container) in
+    let first : slice_index active 0 < length out = c.requires.members.among 0 (omega (arith, one)) in
+    let low : c.from.result < length out = omega (arith, first, c.from.ensures) in
+    subst (λ n. Spreads 0 size (take n (drop place (stream_of (reached (place + n) stream).pieces))) active (held out) (held after)) (sym all)
+    (spreads-one size octets active (held out) (held after) one c.requires.members.distinct
+    (lines-stay (length out) out active refl c.requires.members.among) (next-size place size (reached (place + size) stream).pieces next)
+    (λ d. held-set out c.from.result (with_value (slice_index_or out c.from.result own) c.fill_one.new.container)
+    ∙ ap (slice_set (held out) c.from.result)
+    (c.fill_one.ensures.octets stream place stands ∙ ap (with_octets 0 octets) (c.deref_mut.ensures.value ∙ sym (held-at out c.from.result own d low)))
+    ∙ ap (λ n. slice_set (held out) n (with_octets 0 octets (slice_index_or (held out) n d))) c.from.ensures))

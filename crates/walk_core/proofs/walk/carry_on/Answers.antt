@@ -4,8 +4,9 @@ use Rattle.walk_parts.specs.Ringed.{Has}
 use Rattle.walk_parts.proofs.ItemLaws.{at-index}
 use Rattle.line_core.specs.Line.{and_push}
 use Rattle.walk_law.specs.Rings.{sent_at}
-use Rattle.walk_core.specs.Parts.{calls_on}
+use Rattle.walk_core.specs.Parts.{calls_on, sent_frames}
 use Rattle.walk_core.proofs.CarryLaws.{same-some, below, calls-push, calls-flush, all-carried, not-carried}
+use Rattle.walk_core.proofs.SendLaws.{unchanged-at, changed-at}
 use Rattle.walk_core.proofs.walk.carry_on.Goals as goal
 
 pub returns-then-all_pushed-clause-has : goal.returns-then-all_pushed-clause-has
@@ -34,3 +35,6 @@ returns-else-all_pushed-clause-has c script has sent =
           (c.push.ensures.has (calls_on script c.args.m c.args.own.now.carried) has.has);
       ring = c.push.ensures.ring ∙ has.ring;
     }
+
+pub returns-then-all_pushed-clause-sent : goal.returns-then-all_pushed-clause-sent
+returns-then-all_pushed-clause-sent c = unchanged-at (c.args.own.now.carried % 32) c.args.m (sent_frames c.args.sent.now)

@@ -1,13 +1,11 @@
 -- No frame waits for a line where each line has carried all.
 use Rattle.std.proofs.Common.{map, subst, sym, arith}
-use Rattle.std.specs.Global.{Vec}
-use Rattle.vc_cell.specs.declared.Container.{Container}
-use Rattle.walk_core.specs.Parts.{line_counts, HasSent}
+use Rattle.walk_core.specs.Parts.{line_counts, frame_in, HasSent}
 use Rattle.walk_core.proofs.SendLaws.{sent-swapped}
 use Rattle.walk_core.proofs.walk.next_place.Goals as goal
 
 pub returns-then-are_carried-clause-has : goal.returns-then-are_carried-clause-has
 returns-then-are_carried-clause-has c script size has =
     let places = c.requires.places in
-    subst (λ rows. HasSent script c.args.ticks (map line_counts c.args.lines.now) (map (λ (row : Vec Container). row.items) rows)) (sym c.swap.ensures.items)
+    subst (λ rows. HasSent script c.args.ticks (map line_counts c.args.lines.now) (map frame_in rows)) (sym c.swap.ensures.items)
     (sent-swapped script c.args.ticks c.args.lines.now c.args.sent.now.items _ _ size has (omega (arith, places)) (omega (arith, places)) (c.are_carried.ensures c.if-are_carried.true))

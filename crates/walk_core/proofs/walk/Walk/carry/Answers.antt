@@ -1,13 +1,13 @@
 -- A line carries.
-use Rattle.std.proofs.Common.{rules, ◌≡◌, ◌+◌, ◌<◌, List, length, slice_get, slice_index_or, refl, sym, ◌∙◌, ap, subst, arith}
+use Rattle.std.proofs.Common.{rules, ◌≡◌, ◌+◌, ◌%◌, ◌<◌, List, length, slice_get, slice_index_or, refl, sym, ◌∙◌, ap, subst, arith}
 use Rattle.session_model.specs.declared.walk.Event.TheVariants.{Carry}
 use Rattle.walk_parts.specs.Ringed.{Ringed}
 use Rattle.walk_parts.proofs.ItemLaws.{at-index}
 use Rattle.walk_core.specs.declared.moved.Moved.TheVariants.{Yes, Stalled}
 use Rattle.walk_core.specs.Moved.{Walked, moved_of, counts_after}
-use Rattle.walk_core.specs.Carry.{CanCarry, carry_cause, IsSentOn}
+use Rattle.walk_core.specs.Carry.{CanCarry, carry_cause, IsSentOn, IsCarriedAt}
 use Rattle.walk_law.specs.Walk.{path_on}
-use Rattle.walk_core.specs.Parts.{line_counts, HasLine}
+use Rattle.walk_core.specs.Parts.{line_counts, sent_frames, HasLine}
 use Rattle.walk_core.proofs.CarryLaws.{same-some, line-has, line-room, carry-stays, carry-kept_at, carry-counts_at, carry-moved, frame-size, sent-places, line-sent, room-left}
 use Rattle.walk_core.proofs.walk.Walk.carry.Goals as goal
 
@@ -87,14 +87,14 @@ carry_on-requires-clause-room c =
     room-left _ _ _ _ _ c.self.invariant c.args.line low c.index_mut.result.now there_ can.room
 
 pub carry_on-requires-clause-places : goal.carry_on-requires-clause-places
-carry_on-requires-clause-places c = ap length c.deref.ensures.value ∙ sent-places c.self.inside.script c.self.inside.source.ticks _ c.self.inside.sent.items c.self.invariant.sent
+carry_on-requires-clause-places c = sent-places c.self.inside.script c.self.inside.source.ticks _ c.self.inside.sent.items c.self.invariant.sent
 
 pub carry_on-requires-clause-lines : goal.carry_on-requires-clause-lines
 carry_on-requires-clause-lines c k frame e =
     let low_ = c.requires in
     let count = ap (λ (w : Walked). w.script.config.lines) c.self.view_is in
     let at = c.from-m.ensures in
-    let size = frame-size c.self.inside.script c.self.inside.source.ticks _ c.self.inside.sent.items c.self.invariant.sent k frame (sym (ap (λ xs. slice_get xs k) c.deref.ensures.value) ∙ e) in
+    let size = frame-size c.self.inside.script c.self.inside.source.ticks _ c.self.inside.sent.items c.self.invariant.sent k frame e in
     omega (arith, low_, count, at, size)
 
 pub invariant_of-self : goal.invariant_of-self
@@ -110,13 +110,14 @@ invariant_of-self c =
     let there_ = at-index lines c.args.line c.index_mut.result.now (omega (arith, low, len)) (c.index_mut.ensures.value ∙ ap (λ k. slice_index_or lines k c.index_mut.result.now) c.from-m.ensures) in
     let one = same-some c.index_mut.result.now c.index.result.now (sym there_ ∙ there) in
     let has = c.carry_on.ensures.has c.self.inside.script (subst (λ k. HasLine c.self.inside.script k c.index_mut.result.now) (sym c.from-m.ensures) (line-has _ _ _ _ _ c.self.invariant c.args.line low c.index_mut.result.now there_))
-    (subst (λ k. IsSentOn c.self.inside.script k c.index_mut.result.now.carried c.deref.result.now) (sym c.from-m.ensures)
-    (subst (IsSentOn c.self.inside.script c.args.line c.index_mut.result.now.carried) (sym c.deref.ensures.value)
-    (line-sent _ _ _ _ _ c.self.invariant c.args.line low c.index_mut.result.now there_ c.self.inside.sent.items refl (subst (λ l. CanCarry l c.self.inside.source.ticks) (sym one) (subst (CanCarry c.index.result.now) c.ticks.ensures (c.carry_stall.ensures.can c.in-None.is)))))) in
+    (subst (λ k. IsSentOn c.self.inside.script k c.index_mut.result.now.carried c.self.inside.sent.items) (sym c.from-m.ensures)
+    (line-sent _ _ _ _ _ c.self.invariant c.args.line low c.index_mut.result.now there_ c.self.inside.sent.items refl (subst (λ l. CanCarry l c.self.inside.source.ticks) (sym one) (subst (CanCarry c.index.result.now) c.ticks.ensures (c.carry_stall.ensures.can c.in-None.is))))) in
     let own = subst (λ k. HasLine c.self.inside.script k c.carry_on.new.own) c.from-m.ensures has in
     let carried = c.carry_on.ensures.carried ∙ ap (λ (l : Ringed). l.carried + 1) one in
     let popped = c.carry_on.ensures.popped ∙ ap (λ (l : Ringed). l.popped) one in
-    carry-kept_at _ _ _ _ _ c.self.invariant c.args.line low c.index.result.now there c.carry_on.new.own none own carried popped c.from-m.result c.from-m.ensures
+    let changed = subst (λ (l : Ringed). IsCarriedAt (l.carried % 32) c.args.line (sent_frames c.self.inside.sent) (sent_frames c.carry_on.new.sent)) one
+    (subst (λ k. IsCarriedAt (c.index_mut.result.now.carried % 32) k (sent_frames c.self.inside.sent) (sent_frames c.carry_on.new.sent)) c.from-m.ensures c.carry_on.ensures.sent) in
+    carry-kept_at _ _ _ _ _ c.self.invariant c.args.line low c.index.result.now there c.carry_on.new.own none own carried popped (sent_frames c.carry_on.new.sent) changed c.from-m.result c.from-m.ensures
 
 pub returns-in-None-clause-script : goal.returns-in-None-clause-script
 returns-in-None-clause-script c = ap (λ (w : Walked). w.script) c.self.view_is
@@ -134,13 +135,14 @@ returns-in-None-clause-counts c =
     let there_ = at-index lines c.args.line c.index_mut.result.now (omega (arith, low, len)) (c.index_mut.ensures.value ∙ ap (λ k. slice_index_or lines k c.index_mut.result.now) c.from-m.ensures) in
     let one = same-some c.index_mut.result.now c.index.result.now (sym there_ ∙ there) in
     let has = c.carry_on.ensures.has c.self.inside.script (subst (λ k. HasLine c.self.inside.script k c.index_mut.result.now) (sym c.from-m.ensures) (line-has _ _ _ _ _ c.self.invariant c.args.line low c.index_mut.result.now there_))
-    (subst (λ k. IsSentOn c.self.inside.script k c.index_mut.result.now.carried c.deref.result.now) (sym c.from-m.ensures)
-    (subst (IsSentOn c.self.inside.script c.args.line c.index_mut.result.now.carried) (sym c.deref.ensures.value)
-    (line-sent _ _ _ _ _ c.self.invariant c.args.line low c.index_mut.result.now there_ c.self.inside.sent.items refl (subst (λ l. CanCarry l c.self.inside.source.ticks) (sym one) (subst (CanCarry c.index.result.now) c.ticks.ensures (c.carry_stall.ensures.can c.in-None.is)))))) in
+    (subst (λ k. IsSentOn c.self.inside.script k c.index_mut.result.now.carried c.self.inside.sent.items) (sym c.from-m.ensures)
+    (line-sent _ _ _ _ _ c.self.invariant c.args.line low c.index_mut.result.now there_ c.self.inside.sent.items refl (subst (λ l. CanCarry l c.self.inside.source.ticks) (sym one) (subst (CanCarry c.index.result.now) c.ticks.ensures (c.carry_stall.ensures.can c.in-None.is))))) in
     let own = subst (λ k. HasLine c.self.inside.script k c.carry_on.new.own) c.from-m.ensures has in
     let carried = c.carry_on.ensures.carried ∙ ap (λ (l : Ringed). l.carried + 1) one in
     let popped = c.carry_on.ensures.popped ∙ ap (λ (l : Ringed). l.popped) one in
-    carry-counts_at _ _ _ _ _ c.self.invariant c.args.line low c.index.result.now there c.carry_on.new.own none own carried popped c.from-m.result c.from-m.ensures
+    let changed = subst (λ (l : Ringed). IsCarriedAt (l.carried % 32) c.args.line (sent_frames c.self.inside.sent) (sent_frames c.carry_on.new.sent)) one
+    (subst (λ k. IsCarriedAt (c.index_mut.result.now.carried % 32) k (sent_frames c.self.inside.sent) (sent_frames c.carry_on.new.sent)) c.from-m.ensures c.carry_on.ensures.sent) in
+    carry-counts_at _ _ _ _ _ c.self.invariant c.args.line low c.index.result.now there c.carry_on.new.own none own carried popped (sent_frames c.carry_on.new.sent) changed c.from-m.result c.from-m.ensures
     ∙ ap (λ (w : Walked). counts_after w.script w.counts (Carry c.args.line)) c.self.view_is
 
 pub returns-in-None-clause-moved : goal.returns-in-None-clause-moved
@@ -156,9 +158,8 @@ returns-in-None-clause-moved c =
     let there_ = at-index lines c.args.line c.index_mut.result.now (omega (arith, low, len)) (c.index_mut.ensures.value ∙ ap (λ k. slice_index_or lines k c.index_mut.result.now) c.from-m.ensures) in
     let one = same-some c.index_mut.result.now c.index.result.now (sym there_ ∙ there) in
     let has = c.carry_on.ensures.has c.self.inside.script (subst (λ k. HasLine c.self.inside.script k c.index_mut.result.now) (sym c.from-m.ensures) (line-has _ _ _ _ _ c.self.invariant c.args.line low c.index_mut.result.now there_))
-    (subst (λ k. IsSentOn c.self.inside.script k c.index_mut.result.now.carried c.deref.result.now) (sym c.from-m.ensures)
-    (subst (IsSentOn c.self.inside.script c.args.line c.index_mut.result.now.carried) (sym c.deref.ensures.value)
-    (line-sent _ _ _ _ _ c.self.invariant c.args.line low c.index_mut.result.now there_ c.self.inside.sent.items refl (subst (λ l. CanCarry l c.self.inside.source.ticks) (sym one) (subst (CanCarry c.index.result.now) c.ticks.ensures (c.carry_stall.ensures.can c.in-None.is)))))) in
+    (subst (λ k. IsSentOn c.self.inside.script k c.index_mut.result.now.carried c.self.inside.sent.items) (sym c.from-m.ensures)
+    (line-sent _ _ _ _ _ c.self.invariant c.args.line low c.index_mut.result.now there_ c.self.inside.sent.items refl (subst (λ l. CanCarry l c.self.inside.source.ticks) (sym one) (subst (CanCarry c.index.result.now) c.ticks.ensures (c.carry_stall.ensures.can c.in-None.is))))) in
     let own = subst (λ k. HasLine c.self.inside.script k c.carry_on.new.own) c.from-m.ensures has in
     let carried = c.carry_on.ensures.carried ∙ ap (λ (l : Ringed). l.carried + 1) one in
     let popped = c.carry_on.ensures.popped ∙ ap (λ (l : Ringed). l.popped) one in

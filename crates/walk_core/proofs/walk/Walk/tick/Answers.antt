@@ -4,6 +4,7 @@ use Rattle.std.specs.Option.{is_some}
 use Rattle.session_model.specs.declared.walk.Event.TheVariants.{Tick}
 use Rattle.session_model.specs.Counts.{step}
 use Rattle.walk_law.specs.Walk.{walk_plan}
+use Rattle.vc_cell.specs.Held.{held}
 use Rattle.walk_parts.proofs.ItemLaws.{at-index}
 use Rattle.walk_core.specs.Moved.{Walked, counts_after}
 use Rattle.walk_core.proofs.CarryLaws.{frame-size}
@@ -49,7 +50,7 @@ invariant_of-self c =
     let sent = sent-read f.script f.source.ticks c.ticks-ticks.result f.lines.items c.deref.result.now _ _ c.ticks-ticks.ensures c.deref.ensures.value (c.next_place-place.ensures.has f.script size)
     c.self.invariant.sent in
     tick-kept_at _ _ _ _ _ (sent-placed _ _ _ _ _ _ c.self.invariant sent) e c.take_needed-back.result c.take_needed-back.new.back first left
-    c.make_frame.new.source c.make_frame.ensures.stands c.make_frame.ensures.ticks c.make_frame.ensures.kind c.make_frame.new.frame.items c.make_frame.ensures.frame
+    c.make_frame.new.source c.make_frame.ensures.stands c.make_frame.ensures.ticks c.make_frame.ensures.kind (held c.make_frame.new.frame.items) c.make_frame.ensures.frame
     c.next_note-self-inside.result noted c.next_place-place.new.sent.items c.make_frame.new.frame refl refl c.next_place-place.result
     (c.next_place-place.ensures.place ∙ ap (λ n. n % 32) c.ticks-ticks.ensures)
 
@@ -63,6 +64,6 @@ returns-clause-counts c =
     let noted = c.next_note-self-inside.ensures
     ∙ ap (λ n. if n % 16 == 8 then Some (record { packet = n / 16; back = c.take_needed-back.result }) else f.last) c.ticks-ticks.ensures in
     tick-counts _ _ _ _ _ c.self.invariant e c.take_needed-back.result c.take_needed-back.new.back first left
-    c.make_frame.new.source c.make_frame.ensures.stands c.make_frame.ensures.ticks c.make_frame.ensures.kind c.make_frame.new.frame.items c.make_frame.ensures.frame
+    c.make_frame.new.source c.make_frame.ensures.stands c.make_frame.ensures.ticks c.make_frame.ensures.kind (held c.make_frame.new.frame.items) c.make_frame.ensures.frame
     c.next_note-self-inside.result noted
     ∙ ap (λ (w : Walked). counts_after w.script w.counts Tick) c.self.view_is

@@ -3,7 +3,7 @@ use Rattle.std.proofs.Common.{◌-◌, [], ◌∷◌, ◌∙◌, ap, subst, sym,
 use Rattle.session_model.specs.Damage.{carried}
 use Rattle.line_core.specs.Line.{Line, Stands}
 use Rattle.line_core.proofs.StandsLaws.{push-stored, push-cells, none-flushed}
-use Rattle.line_core.proofs.line.LineCore.push_boxed.Goals as goal
+use Rattle.line_core.proofs.line.LineCore.push_box.Goals as goal
 
 pub returns-in-Some-clause-stands : goal.returns-in-Some-clause-stands
 returns-in-Some-clause-stands c calls stands =
@@ -17,8 +17,8 @@ returns-in-Some-clause-stands c calls stands =
       delay = own.delay;
       windows = own.windows;
       total = own.total;
-      stored = ap (λ store. store.items) c.pass_boxed.ensures.store ∙ push-stored _ calls c.args.container.now own none (omega (arith, full, pushed, delay));
-      pushed = omega (arith, length-append calls.containers (c.args.container.now ∷ []), own.pushed);
+      stored = ap (λ store. store.items) c.pass_box.ensures.store ∙ push-stored _ calls c.args.container.now.value own none (omega (arith, full, pushed, delay));
+      pushed = omega (arith, length-append calls.containers (c.args.container.now.value ∷ []), own.pushed);
       flushed = own.flushed;
     }
 
@@ -30,5 +30,5 @@ returns-in-Some-clause-cells c calls stands =
     let delay = ap (λ (line : Line). line.delay) c.self.view_is in
     let none = none-flushed c.self.inside.pushed c.self.inside.total c.self.inside.flushed c.self.invariant.order (omega arith) in
     let full = c.in-Some.ensures.filled.0 in
-    push-cells _ calls c.args.container.now c.in-Some.fate _ own none (omega (arith, full, pushed, delay)) (omega arith)
-    (c.in-Some.ensures.filled.1 ∙ ap (λ (line : Line). carried line.windows (line.pushed - line.delay)) (sym c.self.view_is)) c.pass_boxed.ensures.cells
+    push-cells _ calls c.args.container.now.value c.in-Some.fate _ own none (omega (arith, full, pushed, delay)) (omega arith)
+    (c.in-Some.ensures.filled.1 ∙ ap (λ (line : Line). carried line.windows (line.pushed - line.delay)) (sym c.self.view_is)) c.pass_box.ensures.cells
