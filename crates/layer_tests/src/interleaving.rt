@@ -48,17 +48,6 @@ fn boxes(alloc: Global, blank: &Container, members: usize) -> Result<Vec<Box<Con
     Ok(boxes)
 }
 
-// The containers in boxes.
-fn contents(alloc: Global, boxes: &[Box<Container>]) -> Result<Vec<Container>, AllocError>
-    ensures { IfOk result (λ containers. length containers.items ≡ length boxes.now) }
-{
-    let mut containers = Vec::with_capacity(alloc, boxes.len())?;
-    for place in boxes {
-        containers.push(**place)?;
-    }
-    Ok(containers)
-}
-
 // An octet of a row that differs from those near it.
 fn octet(i: usize) -> u8 {
     (i % 251) as u8
@@ -97,7 +86,7 @@ fn all_members_are_spread_and_gathered(rt: HostRuntime) -> Result<(), Fail> {
                 );
             }
             let mut back = vec![in alloc; 0u8; places * members]?;
-            gather_places(&contents(alloc, &containers)?, &active, 0, places, &mut back);
+            gather_places(&containers, &active, 0, places, &mut back);
             assert!(rt; back.as_slice() == row.as_slice(), "{members} members");
         }
     }
