@@ -76,17 +76,17 @@ changed-at sent place m row other container there put = record {
       length-map (slice_set sent place other) frame_in ∙ length-slice_set sent place other ∙ sym (length-map sent frame_in);
   lines = λ k frame told. elim (cases_eq k place) [
     | inl same ↦ (
-        frame_in row,
-        slice_get-map frame_in sent k ∙ ap (λ j. option_map frame_in (slice_get sent j)) same ∙ ap (option_map frame_in) there,
-        ap length (is k frame same told) ∙ length-slice_set (frame_in row) m container.value,
-        λ line apart. ap (λ xs. slice_get xs line) (is k frame same told) ∙ slice_get-set_other (frame_in row) m line container.value (apart same),
-      )
+      frame_in row,
+      slice_get-map frame_in sent k ∙ ap (λ j. option_map frame_in (slice_get sent j)) same ∙ ap (option_map frame_in) there,
+      ap length (is k frame same told) ∙ length-slice_set (frame_in row) m container.value,
+      λ line apart. ap (λ xs. slice_get xs line) (is k frame same told) ∙ slice_get-set_other (frame_in row) m line container.value (apart same),
+    )
     | inr apart ↦ (
-        frame,
-        slice_get-map frame_in sent k ∙ ap (option_map frame_in) (sym (slice_get-set_other sent place k other apart)) ∙ sym (slice_get-map frame_in (slice_set sent place other) k) ∙ told,
-        refl,
-        λ line away. refl,
-      )
+      frame,
+      slice_get-map frame_in sent k ∙ ap (option_map frame_in) (sym (slice_get-set_other sent place k other apart)) ∙ sym (slice_get-map frame_in (slice_set sent place other) k) ∙ told,
+      refl,
+      λ line away. refl,
+    )
   ];
 } where
   is : (k : ℕ) (frame : List Container) → k ≡ place → slice_get (map frame_in (slice_set sent place other)) k ≡ Some frame → frame ≡ slice_set (frame_in row) m container.value

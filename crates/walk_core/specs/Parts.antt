@@ -4,9 +4,6 @@ use Rattle.std.specs.Global.{Vec, Box}
 use Rattle.vc_cell.specs.declared.Container.{Container}
 use Rattle.session_model.specs.declared.script.Script.{Script}
 use Rattle.session_model.specs.Valid.{IsValid}
-use Rattle.session_model.specs.Scenario.{scenario_of}
-use Rattle.session_model.specs.Back.{session_cells}
-use Rattle.session_model.specs.Sent.{frame_of}
 use Rattle.session_model.specs.Counts.{LineCounts, Counts}
 use Rattle.vc_cell.specs.Held.{held}
 use Rattle.report_text.specs.declared.report.Refusal.{Refusal}

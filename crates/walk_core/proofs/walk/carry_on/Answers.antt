@@ -1,11 +1,15 @@
 -- One call more brought the line where it is.
-use Rattle.std.proofs.Common.{rules, ◌≡◌, ◌%◌, slice_index_or, sym, ◌∙◌, ap, subst, arith}
+use Rattle.std.proofs.Common.{rules, ◌≡◌, ◌%◌, map, slice_index_or, slice_set, refl, sym, ◌∙◌, ap, subst, arith}
+use Rattle.std.specs.Global.{Vec, Box}
+use Rattle.std.specs.Vec.{with_item}
+use Rattle.vc_cell.specs.declared.Container.{Container}
 use Rattle.walk_parts.specs.Ringed.{Has}
 use Rattle.walk_parts.proofs.ItemLaws.{at-index}
 use Rattle.line_core.specs.Line.{and_push}
 use Rattle.walk_law.specs.Rings.{sent_at}
-use Rattle.walk_core.specs.Parts.{calls_on, sent_frames}
-use Rattle.walk_core.proofs.CarryLaws.{same-some, below, calls-push, calls-flush, all-carried, not-carried}
+use Rattle.walk_core.specs.Parts.{calls_on, frame_in, sent_frames}
+use Rattle.walk_core.specs.Carry.{IsCarriedAt}
+use Rattle.walk_core.proofs.CarryLaws.{same-some, map-get, below, calls-push, calls-flush, all-carried, not-carried}
 use Rattle.walk_core.proofs.SendLaws.{unchanged-at, changed-at}
 use Rattle.walk_core.proofs.walk.carry_on.Goals as goal
 
@@ -25,16 +29,28 @@ returns-else-all_pushed-clause-has c script has sent =
     let left = not-carried script c.args.m c.args.own.now has (below c.args.own.now.core.pushed c.args.own.now.core.total within some) in
     let places = c.requires.places in
     let slot : c.carried.result % 32 ≡ c.args.own.now.carried % 32 = ap (λ x. x % 32) c.carried.ensures in
-    let frame = at-index c.args.sent.now (c.args.own.now.carried % 32) c.index-sent-carried.result (omega (arith, places)) (c.index-sent-carried.is ∙ ap (λ k. slice_index_or c.args.sent.now k c.index-sent-carried.result) slot) in
-    let told = sent left c.index-sent-carried.result frame in
-    let read = at-index c.index-sent-carried.result.items c.args.m c.index.result.now (c.requires.lines (c.args.own.now.carried % 32) c.index-sent-carried.result frame) c.index.ensures in
-    let is = same-some c.index.result.now (sent_at script c.args.m c.args.own.now.carried) (sym read ∙ told) in
+    let frames = c.args.sent.now.items in
+    let row : Vec (Box Container) = c.index_mut.result.now in
+    let place : Box Container = c.index_mut-else-all_pushed.result.now in
+    let frame = at-index frames (c.args.own.now.carried % 32) row (omega (arith, places)) (c.index_mut.ensures.value ∙ ap (λ k. slice_index_or frames k row) slot) in
+    let read = at-index row.items c.args.m place (c.requires.lines (c.args.own.now.carried % 32) row frame) c.index_mut-else-all_pushed.ensures.value in
+    let is = same-some place.value (sent_at script c.args.m c.args.own.now.carried) (sym (map-get (λ (b : Box Container). b.value) row.items c.args.m place read) ∙ sent left row frame) in
     record {
       has = subst (λ calls. Has c.push.new.self calls)
           (ap (and_push (calls_on script c.args.m c.args.own.now.carried)) is ∙ calls-push script c.args.m c.args.own.now left ∙ ap (calls_on script c.args.m) (sym c.push.ensures.carried))
           (c.push.ensures.has (calls_on script c.args.m c.args.own.now.carried) has.has);
       ring = c.push.ensures.ring ∙ has.ring;
     }
+
+pub returns-else-all_pushed-clause-sent : goal.returns-else-all_pushed-clause-sent
+returns-else-all_pushed-clause-sent c =
+    let places = c.requires.places in
+    let slot : c.carried.result % 32 ≡ c.args.own.now.carried % 32 = ap (λ x. x % 32) c.carried.ensures in
+    let frames = c.args.sent.now.items in
+    let row : Vec (Box Container) = c.index_mut.result.now in
+    let frame = at-index frames (c.args.own.now.carried % 32) row (omega (arith, places)) (c.index_mut.ensures.value ∙ ap (λ k. slice_index_or frames k row) slot) in
+    subst (λ k. IsCarriedAt (c.args.own.now.carried % 32) c.args.m (map frame_in frames) (map frame_in (slice_set frames k (with_item row c.args.m c.push.new.container)))) (sym slot)
+    (changed-at frames (c.args.own.now.carried % 32) c.args.m row (with_item row c.args.m c.push.new.container) c.push.new.container frame refl)
 
 pub returns-then-all_pushed-clause-sent : goal.returns-then-all_pushed-clause-sent
 returns-then-all_pushed-clause-sent c = unchanged-at (c.args.own.now.carried % 32) c.args.m (sent_frames c.args.sent.now)

@@ -1,5 +1,5 @@
 -- A line carries.
-use Rattle.std.proofs.Common.{rules, ◌≡◌, ◌+◌, ◌%◌, ◌<◌, List, length, slice_get, slice_index_or, refl, sym, ◌∙◌, ap, subst, arith}
+use Rattle.std.proofs.Common.{rules, ◌≡◌, ◌+◌, ◌%◌, ◌<◌, List, length, slice_index_or, refl, sym, ◌∙◌, ap, subst, arith}
 use Rattle.session_model.specs.declared.walk.Event.TheVariants.{Carry}
 use Rattle.walk_parts.specs.Ringed.{Ringed}
 use Rattle.walk_parts.proofs.ItemLaws.{at-index}
