@@ -1,10 +1,10 @@
 //! Rows there and back.
 ghost use Rattle.std.specs.Prelude.{◌≡◌, ℕ, ◌-◌, ◌<◌, ◌≤◌, length, slice_index, IfOk};
 
-use vcat_interleave::{gather, gather_places, spread, spread_places};
 use std::alloc::{AllocError, Global};
 use std::test::Fail;
 use vc_cell::{Container, PAYLOAD};
+use vcat_interleave::{gather, gather_places, spread, spread_places};
 
 #[test]
 fn octets_are_dealt_in_turn(rt: HostRuntime) {
@@ -38,7 +38,11 @@ fn lines(alloc: Global, members: usize) -> Result<Vec<u8>, AllocError>
 }
 
 // So many boxes, each with this container.
-fn boxes(alloc: Global, blank: &Container, members: usize) -> Result<Vec<Box<Container>>, AllocError>
+fn boxes(
+    alloc: Global,
+    blank: &Container,
+    members: usize,
+) -> Result<Vec<Box<Container>>, AllocError>
     ensures { IfOk result (λ boxes. length boxes.items ≡ members) }
 {
     let mut boxes = Vec::with_capacity(alloc, members)?;
@@ -53,8 +57,8 @@ fn contents(alloc: Global, boxes: &[Box<Container>]) -> Result<Vec<Container>, A
     ensures { IfOk result (λ containers. length containers.items ≡ length boxes.now) }
 {
     let mut containers = Vec::with_capacity(alloc, boxes.len())?;
-    for place in boxes {
-        containers.push(**place)?;
+    for line in 0..boxes.len() {
+        containers.push(*boxes[line])?;
     }
     Ok(containers)
 }
@@ -97,7 +101,13 @@ fn all_members_are_spread_and_gathered(rt: HostRuntime) -> Result<(), Fail> {
                 );
             }
             let mut back = vec![in alloc; 0u8; places * members]?;
-            gather_places(&contents(alloc, &containers)?, &active, 0, places, &mut back);
+            gather_places(
+                &contents(alloc, &containers)?,
+                &active,
+                0,
+                places,
+                &mut back,
+            );
             assert!(rt; back.as_slice() == row.as_slice(), "{members} members");
         }
     }
