@@ -1,10 +1,10 @@
 //! Rows there and back.
 ghost use Rattle.std.specs.Prelude.{◌≡◌, ℕ, ◌-◌, ◌<◌, ◌≤◌, length, slice_index, IfOk};
 
-use vcat_interleave::{gather, gather_places, spread, spread_places};
 use std::alloc::{AllocError, Global};
 use std::test::Fail;
 use vc_cell::{Container, PAYLOAD};
+use vcat_interleave::{gather, gather_places, spread, spread_places};
 
 #[test]
 fn octets_are_dealt_in_turn(rt: HostRuntime) {
@@ -38,7 +38,11 @@ fn lines(alloc: Global, members: usize) -> Result<Vec<u8>, AllocError>
 }
 
 // So many boxes, each with this container.
-fn boxes(alloc: Global, blank: &Container, members: usize) -> Result<Vec<Box<Container>>, AllocError>
+fn boxes(
+    alloc: Global,
+    blank: &Container,
+    members: usize,
+) -> Result<Vec<Box<Container>>, AllocError>
     ensures { IfOk result (λ boxes. length boxes.items ≡ members) }
 {
     let mut boxes = Vec::with_capacity(alloc, members)?;

@@ -1,6 +1,6 @@
 //! Worked rows of carries.
-use line_core::{Carry, LineCore, Out, Windows};
 use failure_window::Window;
+use line_core::{Carry, LineCore, Out, Windows};
 use std::test::Fail;
 use vc_cell::{Cell, Container, PAYLOAD};
 

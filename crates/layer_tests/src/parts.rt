@@ -1,12 +1,12 @@
 //! A line whose ring fills, a return path with a loss, and items of both kinds.
 
-use walk_parts::{ReturnPath, WalkLine, held_item, next_command, next_frame};
 use failure_window::Window;
 use lcas_packet::Packet;
 use realign_core::{RowAnswer, RowGather};
 use session_model::{Item, ItemKind, Octets};
 use std::test::Fail;
 use vc_cell::{BackCell, Container, Ctrl, PAYLOAD};
+use walk_parts::{ReturnPath, WalkLine, held_item, next_command, next_frame};
 
 const CONTAINER: Container = Container {
     h4: 5,

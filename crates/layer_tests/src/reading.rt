@@ -1,7 +1,7 @@
 //! Worked lines.
 
-use line_reader::{LineReader, Verdict};
 use h4_multiframe::h4;
+use line_reader::{LineReader, Verdict};
 use std::process::Abort;
 use vc_cell::{Cell, Container, PAYLOAD};
 

@@ -5,10 +5,10 @@ mod table;
 ghost use Rattle.std.specs.Prelude.{◌≡◌, ◌<◌, IfSome, OnSome};
 ghost use Rattle.realign_core.specs.Gather.{line_count, AreDecided};
 
-use realign_core::{RowAnswer, RowGather};
 use h4_multiframe::h4;
 use lcas_packet::Packet;
 use line_reader::Verdict;
+use realign_core::{RowAnswer, RowGather};
 use std::alloc::{AllocError, Global};
 use std::process::Abort;
 use std::test::Fail;

@@ -1,6 +1,8 @@
 //! Worked rows of bursts, with all ends on one thread.
-use member_ring::{Burst, Gate, IdleCause, LineEnds, LineWorker, OpenGate, RingIn, Who, line_rings};
 use line_core::{LineCore, Windows};
+use member_ring::{
+    Burst, Gate, IdleCause, LineEnds, LineWorker, OpenGate, RingIn, Who, line_rings,
+};
 use std::sync::atomic::{AtomicU64, Ordering};
 use std::test::Fail;
 use vc_cell::{Cell, Container, PAYLOAD};

@@ -5,12 +5,12 @@ mod table;
 ghost use Rattle.std.specs.Prelude.{◌≡◌, ◌<◌};
 ghost use Rattle.realign_core.specs.Gather.{line_count, IsOpenAt};
 
-use sink_core::{KeptFrames, SinkCore, TakeAnswer};
 use gfp_headers::{core_bytes, type_bytes};
 use gfp_scramble::Scrambler;
 use h4_multiframe::h4;
 use lcas_packet::Packet;
 use realign_core::RowGather;
+use sink_core::{KeptFrames, SinkCore, TakeAnswer};
 use std::alloc::{AllocError, Global};
 use std::process::Abort;
 use std::test::Fail;

@@ -3,7 +3,6 @@ ghost use Rattle.std.specs.Prelude.{◌≡◌, [], length, replicate, IfSome};
 ghost use Rattle.member_ring.specs.Ends.{in_passed};
 ghost use Rattle.sink_worker.specs.Received.{received};
 
-use sink_worker::{SinkBurst, SinkIdle, SinkWorker};
 use gfp_fill::{Filler, FrameQueue};
 use h4_multiframe::h4;
 use lcas_packet::Packet;
@@ -12,6 +11,7 @@ use member_ring::{
     Gate, LineEnds, LineWorker, OpenGate, RingIn, RingOut, Who, back_ring, line_rings,
 };
 use outside_io::MemSink;
+use sink_worker::{SinkBurst, SinkIdle, SinkWorker};
 use std::alloc::Global;
 use std::sync::atomic::{AtomicU64, Ordering};
 use std::test::Fail;

@@ -2,9 +2,9 @@
 ghost use Rattle.std.specs.Prelude.{◌≡◌, ℕ, ◌+◌, ◌<◌, ◌≤◌, length};
 ghost use Rattle.source_core.specs.Terminal.{SameKind};
 
-use source_core::{AcceptFault, Command, CommandFault, SourceCore};
 use lcas_packet::Packet;
 use lcas_source::SourceTable;
+use source_core::{AcceptFault, Command, CommandFault, SourceCore};
 use std::process::Abort;
 use std::test::Fail;
 use vc_cell::{BackCell, Container, Ctrl, PAYLOAD};

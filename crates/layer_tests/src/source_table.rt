@@ -2,8 +2,8 @@
 
 ghost use Rattle.std.specs.Prelude.{◌≡◌, ◌<◌};
 
-use lcas_source::{CommandFault, SourceState, SourceTable};
 use lcas_packet::Packet;
+use lcas_source::{CommandFault, SourceState, SourceTable};
 use session_model::Command;
 use std::process::Abort;
 use vc_cell::{BackCell, Ctrl};
