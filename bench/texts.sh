@@ -10,7 +10,8 @@ kept=${1:-/dev/null}
 work=$(mktemp -d) || exit 1
 trap 'rm -rf "$work"' EXIT
 
-echo "a million texts: $("$reader" 1 1000000)" || exit 1
+counts=$("$reader" 1 1000000) || exit 1
+echo "a million texts: $counts"
 
 # The file, the place and the octet of each change, drawn from a number.
 ls examples/*.vcat | awk -v count=10000 '

@@ -3,6 +3,8 @@
 #![tactic(auto)]
 
 #[cfg(test)]
+mod group;
+#[cfg(test)]
 mod running;
 #[cfg(test)]
 mod walking;

@@ -5,6 +5,7 @@
 //! at the end of a line of the input, or of a got line, `07*9` stands for nine octets of 07. Rows stand behind functions, so that no
 //! proof sees them.
 
+use crate::group::{beginning_rows, members};
 use member_ring::{Gate, OpenGate, Who};
 use outside_io::{MemSink, MemSource};
 use run_command::run_top;
@@ -24,12 +25,13 @@ struct Answer {
     notes: Vec<u8>,
 }
 
-/// Which calls fail: of the source, of `out`, and of `notes`.
+/// Which calls fail: of the source, of `out`, and of `notes`. And how many octets a call of the source gives at most.
 #[derive(Clone, Copy)]
 struct Fails<'a> {
     takes: &'a [u32],
     puts: &'a [u32],
     tells: &'a [u32],
+    step: usize,
 }
 
 /// No call fails.
@@ -37,6 +39,7 @@ const NONE: Fails<'static> = Fails {
     takes: &[],
     puts: &[],
     tells: &[],
+    step: 65536,
 };
 
 /// Calls the program with words that stand one space apart.
@@ -52,7 +55,7 @@ fn called<R: Threads + Wait + Sync, G: Gate>(
     for word in text.split(' ') {
         words.push(String::from_str(alloc, word)?)?;
     }
-    let mut source = MemSource::new(alloc, input, fails.takes)?;
+    let mut source = MemSource::in_steps(alloc, input, fails.takes, fails.step.max(1))?;
     let mut out = MemSink::new(alloc, 1 << 16, fails.puts)?;
     let mut notes = MemSink::new(alloc, 1 << 10, fails.tells)?;
     let words = words.as_slice();
@@ -123,17 +126,16 @@ fn folded(alloc: Global, text: &[u8]) -> Result<String, AllocError> {
     Ok(row)
 }
 
-/// What a row says of an answer.
-fn told<R: Threads + Wait + Sync, G: Gate>(
+/// What a row says of the answer to an input.
+fn answered<R: Threads + Wait + Sync, G: Gate>(
     rt: &R,
     alloc: Global,
     words: &str,
-    folded_input: &str,
+    input: &[u8],
     fails: Fails<'_>,
     gate: &G,
 ) -> Result<String, AllocError> {
-    let input = unfolded(alloc, folded_input)?;
-    let end = called(rt, alloc, words, input.as_slice(), fails, gate)?;
+    let end = called(rt, alloc, words, input, fails, gate)?;
     let session = if end.ended { " session" } else { "" };
     let out = folded(alloc, end.out.as_slice())?;
     let notes = folded(alloc, end.notes.as_slice())?;
@@ -143,6 +145,19 @@ fn told<R: Threads + Wait + Sync, G: Gate>(
         out.as_str(),
         notes.as_str()
     )
+}
+
+/// The same of an input that a row says.
+fn told<R: Threads + Wait + Sync, G: Gate>(
+    rt: &R,
+    alloc: Global,
+    words: &str,
+    folded_input: &str,
+    fails: Fails<'_>,
+    gate: &G,
+) -> Result<String, AllocError> {
+    let input = unfolded(alloc, folded_input)?;
+    answered(rt, alloc, words, input.as_slice(), fails, gate)
 }
 
 /// The first row that is answered otherwise, with the answer, or nothing.
@@ -219,6 +234,113 @@ fn calls_that_fail(rt: HostRuntime) -> Result<(), Fail> {
         first_wrong(&rt, rt.alloc(), "run 2;x| => 5;;", tells)?.as_str(),
         ""
     );
+    Ok(())
+}
+
+/// Inputs, how many calls of a source read them seven octets at a time, and what is answered where no call fails. A usage reads nothing.
+fn read_rows() -> &'static str {
+    "\
+    run 2;lines 3|delays 0 0 0|ring 1|lag 1|ticks 700|add 0 0|add 0 1|add 0 2|remove 600 1| => 13 0 session;total ticks 700 taken 700 frames 0 commands 4 refused 0 got 0|;\n\
+    run 2; => 1 5;;fault: line 1: missing|\n\
+    run 2;x| => 2 5;;fault: line 1: word|\n\
+    run 2;lines 2|delays 0 63|ring 63|lag 5|ticks 1| => 7 6;;fault: spread 63 0 0 63|\n\
+    run; => 0 2;;usage: vcat_run run WORKERS|"
+}
+
+/// How many calls of the source there are whose failure is told, one at a time and from the first one on, and the next answer.
+fn read_in_steps<R: Threads + Wait + Sync>(
+    rt: &R,
+    alloc: Global,
+    words: &str,
+    input: &str,
+) -> Result<String, AllocError> {
+    for call in 0..100u32 {
+        let takes = [call];
+        let fails = Fails {
+            takes: &takes,
+            step: 7,
+            ..NONE
+        };
+        let answer = told(rt, alloc, words, input, fails, &OpenGate)?;
+        if answer.as_str() != "3;;fault: read failed|" {
+            return format!(in alloc; "{call} {}", answer.as_str());
+        }
+    }
+    String::from_str(alloc, "no end")
+}
+
+#[test]
+fn takes_that_fail(rt: HostRuntime) -> Result<(), Fail> {
+    for row in read_rows().lines() {
+        let (given, want) = row.split_once(" => ").unwrap_or((row, "a row"));
+        let (words, input) = given.split_once(';').unwrap_or((given, ""));
+        assert_eq!(rt;
+            read_in_steps(&rt, rt.alloc(), words, input)?.as_str(),
+            want
+        );
+    }
+    Ok(())
+}
+
+/// Three lines, of which one leaves, and three frames whose lines each go out alone.
+fn long_frames() -> &'static str {
+    "lines 3|delays 0 0 0|ring 1|lag 1|ticks 700|add 0 0|add 0 1|add 0 2|remove 600 1|frame 0 07*9600|frame 0 08*9600|frame 0 09*9600|"
+}
+
+/// What is answered where the first call of `out` fails, the second, and so on.
+fn put_rows() -> &'static str {
+    "\
+    4 session;;fault: write failed|\n\
+    4 session;got 07*9600|;fault: write failed|\n\
+    4 session;got 07*9600|got 08*9600|;fault: write failed|\n\
+    4 session;got 07*9600|got 08*9600|got 09*9600|;fault: write failed|\n\
+    0 session;got 07*9600|got 08*9600|got 09*9600|total ticks 700 taken 700 frames 3 commands 4 refused 0 got 3|;"
+}
+
+#[test]
+fn puts_that_fail(rt: HostRuntime) -> Result<(), Fail> {
+    let mut puts = [0];
+    for want in put_rows().lines() {
+        let fails = Fails {
+            puts: &puts,
+            ..NONE
+        };
+        let answer = told(&rt, rt.alloc(), "run 2", long_frames(), fails, &OpenGate)?;
+        assert_eq!(rt; answer.as_str(), want);
+        puts = [puts[0].wrapping_add(1)];
+    }
+    Ok(())
+}
+
+/// The first number of octets of a script, of those that a row has, that is answered otherwise, with the answer, or nothing.
+fn first_wrong_cut<R: Threads + Wait + Sync>(
+    rt: &R,
+    alloc: Global,
+    script: &[u8],
+    row: &str,
+) -> Result<String, AllocError> {
+    let (numbers, want) = row.split_once(" => ").unwrap_or((row, "a row"));
+    let (first, last) = numbers.split_once(' ').unwrap_or(("", ""));
+    let want = match want.strip_prefix("0;") {
+        Some(texts) => format!(in alloc; "0 session;{texts}")?,
+        None => String::from_str(alloc, want)?,
+    };
+    for count in first.parse::<usize>().unwrap_or(0)..=last.parse::<usize>().unwrap_or(0) {
+        let text = &script[..count.min(script.len())];
+        let answer = answered(rt, alloc, "run 2", text, NONE, &OpenGate)?;
+        if answer.as_str() != want.as_str() {
+            return format!(in alloc; "{row} BUT {count} {}", answer.as_str());
+        }
+    }
+    Ok(String::new(alloc))
+}
+
+#[test]
+fn scripts_that_are_cut(rt: HostRuntime) -> Result<(), Fail> {
+    for row in beginning_rows().lines() {
+        let wrong = first_wrong_cut(&rt, rt.alloc(), members().as_bytes(), row)?;
+        assert_eq!(rt; wrong.as_str(), "");
+    }
     Ok(())
 }
 

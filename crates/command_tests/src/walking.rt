@@ -3,6 +3,7 @@
 //! A row is `WORDS;INPUT => STATUS;OUT;NOTES`, where ` walk` follows the status if a walk is handed back. `|` stands for LF, and `*9` at
 //! the end of a line of the input, or of a got line, for nine octets of 5a. Rows stand behind functions, so that no proof sees them.
 
+use crate::group::{beginning_rows, members};
 use outside_io::{MemSink, MemSource};
 use std::alloc::{AllocError, Global};
 use std::test::Fail;
@@ -17,12 +18,13 @@ struct Answer {
     notes: Vec<u8>,
 }
 
-/// Which calls fail: of the source, of `out`, and of `notes`.
+/// Which calls fail: of the source, of `out`, and of `notes`. And how many octets a call of the source gives at most.
 #[derive(Clone, Copy)]
 struct Fails<'a> {
     takes: &'a [u32],
     puts: &'a [u32],
     tells: &'a [u32],
+    step: usize,
 }
 
 /// No call fails.
@@ -30,6 +32,7 @@ const NONE: Fails<'static> = Fails {
     takes: &[],
     puts: &[],
     tells: &[],
+    step: 65536,
 };
 
 /// Calls the program with words that stand one space apart.
@@ -38,7 +41,7 @@ fn called(alloc: Global, text: &str, input: &[u8], fails: Fails<'_>) -> Result<A
     for word in text.split(' ') {
         words.push(String::from_str(alloc, word)?)?;
     }
-    let mut source = MemSource::new(alloc, input, fails.takes)?;
+    let mut source = MemSource::in_steps(alloc, input, fails.takes, fails.step.max(1))?;
     let mut out = MemSink::new(alloc, 1 << 20, fails.puts)?;
     let mut notes = MemSink::new(alloc, 1 << 16, fails.tells)?;
     let end = walk_top(alloc, words.as_slice(), &mut source, &mut out, &mut notes);
@@ -364,5 +367,145 @@ fn control_packets(rt: HostRuntime) -> Result<(), Fail> {
     let row =
         "decode;000102030405060708090a1b0c0d0e0f001112130405060708090a1b0c0d0e0f0021321304151647 => 4;at 8 add sq 0 gid 1 act 0 chg 1 mst 00 ack 0|;fault: write failed|";
     assert_eq!(rt; first_wrong(alloc, row, second)?.as_str(), "");
+    Ok(())
+}
+
+/// What is answered where the first call of `out` fails, ` THEN ` where the second one does, and so on; the last answer is that
+/// without a fault. Short lines go out together.
+fn put_rows() -> &'static str {
+    "\
+    walk;lines 3|delays 0 0 0|ring 1|lag 1|ticks 700|add 0 0|add 0 1|add 0 2|remove 600 1|frame 0 *64|frame 0 *64|frame 0 *64| => \
+    4 walk;;fault: write failed| THEN \
+    0 walk;got *64|got *64|got *64|total ticks 700 taken 700 frames 3 commands 4 refused 0 got 3|;\n\
+    walk;lines 3|delays 0 0 0|ring 1|lag 1|ticks 700|add 0 0|add 0 1|add 0 2|remove 600 1|frame 0 *9600|frame 0 *9600|frame 0 *9600| => \
+    4 walk;;fault: write failed| THEN \
+    4 walk;got *9600|;fault: write failed| THEN \
+    4 walk;got *9600|got *9600|;fault: write failed| THEN \
+    4 walk;got *9600|got *9600|got *9600|;fault: write failed| THEN \
+    0 walk;got *9600|got *9600|got *9600|total ticks 700 taken 700 frames 3 commands 4 refused 0 got 3|;\n\
+    decode;0001 => 4;;fault: write failed| THEN 0;end octets 2 packets 0|;\n\
+    make 7 2 400; => 4 walk;;fault: write failed| THEN 0 walk;made lines 2 ticks 400|total ticks 400 taken 400 frames 50 commands 2 refused 0 got 50|octets 43246 sum 5512389|;"
+}
+
+/// The first call of `out` whose failure is answered otherwise, with the answer, or nothing.
+fn first_wrong_put(
+    alloc: Global,
+    words: &str,
+    input: &[u8],
+    wants: &str,
+) -> Result<String, AllocError> {
+    let mut puts = [0];
+    for want in wants.split(" THEN ") {
+        let fails = Fails {
+            puts: &puts,
+            ..NONE
+        };
+        let answer = told(alloc, words, input, fails)?;
+        if answer.as_str() != want {
+            return format!(in alloc; "{want} BUT {}", answer.as_str());
+        }
+        puts = [puts[0].wrapping_add(1)];
+    }
+    Ok(String::new(alloc))
+}
+
+#[test]
+fn puts_that_fail_in_turn(rt: HostRuntime) -> Result<(), Fail> {
+    let alloc = rt.alloc();
+    for row in put_rows().lines() {
+        let (given, wants) = row.split_once(" => ").unwrap_or((row, "a row"));
+        let (words, folded) = given.split_once(';').unwrap_or((given, ""));
+        let input = unfolded(alloc, folded)?;
+        let wrong = first_wrong_put(alloc, words, input.as_slice(), wants)?;
+        assert_eq!(rt; wrong.as_str(), "");
+    }
+    Ok(())
+}
+
+/// Inputs, how many calls of a source read them seven octets at a time, and what is answered where no call fails. `make` and a usage
+/// read nothing.
+fn read_rows() -> &'static str {
+    "\
+    walk;lines 3|delays 0 0 0|ring 1|lag 1|ticks 700|add 0 0|add 0 1|add 0 2|remove 600 1| => 13 0 walk;total ticks 700 taken 700 frames 0 commands 4 refused 0 got 0|;\n\
+    trace;lines 1|delays 0|ring 1|lag 1|ticks 41|add 0 0| => 8 0 walk;total ticks 41 taken 41 frames 0 commands 1 refused 0 got 0|;packet 0 chg 1 act 0 back none add:0|packet 1 chg 1 act 1 back 7f/1 eos:0|packet 2 chg 1 act 1 back ff/1 eos:0|\n\
+    decode;000102030405060708090a1b0c0d0e0f001112130405060708090a1b0c0d0e0f0021321304151647 => 13 0;at 8 add sq 0 gid 1 act 0 chg 1 mst 00 ack 0|at 24 eos sq 0 gid 1 act 1 chg 1 mst 00 ack 0|end octets 40 packets 2|;\n\
+    decode;0001|0203| => 3 0;end octets 4 packets 0|;\n\
+    walk; => 1 5;;fault: line 1: missing|\n\
+    walk;x| => 2 5;;fault: line 1: word|\n\
+    walk;lines 2|delays 0 63|ring 63|lag 5|ticks 1| => 7 6;;fault: spread 63 0 0 63|\n\
+    make 1 1 1; => 0 0 walk;made lines 1 ticks 1|total ticks 1 taken 1 frames 1 commands 1 refused 0 got 0|octets 0 sum 0|;\n\
+    make 1 1; => 0 2;;usage: vcat_walk walk, trace, decode, or make NUMBER LINES TICKS|"
+}
+
+/// How many calls of the source there are whose failure is told, one at a time and from the first one on, and the next answer.
+fn read_in_steps(alloc: Global, words: &str, input: &[u8]) -> Result<String, AllocError> {
+    for call in 0..100u32 {
+        let takes = [call];
+        let fails = Fails {
+            takes: &takes,
+            step: 7,
+            ..NONE
+        };
+        let answer = told(alloc, words, input, fails)?;
+        if answer.as_str() != "3;;fault: read failed|" {
+            return format!(in alloc; "{call} {}", answer.as_str());
+        }
+    }
+    String::from_str(alloc, "no end")
+}
+
+#[test]
+fn takes_that_fail(rt: HostRuntime) -> Result<(), Fail> {
+    let alloc = rt.alloc();
+    for row in read_rows().lines() {
+        let (given, want) = row.split_once(" => ").unwrap_or((row, "a row"));
+        let (words, folded) = given.split_once(';').unwrap_or((given, ""));
+        let input = unfolded(alloc, folded)?;
+        assert_eq!(rt;
+            read_in_steps(alloc, words, input.as_slice())?.as_str(),
+            want
+        );
+    }
+    Ok(())
+}
+
+/// The first number of octets of a script, of those that a row has, that is answered otherwise, with the answer, or nothing.
+fn first_wrong_cut(alloc: Global, script: &[u8], row: &str) -> Result<String, AllocError> {
+    let (numbers, want) = row.split_once(" => ").unwrap_or((row, "a row"));
+    let (first, last) = numbers.split_once(' ').unwrap_or(("", ""));
+    let want = match want.strip_prefix("0;") {
+        Some(texts) => format!(in alloc; "0 walk;{texts}")?,
+        None => String::from_str(alloc, want)?,
+    };
+    for count in first.parse::<usize>().unwrap_or(0)..=last.parse::<usize>().unwrap_or(0) {
+        let text = &script[..count.min(script.len())];
+        let answer = told(alloc, "walk", text, NONE)?;
+        if answer.as_str() != want.as_str() {
+            return format!(in alloc; "{row} BUT {count} {}", answer.as_str());
+        }
+    }
+    Ok(String::new(alloc))
+}
+
+/// The last end of line may be missing: the whole text is the same, and so is its trace.
+#[test]
+fn the_last_end_of_line(rt: HostRuntime) -> Result<(), Fail> {
+    let alloc = rt.alloc();
+    let script = members().as_bytes();
+    let cut = &script[..script.len().saturating_sub(1)];
+    let whole = told(alloc, "trace", script, NONE)?;
+    assert_eq!(rt; told(alloc, "trace", cut, NONE)?.as_str(), whole.as_str());
+    Ok(())
+}
+
+#[test]
+fn scripts_that_are_cut(rt: HostRuntime) -> Result<(), Fail> {
+    let alloc = rt.alloc();
+    for row in beginning_rows().lines() {
+        assert_eq!(rt;
+            first_wrong_cut(alloc, members().as_bytes(), row)?.as_str(),
+            ""
+        );
+    }
     Ok(())
 }
