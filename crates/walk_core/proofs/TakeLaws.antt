@@ -25,7 +25,7 @@ use Rattle.walk_law.proofs.PlanLaws.{has-paths, line-path}
 use Rattle.walk_law.proofs.RingLaws.{taken-cells}
 use Rattle.walk_law.proofs.WalkLaws.{line-first}
 use Rattle.walk_law.proofs.WaitLaws.{popped-decides}
-use Rattle.walk_parts.specs.Ringed.{Ringed, ring_of, Has, IsNext, popped_until, leaves_open, popped_cells as own_cells}
+use Rattle.walk_parts.specs.Ringed.{Ringed, Has, IsNext, IsPopped, popped_until, leaves_open, popped_cells as own_cells}
 use Rattle.walk_core.specs.Parts.{calls_on, line_counts, HasLine}
 use Rattle.walk_core.specs.Take.{CanPop, HasPopped}
 use Rattle.walk_core.proofs.CarryLaws.{carries, numbers, map-get, map-set}
@@ -279,7 +279,7 @@ module _ (script : Script) (was now : List Ringed) (rows : Gather) (m : ℕ) (ha
       some-cells : (a b : List Cell) → Some a ≡ Some b → a ≡ b
       some-cells a b e = cc
 
-  module _ (after : Ringed) (rows' : Gather) (others : after ≡ record line { popped = after.popped }) (row : rows'.rows ≡ rows.rows)
+  module _ (after : Ringed) (rows' : Gather) (others : IsPopped line after) (row : rows'.rows ≡ rows.rows)
       (popped : after.popped ≡ popped_until (line.given - line.popped) (λ y. leaves_open (path_cells (calls_on script m line.carried)) rows.rows y) line.popped)
       (stays : Has after (calls_on script m line.carried))
       (gathers : Gathers rows' (slice_set (popped_cells script (map line_counts now)) m (own_cells after (calls_on script m line.carried)))) where
@@ -289,7 +289,7 @@ module _ (script : Script) (was now : List Ringed) (rows : Gather) (m : ℕ) (ha
         ∙ ap (λ n. pop (n - line.popped) (path_on script m) rows.rows line.popped) given-is
 
     carried-is : after.carried ≡ line.carried
-    carried-is = ap (λ (l : Ringed). l.carried) others
+    carried-is = others.carried
 
     counts-are : line_counts after ≡ popped_line (path_on script m) rows.rows (line_counts line)
     counts-are = ap₂ (λ x y. record { carried = x; popped = y }) carried-is popped-is
@@ -318,7 +318,7 @@ module _ (script : Script) (was now : List Ringed) (rows : Gather) (m : ℕ) (ha
       };
       size = length-slice_set now m after ∙ has.can.size;
       pops = λ k other e. elim (cases_eq k m) [
-        | inl same ↦ subst (λ (l : Ringed). l.popped ≤ l.given) (sym (set-here now m after other (subst (λ j. slice_get (slice_set now m after) j ≡ Some other) same e))) (subst (λ n. after.popped ≤ n) (sym (ap (λ (l : Ringed). l.given) others)) after-low)
+        | inl same ↦ subst (λ (l : Ringed). l.popped ≤ l.given) (sym (set-here now m after other (subst (λ j. slice_get (slice_set now m after) j ≡ Some other) same e))) (subst (λ n. after.popped ≤ n) (sym others.given) after-low)
         | inr apart ↦ has.can.pops k other (sym (slice_get-set_other now m k after apart) ∙ e)
       ];
       carries = λ k other e. elim (cases_eq k m) [
@@ -334,7 +334,7 @@ module _ (script : Script) (was now : List Ringed) (rows : Gather) (m : ℕ) (ha
         has-after : HasLine script m after
         has-after = record {
           has = subst (λ n. Has after (calls_on script m n)) (sym carried-is) stays;
-          ring = ap (λ (l : Ringed). ring_of l) others ∙ own.ring;
+          ring = ap length others.signs ∙ own.ring;
         }
 
     popped-same : pop_lines rows'.rows 0 (walk_plan script).paths (map line_counts (slice_set now m after)) ≡ pop_lines rows'.rows 0 (walk_plan script).paths (map line_counts was)
