@@ -1,9 +1,10 @@
 //! A group: its source, the ends of its rings, what has landed, and the journal of what was accepted.
 
-ghost use Rattle.std.specs.Prelude.{◌≡◌, ◌↔◌, ◌+◌, ◌<◌, if◌then◌else◌, List, Option, None, length, drop, slice_get, IsSome};
+ghost use Rattle.std.specs.Prelude.{◌≡◌, ◌↔◌, ◌+◌, ◌<◌, if◌then◌else◌, List, Option, None, length, drop, slice_get, IsSome, IfOk};
 ghost use Rattle.session_model.specs.Scenario.{Scenario};
 ghost use Rattle.session_model.specs.Table.{Told};
 ghost use Rattle.session_model.specs.Sent.{frame_of};
+ghost use Rattle.vcat_interleave.specs.Members.{held};
 ghost use Rattle.source_core.specs.Terminal.{SameKind, needed};
 ghost use Rattle.source_core.specs.Given.{with_cell, Stands as HasMade};
 ghost use Rattle.group_lock.specs.Item.{kind_of};
@@ -23,7 +24,7 @@ use source_core::{Command, SourceCore};
 use std::alloc::{AllocError, Global};
 use vc_cell::{BackCell, Container, PAYLOAD};
 
-/// What stands in a place before the first container.
+/// What stands in a box before the first container.
 const EMPTY: Container = Container {
     h4: 0,
     payload: [0; PAYLOAD],
@@ -39,8 +40,8 @@ pub struct GroupState {
     landing: Landing,
     journal: Journal,
     inbox: Inbox,
-    /// Places for the containers of a frame.
-    frame: Vec<Container>,
+    /// Boxes for the containers of a frame.
+    frame: Vec<Box<Container>>,
     /// Where it pushes the containers of each line.
     pub tx: Vec<RingOut<Container>>,
     /// Where it pops return cells.
@@ -93,7 +94,7 @@ impl GroupState {
         let landing = Landing::new(alloc, items_of(script))?;
         let journal = Journal::new(alloc, entries, bytes)?;
         let inbox = Inbox::new(alloc, lost_of(script), config.lag)?;
-        let frame = vec![in alloc; EMPTY; usize::from(config.lines)]?;
+        let frame = boxes(alloc, config.lines)?;
         Ok(GroupState {
             source,
             total: config.ticks,
@@ -235,6 +236,17 @@ impl GroupState {
     }
 }
 
+/// An empty box for each line.
+fn boxes(alloc: Global, lines: u8) -> Result<Vec<Box<Container>>, AllocError>
+    ensures { IfOk result (λ boxes. length boxes.items ≡ lines) }
+{
+    let mut boxes = Vec::with_capacity(alloc, usize::from(lines))?;
+    for _ in 0..lines {
+        boxes.push(Box::new(alloc, EMPTY)?)?;
+    }
+    Ok(boxes)
+}
+
 /// Why the source would refuse an item now, where it would.
 fn refusal_by(source: &SourceCore, item: ItemRef) -> Option<Refusal>
     ensures { result ≡ met_by source.now (kind_of item.entry) }
@@ -278,7 +290,7 @@ fn take_needed(inbox: &mut Inbox, needed: bool) -> Option<BackCell>
 }
 
 /// Makes the next frame, a container for each line.
-fn fill(source: &mut SourceCore, back: Option<BackCell>, frame: &mut Vec<Container>)
+fn fill(source: &mut SourceCore, back: Option<BackCell>, frame: &mut Vec<Box<Container>>)
     requires places { length frame.old.items ≡ source.old.lines }
     requires back { IsSome back ↔ IsSome (needed source.old) }
     requires few { source.old.ticks < 4294967295 }
@@ -286,12 +298,12 @@ fn fill(source: &mut SourceCore, back: Option<BackCell>, frame: &mut Vec<Contain
         HasMade source.old scenario cells → HasMade source.new scenario (with_cell cells back) }
     ensures frame { (scenario : Scenario) (cells : List (Option Told)) →
         HasMade source.old scenario cells →
-        frame.new.items ≡ frame_of scenario (with_cell cells back) source.old.ticks }
+        held frame.new.items ≡ frame_of scenario (with_cell cells back) source.old.ticks }
     ensures places { length frame.new.items ≡ length frame.old.items }
     ensures ticks { source.new.ticks ≡ source.old.ticks + 1 }
     ensures kind { SameKind source.new source.old }
 {
-    source.tick(back, frame);
+    source.tick_boxed(back, frame);
 }
 
 /// The items of a script.

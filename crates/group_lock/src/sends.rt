@@ -3,6 +3,7 @@
 ghost use Rattle.std.specs.Prelude.{◌≡◌, ◌<◌, ◌≤◌, ◌+◌, [], length, MatchOption, All};
 ghost use Rattle.vc_cell.specs.declared.Container.{Container};
 ghost use Rattle.outside_io.specs.Faults.{one_more};
+ghost use Rattle.vcat_interleave.specs.Members.{held};
 ghost use Rattle.member_ring.specs.Ends.{in_passed, in_misses};
 ghost use Rattle.group_lock.specs.Inbox.{HasCome};
 ghost use Rattle.group_lock.specs.Rings.{AreFree, IsFirstFull, HaveLooked, ArePushed, HasMoved};
@@ -43,12 +44,12 @@ pub(crate) fn first_full(tx: &mut Vec<RingOut<Container>>) -> Option<u8>
 }
 
 /// Pushes a frame, a container for each line.
-pub(crate) fn push_frame(tx: &mut Vec<RingOut<Container>>, frame: &[Container])
+pub(crate) fn push_frame(tx: &mut Vec<RingOut<Container>>, frame: &[Box<Container>])
     requires places { length frame.now ≡ length tx.old.items }
     requires free { AreFree tx.old.items }
-    ensures { ArePushed frame.now tx.old.items tx.new.items }
+    ensures { ArePushed (held frame.now) tx.old.items tx.new.items }
 {
     for m in 0..tx.len() {
-        tx[m].push(frame[m]);
+        tx[m].push(*frame[m]);
     }
 }
