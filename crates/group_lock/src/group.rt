@@ -4,7 +4,7 @@ ghost use Rattle.std.specs.Prelude.{◌≡◌, ◌↔◌, ◌+◌, ◌<◌, if�
 ghost use Rattle.session_model.specs.Scenario.{Scenario};
 ghost use Rattle.session_model.specs.Table.{Told};
 ghost use Rattle.session_model.specs.Sent.{frame_of};
-ghost use Rattle.vcat_interleave.specs.Members.{held};
+ghost use Rattle.vc_cell.specs.Held.{held};
 ghost use Rattle.source_core.specs.Terminal.{SameKind, needed};
 ghost use Rattle.source_core.specs.Given.{with_cell, Stands as HasMade};
 ghost use Rattle.group_lock.specs.Item.{kind_of};

@@ -3,7 +3,7 @@
 ghost use Rattle.std.specs.Prelude.{◌≡◌, ◌<◌, ◌≤◌, ◌+◌, [], length, MatchOption, All};
 ghost use Rattle.vc_cell.specs.declared.Container.{Container};
 ghost use Rattle.outside_io.specs.Faults.{one_more};
-ghost use Rattle.vcat_interleave.specs.Members.{held};
+ghost use Rattle.vc_cell.specs.Held.{held};
 ghost use Rattle.member_ring.specs.Ends.{in_passed, in_misses};
 ghost use Rattle.group_lock.specs.Inbox.{HasCome};
 ghost use Rattle.group_lock.specs.Rings.{AreFree, IsFirstFull, HaveLooked, ArePushed, HasMoved};

@@ -97,7 +97,7 @@ fn gather(
     places: usize,
     active: &[u8],
     row: &mut [u8],
-    containers: &mut [Container],
+    containers: &mut [Box<Container>],
 ) -> u64
     requires some { 0 < places }
     requires row { length row.old ≡ places * length active.now }
@@ -160,15 +160,10 @@ fn run_rows(
     } else {
         octets.div_ceil(a_round)
     };
+    let mut containers = boxes(alloc, members)?;
     let sum = match pass {
-        Pass::Spread => {
-            let mut containers = boxes(alloc, members)?;
-            spread(rounds, places, &active, &mut row, &mut containers)
-        }
-        Pass::Gather => {
-            let mut containers = vec![in alloc; BLANK; members]?;
-            gather(rounds, places, &active, &mut row, &mut containers)
-        }
+        Pass::Spread => spread(rounds, places, &active, &mut row, &mut containers),
+        Pass::Gather => gather(rounds, places, &active, &mut row, &mut containers),
     };
     Ok((rounds.wrapping_mul(a_round), sum))
 }

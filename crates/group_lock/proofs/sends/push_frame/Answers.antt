@@ -4,7 +4,7 @@ use Rattle.std.proofs.lemmas.Bool.{cases_eq}
 use Rattle.std.proofs.lemmas.Option.{slice_get_read, slice_get_within, get_or_from_slice_get}
 use Rattle.std.specs.Global.{Box}
 use Rattle.vc_cell.specs.declared.Container.{Container}
-use Rattle.vcat_interleave.specs.Members.{held}
+use Rattle.vc_cell.specs.Held.{held}
 use Rattle.vcat_interleave.proofs.SpreadLaws.{held-at}
 use Rattle.realign_core.proofs.GatherLaws.{set-here, set-other, length-slice_set}
 use Rattle.member_ring.specs.declared.ends.RingOut.{RingOut}

@@ -1,7 +1,7 @@
 -- The lines so far were pushed their containers, and the others are as they were.
 use Rattle.std.proofs.Common.{◌≡◌, ℕ, ◌<◌, ◌≤◌, length, slice_get, Some}
 use Rattle.vc_cell.specs.declared.Container.{Container}
-use Rattle.vcat_interleave.specs.Members.{held}
+use Rattle.vc_cell.specs.Held.{held}
 use Rattle.member_ring.specs.declared.ends.RingOut.{RingOut}
 use Rattle.group_lock.specs.Rings.{IsPushed}
 use Rattle.group_lock.proofs.sends.push_frame.Given as goal

@@ -4,7 +4,7 @@ use Rattle.std.specs.Option.{is_some}
 use Rattle.std.specs.Global.{Box}
 use Rattle.std.proofs.lemmas.List.{length-map}
 use Rattle.vc_cell.specs.declared.Container.{Container}
-use Rattle.vcat_interleave.specs.Members.{held}
+use Rattle.vc_cell.specs.Held.{held}
 use Rattle.group_lock.proofs.KeepLaws.{nonempty, takes-by, made-by, keeps-made, pushed-made, own-pushed, same-ends, told-made}
 use Rattle.source_core.specs.Given.{Stands as HasMade}
 use Rattle.group_lock.specs.Parts.{Keeps}
