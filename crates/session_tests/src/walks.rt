@@ -5,7 +5,6 @@ mod table;
 ghost use Rattle.std.specs.Prelude.{◌≡◌, ◌≤◌, length};
 ghost use Rattle.session_model.specs.Valid.{IsValid};
 
-use walk_core::{Event, Moved, Walk};
 use report_text::{GOT_ROOM, REFUSED_ROOM, TOTAL_ROOM, got_line, refused_line, total_line};
 use script_read::read_script;
 use session_model::{EventLine, EventList, SourceState};
@@ -14,6 +13,7 @@ use std::alloc::{AllocError, Global};
 use std::process::Abort;
 use std::test::Fail;
 use table::{CASES, COURSES, Course};
+use walk_core::{Event, Moved, Walk};
 
 /// Makes an event, where it is of no line beyond the last.
 fn make(walk: &mut Walk, lines: u8, event: Event, out: &mut KeptFrames) -> Option<Moved>
