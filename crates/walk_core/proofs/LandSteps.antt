@@ -41,6 +41,7 @@ use Rattle.walk_core.specs.declared.moved.Moved.{Moved}
 use Rattle.walk_core.specs.declared.moved.Moved.TheVariants.{Stalled}
 use Rattle.walk_core.specs.Moved.{Walked, moved_of, counts_after}
 use Rattle.walk_core.proofs.EventLaws.{walked-next}
+use Rattle.walk_parts.proofs.PlaceLaws.{place-next}
 use Rattle.walk_core.proofs.CarryLaws.{same-some}
 use Rattle.walk_core.proofs.LandLaws.{count_of, count-few, place-found, offers-size, orders-size, offer-here, order-here, item-there, IsNext, frame-next, command-next, answer_of, next-cause, next-stays, next-moves}
 
