@@ -1,9 +1,13 @@
 //! What a line carries: containers and cells (G.707), and the control words of LCAS with their codes (G.7042). Begin with `Cell` and
-//! `Ctrl`. What containers hold, and what comes of them on a line, is not said here.
+//! `Ctrl`; `HeldContainer` is a place for a container. What containers hold, and what comes of them on a line, is not said here.
 #![tactic(auto)]
+
+mod held;
 
 ghost use Rattle.std.specs.Prelude.{◌≡◌, ◌≢◌, IfSome, IfNone};
 ghost use Rattle.vc_cell.specs.Code.{code_of, ctrl_of};
+
+pub use held::HeldContainer;
 
 /// The payload octets of a VC-4 of one frame.
 pub const PAYLOAD: usize = 2340;
