@@ -22,13 +22,7 @@ use report_text::{Refusal, Totals};
 use session_model::{Item, Script};
 use source_core::{Command, SourceCore};
 use std::alloc::{AllocError, Global};
-use vc_cell::{BackCell, Container, PAYLOAD};
-
-/// What stands in a box before the first container.
-const EMPTY: Container = Container {
-    h4: 0,
-    payload: [0; PAYLOAD],
-};
+use vc_cell::{BackCell, Container, HeldContainer};
 
 /// A group. It takes the client's frames and the operator's commands in the order of its script, each kind by itself, and makes a frame
 /// at each tick; what is due at a tick lands before it. Only its making takes memory.
@@ -41,7 +35,7 @@ pub struct GroupState {
     journal: Journal,
     inbox: Inbox,
     /// Boxes for the containers of a frame.
-    frame: Vec<Box<Container>>,
+    frame: Vec<Box<HeldContainer>>,
     /// Where it pushes the containers of each line.
     pub tx: Vec<RingOut<Container>>,
     /// Where it pops return cells.
@@ -237,12 +231,12 @@ impl GroupState {
 }
 
 /// An empty box for each line.
-fn boxes(alloc: Global, lines: u8) -> Result<Vec<Box<Container>>, AllocError>
+fn boxes(alloc: Global, lines: u8) -> Result<Vec<Box<HeldContainer>>, AllocError>
     ensures { IfOk result (λ boxes. length boxes.items ≡ lines) }
 {
     let mut boxes = Vec::with_capacity(alloc, usize::from(lines))?;
     for _ in 0..lines {
-        boxes.push(Box::new(alloc, EMPTY)?)?;
+        boxes.push(Box::new(alloc, HeldContainer::new())?)?;
     }
     Ok(boxes)
 }
@@ -290,7 +284,7 @@ fn take_needed(inbox: &mut Inbox, needed: bool) -> Option<BackCell>
 }
 
 /// Makes the next frame, a container for each line.
-fn fill(source: &mut SourceCore, back: Option<BackCell>, frame: &mut Vec<Box<Container>>)
+fn fill(source: &mut SourceCore, back: Option<BackCell>, frame: &mut Vec<Box<HeldContainer>>)
     requires places { length frame.old.items ≡ source.old.lines }
     requires back { IsSome back ↔ IsSome (needed source.old) }
     requires few { source.old.ticks < 4294967295 }

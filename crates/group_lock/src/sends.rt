@@ -10,7 +10,7 @@ ghost use Rattle.group_lock.specs.Rings.{AreFree, IsFirstFull, HaveLooked, ArePu
 
 use crate::inbox::Inbox;
 use member_ring::{RingIn, RingOut};
-use vc_cell::{BackCell, Container};
+use vc_cell::{BackCell, Container, HeldContainer};
 
 /// Moves return cells into the inbox until a look finds none, or the inbox is full.
 pub(crate) fn take_cells(inbox: &mut Inbox, back: &mut RingIn<BackCell>)
@@ -44,12 +44,12 @@ pub(crate) fn first_full(tx: &mut Vec<RingOut<Container>>) -> Option<u8>
 }
 
 /// Pushes a frame, a container for each line.
-pub(crate) fn push_frame(tx: &mut Vec<RingOut<Container>>, frame: &[Box<Container>])
+pub(crate) fn push_frame(tx: &mut Vec<RingOut<Container>>, frame: &[Box<HeldContainer>])
     requires places { length frame.now ≡ length tx.old.items }
     requires free { AreFree tx.old.items }
     ensures { ArePushed (held frame.now) tx.old.items tx.new.items }
 {
     for m in 0..tx.len() {
-        tx[m].push(*frame[m]);
+        tx[m].push(*frame[m].container());
     }
 }

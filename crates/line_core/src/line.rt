@@ -10,7 +10,7 @@ use failure_window::Windows;
 use session_model::Carried;
 use std::alloc::{AllocError, Global};
 use std::marker::Model;
-use vc_cell::{Cell, Container, PAYLOAD};
+use vc_cell::{Cell, Container, HeldContainer, PAYLOAD};
 
 /// A line: containers are pushed into it one by one, and after the last of them it is flushed. Each push and each flush is a
 /// carry, which gives a cell or nothing. Only the making of a line takes memory.
@@ -97,7 +97,7 @@ impl LineCore {
 
     /// Carries a container on as `push_from` does, but takes its box, and gives that of a good cell's container. Another box lies in
     /// `container` afterwards.
-    pub fn push_box(&mut self, container: &mut Box<Container>, out: &mut Box<Container>) -> Carry
+    pub fn push_box(&mut self, container: &mut Box<HeldContainer>, out: &mut Box<HeldContainer>) -> Carry
         requires { self.old.pushed < self.old.total }
         ensures stands { (calls : Calls) → Stands self.old calls →
             Stands self.new (and_push calls container.old.value) }

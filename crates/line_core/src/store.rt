@@ -11,14 +11,14 @@ use session_model::Carried;
 use std::alloc::{AllocError, Global};
 use std::marker::Model;
 use std::mem;
-use vc_cell::{Container, PAYLOAD};
+use vc_cell::{Container, HeldContainer};
 
 /// The containers on their way: as many as the delay, once it is filled. Each lies in a box, so that it is never moved itself.
 #[derive(Drop)]
 pub(crate) struct Store {
-    kept: HeapCircularBuffer<Box<Container>>,
+    kept: HeapCircularBuffer<Box<HeldContainer>>,
     /// Boxes for the containers that fill the delay.
-    spare: Vec<Box<Container>>,
+    spare: Vec<Box<HeldContainer>>,
 }
 
 impl Model for Store {
@@ -72,7 +72,7 @@ impl Store {
     }
 
     /// Puts a container after those on their way, in its box, and leaves a spare box for it.
-    pub(crate) fn keep_box(&mut self, container: &mut Box<Container>)
+    pub(crate) fn keep_box(&mut self, container: &mut Box<HeldContainer>)
         requires room { length self.old.items < self.old.capacity }
         requires spare { 0 < self.old.spare }
         ensures { self.new ≡ stored (self.old.items ++ container.old.value ∷ [])
@@ -88,17 +88,17 @@ impl Store {
     }
 
     /// Puts a container after those on their way, into this box.
-    fn put(&mut self, mut place: Box<Container>, container: &Container)
+    fn put(&mut self, mut place: Box<HeldContainer>, container: &Container)
         requires { length self.old.items < self.old.capacity }
         ensures { self.new ≡ stored (self.old.items ++ container.now ∷ [])
             self.old.capacity self.old.spare }
     {
-        *place = *container;
+        place.put(container);
         self.append(place);
     }
 
     /// Puts a box after those on their way.
-    fn append(&mut self, place: Box<Container>)
+    fn append(&mut self, place: Box<HeldContainer>)
         requires { length self.old.items < self.old.capacity }
         ensures { self.new ≡ stored (self.old.items ++ place.value ∷ [])
             self.old.capacity self.old.spare }
@@ -107,7 +107,7 @@ impl Store {
     }
 
     /// Takes the oldest container out.
-    fn take_oldest(&mut self) -> Box<Container>
+    fn take_oldest(&mut self) -> Box<HeldContainer>
         requires { 0 < length self.old.items }
         ensures store { self.new ≡ stored (drop 1 self.old.items) self.old.capacity self.old.spare }
         ensures oldest { slice_get self.old.items 0 ≡ Some result.value }
@@ -127,7 +127,7 @@ impl Store {
         ensures kept { result ≢ Carry.Good → out.new ≡ out.old }
     {
         let oldest = self.take_oldest();
-        go_by(fate, &oldest, out)
+        go_by(fate, oldest.container(), out)
     }
 
     /// Puts a container into a full store, and takes the oldest out: that is the container itself where the store has no place.
@@ -148,7 +148,7 @@ impl Store {
             return go_by(fate, container, out);
         }
         let oldest = self.take_oldest();
-        let carry = go_by(fate, &oldest, out);
+        let carry = go_by(fate, oldest.container(), out);
         self.put(oldest, container);
         carry
     }
@@ -158,8 +158,8 @@ impl Store {
     pub(crate) fn pass_box(
         &mut self,
         fate: Carried,
-        container: &mut Box<Container>,
-        out: &mut Box<Container>,
+        container: &mut Box<HeldContainer>,
+        out: &mut Box<HeldContainer>,
     ) -> Carry
         requires { length self.old.items ≡ self.old.capacity }
         ensures store { self.new ≡ stored (drop 1 (self.old.items ++ container.old.value ∷ []))
@@ -181,16 +181,12 @@ impl Store {
 }
 
 /// So many boxes.
-fn blank_boxes(alloc: Global, count: u32) -> Result<Vec<Box<Container>>, AllocError>
+fn blank_boxes(alloc: Global, count: u32) -> Result<Vec<Box<HeldContainer>>, AllocError>
     ensures { IfOk result (λ places. length places.items ≡ count) }
 {
     let mut places = Vec::with_capacity(alloc, count as usize)?;
     for _ in 0..count {
-        let blank = Container {
-            h4: 0,
-            payload: [0; PAYLOAD],
-        };
-        places.push(Box::new(alloc, blank)?)?;
+        places.push(Box::new(alloc, HeldContainer::new())?)?;
     }
     Ok(places)
 }
@@ -207,7 +203,7 @@ fn go_by(fate: Carried, container: &Container, out: &mut Container) -> Carry
 }
 
 /// What comes of a container in a box, which changes places with the other where it comes whole.
-fn change(fate: Carried, place: &mut Box<Container>, out: &mut Box<Container>) -> Carry
+fn change(fate: Carried, place: &mut Box<HeldContainer>, out: &mut Box<HeldContainer>) -> Carry
     ensures cells { carry_cells result out.new.value ≡ cells_of fate place.old.value }
     ensures kept { result ≢ Carry.Good → out.new.value ≡ out.old.value }
 {

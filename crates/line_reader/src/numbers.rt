@@ -11,7 +11,7 @@ use crate::{CellRef, CellSign, Verdict};
 use h4_multiframe::{MfiLock, Place};
 use std::marker::Model;
 use std::mem;
-use vc_cell::Container;
+use vc_cell::{Container, HeldContainer};
 
 /// How many numbers the multiframe tells apart.
 const NUMBERS: u16 = 4096;
@@ -85,8 +85,8 @@ impl LineNumbers {
     pub fn cell_boxed(
         &mut self,
         sign: CellSign,
-        container: &mut Box<Container>,
-        place: &mut Box<Container>,
+        container: &mut Box<HeldContainer>,
+        place: &mut Box<HeldContainer>,
     )
         requires open { IsOpen self.old }
         ensures stands { (cells : List Cell) (t : ℕ) → Stands self.old place.old.value cells t →
@@ -94,7 +94,7 @@ impl LineNumbers {
     {
         match sign {
             CellSign::Good => {
-                if self.good(container) {
+                if self.good(container.container()) {
                     mem::swap(container, place);
                 }
             }

@@ -19,20 +19,14 @@ use lcas_packet::Packet;
 use line_reader::{CellRef, CellSign, Verdict, cell_ref};
 use std::alloc::{AllocError, Global};
 use std::marker::Model;
-use vc_cell::{Cell, Container, PAYLOAD};
-
-/// What stands in a place before the first container.
-const EMPTY: Container = Container {
-    h4: 0,
-    payload: [0; PAYLOAD],
-};
+use vc_cell::{Cell, HeldContainer};
 
 /// Gathers the rows of a group from the cells of its lines.
 #[derive(Drop)]
 pub struct RowGather {
     lines: Vec<GatherLine>,
     /// The container of each line, in a box that it may be taken into and given back in.
-    places: Vec<Box<Container>>,
+    places: Vec<Box<HeldContainer>>,
     packets: Vec<Option<Packet>>,
     /// How many lines before the first one on which the next row isn't decided.
     decided: usize,
@@ -108,13 +102,13 @@ impl RowGather {
         ensures rows { self.new.rows ≡ self.old.rows }
     {
         let m = usize::from(line);
-        self.lines[m].cell(cell, &mut self.places[m]);
+        self.lines[m].cell(cell, self.places[m].container_mut());
         self.decided = decided_after(&self.lines, m, self.decided);
     }
 
     /// Takes the next cell as `offer` does, but changes the boxes where the container of a good cell is whole, and copies nothing.
     /// What lies in `container` afterwards says nothing.
-    pub fn offer_boxed(&mut self, line: u8, sign: CellSign, container: &mut Box<Container>)
+    pub fn offer_boxed(&mut self, line: u8, sign: CellSign, container: &mut Box<HeldContainer>)
         requires line { line < line_count self.old }
         requires open { IsOpenAt self.old line }
         ensures stands { (cells : List (List Cell)) → Stands self.old cells →
@@ -135,12 +129,12 @@ impl RowGather {
             slice_get cells line ≡ Some own → verdict own self.now.rows ≡ Some (told_by result) }
     {
         let m = usize::from(line);
-        self.lines[m].verdict(&self.places[m])
+        self.lines[m].verdict(self.places[m].container())
     }
 
     /// The containers of the lines on which the next row is decided as whole, each at the place of its line. What stands at the other
     /// places says nothing.
-    pub fn containers(&self) -> &[Box<Container>]
+    pub fn containers(&self) -> &[Box<HeldContainer>]
         ensures lines { length result.now ≡ line_count self.now }
         ensures whole { (cells : List (List Cell)) (m : ℕ) (own : List Cell) (found : Container) →
             Stands self.now cells → slice_get cells m ≡ Some own →
@@ -191,12 +185,12 @@ fn new_lines(alloc: Global, count: u8) -> Result<Vec<GatherLine>, AllocError>
 }
 
 /// A box for the container of each line.
-fn blank_places(alloc: Global, count: u8) -> Result<Vec<Box<Container>>, AllocError>
+fn blank_places(alloc: Global, count: u8) -> Result<Vec<Box<HeldContainer>>, AllocError>
     ensures { IfOk result (λ places. length places.items ≡ count) }
 {
     let mut places = Vec::with_capacity(alloc, usize::from(count))?;
     for _ in 0..count {
-        places.push(Box::new(alloc, EMPTY)?)?;
+        places.push(Box::new(alloc, HeldContainer::new())?)?;
     }
     Ok(places)
 }
@@ -240,14 +234,14 @@ fn decided_after(lines: &[GatherLine], m: usize, before: usize) -> usize
 }
 
 /// Passes the next number of each line, which is number `j` of a packet.
-fn pass_all(lines: &mut [GatherLine], places: &[Box<Container>], j: usize)
+fn pass_all(lines: &mut [GatherLine], places: &[Box<HeldContainer>], j: usize)
     requires places { length places.now ≡ length lines.old }
     requires decided { decided_lines lines.old ≡ length lines.old }
     requires place { j < 16 }
     ensures passed { ArePassed (length lines.old) j (held places.now) lines.old lines.new }
 {
     for m in 0..lines.len() {
-        lines[m].pass(&places[m], j);
+        lines[m].pass(places[m].container(), j);
     }
 }
 

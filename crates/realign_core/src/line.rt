@@ -15,7 +15,7 @@ use lcas_packet::Packet;
 use line_reader::{CellRef, CellSign, LineNumbers, Verdict};
 use std::marker::Model;
 use vc_bits::nibble_hi;
-use vc_cell::Container;
+use vc_cell::{Container, HeldContainer};
 
 /// The numbers of a line, and the nibbles of its packets.
 #[derive(Drop)]
@@ -57,8 +57,8 @@ impl GatherLine {
     pub(crate) fn cell_boxed(
         &mut self,
         sign: CellSign,
-        container: &mut Box<Container>,
-        place: &mut Box<Container>,
+        container: &mut Box<HeldContainer>,
+        place: &mut Box<HeldContainer>,
     )
         requires open { IsOpen self.old.numbers }
         ensures stands { (own : List Cell) (t : ℕ) → LineStands self.old place.old.value own t →

@@ -14,7 +14,7 @@ ghost use Rattle.sink_core.specs.Receives.{IsKnown, Grows, Gives, IsIdle};
 
 use crate::frames::FrameOut;
 use gfp_delineate::{Delineator, Step, word_run};
-use vc_cell::{Container, PAYLOAD};
+use vc_cell::{HeldContainer, PAYLOAD};
 use vcat_interleave::gather_places;
 
 /// The octets of a block.
@@ -110,16 +110,16 @@ fn idle_word(first: usize, x: usize) -> u64
 
 /// What a line carries.
 #[inline]
-fn payload_of(containers: &[Box<Container>], line: u8) -> &[u8; PAYLOAD]
+fn payload_of(containers: &[Box<HeldContainer>], line: u8) -> &[u8; PAYLOAD]
     requires { line < length containers.now }
     ensures { result.now ≡ payload_at (held containers.now) line }
 {
-    &containers[usize::from(line)].payload
+    &containers[usize::from(line)].container().payload
 }
 
 /// The octets that a line carries at some places.
 #[inline]
-fn part_of(containers: &[Box<Container>], line: u8, place: usize, places: usize) -> &[u8]
+fn part_of(containers: &[Box<HeldContainer>], line: u8, place: usize, places: usize) -> &[u8]
     requires line { line < length containers.now }
     requires within { place + places ≤ 2340 }
     ensures size { length result.now ≡ places }
@@ -130,7 +130,7 @@ fn part_of(containers: &[Box<Container>], line: u8, place: usize, places: usize)
 
 /// Whether what a line carries at some places, a multiple of eight, is a word again and again.
 fn carries_word(
-    containers: &[Box<Container>],
+    containers: &[Box<HeldContainer>],
     line: u8,
     place: usize,
     places: usize,
@@ -148,7 +148,7 @@ fn carries_word(
 
 /// Whether the octets of a row at some places, a multiple of eight, are those of idle frames from place `have` of a header on.
 fn are_idle(
-    containers: &[Box<Container>],
+    containers: &[Box<HeldContainer>],
     active: &[u8],
     place: usize,
     places: usize,
@@ -182,7 +182,7 @@ fn are_idle(
 /// eight, or none.
 fn idle_places(
     delineator: &Delineator,
-    containers: &[Box<Container>],
+    containers: &[Box<HeldContainer>],
     active: &[u8],
     place: usize,
     size: usize,
@@ -203,13 +203,13 @@ fn idle_places(
 }
 
 /// The octets of a row that one line carries alone.
-fn only_payload(containers: &[Box<Container>], line: u8, size: usize) -> &[u8]
+fn only_payload(containers: &[Box<HeldContainer>], line: u8, size: usize) -> &[u8]
     requires line { line < length containers.now }
     requires size { size ≤ 2340 }
     ensures size { length result.now ≡ size }
     ensures octets { result.now ≡ take size (payload_at (held containers.now) line) }
 {
-    &containers[usize::from(line)].payload[..size]
+    &containers[usize::from(line)].container().payload[..size]
 }
 
 /// Gives the octets of a row to a receiver, block by block, or as they lie where one line carries them alone. Where all that are left
@@ -218,7 +218,7 @@ fn only_payload(containers: &[Box<Container>], line: u8, size: usize) -> &[u8]
 pub(crate) fn take_members<F: FrameOut>(
     delineator: &mut Delineator,
     block: &mut [u8],
-    containers: &[Box<Container>],
+    containers: &[Box<HeldContainer>],
     active: &[u8],
     size: usize,
     out: &mut F,

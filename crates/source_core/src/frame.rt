@@ -14,36 +14,30 @@ use crate::step::NIBBLES;
 use gfp_fill::{Filler, FrameQueue};
 use h4_multiframe::h4;
 use std::alloc::{AllocError, Global};
-use vc_cell::{Container, PAYLOAD};
+use vc_cell::{Container, HeldContainer};
 use vcat_interleave::spread_places;
 
 /// The most lines of a group.
 const LINES: usize = 128;
 
-/// What stands in a box before the first frame.
-const EMPTY: Container = Container {
-    h4: 0,
-    payload: [0; PAYLOAD],
-};
-
 /// A box for the container of each line.
-pub(crate) fn boxes(alloc: Global, lines: u8) -> Result<Vec<Box<Container>>, AllocError>
+pub(crate) fn boxes(alloc: Global, lines: u8) -> Result<Vec<Box<HeldContainer>>, AllocError>
     ensures { IfOk result (λ boxes. length boxes.items ≡ lines) }
 {
     let mut boxes = Vec::with_capacity(alloc, usize::from(lines))?;
     for _ in 0..lines {
-        boxes.push(Box::new(alloc, EMPTY)?)?;
+        boxes.push(Box::new(alloc, HeldContainer::new())?)?;
     }
     Ok(boxes)
 }
 
 /// Copies the containers out of their boxes.
-pub(crate) fn copy_out(boxes: &[Box<Container>], out: &mut [Container])
+pub(crate) fn copy_out(boxes: &[Box<HeldContainer>], out: &mut [Container])
     requires { length out.old ≡ length boxes.now }
     ensures { out.new ≡ held boxes.now }
 {
     for line in 0..boxes.len() {
-        out[line] = *boxes[line];
+        out[line] = *boxes[line].container();
     }
 }
 
@@ -53,7 +47,7 @@ pub(crate) fn begin_all(
     nibbles: &[[u8; NIBBLES]],
     active: &[u8],
     size: usize,
-    out: &mut [Box<Container>],
+    out: &mut [Box<HeldContainer>],
 )
     requires lines { length nibbles.now ≡ length out.old }
     requires few { length out.old ≤ 128 }
@@ -65,7 +59,7 @@ pub(crate) fn begin_all(
     let carry = carriers(active);
     for line in 0..out.len() {
         let filled = filled(carry[line], size);
-        begin(h4_of(ticks, &nibbles[line]), filled, &mut *out[line]);
+        begin(h4_of(ticks, &nibbles[line]), filled, &mut out[line]);
     }
 }
 
@@ -98,10 +92,15 @@ fn h4_of(ticks: u32, nibbles: &[u8; NIBBLES]) -> u8
 }
 
 /// Writes H4, and zeros behind the octets that are filled.
-fn begin(h4: u8, filled: usize, container: &mut Container)
+fn begin(h4: u8, filled: usize, place: &mut HeldContainer)
     requires { filled ≤ 2340 }
-    ensures { IsBegun h4 filled container.new }
+    ensures { IsBegun h4 filled place.new }
 {
+    if filled == 0 {
+        place.begin_blank(h4);
+        return;
+    }
+    let container = place.container_mut();
     container.h4 = h4;
     blank(&mut container.payload[filled..]);
 }
@@ -120,7 +119,7 @@ pub(crate) fn fill_all(
     active: &[u8],
     size: usize,
     row: &mut [u8],
-    out: &mut [Box<Container>],
+    out: &mut [Box<HeldContainer>],
 )
     requires members { AreMembers (length out.old) active.now }
     requires size { size ≤ 2340 }
@@ -135,7 +134,10 @@ pub(crate) fn fill_all(
 {
     match active {
         // The row of one member is what it carries.
-        [line] => fill_one(filler, queue, size, &mut *out[usize::from(*line)]),
+        [line] => {
+            let container = out[usize::from(*line)].container_mut();
+            fill_one(filler, queue, size, container);
+        }
         _ => {
             let row = &mut row[..size * active.len()];
             filler.fill(queue, row);

@@ -15,7 +15,7 @@ use arrayvec::ArrayVec;
 use gfp_fill::{Filler, FrameQueue};
 use lcas_source::SourceTable;
 use std::alloc::{AllocError, Global};
-use vc_cell::{BackCell, Container};
+use vc_cell::{BackCell, HeldContainer};
 
 /// What a terminal makes its frames of.
 #[derive(Drop)]
@@ -67,7 +67,7 @@ impl Maker {
     }
 
     /// Makes the next frame, the container of each line in its box.
-    pub(crate) fn make(&mut self, back: Option<BackCell>, out: &mut [Box<Container>])
+    pub(crate) fn make(&mut self, back: Option<BackCell>, out: &mut [Box<HeldContainer>])
         requires is { IsMaker self.old }
         requires places { length out.old ≡ self.old.table.lines }
         requires back { IsSome back ↔ IsSome (needed (terminal_in self.old)) }

@@ -19,14 +19,14 @@ use lcas_source::{CommandFault, SourceTable};
 use session_model::Command;
 use std::alloc::{AllocError, Global};
 use std::marker::Model;
-use vc_cell::{BackCell, Container};
+use vc_cell::{BackCell, Container, HeldContainer};
 
 /// The source terminal of a group.
 #[derive(Drop)]
 pub struct SourceCore {
     maker: Maker,
     /// A frame in boxes, for a caller that has none.
-    frame: Vec<Box<Container>>,
+    frame: Vec<Box<HeldContainer>>,
 }
 
 impl Model for SourceCore {
@@ -148,7 +148,7 @@ impl SourceCore {
     }
 
     /// Makes the next frame as `tick` does, each container in the box of its line.
-    pub fn tick_boxed(&mut self, back: Option<BackCell>, out: &mut [Box<Container>])
+    pub fn tick_boxed(&mut self, back: Option<BackCell>, out: &mut [Box<HeldContainer>])
         requires places { length out.old ≡ self.old.lines }
         requires back { IsSome back ↔ IsSome (needed self.old) }
         requires few { self.old.ticks < 4294967295 }

@@ -8,7 +8,7 @@ ghost use Rattle.std.specs.Prelude.{◌≡◌, ℕ, ◌*◌, ◌<◌, ◌≤◌,
 
 use std::alloc::{AllocError, Global};
 use std::{env, io};
-use vc_cell::{Container, PAYLOAD};
+use vc_cell::{Container, HeldContainer, PAYLOAD};
 use vcat_interleave::{gather_places, spread_places};
 
 /// The octets that are done at once, or those of sixteen places where these are more.
@@ -68,7 +68,7 @@ fn spread(
     places: usize,
     active: &[u8],
     row: &mut [u8],
-    containers: &mut [Box<Container>],
+    containers: &mut [Box<HeldContainer>],
 ) -> u64
     requires some { 0 < places }
     requires row { length row.old ≡ places * length active.now }
@@ -97,7 +97,7 @@ fn gather(
     places: usize,
     active: &[u8],
     row: &mut [u8],
-    containers: &mut [Box<Container>],
+    containers: &mut [Box<HeldContainer>],
 ) -> u64
     requires some { 0 < places }
     requires row { length row.old ≡ places * length active.now }
@@ -132,7 +132,7 @@ fn run(alloc: Global, way: Way, members: usize, octets: u64) -> Result<(u64, u64
 }
 
 /// As many boxes as there are members.
-fn boxes(alloc: Global, members: usize) -> Result<Vec<Box<Container>>, AllocError>
+fn boxes(alloc: Global, members: usize) -> Result<Vec<Box<HeldContainer>>, AllocError>
     ensures { IfOk result (λ boxes. length boxes.items ≡ members) }
 {
     let mut boxes = Vec::with_capacity(alloc, members)?;

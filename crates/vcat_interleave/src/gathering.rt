@@ -8,7 +8,7 @@ ghost use Rattle.vcat_interleave.specs.Members.{payloads_of, AreLines};
 use crate::member::{put_pairs, put_rank};
 use crate::square::{SIDE, octets_of, put_octets, squares_of, squares_over, turned};
 use std::simd::prelude::*;
-use vc_cell::{Container, PAYLOAD};
+use vc_cell::{HeldContainer, PAYLOAD};
 
 /// Writes the octets of the member of a rank to the places of its rank in a row, for `size` places. All other places of the row
 /// stay as they were.
@@ -26,7 +26,7 @@ pub fn gather(part: &[u8; PAYLOAD], rank: usize, x: usize, size: usize, out: &mu
 /// Writes the row of all members at `places` places from `place` on. `active` has the lines that carry payload, by rank, and
 /// `containers` has the container of each line, each in a box.
 pub fn gather_places(
-    containers: &[Box<Container>],
+    containers: &[Box<HeldContainer>],
     active: &[u8],
     place: usize,
     places: usize,
@@ -47,7 +47,7 @@ pub fn gather_places(
 
 // Writes a row of at least sixteen members at a number of places that sixteen divides.
 fn gather_squares(
-    containers: &[Box<Container>],
+    containers: &[Box<HeldContainer>],
     active: &[u8],
     place: usize,
     squares: usize,
@@ -69,7 +69,7 @@ fn gather_squares(
 }
 
 // Writes a row of at least sixteen members at sixteen places. The last square begins where sixteen ranks are left.
-fn gather_sixteen(containers: &[Box<Container>], active: &[u8], place: usize, out: &mut [u8])
+fn gather_sixteen(containers: &[Box<HeldContainer>], active: &[u8], place: usize, out: &mut [u8])
     requires lines { AreLines (length containers.now) active.now }
     requires least { 16 ≤ length active.now }
     requires within { place + 16 ≤ 2340 }
@@ -91,7 +91,7 @@ fn gather_sixteen(containers: &[Box<Container>], active: &[u8], place: usize, ou
 // Sixteen places of the members of up to sixteen ranks.
 #[inline]
 fn rows_of(
-    containers: &[Box<Container>],
+    containers: &[Box<HeldContainer>],
     active: &[u8],
     rank: usize,
     ranks: usize,
@@ -113,12 +113,12 @@ fn rows_of(
 
 // What the member of a rank carries.
 #[inline]
-fn payload<'a>(containers: &'a [Box<Container>], active: &[u8], rank: usize) -> &'a [u8; PAYLOAD]
+fn payload<'a>(containers: &'a [Box<HeldContainer>], active: &[u8], rank: usize) -> &'a [u8; PAYLOAD]
     requires lines { AreLines (length containers.now) active.now }
     requires rank { rank < length active.now }
     ensures { result.now ≡ slice_index_or (payloads_of (held containers.now) active.now) rank [] }
 {
-    &containers[usize::from(active[rank])].payload
+    &containers[usize::from(active[rank])].container().payload
 }
 
 // Puts sixteen octets of each of sixteen places.
@@ -139,7 +139,7 @@ fn put_rows(rows: &[u8x16; 16], rank: usize, x: usize, out: &mut [u8])
 // What the member of a rank carries at `places` places from `place` on.
 #[inline]
 fn piece<'a>(
-    containers: &'a [Box<Container>],
+    containers: &'a [Box<HeldContainer>],
     active: &[u8],
     rank: usize,
     place: usize,
@@ -157,7 +157,7 @@ fn piece<'a>(
 
 // Writes a row of one member, of two or of more.
 fn gather_each(
-    containers: &[Box<Container>],
+    containers: &[Box<HeldContainer>],
     active: &[u8],
     place: usize,
     places: usize,
@@ -181,7 +181,7 @@ fn gather_each(
 
 // Writes a row of some members: by squares as far as these reach, and then member by member.
 fn gather_some(
-    containers: &[Box<Container>],
+    containers: &[Box<HeldContainer>],
     active: &[u8],
     place: usize,
     places: usize,
@@ -211,7 +211,7 @@ fn squares_below(x: usize, len: usize) -> usize
 
 // Writes a row of up to sixteen members at a number of places that sixteen divides. The octets behind it change.
 fn gather_few(
-    containers: &[Box<Container>],
+    containers: &[Box<HeldContainer>],
     active: &[u8],
     place: usize,
     squares: usize,
@@ -234,7 +234,7 @@ fn gather_few(
 }
 
 // Writes a row of up to sixteen members at sixteen places. The octets behind it change.
-fn gather_square(containers: &[Box<Container>], active: &[u8], place: usize, out: &mut [u8])
+fn gather_square(containers: &[Box<HeldContainer>], active: &[u8], place: usize, out: &mut [u8])
     requires lines { AreLines (length containers.now) active.now }
     requires few { length active.now ≤ 16 }
     requires within { place + 16 ≤ 2340 }
@@ -261,7 +261,7 @@ fn put_places(rows: &[u8x16; 16], x: usize, out: &mut [u8])
 
 // Writes a row member by member.
 fn gather_ranks(
-    containers: &[Box<Container>],
+    containers: &[Box<HeldContainer>],
     active: &[u8],
     place: usize,
     places: usize,

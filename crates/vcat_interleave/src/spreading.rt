@@ -10,7 +10,7 @@ ghost use Rattle.vcat_interleave.specs.Spread.{SpreadsOver, Spreads, AreDistinct
 use crate::member::take_rank;
 use crate::square::{SIDE, octets_of, put_octets, squares_over, turned};
 use std::simd::prelude::*;
-use vc_cell::{Container, PAYLOAD};
+use vc_cell::{HeldContainer, PAYLOAD};
 
 /// Writes the octets of a row that the member of a rank carries at `size` places, and zeros at the places from there on.
 pub fn spread(bytes: &[u8], rank: usize, x: usize, size: usize, out: &mut [u8; PAYLOAD])
@@ -31,7 +31,7 @@ pub fn spread_places(
     active: &[u8],
     place: usize,
     places: usize,
-    containers: &mut [Box<Container>],
+    containers: &mut [Box<HeldContainer>],
 )
     requires lines { AreLines (length containers.old) active.now }
     requires distinct { AreDistinct active.now }
@@ -60,7 +60,7 @@ fn spread_squares(
     active: &[u8],
     place: usize,
     squares: usize,
-    containers: &mut [Box<Container>],
+    containers: &mut [Box<HeldContainer>],
 )
     requires lines { AreLines (length containers.old) active.now }
     requires distinct { AreDistinct active.now }
@@ -84,7 +84,7 @@ fn spread_last(
     rank: usize,
     place: usize,
     squares: usize,
-    containers: &mut [Box<Container>],
+    containers: &mut [Box<HeldContainer>],
 )
     requires lines { AreLines (length containers.old) active.now }
     requires distinct { AreDistinct active.now }
@@ -110,7 +110,7 @@ fn spread_ranks(
     ranks: usize,
     place: usize,
     squares: usize,
-    containers: &mut [Box<Container>],
+    containers: &mut [Box<HeldContainer>],
 )
     requires lines { AreLines (length containers.old) active.now }
     requires distinct { AreDistinct active.now }
@@ -138,7 +138,7 @@ fn spread_square(
     rank: usize,
     ranks: usize,
     place: usize,
-    containers: &mut [Box<Container>],
+    containers: &mut [Box<HeldContainer>],
 )
     requires lines { AreLines (length containers.old) active.now }
     requires distinct { AreDistinct active.now }
@@ -171,7 +171,7 @@ fn rows_between(row: &[u8], rank: usize, x: usize) -> [u8x16; 16]
 
 // Puts sixteen octets at a place of a line's payload.
 #[inline]
-fn put_member(octets: u8x16, place: usize, line: usize, containers: &mut [Box<Container>])
+fn put_member(octets: u8x16, place: usize, line: usize, containers: &mut [Box<HeldContainer>])
     requires line { line < length containers.old }
     requires within { place + 16 ≤ 2340 }
     ensures put { (c : Container) → held containers.new
@@ -181,7 +181,7 @@ fn put_member(octets: u8x16, place: usize, line: usize, containers: &mut [Box<Co
     ensures size { (c : Container) →
         length (slice_index_or (held containers.old) line c).payload ≡ 2340 }
 {
-    put_octets(octets, place, &mut containers[line].payload);
+    put_octets(octets, place, &mut containers[line].container_mut().payload);
 }
 
 // Spreads a row member by member.
@@ -190,7 +190,7 @@ fn spread_each(
     active: &[u8],
     place: usize,
     places: usize,
-    containers: &mut [Box<Container>],
+    containers: &mut [Box<HeldContainer>],
 )
     requires lines { AreLines (length containers.old) active.now }
     requires distinct { AreDistinct active.now }
@@ -214,7 +214,7 @@ fn put_part(
     place: usize,
     places: usize,
     line: usize,
-    containers: &mut [Box<Container>],
+    containers: &mut [Box<HeldContainer>],
 )
     requires rank { rank < x }
     requires line { line < length containers.old }
@@ -226,7 +226,8 @@ fn put_part(
     ensures size { (c : Container) →
         length (slice_index_or (held containers.old) line c).payload ≡ 2340 }
 {
-    put_piece(row, rank, x, place, places, &mut containers[line].payload);
+    let payload = &mut containers[line].container_mut().payload;
+    put_piece(row, rank, x, place, places, payload);
 }
 
 // Puts the part of a row that a rank carries at a place of a payload.

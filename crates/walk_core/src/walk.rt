@@ -43,7 +43,7 @@ use sink_core::{FrameOut, SinkCore, TakeAnswer};
 use source_core::SourceCore;
 use std::alloc::{AllocError, Global};
 use std::marker::Model;
-use vc_cell::{BackCell, Container, PAYLOAD};
+use vc_cell::{BackCell, Container, HeldContainer};
 use walk_parts::{ReturnPath, WalkLine, held_item, next_command, next_frame};
 
 /// The containers that a send ring holds.
@@ -52,19 +52,13 @@ const SENDS: usize = 32;
 /// The first row that ends a packet.
 const FIRST_END: u32 = 23;
 
-/// What stands in a place before the first container.
-const EMPTY: Container = Container {
-    h4: 0,
-    payload: [0; PAYLOAD],
-};
-
 /// A walk of a script.
 #[derive(Drop)]
 pub struct Walk {
     script: Script,
     source: SourceCore,
     /// The send rings of all lines: each place holds the containers of a frame, of a number modulo 32, each until its line carried it.
-    sent: Vec<Vec<Box<Container>>>,
+    sent: Vec<Vec<Box<HeldContainer>>>,
     lines: Vec<WalkLine>,
     rows: RowGather,
     sink: SinkCore,
@@ -508,7 +502,7 @@ fn ends_packet(row: u32) -> bool
 }
 
 /// Send rings of a number of lines, all empty.
-fn new_sent(alloc: Global, lines: u8) -> Result<Vec<Vec<Box<Container>>>, AllocError>
+fn new_sent(alloc: Global, lines: u8) -> Result<Vec<Vec<Box<HeldContainer>>>, AllocError>
     ensures places { IfOk result (λ sent. length sent.items ≡ 32) }
     ensures lines { IfOk result (λ sent.
         All (λ (frame : Vec (Box Container)). length frame.items ≡ lines) sent.items) }
@@ -521,12 +515,12 @@ fn new_sent(alloc: Global, lines: u8) -> Result<Vec<Vec<Box<Container>>>, AllocE
 }
 
 /// An empty box for each line.
-fn new_frame(alloc: Global, lines: u8) -> Result<Vec<Box<Container>>, AllocError>
+fn new_frame(alloc: Global, lines: u8) -> Result<Vec<Box<HeldContainer>>, AllocError>
     ensures { IfOk result (λ frame. length frame.items ≡ lines) }
 {
     let mut frame = Vec::with_capacity(alloc, usize::from(lines))?;
     for _ in 0..lines {
-        frame.push(Box::new(alloc, EMPTY)?)?;
+        frame.push(Box::new(alloc, HeldContainer::new())?)?;
     }
     Ok(frame)
 }
@@ -628,7 +622,7 @@ fn next_note(ticks: u32, back: Option<BackCell>, last: Option<StepNote>) -> Opti
 }
 
 /// Makes the next frame, a container for each line.
-fn make_frame(source: &mut SourceCore, back: Option<BackCell>, frame: &mut Vec<Box<Container>>)
+fn make_frame(source: &mut SourceCore, back: Option<BackCell>, frame: &mut Vec<Box<HeldContainer>>)
     requires places { length frame.old.items ≡ source.old.lines }
     requires back { IsSome back ↔ IsSome (needed source.old) }
     requires few { source.old.ticks < 4294967295 }
@@ -645,7 +639,7 @@ fn make_frame(source: &mut SourceCore, back: Option<BackCell>, frame: &mut Vec<B
 
 /// The place of the next frame. It gets the containers of the frame before where each line has carried that, since these lie nearest
 /// in the caches of the processor.
-fn next_place(sent: &mut Vec<Vec<Box<Container>>>, lines: &[WalkLine], ticks: u32) -> usize
+fn next_place(sent: &mut Vec<Vec<Box<HeldContainer>>>, lines: &[WalkLine], ticks: u32) -> usize
     requires places { length sent.old.items ≡ 32 }
     ensures place { result ≡ ticks % 32 }
     ensures places { length sent.new.items ≡ 32 }
@@ -716,7 +710,7 @@ fn carry_stall(own: &WalkLine, line: u8, ticks: u32) -> Option<StallCause>
 }
 
 /// Makes a carry of line `m`. It takes the box of the container that it carries, and leaves another one.
-fn carry_on(own: &mut WalkLine, m: usize, sent: &mut Vec<Vec<Box<Container>>>)
+fn carry_on(own: &mut WalkLine, m: usize, sent: &mut Vec<Vec<Box<HeldContainer>>>)
     requires runs { own.old.core.flushed ≤ own.old.core.delay }
     requires room { own.old.given < own.old.popped + ring_of own.old }
     requires places { length sent.old.items ≡ 32 }

@@ -18,13 +18,7 @@ use line_reader::CellSign;
 use realign_core::{RowAnswer, RowGather};
 use std::alloc::{AllocError, Global};
 use std::marker::Model;
-use vc_cell::{Container, PAYLOAD};
-
-/// What stands in a place before the first container.
-const EMPTY: Container = Container {
-    h4: 0,
-    payload: [0; PAYLOAD],
-};
+use vc_cell::HeldContainer;
 
 /// A line with its receive ring: the cells that it gave and that weren't popped. Only its making takes memory, and a container is
 /// copied nowhere on its way into the line, through it and out of the ring.
@@ -34,7 +28,7 @@ pub struct WalkLine {
     /// What carries gave: that of cell `y` at place `y` modulo the size of the ring.
     signs: Vec<Carry>,
     /// The containers of those that are good, each in a box that it may come from the line and go into a row in.
-    places: Vec<Box<Container>>,
+    places: Vec<Box<HeldContainer>>,
     /// How many carries were made.
     carried: u32,
     /// How many cells came out.
@@ -116,7 +110,7 @@ impl WalkLine {
     }
 
     /// Carries a container on, and keeps the cell that comes out, if any. It takes the container's box, and leaves another one.
-    pub fn push(&mut self, container: &mut Box<Container>)
+    pub fn push(&mut self, container: &mut Box<HeldContainer>)
         requires left { self.old.core.pushed < self.old.core.total }
         requires room { self.old.given < self.old.popped + ring_of self.old }
         ensures has { (calls : Calls) → Has self.old calls →
@@ -148,7 +142,7 @@ impl WalkLine {
         ensures popped { self.new.popped ≡ self.old.popped }
     {
         let slot = self.given as usize % self.signs.len();
-        let carry = self.core.flush_to(&mut *self.places[slot]);
+        let carry = self.core.flush_to(self.places[slot].container_mut());
         self.carried += 1;
         self.given += keep(&mut self.signs, slot, carry);
     }
@@ -185,19 +179,19 @@ impl WalkLine {
 }
 
 /// So many places with a box each.
-fn blank_places(alloc: Global, count: u16) -> Result<Vec<Box<Container>>, AllocError>
+fn blank_places(alloc: Global, count: u16) -> Result<Vec<Box<HeldContainer>>, AllocError>
     ensures { IfOk result (λ places. length places.items ≡ count) }
 {
     let mut places = Vec::with_capacity(alloc, usize::from(count))?;
     for _ in 0..count {
-        places.push(Box::new(alloc, EMPTY)?)?;
+        places.push(Box::new(alloc, HeldContainer::new())?)?;
     }
     Ok(places)
 }
 
 /// Changes the boxes of two places for each other. A place that is to be filled gets the box that was emptied last, since this lies
 /// nearest in the caches of the processor.
-fn exchange(places: &mut Vec<Box<Container>>, a: usize, b: usize)
+fn exchange(places: &mut Vec<Box<HeldContainer>>, a: usize, b: usize)
     requires first { a < length places.old.items }
     requires second { b < length places.old.items }
     ensures size { length places.new.items ≡ length places.old.items }
