@@ -43,7 +43,7 @@ use sink_core::{FrameOut, SinkCore, TakeAnswer};
 use source_core::SourceCore;
 use std::alloc::{AllocError, Global};
 use std::marker::Model;
-use vc_cell::{BackCell, Container, HeldContainer};
+use vc_cell::{BackCell, HeldContainer};
 use walk_parts::{ReturnPath, WalkLine, held_item, next_command, next_frame};
 
 /// The containers that a send ring holds.
