@@ -3,7 +3,7 @@ ghost use Rattle.std.specs.Prelude.{◌≡◌, ℕ, ◌-◌, ◌<◌, ◌≤◌,
 
 use std::alloc::{AllocError, Global};
 use std::test::Fail;
-use vc_cell::{Container, HeldContainer, PAYLOAD};
+use vc_cell::{Container, PAYLOAD};
 use vcat_interleave::{gather, gather_places, spread, spread_places};
 
 #[test]
@@ -42,7 +42,7 @@ fn boxes(
     alloc: Global,
     blank: &Container,
     members: usize,
-) -> Result<Vec<Box<HeldContainer>>, AllocError>
+) -> Result<Vec<Box<Container>>, AllocError>
     ensures { IfOk result (λ boxes. length boxes.items ≡ members) }
 {
     let mut boxes = Vec::with_capacity(alloc, members)?;

@@ -5,7 +5,7 @@ use lcas_packet::Packet;
 use realign_core::{RowAnswer, RowGather};
 use session_model::{Item, ItemKind, Octets};
 use std::test::Fail;
-use vc_cell::{BackCell, Container, Ctrl, HeldContainer, PAYLOAD};
+use vc_cell::{BackCell, Container, Ctrl, PAYLOAD};
 use walk_parts::{ReturnPath, WalkLine, held_item, next_command, next_frame};
 
 const CONTAINER: Container = Container {
@@ -14,7 +14,7 @@ const CONTAINER: Container = Container {
 };
 
 // A push, where the line can take one. The container lies in a box of the caller's.
-fn push(line: &mut WalkLine, place: &mut Box<HeldContainer>) {
+fn push(line: &mut WalkLine, place: &mut Box<Container>) {
     if !line.all_pushed() && !line.is_full() {
         **place = CONTAINER;
         line.push(place);

@@ -1,7 +1,0 @@
--- No frame is made.
-use Rattle.std.proofs.Common.{◌≡◌}
-use Rattle.source_core.specs.Terminal.{SameKind}
-use Rattle.vcat_bench.proofs.source.offer.Given as goal
-
-abbrev pub invariant-loop : goal.invariant-loop
-invariant-loop l = record { ticks : l.core.ticks ≡ l.fn.core.ticks; kind : SameKind l.core l.fn.core }
