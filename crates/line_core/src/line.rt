@@ -97,7 +97,11 @@ impl LineCore {
 
     /// Carries a container on as `push_from` does, but takes its box, and gives that of a good cell's container. Another box lies in
     /// `container` afterwards.
-    pub fn push_box(&mut self, container: &mut Box<HeldContainer>, out: &mut Box<HeldContainer>) -> Carry
+    pub fn push_box(
+        &mut self,
+        container: &mut Box<HeldContainer>,
+        out: &mut Box<HeldContainer>,
+    ) -> Carry
         requires { self.old.pushed < self.old.total }
         ensures stands { (calls : Calls) → Stands self.old calls →
             Stands self.new (and_push calls container.old.value) }

@@ -92,17 +92,17 @@ fn h4_of(ticks: u32, nibbles: &[u8; NIBBLES]) -> u8
 }
 
 /// Writes H4, and zeros behind the octets that are filled.
-fn begin(h4: u8, filled: usize, place: &mut HeldContainer)
+fn begin(h4: u8, filled: usize, container: &mut HeldContainer)
     requires { filled ≤ 2340 }
-    ensures { IsBegun h4 filled place.new }
+    ensures { IsBegun h4 filled container.new }
 {
     if filled == 0 {
-        place.begin_blank(h4);
+        container.begin_blank(h4);
         return;
     }
-    let container = place.container_mut();
-    container.h4 = h4;
-    blank(&mut container.payload[filled..]);
+    let written = container.container_mut();
+    written.h4 = h4;
+    blank(&mut written.payload[filled..]);
 }
 
 /// Writes zeros.

@@ -113,7 +113,11 @@ fn rows_of(
 
 // What the member of a rank carries.
 #[inline]
-fn payload<'a>(containers: &'a [Box<HeldContainer>], active: &[u8], rank: usize) -> &'a [u8; PAYLOAD]
+fn payload<'a>(
+    containers: &'a [Box<HeldContainer>],
+    active: &[u8],
+    rank: usize,
+) -> &'a [u8; PAYLOAD]
     requires lines { AreLines (length containers.now) active.now }
     requires rank { rank < length active.now }
     ensures { result.now ≡ slice_index_or (payloads_of (held containers.now) active.now) rank [] }

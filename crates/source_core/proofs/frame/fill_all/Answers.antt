@@ -28,5 +28,5 @@ returns-in-len1-clause-spreads c stream place stands =
     (lines-stay (length out) out active refl c.requires.members.among) (next-size place size (reached (place + size) stream).pieces next)
     (λ d. held-set out c.from.result (with_value (slice_index_or out c.from.result own) c.fill_one.new.container)
     ∙ ap (slice_set (held out) c.from.result)
-    (c.fill_one.ensures.octets stream place stands ∙ ap (with_octets 0 octets) (c.deref_mut.ensures.value ∙ sym (held-at out c.from.result own d low)))
+    (c.fill_one.ensures.octets stream place stands ∙ ap (with_octets 0 octets) (c.container_mut-container.ensures.value ∙ c.deref_mut.ensures.value ∙ sym (held-at out c.from.result own d low)))
     ∙ ap (λ n. slice_set (held out) n (with_octets 0 octets (slice_index_or (held out) n d))) c.from.ensures))

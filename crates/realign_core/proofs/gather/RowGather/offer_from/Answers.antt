@@ -48,6 +48,6 @@ returns-clause-stands c cells stands =
       rows = inside.rows;
     } in
     let next = subst (λ (place : Container). (own : List Cell) (t : ℕ) → LineStands c.index_mut.result.now place own t → LineStands c.cell.new.self c.cell.new.place (own ++ cell_of c.args.cell ∷ []) t)
-    c.deref_mut.ensures.value c.cell.ensures.stands in
+    (c.container_mut.ensures.value ∙ c.deref_mut.ensures.value) c.cell.ensures.stands in
     subst (λ k. Stands new (with_cell cells k (cell_of c.args.cell))) c.from-m.ensures
     (offered_held old inside.places.items inside.packets.items inside.rows m c.index_mut.result.now c.cell.new.self c.index_mut-2.result.now (record c.index_mut-2.result.now { value = c.cell.new.place }) (cell_of c.args.cell) cells was lay next before)

@@ -32,7 +32,7 @@ returns c cells own stands told =
     let sizes = c.self.invariant.1 in
     let here = slice_get-get_or inside.lines.items m c.index.result.now within ∙ ap Some (sym c.index.ensures) in
     let box = slice_get-get_or inside.places.items m c.index-2.result.now (omega arith) ∙ ap Some (sym c.index-2.ensures) in
-    let there = slice_get-map (λ (b : Box Container). b.value) inside.places.items m ∙ ap (option_map (λ (b : Box Container). b.value)) box ∙ ap Some (sym c.deref.ensures) in
+    let there = slice_get-map (λ (b : Box Container). b.value) inside.places.items m ∙ ap (option_map (λ (b : Box Container). b.value)) box ∙ ap Some (sym (c.container.ensures ∙ c.deref.ensures)) in
     let told' = subst (λ m. slice_get cells m ≡ Some own) (sym c.from-m.ensures) told in
     subst (λ rows. verdict own rows ≡ Some (told_by c.verdict.result)) (ap (λ v. v.rows) c.self.view_is)
-    (c.verdict.ensures.told own inside.rows (before.each m c.index.result.now c.deref.result.now own here there told'))
+    (c.verdict.ensures.told own inside.rows (before.each m c.index.result.now c.container.result.now own here there told'))
