@@ -27,7 +27,7 @@ loop-m-preserved c =
             let first : Some was ≡ Some old = sym at ∙ i.invariant.rest i.m (omega arith) ∙ ap (slice_get c.args.tx.now.items) (sym same) ∙ here in
             let before : was ≡ old = cc in
             let place = c.index-frame-m.result in
-            let item = c.deref.ensures ∙ ap (λ (b : Box Container). b.value) c.index-frame-m.is ∙ sym (held-at c.args.frame.now i.m place container (omega arith))
+            let item = c.container.ensures ∙ c.deref.ensures ∙ ap (λ (b : Box Container). b.value) c.index-frame-m.is ∙ sym (held-at c.args.frame.now i.m place container (omega arith))
             ∙ get_or_from_slice_get (held c.args.frame.now) i.m container container (ap (slice_get (held c.args.frame.now)) (sym same) ∙ frame) in
             let pushed : IsPushed container was is = record { same = e.same; passed = e.passed ∙ ap (λ x. out_passed was ++ x ∷ []) item; misses = e.quiet } in
             subst (IsPushed container old) (sym now) (subst (λ (o : RingOut Container). IsPushed container o is) before pushed)
