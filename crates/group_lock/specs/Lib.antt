@@ -10,3 +10,4 @@ pub mod Parts
 pub mod Group
 pub mod Calls
 pub mod Session
+pub mod Opened

@@ -16,10 +16,11 @@ use crate::inbox::Inbox;
 use crate::item::ItemRef;
 use crate::journal::Journal;
 use crate::landing::Landing;
+use crate::opening::{Making, Notes, Opened, open};
 use crate::sends::{first_full, push_frame, take_cells};
 use member_ring::{RingIn, RingOut};
 use report_text::{Refusal, Totals};
-use session_model::{Item, Script};
+use session_model::Script;
 use source_core::{Command, SourceCore};
 use std::alloc::{AllocError, Global};
 use vc_cell::{BackCell, Container, HeldContainer};
@@ -55,6 +56,7 @@ impl GroupState {
     ghost use Rattle.group_lock.specs.Landed.{due_at};
     ghost use Rattle.group_lock.specs.Rings.{AreUnused, AreFree, IsFirstFull};
     ghost use Rattle.group_lock.specs.Group.{parts_of, lines_of, lag_of, size_of, IsOf, ticks_of, total_of, items_of, frames_of, commands_of, journal_of, slots_of, bytes_of, refusals_of, inbox_of, source_of, totals_of, next_of, refusal_of, held_of};
+    ghost use Rattle.group_lock.specs.Opened.{IsOpened, IsBegun};
     ghost use Rattle.group_lock.specs.Calls.{Submits, Ticks, Comes, Looks, Makes};
 
     /// A group of a script, over a fresh send ring for each line and a fresh return ring, with room for so many entries of the journal
@@ -83,22 +85,8 @@ impl GroupState {
             IsFresh scenario (lines_of g) (lag_of g) (size_of g) →
             HasMade (source_of g) scenario []) }
     {
-        let config = &script.config;
-        let source = SourceCore::new(alloc, config.lines, config.lag, config.size)?;
-        let landing = Landing::new(alloc, items_of(script))?;
-        let journal = Journal::new(alloc, entries, bytes)?;
-        let inbox = Inbox::new(alloc, lost_of(script), config.lag)?;
-        let frame = boxes(alloc, config.lines)?;
-        Ok(GroupState {
-            source,
-            total: config.ticks,
-            landing,
-            journal,
-            inbox,
-            frame,
-            tx,
-            back,
-        })
+        let opened = open(alloc, script, entries, bytes)?;
+        Ok(GroupState::from_opened(script, opened, tx, back))
     }
 
     /// What came of it so far, in numbers. Rows and delivered frames are counted elsewhere.
@@ -170,6 +158,42 @@ impl GroupState {
         TickAnswer::Ticked
     }
 
+    /// A group over what was opened of a script, and over fresh rings.
+    fn from_opened(
+        script: &Script,
+        opened: Opened,
+        tx: Vec<RingOut<Container>>,
+        back: RingIn<BackCell>,
+    ) -> GroupState
+        requires script { IsValid script.now }
+        requires rings { length tx.items ≡ script.now.config.lines }
+        requires sends { AreUnused tx.items }
+        requires returns { in_passed back ≡ [] }
+        requires opened { IsOpened script.now opened }
+        ensures begun { IsBegun script.now result }
+        ensures room { (slots_of result ≡ opened.notes.journal.slots)
+            × (bytes_of result ≡ opened.notes.journal.bytes) }
+        ensures ends { (result.tx ≡ tx) × (result.back ≡ back) }
+    {
+        let Opened { making, notes } = opened;
+        let Making { source, frame } = making;
+        let Notes {
+            landing,
+            journal,
+            inbox,
+        } = notes;
+        GroupState {
+            source,
+            total: script.config.ticks,
+            landing,
+            journal,
+            inbox,
+            frame,
+            tx,
+            back,
+        }
+    }
+
     /// Whether the journal has room for an item that is due. It needs none for one that the source refuses.
     fn finds_room(&self, item: ItemRef) -> bool
         ensures { result ≡ (is_some (refusal_of self.now (kind_of item.entry))
@@ -230,17 +254,6 @@ impl GroupState {
     }
 }
 
-/// An empty box for each line.
-fn boxes(alloc: Global, lines: u8) -> Result<Vec<Box<HeldContainer>>, AllocError>
-    ensures { IfOk result (λ boxes. length boxes.items ≡ lines) }
-{
-    let mut boxes = Vec::with_capacity(alloc, usize::from(lines))?;
-    for _ in 0..lines {
-        boxes.push(Box::new(alloc, HeldContainer::new())?)?;
-    }
-    Ok(boxes)
-}
-
 /// Why the source would refuse an item now, where it would.
 fn refusal_by(source: &SourceCore, item: ItemRef) -> Option<Refusal>
     ensures { result ≡ met_by source.now (kind_of item.entry) }
@@ -298,18 +311,4 @@ fn fill(source: &mut SourceCore, back: Option<BackCell>, frame: &mut Vec<Box<Hel
     ensures kind { SameKind source.new source.old }
 {
     source.tick_boxed(back, frame);
-}
-
-/// The items of a script.
-fn items_of(script: &Script) -> &[Item]
-    ensures { result.now ≡ script.now.items }
-{
-    &script.items.0
-}
-
-/// The return windows of a script.
-fn lost_of(script: &Script) -> &[(u32, u32)]
-    ensures { result.now ≡ script.now.config.lost }
-{
-    &script.config.lost.0
 }

@@ -10,6 +10,7 @@ mod inbox;
 mod item;
 mod journal;
 mod landing;
+mod opening;
 mod sends;
 
 pub use answer::{SubmitFault, TickAnswer};

@@ -3,7 +3,7 @@ ghost use Rattle.std.specs.Prelude.{◌≡◌, ◌<◌, ◌≤◌, IfOk, All, []
 ghost use Rattle.session_model.specs.Scenario.{offers_of};
 ghost use Rattle.session_model.specs.declared.script.Item.{Item};
 ghost use Rattle.session_model.specs.Valid.{IsValid, IsKind};
-ghost use Rattle.member_ring.specs.Ends.{out_passed, in_passed};
+ghost use Rattle.member_ring.specs.Ends.{AreEnds, out_passed, in_passed};
 ghost use Rattle.sink_worker.specs.Received.{received};
 ghost use Rattle.group_lock.specs.Rings.{AreUnused};
 ghost use Rattle.group_lock.specs.Session.{octets_in, IsBound};
@@ -98,7 +98,31 @@ fn open_sink(
     SinkWorker::new(alloc, config.lines, config.ticks, config.size, rx, back)
 }
 
-/// Opens a session of a script for this number of line threads.
+/// The group and the worker of the sink of a script, over fresh rings, with the return ring between them.
+fn open_ends(
+    alloc: Global,
+    script: &Script,
+    tx: Vec<RingOut<Container>>,
+    rx: Vec<RingIn<Cell>>,
+) -> Result<(GroupState, SinkWorker), AllocError>
+    requires script { IsValid script.now }
+    requires sends { length tx.items ≡ script.now.config.lines }
+    requires unused { AreUnused tx.items }
+    requires receives { length rx.items ≡ script.now.config.lines }
+    requires fresh { received rx.items ≡ replicate script.now.config.lines [] }
+    ensures bound { IfOk result (λ e. IsBound script.now e.0.tx.items (e.0.back ∷ []) e.0) }
+    ensures sink { IfOk result (λ e. IsSinkOf script.now e.1) }
+    ensures returns { IfOk result (λ e. AreEnds e.1.back e.0.back) }
+    ensures ends { IfOk result (λ e. (e.0.tx ≡ tx) × (e.1.rx ≡ rx)) }
+{
+    let (back, back_in) = back_ring(alloc)?;
+    let group = open_group(alloc, script, tx, back_in)?;
+    let sink = open_sink(alloc, script, rx, back)?;
+    Ok((group, sink))
+}
+
+/// Opens a session of a script for this number of line threads. What has the most parts is opened last, so that little is let go where
+/// memory is short.
 pub(crate) fn open(alloc: Global, script: &Script, workers: u8) -> Result<Opened, AllocError>
     requires script { IsValid script.now }
     requires some { 0 < workers }
@@ -106,15 +130,15 @@ pub(crate) fn open(alloc: Global, script: &Script, workers: u8) -> Result<Opened
     ensures room { IfOk result (λ o.
         HasRoomFor (vec_len o.lines) (vec_len o.flags.lines) o.room) }
 {
+    let flags = Flags::new(alloc, workers)?;
+    let room = Room::new(alloc, script.config.lines, workers)?;
     let lines = open_lines(alloc, &script.config)?;
-    let (back, back_in) = back_ring(alloc)?;
-    let group = open_group(alloc, script, lines.tx, back_in)?;
-    let sink = open_sink(alloc, script, lines.rx, back)?;
+    let (group, sink) = open_ends(alloc, script, lines.tx, lines.rx)?;
     Ok(Opened {
         group,
         lines: lines.workers,
         sink,
-        flags: Flags::new(alloc, workers)?,
-        room: Room::new(alloc, script.config.lines, workers)?,
+        flags,
+        room,
     })
 }

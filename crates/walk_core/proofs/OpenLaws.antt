@@ -11,7 +11,7 @@ use Rattle.session_model.specs.declared.window.Window.{Window}
 use Rattle.session_model.specs.declared.script.Config.{Config}
 use Rattle.session_model.specs.declared.script.Item.{Item}
 use Rattle.session_model.specs.declared.script.Script.{Script}
-use Rattle.session_model.specs.Scenario.{Scenario, scenario_of, offers_of, orders_of}
+use Rattle.session_model.specs.Scenario.{scenario_of, offers_of, orders_of}
 use Rattle.session_model.specs.Segment.{segments_on}
 use Rattle.session_model.specs.SessionStream.{rows_of}
 use Rattle.session_model.specs.Run.{delineate_within}
@@ -21,10 +21,10 @@ use Rattle.session_model.specs.Back.{cells_before}
 use Rattle.session_model.specs.Valid.{IsValid}
 use Rattle.session_model.specs.Counts.{LineCounts, Counts, begin, used_in, in_return, in_inbox}
 use Rattle.line_core.specs.Line.{opened}
-use Rattle.realign_core.specs.Gather.{Gather, Stands as Gathers, line_count}
+use Rattle.realign_core.specs.Gather.{Gather, Stands as Gathers}
 use Rattle.source_core.specs.Terminal.{Terminal}
-use Rattle.source_core.specs.Given.{IsFresh, Stands as HasMade}
-use Rattle.sink_core.specs.Core.{Core, Stands as HasTaken}
+use Rattle.source_core.specs.Given.{Stands as HasMade}
+use Rattle.sink_core.specs.Core.{Core}
 use Rattle.walk_law.specs.Walk.{walk_plan, IsWalked, sent_on, counts_at, cells_on, popped_on, popped_cells}
 use Rattle.walk_law.specs.Rings.{delay_on, back_cell, said_packet}
 use Rattle.walk_law.specs.Landed.{Numbered, landed_from, is_client, landed_scenario, told_before, refused_by, refusal_at, is_accepted_frame, is_accepted_command}
@@ -33,9 +33,10 @@ use Rattle.walk_law.specs.Step.{last_packet}
 use Rattle.walk_law.proofs.PlanLaws.{has-paths, valid-walks}
 use Rattle.walk_law.proofs.WalkLaws.{begins-walked}
 use Rattle.walk_parts.specs.Place.{is_frame, is_command, place_of}
-use Rattle.walk_parts.specs.Return.{Return, empty_return}
+use Rattle.walk_parts.specs.Return.{Return}
 use Rattle.walk_parts.specs.Ringed.{Ringed, ring_of, Has}
-use Rattle.walk_core.specs.Opened.{IsOpened, AreOpened}
+use Rattle.walk_core.specs.declared.opening.Opened.{Opened}
+use Rattle.walk_core.specs.Opened.{IsOpened, AreOpened, IsNew}
 use Rattle.walk_core.specs.Parts.{frame_in, HasSource, HasSent, HasLines, HasBack, counts_of, line_counts, calls_on, note_of, IsWalk}
 
 -- ---- the lines
@@ -160,45 +161,44 @@ refused-none script items none = ap (flat_map (λ item. refused_by item.number (
 abbrev counts_from : ℕ → List LineCounts → ℕ → ℕ → Counts
 counts_from ticks lines rows backs = record { ticks = ticks; frames = 0; commands = 0; lines = lines; rows = rows; backs = backs }
 
--- what is made of a script before any event
-pub record IsNew (script : Script) (source : Terminal) (sent : List (Vec (Box Container))) (lines : List Ringed) (rows : Gather) (sink : Core) (back : Return) : Type 0 where
-  pub stands : (scenario : Scenario) → IsFresh scenario script.config.lines script.config.lag script.config.size → HasMade source scenario []
-  pub lines_of : source.lines ≡ script.config.lines
-  pub lag_of : source.lag ≡ script.config.lag
-  pub size_of : source.size ≡ script.config.size
-  pub no_ticks : source.ticks ≡ 0
-  pub places : length sent ≡ 32
-  pub long : All (λ (row : Vec (Box Container)). length row.items ≡ script.config.lines) sent
-  pub are : AreOpened script.config script.config.lines lines
-  pub gathers : Gathers rows (replicate script.config.lines [])
-  pub row_lines : line_count rows ≡ script.config.lines
-  pub no_rows : rows.rows ≡ 0
-  pub sink_lines : sink.lines ≡ script.config.lines
-  pub sink_size : sink.size ≡ script.config.size
-  pub no_taken : sink.taken ≡ 0
-  pub taken : (cells : List (List Cell)) → length cells ≡ script.config.lines → HasTaken sink cells
-  pub no_back : back ≡ empty_return script.config.lag
-
-module _ (script : Script) (source : Terminal) (sent : List (Vec (Box Container))) (lines : List Ringed) (rows : Gather) (sink : Core) (back : Return) (is : IsNew script source sent lines rows sink back) (valid : IsValid script)
+module _ (script : Script) (all : Opened) (is : IsNew script.config all) (valid : IsValid script)
     (refusals : List (ℕ × Refusal)) (room frame command : ℕ) (none : refusals ≡ []) (wide : length script.items ≤ room)
     (frame_at : frame ≡ 0 + place_of is_frame 0 (drop 0 script.items)) (command_at : command ≡ 0 + place_of is_command 0 (drop 0 script.items)) where
+  abbrev source : Terminal
+  source = all.ends.source
+
+  abbrev sent : List (Vec (Box Container))
+  sent = all.paths.sent.items
+
+  abbrev lines : List Ringed
+  lines = all.paths.lines.items
+
+  abbrev rows : Gather
+  rows = all.returns.rows
+
+  abbrev sink : Core
+  sink = all.ends.sink
+
+  abbrev back : Return
+  back = all.returns.back
+
   paths-size : length (walk_plan script).paths ≡ script.config.lines
   paths-size = has-paths script (valid-walks script valid) ∙ valid.network.windows_each
 
   begin-counts : counts_from source.ticks (map line_counts lines) sink.taken back.backs ≡ begin (walk_plan script)
   begin-counts =
-      ap (λ n. counts_from n (map line_counts lines) sink.taken back.backs) is.no_ticks
-      ∙ ap (λ ls. counts_from 0 ls sink.taken back.backs) (opened-counts script.config script.config.lines lines is.are ∙ ap (λ k. replicate k no_counts) (sym paths-size))
-      ∙ ap (λ n. counts_from 0 (replicate (length (walk_plan script).paths) no_counts) n back.backs) is.no_taken
-      ∙ ap (λ (b : Return). counts_from 0 (replicate (length (walk_plan script).paths) no_counts) 0 b.backs) is.no_back
+      ap (λ n. counts_from n (map line_counts lines) sink.taken back.backs) is.source.ticks
+      ∙ ap (λ ls. counts_from 0 ls sink.taken back.backs) (opened-counts script.config script.config.lines lines is.lines ∙ ap (λ k. replicate k no_counts) (sym paths-size))
+      ∙ ap (λ n. counts_from 0 (replicate (length (walk_plan script).paths) no_counts) n back.backs) is.sink.taken
+      ∙ ap (λ (b : Return). counts_from 0 (replicate (length (walk_plan script).paths) no_counts) 0 b.backs) is.back
 
-  pub new-counts : counts_of (record { source = source; sent = map frame_in sent; lines = lines; rows = rows; sink = sink; back = back })
+  pub new-counts : counts_of (record { source = all.ends.source; sent = map frame_in all.paths.sent.items; lines = all.paths.lines.items; rows = all.returns.rows; sink = all.ends.sink; back = all.returns.back })
       (record { refusals = refusals; room = room; frame = frame; command = command; frames = 0; commands = 0; refused_frames = 0; refused_commands = 0 }) ≡ begin (walk_plan script)
   new-counts = begin-counts
 
   cells-are : popped_cells script (map line_counts lines) ≡ replicate script.config.lines []
   cells-are =
-      ap (popped_cells script) (opened-counts script.config script.config.lines lines is.are) ∙ cells-none script script.config.lines
+      ap (popped_cells script) (opened-counts script.config script.config.lines lines is.lines) ∙ cells-none script script.config.lines
       ∙ ap (λ k. replicate k []) valid.network.windows_each
 
   cells-size : length (popped_cells script (map line_counts lines)) ≡ script.config.lines
@@ -206,30 +206,30 @@ module _ (script : Script) (source : Terminal) (sent : List (Vec (Box Container)
       length-map (range_with_len 0 (length script.config.windows)) (popped_on script (map line_counts lines)) ∙ length-range_with_len 0 (length script.config.windows)
       ∙ valid.network.windows_each
 
-  pub new-walk : IsWalk script (record { source = source; sent = map frame_in sent; lines = lines; rows = rows; sink = sink; back = back })
+  pub new-walk : IsWalk script (record { source = all.ends.source; sent = map frame_in all.paths.sent.items; lines = all.paths.lines.items; rows = all.returns.rows; sink = all.ends.sink; back = all.returns.back })
       (record { refusals = refusals; room = room; frame = frame; command = command; frames = 0; commands = 0; refused_frames = 0; refused_commands = 0 }) 0 None
   new-walk = record {
     valid = valid;
     walked = subst (IsWalked script) (sym begin-counts) (begins-walked script);
     source = subst (λ s. HasSource script s source) (sym begin-counts) (record {
       made = subst (HasMade source (landed_scenario script (begin (walk_plan script)))) (sym (none-told script))
-          (is.stands (landed_scenario script (begin (walk_plan script)))
+          (is.source.stands (landed_scenario script (begin (walk_plan script)))
           (record { of_lines = valid.network.windows_each; of_lag = refl; of_size = refl; no_offers = take-none (offers_of script.items); no_orders = take-none (orders_of script.items) }));
-      lines = is.lines_of;
-      lag = is.lag_of;
-      size = is.size_of;
+      lines = is.source.lines;
+      lag = is.source.lag;
+      size = is.source.size;
     });
-    sent = subst (λ n. HasSent script n (map line_counts lines) (map frame_in sent)) (sym is.no_ticks) (sent-opened script (map line_counts lines) sent is.places is.long);
-    lines = opened-lines script lines is.are;
+    sent = subst (λ n. HasSent script n (map line_counts lines) (map frame_in sent)) (sym is.source.ticks) (sent-opened script (map line_counts lines) sent is.sent.places is.sent.lines);
+    lines = opened-lines script lines is.lines;
     sink = record {
-      gathers = subst (Gathers rows) (sym cells-are) is.gathers;
-      taken = is.taken (popped_cells script (map line_counts lines)) cells-size;
-      passed = is.no_rows ∙ sym is.no_taken;
-      lines = is.row_lines ∙ sym is.sink_lines;
-      all = is.sink_lines;
-      size = is.sink_size;
+      gathers = subst (Gathers rows) (sym cells-are) is.rows.gathers;
+      taken = is.sink.stands (popped_cells script (map line_counts lines)) cells-size;
+      passed = is.rows.rows ∙ sym is.sink.taken;
+      lines = is.rows.lines ∙ sym is.sink.lines;
+      all = is.sink.lines;
+      size = is.sink.size;
     };
-    back = subst (λ s. HasBack script s back) (sym begin-counts) (subst (HasBack script (begin (walk_plan script))) (sym is.no_back) (record {
+    back = subst (λ s. HasBack script s back) (sym begin-counts) (subst (HasBack script (begin (walk_plan script))) (sym is.back) (record {
       ring = sym (range-none (said_packet script) 0 (in_return (begin (walk_plan script))) (let e : in_return (begin (walk_plan script)) ≡ 0 = refl in e));
       inbox = sym (range-none (back_cell script) (used_in script.config.lag 0) (in_inbox (walk_plan script) (begin (walk_plan script))) (let e : 0 - used_in script.config.lag 0 ≡ 0 = omega arith in e));
       room = refl;
@@ -243,8 +243,8 @@ module _ (script : Script) (source : Terminal) (sent : List (Vec (Box Container)
       commands = sym (ap (λ xs. length (filter (is_accepted_command script) xs) + 0) (none-landed script.items 0));
       refused = ap length (refused-none script (landed_from 0 0 0 script.items) (none-landed script.items 0));
     };
-    counted = sym (ap (λ n. min (length (delivered_of script n)) 18446744073709551615) is.no_taken ∙ ap (λ xs. min (length xs) 18446744073709551615) (none-delivered script));
-    noted = subst (λ n. None ≡ note_of script (last_packet n)) (sym is.no_ticks) refl;
+    counted = sym (ap (λ n. min (length (delivered_of script n)) 18446744073709551615) is.sink.taken ∙ ap (λ xs. min (length xs) 18446744073709551615) (none-delivered script));
+    noted = subst (λ n. None ≡ note_of script (last_packet n)) (sym is.source.ticks) refl;
   }
 
 -- a line that was opened with the numbers of its place

@@ -7,6 +7,7 @@
 
 mod counted;
 mod moved;
+mod opening;
 mod walk;
 
 pub use moved::{Moved, StepNote};

@@ -2,7 +2,7 @@
 
 ghost use Rattle.std.specs.Prelude.{◌≡◌, ◌↔◌, ℕ, true, false, suc, ◌+◌, ◌*◌, ◌/◌, ◌%◌, ◌==◌, ◌&&◌, nat_le, ◌<◌, ◌≤◌, if◌then◌else◌, [], ◌∷◌, ◌++◌, List, length, map, min, All, replicate, drop, slice_get, Option, Some, None, IsSome, IfOk};
 ghost use Rattle.session_model.specs.declared.walk.Event.TheVariants.{Accept, Command, Tick, Carry, Back, Take};
-ghost use Rattle.session_model.specs.Valid.{IsValid, IsNetwork};
+ghost use Rattle.session_model.specs.Valid.{IsValid};
 ghost use Rattle.session_model.specs.Counts.{begin, step, full, run, round, drain, bound, carries_from};
 ghost use Rattle.session_model.specs.Scenario.{Scenario, steps_in};
 ghost use Rattle.session_model.specs.Table.{Told};
@@ -22,7 +22,7 @@ ghost use Rattle.vc_cell.specs.declared.Container.{Container};
 ghost use Rattle.session_model.specs.declared.script.Script.{Script};
 ghost use Rattle.walk_law.specs.Walk.{path_on};
 ghost use Rattle.walk_parts.specs.Ringed.{Ringed, ring_of};
-ghost use Rattle.walk_core.specs.Opened.{AreOpened};
+ghost use Rattle.walk_core.specs.Opened.{IsNew};
 ghost use Rattle.walk_core.specs.Carry.{carry_cause, CanCarry, IsSentOn, IsCarriedAt, HasRoom};
 ghost use Rattle.std.specs.Vec.{vec_capacity};
 ghost use Rattle.walk_core.specs.Landing.{stall_by, met_by, with_kind, IsParted};
@@ -34,20 +34,18 @@ ghost use Rattle.realign_core.specs.Gather.{line_count};
 
 use crate::counted::{CountedOut, take_back};
 use crate::moved::{Moved, StepNote};
+use crate::opening::{Ends, Opened, Paths, Returns, SENDS, open};
 use lcas_packet::Packet;
 use lcas_source::SourceTable;
 use realign_core::RowGather;
 use report_text::{Refusal, Totals};
-use session_model::{Config, Event, Item, ItemKind, Script, StallCause};
+use session_model::{Event, Item, ItemKind, Script, StallCause};
 use sink_core::{FrameOut, SinkCore, TakeAnswer};
 use source_core::SourceCore;
 use std::alloc::{AllocError, Global};
 use std::marker::Model;
 use vc_cell::{BackCell, HeldContainer};
 use walk_parts::{ReturnPath, WalkLine, held_item, next_command, next_frame};
-
-/// The containers that a send ring holds.
-const SENDS: usize = 32;
 
 /// The first row that ends a packet.
 const FIRST_END: u32 = 23;
@@ -107,34 +105,8 @@ impl Walk {
         ensures script { IfOk result (λ walk. walk.script ≡ script) }
         ensures counts { IfOk result (λ walk. walk.counts ≡ begin (walk_plan script)) }
     {
-        let config = &script.config;
-        let source = SourceCore::new(alloc, config.lines, config.lag, config.size)?;
-        let sent = new_sent(alloc, config.lines)?;
-        let lines = new_lines(alloc, config)?;
-        let rows = RowGather::new(alloc, config.lines)?;
-        let sink = SinkCore::new(alloc, config.lines, config.size)?;
-        let back = ReturnPath::new(alloc, config.lag)?;
-        let refusals = Vec::with_capacity(alloc, items_of(&script).len())?;
-        let frame = next_frame(items_of(&script), 0);
-        let command = next_command(items_of(&script), 0);
-        Ok(Walk {
-            script,
-            source,
-            sent,
-            lines,
-            rows,
-            sink,
-            back,
-            refusals,
-            frame,
-            command,
-            frames: 0,
-            commands: 0,
-            refused_frames: 0,
-            refused_commands: 0,
-            got: 0,
-            last: None,
-        })
+        let opened = open(alloc, &script)?;
+        Ok(Walk::from_opened(script, opened))
     }
 
     /// Makes an event. One that stalls changes nothing, but that a Take which waits keeps the cells that it popped. Frames that a
@@ -228,6 +200,46 @@ impl Walk {
         ensures steps { result.now.steps ≡ steps_in self.now.counts.ticks }
     {
         self.source.table()
+    }
+
+    /// A walk of a script before any event, of what was opened for it.
+    fn from_opened(script: Script, opened: Opened) -> Walk
+        requires script { IsValid script }
+        requires opened { IsNew script.config opened }
+        requires none { opened.refusals.items ≡ [] }
+        requires room { length script.items ≤ vec_capacity opened.refusals }
+        ensures script { result.script ≡ script }
+        ensures counts { result.counts ≡ begin (walk_plan script) }
+    {
+        let frame = next_frame(items_of(&script), 0);
+        let command = next_command(items_of(&script), 0);
+        let Opened {
+            paths,
+            returns,
+            ends,
+            refusals,
+        } = opened;
+        let Ends { source, sink } = ends;
+        let Paths { sent, lines } = paths;
+        let Returns { rows, back } = returns;
+        Walk {
+            script,
+            source,
+            sent,
+            lines,
+            rows,
+            sink,
+            back,
+            refusals,
+            frame,
+            command,
+            frames: 0,
+            commands: 0,
+            refused_frames: 0,
+            refused_commands: 0,
+            got: 0,
+            last: None,
+        }
     }
 
     /// Lands frames until one stalls.
@@ -339,9 +351,22 @@ impl Walk {
         ensures gives { GivesRows F.stands_for out.old out.new self.old.script
             self.old.counts.rows self.new.counts.rows }
     {
-        if let Some(cause) = self.take_stall() {
-            return Moved::Stalled(cause);
+        match self.take_stall() {
+            Some(cause) => Moved::Stalled(cause),
+            None => self.take_next(out),
         }
+    }
+
+    /// Pops the cells of the next row, and takes it where the lines decide it.
+    fn take_next<F: FrameOut>(&mut self, out: &mut F) -> Moved
+        requires { take_cause self.old.script.config.ticks self.old.counts ≡ None }
+        ensures script { self.new.script ≡ self.old.script }
+        ensures counts { self.new.counts
+            ≡ counts_after self.old.script self.old.counts Take }
+        ensures moved { result ≡ moved_of self.old.script self.old.counts Take }
+        ensures gives { GivesRows F.stands_for out.old out.new self.old.script
+            self.old.counts.rows self.new.counts.rows }
+    {
         if let Some(line) = pop_lines(&mut self.lines, &mut self.rows) {
             return Moved::Stalled(StallCause::Waiting { line });
         }
@@ -499,48 +524,6 @@ fn ends_packet(row: u32) -> bool
     ensures { result ≡ (nat_le 23 row && row % 16 == 7) }
 {
     row >= FIRST_END && row % 16 == 7
-}
-
-/// Send rings of a number of lines, all empty.
-fn new_sent(alloc: Global, lines: u8) -> Result<Vec<Vec<Box<HeldContainer>>>, AllocError>
-    ensures places { IfOk result (λ sent. length sent.items ≡ 32) }
-    ensures lines { IfOk result (λ sent.
-        All (λ (frame : Vec (Box Container)). length frame.items ≡ lines) sent.items) }
-{
-    let mut sent = Vec::with_capacity(alloc, SENDS)?;
-    for _ in 0..SENDS {
-        sent.push(new_frame(alloc, lines)?)?;
-    }
-    Ok(sent)
-}
-
-/// An empty box for each line.
-fn new_frame(alloc: Global, lines: u8) -> Result<Vec<Box<HeldContainer>>, AllocError>
-    ensures { IfOk result (λ frame. length frame.items ≡ lines) }
-{
-    let mut frame = Vec::with_capacity(alloc, usize::from(lines))?;
-    for _ in 0..lines {
-        frame.push(Box::new(alloc, HeldContainer::new())?)?;
-    }
-    Ok(frame)
-}
-
-/// The lines of a script, before any carry.
-fn new_lines(alloc: Global, config: &Config) -> Result<Vec<WalkLine>, AllocError>
-    requires { IsNetwork config.now }
-    ensures { IfOk result (λ lines. AreOpened config.now config.now.lines lines.items) }
-{
-    let mut lines = Vec::with_capacity(alloc, usize::from(config.lines))?;
-    for m in 0..usize::from(config.lines) {
-        lines.push(WalkLine::new(
-            alloc,
-            config.delays.0[m],
-            &config.windows.0[m].0,
-            config.ticks,
-            config.ring,
-        )?)?;
-    }
-    Ok(lines)
 }
 
 /// Why an item at a place doesn't land.

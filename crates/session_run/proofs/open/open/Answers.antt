@@ -2,15 +2,17 @@
 use Rattle.session_run.proofs.RoomLaws.{none-received}
 use Rattle.session_run.proofs.open.open.Goals as goal
 
-pub open_sink-requires-clause-fresh : goal.open_sink-requires-clause-fresh
-open_sink-requires-clause-fresh c =
+pub open_ends-requires-clause-fresh : goal.open_ends-requires-clause-fresh
+open_ends-requires-clause-fresh c =
     let opened = c.in_ok-lines.ensures in
     none-received c.args.script.now.config.lines c.in_ok-lines.lines.rx.items opened.rx_count opened.fresh
 
 pub returns-clause-open : goal.returns-clause-open
-returns-clause-open c = record {
-  bound = c.in_ok-group.ensures.bound;
-  lines = rw (c.in_ok-group.ensures.ends.0, c.in_ok-sink.ensures.ends.0) c.in_ok-lines.ensures;
-  returns = rw (c.in_ok-group.ensures.ends.1, c.in_ok-sink.ensures.ends.1) c.in_ok-back.ensures.ends;
-  sink = c.in_ok-sink.ensures.sink;
-}
+returns-clause-open c =
+    let e = c.in_ok-group.ensures in
+    record {
+      bound = e.bound;
+      lines = rw (e.ends.0, e.ends.1) c.in_ok-lines.ensures;
+      returns = e.returns;
+      sink = e.sink;
+    }

@@ -3,7 +3,7 @@ use Rattle.std.proofs.Common.{◌<◌, [], length, refl, sym, ◌∙◌, ap, sub
 use Rattle.session_model.specs.declared.script.Config.{Config}
 use Rattle.walk_core.specs.Opened.{IsOpened}
 use Rattle.walk_core.proofs.OpenLaws.{opened-more, opened-at, index-is}
-use Rattle.walk_core.proofs.walk.new_lines.Goals as goal
+use Rattle.walk_core.proofs.opening.new_lines.Goals as goal
 
 pub loop-m-preserved : goal.loop-m-preserved
 loop-m-preserved c =

@@ -6,51 +6,51 @@ use Rattle.walk_core.specs.declared.moved.Moved.TheVariants.{Yes, Stalled}
 use Rattle.walk_core.specs.Moved.{Walked, moved_of, counts_after, GivesRows}
 use Rattle.walk_core.specs.Take.{take_cause}
 use Rattle.walk_core.proofs.TakenLaws.{can-pop, waits-counts, waits-moved, waits-kept, can-take, taken-moved, said-room, taken-counts, taken-kept, taken-gives}
-use Rattle.walk_core.proofs.walk.Walk.take.Goals as goal
+use Rattle.walk_core.proofs.walk.Walk.take_next.Goals as goal
 
 pub invariant_of-self : goal.invariant_of-self
 invariant_of-self g c =
-    let none = sym c.in_default.is ∙ c.take_stall.ensures ∙ ap (λ (w : Walked). take_cause w.script.config.ticks w.counts) (sym c.self.view_is) in
+    let none = sym c.requires ∙ ap (λ (w : Walked). take_cause w.script.config.ticks w.counts) (sym c.self.view_is) in
     waits-kept _ _ _ _ _ c.self.invariant none _ _ _ c.pop_lines.ensures.rows c.pop_lines.ensures.lines
-    (c.pop_lines.ensures.pops c.self.inside.script (can-pop _ _ _ _ _ c.self.invariant none)) c.in-Some-pop_lines.line (sym c.in-Some-pop_lines.is)
+    (c.pop_lines.ensures.pops c.self.inside.script (can-pop _ _ _ _ _ c.self.invariant none)) c.in-Some.line (sym c.in-Some.is)
 
-pub returns-in-Some-pop_lines-clause-counts : goal.returns-in-Some-pop_lines-clause-counts
-returns-in-Some-pop_lines-clause-counts g c =
-    let none = sym c.in_default.is ∙ c.take_stall.ensures ∙ ap (λ (w : Walked). take_cause w.script.config.ticks w.counts) (sym c.self.view_is) in
+pub returns-in-Some-clause-counts : goal.returns-in-Some-clause-counts
+returns-in-Some-clause-counts g c =
+    let none = sym c.requires ∙ ap (λ (w : Walked). take_cause w.script.config.ticks w.counts) (sym c.self.view_is) in
     waits-counts _ _ _ _ _ c.self.invariant none _ _ _ c.pop_lines.ensures.rows c.pop_lines.ensures.lines
-    (c.pop_lines.ensures.pops c.self.inside.script (can-pop _ _ _ _ _ c.self.invariant none)) c.in-Some-pop_lines.line (sym c.in-Some-pop_lines.is)
+    (c.pop_lines.ensures.pops c.self.inside.script (can-pop _ _ _ _ _ c.self.invariant none)) c.in-Some.line (sym c.in-Some.is)
     ∙ ap (λ (w : Walked). counts_after w.script w.counts Take) c.self.view_is
 
-pub returns-in-Some-pop_lines-clause-moved : goal.returns-in-Some-pop_lines-clause-moved
-returns-in-Some-pop_lines-clause-moved g c =
-    let none = sym c.in_default.is ∙ c.take_stall.ensures ∙ ap (λ (w : Walked). take_cause w.script.config.ticks w.counts) (sym c.self.view_is) in
-    subst (λ (w : Walked). Stalled (Waiting c.in-Some-pop_lines.line) ≡ moved_of w.script w.counts Take) c.self.view_is
+pub returns-in-Some-clause-moved : goal.returns-in-Some-clause-moved
+returns-in-Some-clause-moved g c =
+    let none = sym c.requires ∙ ap (λ (w : Walked). take_cause w.script.config.ticks w.counts) (sym c.self.view_is) in
+    subst (λ (w : Walked). Stalled (Waiting c.in-Some.line) ≡ moved_of w.script w.counts Take) c.self.view_is
     (waits-moved _ _ _ _ _ c.self.invariant none _ _ _ c.pop_lines.ensures.rows c.pop_lines.ensures.lines
-    (c.pop_lines.ensures.pops c.self.inside.script (can-pop _ _ _ _ _ c.self.invariant none)) c.in-Some-pop_lines.line (sym c.in-Some-pop_lines.is))
+    (c.pop_lines.ensures.pops c.self.inside.script (can-pop _ _ _ _ _ c.self.invariant none)) c.in-Some.line (sym c.in-Some.is))
 
 pub say-requires : goal.say-requires
 say-requires g c =
-    let none = sym c.in_default.is ∙ c.take_stall.ensures ∙ ap (λ (w : Walked). take_cause w.script.config.ticks w.counts) (sym c.self.view_is) in
+    let none = sym c.requires ∙ ap (λ (w : Walked). take_cause w.script.config.ticks w.counts) (sym c.self.view_is) in
     let popped = c.pop_lines.ensures.pops c.self.inside.script (can-pop _ _ _ _ _ c.self.invariant none) in
-    let decided = sym c.in_default-pop_lines.is in
+    let decided = sym c.in_default.is in
     let can = can-take _ _ _ _ _ c.self.invariant none _ _ _ c.pop_lines.ensures.rows c.pop_lines.ensures.lines popped decided in
     said-room _ _ _ _ _ c.self.invariant none _ _ _ c.pop_lines.ensures.rows c.pop_lines.ensures.lines popped decided
     _ _ c.take_row-packet.result.0 (c.take_row-packet.ensures.takes _ can)
 
 pub invariant_of-self-2 : goal.invariant_of-self-2
 invariant_of-self-2 g c =
-    let none = sym c.in_default.is ∙ c.take_stall.ensures ∙ ap (λ (w : Walked). take_cause w.script.config.ticks w.counts) (sym c.self.view_is) in
+    let none = sym c.requires ∙ ap (λ (w : Walked). take_cause w.script.config.ticks w.counts) (sym c.self.view_is) in
     let popped = c.pop_lines.ensures.pops c.self.inside.script (can-pop _ _ _ _ _ c.self.invariant none) in
-    let decided = sym c.in_default-pop_lines.is in
+    let decided = sym c.in_default.is in
     let can = can-take _ _ _ _ _ c.self.invariant none _ _ _ c.pop_lines.ensures.rows c.pop_lines.ensures.lines popped decided in
     taken-kept _ _ _ _ _ c.self.invariant none _ _ _ c.pop_lines.ensures.rows c.pop_lines.ensures.lines popped decided
     _ _ c.take_row-packet.result.0 (c.take_row-packet.ensures.takes _ can) c.say.new.self c.say.ensures _ (c.take_row-packet.ensures.counted _ can)
 
 pub returns-clause-counts : goal.returns-clause-counts
 returns-clause-counts g c =
-    let none = sym c.in_default.is ∙ c.take_stall.ensures ∙ ap (λ (w : Walked). take_cause w.script.config.ticks w.counts) (sym c.self.view_is) in
+    let none = sym c.requires ∙ ap (λ (w : Walked). take_cause w.script.config.ticks w.counts) (sym c.self.view_is) in
     let popped = c.pop_lines.ensures.pops c.self.inside.script (can-pop _ _ _ _ _ c.self.invariant none) in
-    let decided = sym c.in_default-pop_lines.is in
+    let decided = sym c.in_default.is in
     let can = can-take _ _ _ _ _ c.self.invariant none _ _ _ c.pop_lines.ensures.rows c.pop_lines.ensures.lines popped decided in
     taken-counts _ _ _ _ _ c.self.invariant none _ _ _ c.pop_lines.ensures.rows c.pop_lines.ensures.lines popped decided
     _ _ c.take_row-packet.result.0 (c.take_row-packet.ensures.takes _ can) c.say.new.self c.say.ensures _ (c.take_row-packet.ensures.counted _ can)
@@ -58,17 +58,17 @@ returns-clause-counts g c =
 
 pub returns-clause-moved : goal.returns-clause-moved
 returns-clause-moved g c =
-    let none = sym c.in_default.is ∙ c.take_stall.ensures ∙ ap (λ (w : Walked). take_cause w.script.config.ticks w.counts) (sym c.self.view_is) in
+    let none = sym c.requires ∙ ap (λ (w : Walked). take_cause w.script.config.ticks w.counts) (sym c.self.view_is) in
     let popped = c.pop_lines.ensures.pops c.self.inside.script (can-pop _ _ _ _ _ c.self.invariant none) in
-    let decided = sym c.in_default-pop_lines.is in
+    let decided = sym c.in_default.is in
     subst (λ (w : Walked). Yes ≡ moved_of w.script w.counts Take) c.self.view_is
     (taken-moved _ _ _ _ _ c.self.invariant none _ _ _ c.pop_lines.ensures.rows c.pop_lines.ensures.lines popped decided)
 
 pub returns-clause-gives : goal.returns-clause-gives
 returns-clause-gives g c =
-    let none = sym c.in_default.is ∙ c.take_stall.ensures ∙ ap (λ (w : Walked). take_cause w.script.config.ticks w.counts) (sym c.self.view_is) in
+    let none = sym c.requires ∙ ap (λ (w : Walked). take_cause w.script.config.ticks w.counts) (sym c.self.view_is) in
     let popped = c.pop_lines.ensures.pops c.self.inside.script (can-pop _ _ _ _ _ c.self.invariant none) in
-    let decided = sym c.in_default-pop_lines.is in
+    let decided = sym c.in_default.is in
     let can = can-take _ _ _ _ _ c.self.invariant none _ _ _ c.pop_lines.ensures.rows c.pop_lines.ensures.lines popped decided in
     subst (λ (w : Walked). GivesRows g.F.FrameOut.stands_for c.args.out.now c.take_row-packet.new.out w.script w.counts.rows c.take_row-packet.new.sink.taken) c.self.view_is
     (taken-gives _ _ _ _ _ c.self.invariant none _ _ _ c.pop_lines.ensures.rows c.pop_lines.ensures.lines popped decided

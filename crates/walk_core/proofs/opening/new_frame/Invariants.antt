@@ -1,6 +1,6 @@
 -- A box for each turn so far.
 use Rattle.std.proofs.Common.{◌≡◌, length}
-use Rattle.group_lock.proofs.group.boxes.Given as goal
+use Rattle.walk_core.proofs.opening.new_frame.Given as goal
 
 abbrev pub invariant-loop : goal.invariant-loop
-invariant-loop l = length l.boxes.items ≡ l.counter
+invariant-loop l = length l.frame.items ≡ l.counter

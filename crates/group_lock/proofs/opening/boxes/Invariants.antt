@@ -1,6 +1,6 @@
 -- A box for each turn so far.
 use Rattle.std.proofs.Common.{◌≡◌, length}
-use Rattle.walk_core.proofs.walk.new_frame.Given as goal
+use Rattle.group_lock.proofs.opening.boxes.Given as goal
 
 abbrev pub invariant-loop : goal.invariant-loop
-invariant-loop l = length l.frame.items ≡ l.counter
+invariant-loop l = length l.boxes.items ≡ l.counter

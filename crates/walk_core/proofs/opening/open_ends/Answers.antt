@@ -1,0 +1,12 @@
+-- Both terminals are the script's.
+use Rattle.walk_core.proofs.opening.open_ends.Goals as goal
+
+pub returns-clause-source : goal.returns-clause-source
+returns-clause-source c =
+    let e = c.in_ok-new.ensures in
+    record { stands = e.stands; lines = e.lines; lag = e.lag; size = e.size; ticks = e.ticks }
+
+pub returns-clause-sink : goal.returns-clause-sink
+returns-clause-sink c =
+    let e = c.in_ok-new-2.ensures in
+    record { lines = e.lines; size = e.size; taken = e.taken; stands = e.stands }

@@ -1,0 +1,152 @@
+//! What a walk of a script begins with, before any event.
+
+ghost use Rattle.std.specs.Prelude.{◌≡◌, ◌≤◌, [], length, All, IfOk};
+ghost use Rattle.std.specs.Global.{Vec, Box};
+ghost use Rattle.vc_cell.specs.declared.Container.{Container};
+ghost use Rattle.std.specs.Vec.{vec_capacity};
+ghost use Rattle.session_model.specs.Valid.{IsValid, IsNetwork};
+ghost use Rattle.walk_parts.specs.Return.{empty_return};
+ghost use Rattle.walk_core.specs.Opened.{AreOpened, AreRings, IsNewSource, IsNewSink, IsNewGather, IsNew};
+
+use realign_core::RowGather;
+use report_text::Refusal;
+use session_model::{Config, Script};
+use sink_core::SinkCore;
+use source_core::SourceCore;
+use std::alloc::{AllocError, Global};
+use vc_cell::HeldContainer;
+use walk_parts::{ReturnPath, WalkLine};
+
+/// The frames that the send rings hold.
+pub(crate) const SENDS: usize = 32;
+
+/// Both terminals.
+#[derive(Drop)]
+pub(crate) struct Ends {
+    pub(crate) source: SourceCore,
+    pub(crate) sink: SinkCore,
+}
+
+/// The lines, and the send rings before them.
+#[derive(Drop)]
+pub(crate) struct Paths {
+    /// Each place holds the containers of a frame.
+    pub(crate) sent: Vec<Vec<Box<HeldContainer>>>,
+    pub(crate) lines: Vec<WalkLine>,
+}
+
+/// What comes behind the lines: their gathered rows, and the return path.
+#[derive(Drop)]
+pub(crate) struct Returns {
+    pub(crate) rows: RowGather,
+    pub(crate) back: ReturnPath,
+}
+
+/// All that moves in a walk, before any event.
+#[derive(Drop)]
+pub(crate) struct Opened {
+    pub(crate) paths: Paths,
+    pub(crate) returns: Returns,
+    pub(crate) ends: Ends,
+    /// Room for a refusal of each item.
+    pub(crate) refusals: Vec<(u32, Refusal)>,
+}
+
+/// Opens all that moves in a walk of a script. What has the most parts is opened last, so that little is let go where memory is short.
+pub(crate) fn open(alloc: Global, script: &Script) -> Result<Opened, AllocError>
+    requires { IsValid script.now }
+    ensures opened { IfOk result (λ opened. IsNew script.now.config opened) }
+    ensures none { IfOk result (λ opened. opened.refusals.items ≡ []) }
+    ensures room { IfOk result (λ opened.
+        length script.now.items ≤ vec_capacity opened.refusals) }
+{
+    let refusals = Vec::with_capacity(alloc, script.items.0.len())?;
+    let paths = open_paths(alloc, &script.config)?;
+    let returns = open_returns(alloc, &script.config)?;
+    let ends = open_ends(alloc, &script.config)?;
+    Ok(Opened {
+        paths,
+        returns,
+        ends,
+        refusals,
+    })
+}
+
+/// Opens the terminals.
+fn open_ends(alloc: Global, config: &Config) -> Result<Ends, AllocError>
+    requires { IsNetwork config.now }
+    ensures source { IfOk result (λ ends. IsNewSource config.now ends.source) }
+    ensures sink { IfOk result (λ ends. IsNewSink config.now ends.sink) }
+{
+    Ok(Ends {
+        source: SourceCore::new(alloc, config.lines, config.lag, config.size)?,
+        sink: SinkCore::new(alloc, config.lines, config.size)?,
+    })
+}
+
+/// Opens the lines and their send rings.
+fn open_paths(alloc: Global, config: &Config) -> Result<Paths, AllocError>
+    requires { IsNetwork config.now }
+    ensures sent { IfOk result (λ paths. AreRings config.now.lines paths.sent.items) }
+    ensures lines { IfOk result (λ paths.
+        AreOpened config.now config.now.lines paths.lines.items) }
+{
+    Ok(Paths {
+        sent: new_sent(alloc, config.lines)?,
+        lines: new_lines(alloc, config)?,
+    })
+}
+
+/// Opens what comes behind the lines.
+fn open_returns(alloc: Global, config: &Config) -> Result<Returns, AllocError>
+    requires { IsNetwork config.now }
+    ensures rows { IfOk result (λ returns. IsNewGather config.now.lines returns.rows) }
+    ensures back { IfOk result (λ returns. returns.back ≡ empty_return config.now.lag) }
+{
+    Ok(Returns {
+        rows: RowGather::new(alloc, config.lines)?,
+        back: ReturnPath::new(alloc, config.lag)?,
+    })
+}
+
+/// Send rings of a number of lines, all empty.
+fn new_sent(alloc: Global, lines: u8) -> Result<Vec<Vec<Box<HeldContainer>>>, AllocError>
+    ensures places { IfOk result (λ sent. length sent.items ≡ 32) }
+    ensures lines { IfOk result (λ sent.
+        All (λ (frame : Vec (Box Container)). length frame.items ≡ lines) sent.items) }
+{
+    let mut sent = Vec::with_capacity(alloc, SENDS)?;
+    for _ in 0..SENDS {
+        sent.push(new_frame(alloc, lines)?)?;
+    }
+    Ok(sent)
+}
+
+/// An empty box for each line.
+fn new_frame(alloc: Global, lines: u8) -> Result<Vec<Box<HeldContainer>>, AllocError>
+    ensures { IfOk result (λ frame. length frame.items ≡ lines) }
+{
+    let mut frame = Vec::with_capacity(alloc, usize::from(lines))?;
+    for _ in 0..lines {
+        frame.push(Box::new(alloc, HeldContainer::new())?)?;
+    }
+    Ok(frame)
+}
+
+/// The lines of a script, before any carry.
+fn new_lines(alloc: Global, config: &Config) -> Result<Vec<WalkLine>, AllocError>
+    requires { IsNetwork config.now }
+    ensures { IfOk result (λ lines. AreOpened config.now config.now.lines lines.items) }
+{
+    let mut lines = Vec::with_capacity(alloc, usize::from(config.lines))?;
+    for m in 0..usize::from(config.lines) {
+        lines.push(WalkLine::new(
+            alloc,
+            config.delays.0[m],
+            &config.windows.0[m].0,
+            config.ticks,
+            config.ring,
+        )?)?;
+    }
+    Ok(lines)
+}
