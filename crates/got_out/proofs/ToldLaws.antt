@@ -1,13 +1,12 @@
 -- What is told of a text, as it grows.
-use Rattle.std.proofs.Common.{◌≡◌, ℕ, Bool, true, false, List, [], ◌∷◌, ◌++◌, Option, Some, None, refl, sym, ◌∙◌, ap, subst}
+use Rattle.std.proofs.Common.{◌≡◌, ℕ, Bool, true, false, List, [], ◌∷◌, ◌++◌, Option, Some, None, refl, sym, ◌∙◌, ap}
 use Rattle.std.proofs.lemmas.Grind.{flat_map-append}
 use Rattle.std.proofs.lemmas.List.{append-nil}
 use Rattle.std.specs.Io.KnownBytes.{append_known}
-use Rattle.outside_io.specs.Transfer.{Appends, AppendsPart}
 use Rattle.outside_io.proofs.Parts.{AppendsPart-longer}
 use Rattle.report_text.specs.Report.{got_text, got_texts}
-use Rattle.got_out.specs.Told.{Holds, AppendsSome, GivesUp, Seen, seen, known_of, faults_of, Told, named, told_of}
-use Rattle.got_out.proofs.BlockLaws.{Holds-then, Holds-stops}
+use Rattle.got_out.specs.Told.{Holds, GivesUp, Seen, seen, known_of, faults_of, Told, named, told_of}
+use Rattle.got_out.proofs.BlockLaws.{Holds-then}
 
 pub texts-more : (frames : List (List ℕ)) (frame : List ℕ) → got_texts frames ++ got_text frame ≡ got_texts (frames ++ frame ∷ [])
 texts-more frames frame = sym (flat_map-append got_text frames (frame ∷ []) ∙ ap (λ l. got_texts frames ++ l) (append-nil (got_text frame)))

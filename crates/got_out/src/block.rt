@@ -41,6 +41,13 @@ impl LineBlock {
         }
     }
 
+    /// Lets go what waits.
+    pub fn clear(&mut self)
+        ensures { self.new ≡ [] }
+    {
+        self.len = 0;
+    }
+
     /// Adds the line of a delivered frame, and puts what waits where it is much.
     pub fn add_got<K: ByteSink>(&mut self, frame: &[u8], out: &mut K) -> Result<(), Failed>
         requires { length frame.now ≤ 9600 }

@@ -42,6 +42,8 @@ pub struct LineWorker {
     core: LineCore,
     /// Where it pushes cells.
     pub producer: RingOut<Cell>,
+    /// Where the container of a good cell lies until it is pushed.
+    place: Container,
     ghost stands: { Stands core (calls_on core (in_passed consumer)) },
     ghost sent: { out_passed producer ≡ path_cells (calls_on core (in_passed consumer)) },
     pub ghost order: { 0 < core.flushed → core.pushed ≡ core.total },
@@ -79,6 +81,7 @@ impl LineWorker {
             consumer,
             core,
             producer,
+            place: blank(),
         }
     }
 
@@ -97,30 +100,29 @@ impl LineWorker {
         ensures later { IsLater self.old self.new }
     {
         gate.pass(Who::Line(self.line));
-        let mut place = blank();
-        let first = self.carry(&mut place);
+        let first = self.carry();
         if first == Burst::Moved {
-            self.carry_on(&mut place);
+            self.carry_on();
             gate.moved(Who::Line(self.line));
         }
         first
     }
 
     /// Makes carries up to the sixteenth of a burst, after the first.
-    fn carry_on(&mut self, place: &mut Container)
+    fn carry_on(&mut self)
         ensures least { carries_of self.old ≤ carries_of self.new }
         ensures most { carries_of self.new ≤ carries_of self.old + 15 }
         ensures later { IsLater self.old self.new }
     {
         for _ in 1..CARRIES {
-            if self.carry(place) != Burst::Moved {
+            if self.carry() != Burst::Moved {
                 return;
             }
         }
     }
 
-    /// Makes a carry if it can. A good cell's container goes by `place`.
-    fn carry(&mut self, place: &mut Container) -> Burst
+    /// Makes a carry if it can.
+    fn carry(&mut self) -> Burst
         ensures moved { result ≡ Burst.Moved → carries_of self.new ≡ carries_of self.old + 1 }
         ensures stays { result ≢ Burst.Moved → carries_of self.new ≡ carries_of self.old }
         ensures done { (result ≡ Burst.Done) ↔ Contains (out_passed self.old.producer) Cell.End }
@@ -133,13 +135,14 @@ impl LineWorker {
             return Burst::Done;
         }
         if self.core.all_pushed() {
-            return self.flush(place);
+            return self.flush();
         }
-        self.pass(place)
+        self.pass()
     }
 
-    /// Carries the next container, where it is there and there is a slot for its cell.
-    fn pass(&mut self, place: &mut Container) -> Burst
+    /// Carries the next container, where it is there and there is a slot for its cell. It goes into the line from where it lies in the
+    /// ring.
+    fn pass(&mut self) -> Burst
         requires { self.old.core.pushed < self.old.core.total }
         ensures moved { result ≡ Burst.Moved → carries_of self.new ≡ carries_of self.old + 1 }
         ensures stays { result ≢ Burst.Moved → carries_of self.new ≡ carries_of self.old }
@@ -154,14 +157,14 @@ impl LineWorker {
         if !self.producer.ready() {
             return Burst::Idle(IdleCause::Full);
         }
-        let container = self.consumer.pop();
-        let carry = self.core.push_from(&container, place);
-        send(&mut self.producer, carry, place);
+        let carry = self.core.push_from(self.consumer.front(), &mut self.place);
+        self.consumer.pop();
+        send(&mut self.producer, carry, &self.place);
         Burst::Moved
     }
 
     /// Makes a carry after the last container, where there is a slot for its cell.
-    fn flush(&mut self, place: &mut Container) -> Burst
+    fn flush(&mut self) -> Burst
         requires pushed { self.old.core.pushed ≡ self.old.core.total }
         requires runs { self.old.core.flushed ≤ self.old.core.delay }
         ensures moved { result ≡ Burst.Moved → carries_of self.new ≡ carries_of self.old + 1 }
@@ -174,8 +177,8 @@ impl LineWorker {
         if !self.producer.ready() {
             return Burst::Idle(IdleCause::Full);
         }
-        let carry = self.core.flush_to(place);
-        send(&mut self.producer, carry, place);
+        let carry = self.core.flush_to(&mut self.place);
+        send(&mut self.producer, carry, &self.place);
         Burst::Moved
     }
 }

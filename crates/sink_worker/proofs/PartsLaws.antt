@@ -11,7 +11,7 @@ use Rattle.session_model.specs.Hunt.{hunt_within}
 use Rattle.session_model.specs.Segment.{segments_on}
 use Rattle.line_law.specs.StableRows.{IsLonger, AreDecidedAt}
 use Rattle.line_law.proofs.ListLaws.{slice_get-inside}
-use Rattle.realign_core.specs.Gather.{Gather, line_count, with_cell}
+use Rattle.realign_core.specs.Gather.{Gather, with_cell}
 use Rattle.realign_core.specs.Gather.{Stands as Gathers}
 use Rattle.member_ring.specs.declared.ends.RingIn.{RingIn}
 use Rattle.member_ring.specs.declared.ends.RingOut.{RingOut}

@@ -5,7 +5,7 @@ ghost use Rattle.realign_core.specs.Gather.{line_count};
 use crate::burst::SinkBurst;
 use crate::got::{CountOut, ToldOut, take_back};
 use crate::rows::take_rows;
-use got_out::GotOut;
+use got_out::{GotOver, LineBlock};
 use member_ring::{Gate, RingIn, RingOut, Who};
 use outside_io::ByteSink;
 use realign_core::RowGather;
@@ -25,6 +25,8 @@ pub struct SinkWorker {
     ticks: u32,
     got: u64,
     failed: bool,
+    /// Where lines wait in a burst. Nothing waits between bursts.
+    block: Box<LineBlock>,
     ghost lines: { line_count rows ≡ core.lines },
     ghost rings: { length rx.items ≡ core.lines },
     ghost places: { rows.rows ≡ core.taken },
@@ -68,6 +70,7 @@ impl SinkWorker {
     {
         let rows = RowGather::new(alloc, lines)?;
         let core = SinkCore::new(alloc, lines, size)?;
+        let block = Box::new(alloc, LineBlock::new())?;
         Ok(SinkWorker {
             rows,
             core,
@@ -76,6 +79,7 @@ impl SinkWorker {
             ticks,
             got: 0,
             failed: false,
+            block,
         })
     }
 
@@ -147,7 +151,7 @@ impl SinkWorker {
         ensures later { IsLater self.old self.new }
     {
         let mut told = ToldOut {
-            lines: GotOut::new(out),
+            lines: GotOver::new(out, &mut self.block),
             counted: CountOut { count: 0 },
         };
         let first = take_rows(

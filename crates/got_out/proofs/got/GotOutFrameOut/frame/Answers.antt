@@ -1,5 +1,5 @@
 -- The line of a frame is written or waits.
-use Rattle.std.proofs.Common.{◌∷◌, [], ◌++◌, List, ℕ, subst}
+use Rattle.std.proofs.Common.{subst}
 use Rattle.report_text.specs.Report.{got_text, got_texts}
 use Rattle.got_out.specs.Told.{Told, seen, told_of}
 use Rattle.got_out.proofs.ToldLaws.{texts-more, told-stopped, told-more}

@@ -1,21 +1,22 @@
 -- A container is carried from ring to ring.
-use Rattle.std.proofs.Common.{◌≡◌, [], ◌∷◌, ◌++◌, refl, sym, ◌∙◌, ap, subst, arith}
+use Rattle.std.proofs.Common.{◌≡◌, [], ◌∷◌, ◌++◌, refl, sym, ◌∙◌, ap, ap₂, subst, arith}
 use Rattle.line_core.specs.Line.{Stands, and_push, path_cells}
 use Rattle.line_core.specs.Carry.{carry_cells}
 use Rattle.member_ring.specs.Ends.{in_passed}
 use Rattle.member_ring.specs.Calls.{calls_on}
 use Rattle.member_ring.proofs.CallLaws.{calls-pushed}
-use Rattle.member_ring.proofs.EndLaws.{in-then, out-then}
+use Rattle.member_ring.proofs.EndLaws.{in-then, out-then, popped-front}
 use Rattle.member_ring.proofs.worker.LineWorker.pass.Goals as goal
 
 pub invariant_of-self-2 : goal.invariant_of-self-2
 invariant_of-self-2 c =
     let old = c.args.self.now in
     let calls = calls_on old.core (in_passed old.consumer) in
-    let x = c.pop-container.result in
+    let x = c.front.result.now in
+    let same : c.pop.result ≡ x = (let item = c.pop.ensures.item in let front = c.front.ensures in popped-front _ _ _ _ front item) in
     let stands = c.push_from-carry.ensures.stands calls old.stands in
-    let passed : in_passed c.pop-container.new.self ≡ in_passed old.consumer ++ x ∷ [] = c.pop-container.ensures.passed ∙ ap (λ l. l ++ x ∷ []) c.ready.ensures.passed in
-    let next : and_push calls x ≡ calls_on c.push_from-carry.new.self (in_passed c.pop-container.new.self) =
+    let passed : in_passed c.pop.new.self ≡ in_passed old.consumer ++ x ∷ [] = c.pop.ensures.passed ∙ ap₂ (λ l y. l ++ y ∷ []) c.ready.ensures.passed same in
+    let next : and_push calls x ≡ calls_on c.push_from-carry.new.self (in_passed c.pop.new.self) =
     calls-pushed old.core c.push_from-carry.new.self (in_passed old.consumer) x stands ∙ ap (calls_on c.push_from-carry.new.self) (sym passed) in
     record {
       stands = subst (Stands c.push_from-carry.new.self) next stands;
@@ -35,9 +36,9 @@ returns-clause-later c =
         delay = stands.delay;
         windows = stands.windows;
         total = stands.total;
-        consumer = in-then old.consumer c.ready.new.self c.pop-container.new.self c.ready.ensures.same c.pop-container.ensures.same;
+        consumer = in-then old.consumer c.ready.new.self c.pop.new.self c.ready.ensures.same c.pop.ensures.same;
         producer = out-then old.producer c.ready-2.new.self c.send.new.producer c.ready-2.ensures.same c.send.ensures.same;
       };
-      received = (c.pop-container.result ∷ [], sym (c.pop-container.ensures.passed ∙ ap (λ l. l ++ c.pop-container.result ∷ []) c.ready.ensures.passed));
+      received = (c.pop.result ∷ [], sym (c.pop.ensures.passed ∙ ap (λ l. l ++ c.pop.result ∷ []) c.ready.ensures.passed));
       flushes = omega (arith, stands.flushed);
     }
