@@ -3,7 +3,6 @@ ghost use Rattle.std.specs.Prelude.{◌≤◌, length};
 
 use failure_window::{Carried, Window, WindowFault, Windows};
 use std::alloc::Global;
-use std::test::Fail;
 
 fn window(first: u32, end: u32, slip: u16) -> Window {
     Window { first, end, slip }
@@ -19,68 +18,91 @@ fn fault(alloc: Global, list: &[Window]) -> Option<WindowFault>
     }
 }
 
-#[test]
-fn the_first_fault_is_told(rt: HostRuntime) {
-    let alloc = rt.alloc();
-    assert_eq!(rt; fault(alloc, &[]), None);
-    let first = window(10, 13, 2);
-    for (second, want) in [
+// Windows that come after that of the containers 10 to 12, and the first fault of both.
+fn rows() -> [(Window, Option<WindowFault>); 6] {
+    [
         (window(13, 14, 0), None),
         (window(4_294_967_294, 4_294_967_295, 0), None),
         (window(13, 13, 0), Some(WindowFault::Empty { i: 1 })),
         (window(12, 12, 9), Some(WindowFault::Empty { i: 1 })),
         (window(12, 14, 9), Some(WindowFault::Overlap { i: 1 })),
         (window(13, 15, 2), Some(WindowFault::SlipTooLong { i: 1 })),
-    ] {
-        assert_eq!(rt;
-            fault(alloc, &[first, second]),
-            want,
-            "{} to {}",
-            second.first,
-            second.end
-        );
-        let last = window(0, 1, 1);
-        let told = want.unwrap_or(WindowFault::Overlap { i: 2 });
-        assert_eq!(rt; fault(alloc, &[first, second, last]), Some(told));
+    ]
+}
+
+// Whether the fault of both is told, and of three windows of which the last one comes too early.
+fn is_told(alloc: Global, second: Window, wanted: Option<WindowFault>) -> bool {
+    let first = window(10, 13, 2);
+    let last = window(0, 1, 1);
+    let told = wanted.unwrap_or(WindowFault::Overlap { i: 2 });
+    let both = fault(alloc, &[first, second]);
+    both == wanted && fault(alloc, &[first, second, last]) == Some(told)
+}
+
+// The place of the first row whose fault is not told.
+fn first_wrong(alloc: Global) -> Option<usize> {
+    for (place, (second, wanted)) in rows().iter().enumerate() {
+        if !is_told(alloc, *second, *wanted) {
+            return Some(place);
+        }
     }
-    assert_eq!(rt;
+    None
+}
+
+#[test]
+fn the_first_fault_is_told(rt: HostRuntime) {
+    let alloc = rt.alloc();
+    let seen = (
+        first_wrong(alloc),
+        fault(alloc, &[]),
         fault(alloc, &[window(0, 3, 3)]),
-        Some(WindowFault::SlipTooLong { i: 0 })
     );
+    assert_eq!(rt; seen, (None, None, Some(WindowFault::SlipTooLong { i: 0 })));
 }
 
-#[test]
-fn the_last_containers_of_a_window_vanish(rt: HostRuntime) -> Result<(), Fail> {
-    let windows = Windows::new(
-        rt.alloc(),
-        &[window(1, 3, 1), window(3, 6, 0), window(8, 12, 3)],
-    )?;
-    let fails = [1, 3, 4, 5, 8];
-    let vanishes = [2, 9, 10, 11];
-    for n in 0..14 {
-        let want = if fails.contains(&n) {
-            Carried::Fails
-        } else if vanishes.contains(&n) {
-            Carried::Vanishes
-        } else {
-            Carried::Whole
+// A letter for what comes of each of the first containers, and of the last one.
+fn letters(windows: &Windows) -> [u8; 15] {
+    let mut seen = [0; 15];
+    for (place, letter) in seen.iter_mut().enumerate() {
+        let n = if place < 14 { place as u32 } else { u32::MAX };
+        *letter = match windows.at(n) {
+            Carried::Whole => b'w',
+            Carried::Fails => b'f',
+            Carried::Vanishes => b'v',
         };
-        assert_eq!(rt; windows.at(n), want, "container {n}");
     }
-    assert_eq!(rt; windows.at(u32::MAX), Carried::Whole);
-    Ok(())
+    seen
 }
 
 #[test]
-fn near_windows_slip_together(rt: HostRuntime) -> Result<(), Fail> {
-    for (second, slip) in [
-        (window(120, 130, 4), 7),
-        (window(126, 136, 4), 7),
-        (window(127, 137, 4), 4),
-    ] {
-        let windows = Windows::new(rt.alloc(), &[window(100, 110, 3), second])?;
-        assert_eq!(rt; windows.slip(), slip, "the second from {} on", second.first);
+fn the_last_containers_of_a_window_vanish(rt: HostRuntime) {
+    let list = [window(1, 3, 1), window(3, 6, 0), window(8, 12, 3)];
+    let seen = match Windows::new(rt.alloc(), &list) {
+        Ok(windows) => letters(&windows),
+        Err(_) => [0; 15],
+    };
+    assert_eq!(rt; seen, *b"wfvfffwwfvvvwww");
+}
+
+// The slip of a list.
+fn slip(alloc: Global, list: &[Window]) -> Option<u32>
+    requires { length list.now ≤ 256 }
+{
+    match Windows::new(alloc, list) {
+        Ok(windows) => Some(windows.slip()),
+        Err(_) => None,
     }
-    assert_eq!(rt; Windows::new(rt.alloc(), &[])?.slip(), 0);
-    Ok(())
+}
+
+#[test]
+fn near_windows_slip_together(rt: HostRuntime) {
+    let alloc = rt.alloc();
+    let first = window(100, 110, 3);
+    let seen = [
+        slip(alloc, &[first, window(120, 130, 4)]),
+        slip(alloc, &[first, window(126, 136, 4)]),
+        slip(alloc, &[first, window(127, 137, 4)]),
+        slip(alloc, &[]),
+    ];
+    assert_eq!(rt; seen, [Some(7), Some(7), Some(4), Some(0)]);
 }

@@ -1,6 +1,7 @@
 //! Worked octets of the stream, from outside the program, and the limits of a queue.
 
 use gfp_fill::{AcceptFault, Filler, FrameQueue};
+use std::alloc::Global;
 use std::test::Fail;
 
 // Two idles, the core header of a frame of 64 octets of 0, and the first octets of its scrambled area.
@@ -21,110 +22,159 @@ const THIRD: [u8; 20] = [
     0xaf, 0x7b, 0x36, 0x53,
 ];
 
-#[test]
-fn one_fill_or_many_write_the_same_stream(rt: HostRuntime) -> Result<(), Fail> {
-    let mut queue = FrameQueue::new(rt.alloc())?;
-    assert_eq!(rt; queue.push(&[0; 64]), Ok(()));
-    let mut whole = [0xff; 28];
-    Filler::new().fill(&mut queue, &mut whole);
-    assert_eq!(rt; whole, BEGINNING);
+// What is done to a queue and its filler.
+#[derive(Clone, Copy)]
+enum Step {
+    // A frame is pushed that holds this octet 64 times.
+    Push(u8),
+    // So many octets of the stream are written.
+    Fill(usize),
+}
 
-    let mut queue = FrameQueue::new(rt.alloc())?;
-    assert_eq!(rt; queue.push(&[0; 64]), Ok(()));
+use Step::{Fill, Push};
+
+// What is written by these steps, and how many frames wait after them.
+fn written(alloc: Global, steps: &[Step]) -> Option<([u8; 180], u16)> {
+    let mut queue = FrameQueue::new(alloc).ok()?;
     let mut filler = Filler::new();
-    let mut first = [0; 3];
-    let mut second = [0; 7];
-    let mut third = [0; 18];
-    filler.fill(&mut queue, &mut first);
-    filler.fill(&mut queue, &mut []);
-    filler.fill(&mut queue, &mut second);
-    filler.fill(&mut queue, &mut third);
-    assert_eq!(rt; first.as_slice(), &BEGINNING[..3]);
-    assert_eq!(rt; second.as_slice(), &BEGINNING[3..10]);
-    assert_eq!(rt; third.as_slice(), &BEGINNING[10..]);
-    assert_eq!(rt; queue.waiting(), 0);
-    Ok(())
+    let mut out = [0xff; 180];
+    let mut at = 0usize;
+    for step in steps {
+        match *step {
+            Push(octet) => {
+                let _ = queue.push(&[octet; 64]);
+            }
+            Fill(size) => {
+                let end = at.saturating_add(size);
+                if let Some(part) = out.get_mut(at..end) {
+                    filler.fill(&mut queue, part);
+                }
+                at = end;
+            }
+        }
+    }
+    Some((out, queue.waiting()))
+}
+
+// A row: the steps, a place of what is written by them, the octets that stand there, and how many frames wait afterwards.
+type Row = (&'static [Step], usize, &'static [u8], u16);
+
+fn rows() -> &'static [Row] {
+    &[
+        // One fill or many write the same stream.
+        (&[Push(0), Fill(28)], 0, &BEGINNING, 0),
+        (
+            &[Push(0), Fill(3), Fill(0), Fill(7), Fill(18)],
+            0,
+            &BEGINNING,
+            0,
+        ),
+        // Areas are scrambled one after another.
+        (&[Push(0), Push(0x5a), Fill(28)], 0, &BEGINNING, 1),
+        (
+            &[Push(0), Push(0x5a), Fill(28), Fill(52), Fill(20)],
+            80,
+            &SECOND,
+            0,
+        ),
+        (
+            &[
+                Push(0),
+                Push(0x5a),
+                Fill(28),
+                Fill(52),
+                Fill(20),
+                Fill(56),
+                Push(0x5a),
+                Fill(20),
+            ],
+            156,
+            &THIRD,
+            0,
+        ),
+        // A frame is begun after the idle that was begun.
+        (&[Fill(10), Push(0), Fill(2)], 10, &[0x31, 0xe0], 1),
+        (&[Fill(10), Push(0), Fill(2), Fill(1)], 12, &[0xb6], 0),
+        (
+            &[Fill(10), Push(0), Fill(2), Fill(1), Fill(75)],
+            13,
+            &[0xef, 0x39, 0xa0],
+            0,
+        ),
+        (
+            &[Fill(10), Push(0), Fill(2), Fill(1), Fill(75)],
+            84,
+            &[0xb6, 0xab, 0x31, 0xe0],
+            0,
+        ),
+    ]
+}
+
+// Whether what is written is that of a row.
+fn is_right(alloc: Global, row: &Row) -> Option<bool> {
+    let (steps, place, octets, waiting) = *row;
+    let (out, waits) = written(alloc, steps)?;
+    Some(out.get(place..)?.starts_with(octets) && waits == waiting)
+}
+
+// The place of the first row that is not right.
+fn first_wrong(alloc: Global) -> Option<usize> {
+    for (place, row) in rows().iter().enumerate() {
+        if is_right(alloc, row) != Some(true) {
+            return Some(place);
+        }
+    }
+    None
 }
 
 #[test]
-fn areas_are_scrambled_one_after_another(rt: HostRuntime) -> Result<(), Fail> {
-    let mut queue = FrameQueue::new(rt.alloc())?;
-    assert_eq!(rt; queue.push(&[0; 64]), Ok(()));
-    assert_eq!(rt; queue.push(&[0x5a; 64]), Ok(()));
-    let mut filler = Filler::new();
-    let mut beginning = [0; 28];
-    filler.fill(&mut queue, &mut beginning);
-    assert_eq!(rt; beginning, BEGINNING);
-    filler.fill(&mut queue, &mut [0; 52]);
-    let mut second = [0; 20];
-    filler.fill(&mut queue, &mut second);
-    assert_eq!(rt; second, SECOND);
-    filler.fill(&mut queue, &mut [0; 56]);
-    assert_eq!(rt; queue.push(&[0x5a; 64]), Ok(()));
-    let mut third = [0; 20];
-    filler.fill(&mut queue, &mut third);
-    assert_eq!(rt; third, THIRD);
-    Ok(())
+fn streams(rt: HostRuntime) {
+    assert_eq!(rt; first_wrong(rt.alloc()), None);
 }
 
-#[test]
-fn a_frame_is_begun_after_the_idle_that_was_begun(rt: HostRuntime) -> Result<(), Fail> {
-    let mut queue = FrameQueue::new(rt.alloc())?;
-    let mut filler = Filler::new();
-    let mut idles = [0; 10];
-    filler.fill(&mut queue, &mut idles);
-    assert_eq!(rt; queue.push(&[0; 64]), Ok(()));
-    let mut rest = [0; 2];
-    filler.fill(&mut queue, &mut rest);
-    assert_eq!(rt; rest, [0x31, 0xe0]);
-    assert_eq!(rt; queue.waiting(), 1);
-    let mut first = [0; 1];
-    filler.fill(&mut queue, &mut first);
-    assert_eq!(rt; first, [0xb6]);
-    assert_eq!(rt; queue.waiting(), 0);
-    let mut octets = [0; 75];
-    filler.fill(&mut queue, &mut octets);
-    assert_eq!(rt; &octets[..3], [0xef, 0x39, 0xa0].as_slice());
-    assert_eq!(rt; &octets[71..], [0xb6, 0xab, 0x31, 0xe0].as_slice());
-    Ok(())
-}
-
-#[test]
-fn lengths_are_those_of_frames(rt: HostRuntime) -> Result<(), Fail> {
+// The answers to frames of 0, 63, 64, 9600 and 9601 octets, and how many frames wait then.
+fn lengths(queue: &mut FrameQueue) -> ([Result<(), AcceptFault>; 5], u16) {
     let octets = [0x5a; 9601];
-    let mut queue = FrameQueue::new(rt.alloc())?;
-    for (length, answer) in [
-        (0, Err(AcceptFault::Length { n: 0 })),
-        (63, Err(AcceptFault::Length { n: 63 })),
-        (64, Ok(())),
-        (9600, Ok(())),
-        (9601, Err(AcceptFault::Length { n: 9601 })),
-    ] {
-        assert_eq!(rt;
-            queue.refusal(&octets[..length]),
-            answer.err(),
-            "{length} octets"
-        );
-        assert_eq!(rt; queue.push(&octets[..length]), answer, "{length} octets");
+    let answers = [
+        queue.push(&[]),
+        queue.push(&octets[..63]),
+        queue.push(&octets[..64]),
+        queue.push(&octets[..9600]),
+        queue.push(&octets),
+    ];
+    (answers, queue.waiting())
+}
+
+// How many of 300 frames a queue takes, what the next one is answered, and what it is once one was begun.
+fn filled(queue: &mut FrameQueue) -> (u32, Option<AcceptFault>, [Result<(), AcceptFault>; 2]) {
+    let frame = [0; 64];
+    let mut taken = 0u32;
+    for _ in 0..300 {
+        taken = taken.saturating_add(u32::from(queue.push(&frame).is_ok()));
     }
-    assert_eq!(rt; queue.waiting(), 2);
-    Ok(())
+    let refusal = queue.refusal(&frame);
+    let full = queue.push(&frame);
+    Filler::new().fill(queue, &mut [0; 9]);
+    (taken, refusal, [full, queue.push(&frame)])
 }
 
 #[test]
-fn the_queue_is_full_at_256_frames(rt: HostRuntime) -> Result<(), Fail> {
-    let mut queue = FrameQueue::new(rt.alloc())?;
-    for _ in 0..256 {
-        assert_eq!(rt; queue.push(&[0; 64]), Ok(()));
-    }
+fn limits_of_a_queue(rt: HostRuntime) -> Result<(), Fail> {
+    let mut first = FrameQueue::new(rt.alloc())?;
+    let lengths = lengths(&mut first);
+    let mut second = FrameQueue::new(rt.alloc())?;
+    let filled = filled(&mut second);
+    let wanted = [
+        Err(AcceptFault::Length { n: 0 }),
+        Err(AcceptFault::Length { n: 63 }),
+        Ok(()),
+        Ok(()),
+        Err(AcceptFault::Length { n: 9601 }),
+    ];
+    let full = AcceptFault::QueueFull { waiting: 256 };
     assert_eq!(rt;
-        queue.push(&[0; 64]),
-        Err(AcceptFault::QueueFull { waiting: 256 })
+        (lengths, filled),
+        ((wanted, 2), (256, Some(full), [Err(full), Ok(())]))
     );
-    assert_eq!(rt; queue.waiting(), 256);
-    let mut filler = Filler::new();
-    filler.fill(&mut queue, &mut [0; 9]);
-    assert_eq!(rt; queue.waiting(), 255);
-    assert_eq!(rt; queue.push(&[0; 64]), Ok(()));
     Ok(())
 }

@@ -1,10 +1,12 @@
-//! A line whose ring fills, a return path with a loss, and items of both kinds.
+//! A line whose ring fills, a return path, and items of both kinds.
+
+ghost use Rattle.std.specs.Prelude.{◌≡◌, length, IfSome};
 
 use failure_window::Window;
 use lcas_packet::Packet;
 use realign_core::{RowAnswer, RowGather};
 use session_model::{Item, ItemKind, Octets};
-use std::test::Fail;
+use std::alloc::Global;
 use vc_cell::{BackCell, Container, Ctrl, PAYLOAD};
 use walk_parts::{ReturnPath, WalkLine, held_item, next_command, next_frame};
 
@@ -21,34 +23,61 @@ fn push(line: &mut WalkLine, place: &mut Box<Container>) {
     }
 }
 
-#[test]
+// A line of four containers and a ring of two cells: it gives a cell, the sign of a failure, and nothing.
 #[tactic(auto, unfolding(session_model::specs::Damage::AreWindows))]
-fn a_ring_fills_and_is_popped(rt: HostRuntime) -> Result<(), Fail> {
+fn line(alloc: Global) -> Option<WalkLine> {
     let window = Window {
         first: 1,
         end: 3,
         slip: 1,
     };
-    let mut line = WalkLine::new(rt.alloc(), 0, &[window], 4, 2)?;
-    let mut rows = RowGather::new(rt.alloc(), 1)?;
-    let mut place = Box::new(rt.alloc(), CONTAINER)?;
-    assert!(rt; !line.pop_into(&mut rows, 0));
-    // A cell, the sign of a failure, and nothing.
-    push(&mut line, &mut place);
-    assert!(rt; !line.is_full());
-    push(&mut line, &mut place);
-    assert!(rt; line.is_full());
-    assert!(rt; line.pop_into(&mut rows, 0));
-    assert_eq!(rt; rows.row(), RowAnswer::Row);
-    assert!(rt; !line.is_full());
-    push(&mut line, &mut place);
-    assert!(rt; !line.is_full());
-    assert_eq!(rt; line.carried(), 3);
-    Ok(())
+    WalkLine::new(alloc, 0, &[window], 4, 2).ok()
+}
+
+// What is seen as a line's ring fills, is popped into a row, and is pushed into again.
+fn filled_and_popped(
+    line: &mut WalkLine,
+    rows: &mut RowGather,
+    place: &mut Box<Container>,
+) -> ([bool; 7], u32) {
+    let early = line.pop_into(rows, 0);
+    push(line, place);
+    let one = line.is_full();
+    push(line, place);
+    let two = line.is_full();
+    let popped = line.pop_into(rows, 0);
+    let is_row = rows.row() == RowAnswer::Row;
+    let left = line.is_full();
+    push(line, place);
+    let seen = [early, one, two, popped, is_row, left, line.is_full()];
+    (seen, line.carried())
+}
+
+// The same of a line that is made for it.
+fn a_line(alloc: Global) -> Option<([bool; 7], u32)> {
+    let mut place = Box::new(alloc, CONTAINER).ok()?;
+    let mut rows = RowGather::new(alloc, 1).ok()?;
+    let mut line = line(alloc)?;
+    Some(filled_and_popped(&mut line, &mut rows, &mut place))
 }
 
 #[test]
-fn a_packet_is_lost(rt: HostRuntime) -> Result<(), Fail> {
+fn a_ring_fills_and_is_popped(rt: HostRuntime) {
+    let seen = [false, false, true, true, true, false, false];
+    assert_eq!(rt; a_line(rt.alloc()), Some((seen, 3)));
+}
+
+// Whether a return path is empty, and what it gives of a packet, where the next one is lost.
+fn returned(alloc: Global, packet: Packet) -> Option<(bool, Option<BackCell>)> {
+    let mut path = ReturnPath::new(alloc, 1).ok()?;
+    let is_empty = path.is_empty() && path.is_inbox_empty();
+    path.say(Some(packet));
+    path.move_one(&[(1, 2)]);
+    Some((is_empty, path.take()))
+}
+
+#[test]
+fn a_packet_is_returned(rt: HostRuntime) {
     let packet = Packet {
         mst: 0xff,
         rs_ack: true,
@@ -59,40 +88,61 @@ fn a_packet_is_lost(rt: HostRuntime) -> Result<(), Fail> {
         gid: false,
         act: 0,
     };
-    let mut path = ReturnPath::new(rt.alloc(), 1)?;
-    assert!(rt; path.is_empty() && path.is_inbox_empty());
-    path.say(Some(packet));
-    path.move_one(&[(1, 2)]);
-    assert_eq!(rt; path.take(), Some(BackCell::Packet(packet.nibbles())));
-    Ok(())
+    let cell = BackCell::Packet(packet.nibbles());
+    assert_eq!(rt; returned(rt.alloc(), packet), Some((true, Some(cell))));
+}
+
+// An add, a frame and a remove.
+fn items(alloc: Global) -> Option<Vec<Item>>
+    ensures { IfSome result (λ items. length items.items ≡ 3) }
+{
+    let octets = Octets(vec![in alloc; 0; 64].ok()?);
+    let frame = Item {
+        due: 5,
+        kind: ItemKind::Frame(octets),
+    };
+    let add = Item {
+        due: 0,
+        kind: ItemKind::Add(0),
+    };
+    let remove = Item {
+        due: 9,
+        kind: ItemKind::Remove(0),
+    };
+    vec![in alloc; add, frame, remove].ok()
+}
+
+// The next frame and the next command from each place on.
+fn next(items: &[Item]) -> [(usize, usize); 4]
+    requires { length items.now ≡ 3 }
+{
+    [
+        (next_frame(items, 0), next_command(items, 0)),
+        (next_frame(items, 1), next_command(items, 1)),
+        (next_frame(items, 2), next_command(items, 2)),
+        (next_frame(items, 3), next_command(items, 3)),
+    ]
+}
+
+// The item that is held by places of a frame and of a command, and ticks.
+fn held(items: &[Item]) -> [Option<u32>; 5]
+    requires { length items.now ≡ 3 }
+{
+    [
+        held_item(items, 1, 0, 0),
+        held_item(items, 1, 2, 4),
+        held_item(items, 1, 2, 5),
+        held_item(items, 3, 2, 9),
+        held_item(items, 3, 3, 9),
+    ]
 }
 
 #[test]
-fn items_by_kind(rt: HostRuntime) -> Result<(), Fail> {
-    let alloc = rt.alloc();
-    let mut items = Vec::new(alloc);
-    for (due, kind) in [
-        (0, ItemKind::Add(0)),
-        (5, ItemKind::Frame(Octets(vec![in alloc; 0; 64]?))),
-        (9, ItemKind::Remove(0)),
-    ] {
-        items.push(Item { due, kind })?;
-    }
-    assert_eq!(rt; items.len(), 3);
-    for (from, frame, command) in [(0, 1, 0), (1, 1, 2), (2, 3, 2), (3, 3, 3)] {
-        if from <= items.len() {
-            assert_eq!(rt; next_frame(&items, from), frame);
-            assert_eq!(rt; next_command(&items, from), command);
-        }
-    }
-    for (frame, command, ticks, held) in [
-        (1, 0, 0, Some(0)),
-        (1, 2, 4, None),
-        (1, 2, 5, Some(1)),
-        (3, 2, 9, Some(2)),
-        (3, 3, 9, None),
-    ] {
-        assert_eq!(rt; held_item(&items, frame, command, ticks), held);
-    }
-    Ok(())
+fn items_by_kind(rt: HostRuntime) {
+    let seen = match items(rt.alloc()) {
+        Some(items) => (next(&items), held(&items)),
+        None => ([(9, 9); 4], [None; 5]),
+    };
+    let places = [(1, 0), (1, 2), (3, 2), (3, 3)];
+    assert_eq!(rt; seen, (places, [Some(0), None, Some(1), Some(2), None]));
 }

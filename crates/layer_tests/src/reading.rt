@@ -2,7 +2,6 @@
 
 use h4_multiframe::h4;
 use line_reader::{LineReader, Verdict};
-use std::process::Abort;
 use vc_cell::{Cell, Container, PAYLOAD};
 
 /// A line of which the containers `first` to `end - 1` are damaged, the last `slip` of them without a sign.
@@ -44,27 +43,57 @@ fn cell(line: &Line, n: u64) -> Option<Cell> {
     }
 }
 
-/// Passes the numbers from `t` on that are decided.
-fn pass(rt: &impl Abort, reader: &mut LineReader, line: &Line, t: u64) -> u64 {
+/// Whether a verdict on number `t` is that of a line.
+fn is_right(line: &Line, t: u64, verdict: &Verdict<'_>) -> bool {
+    let bad = t < 2 || t >= line.first && t < line.whole || t >= line.total;
+    match verdict {
+        Verdict::Bad => bad,
+        Verdict::Whole(found) => !bad && **found == container(t),
+    }
+}
+
+/// Passes the numbers from `t` on that are decided, up to `end`, and tells the next one, where all are right.
+fn pass(reader: &mut LineReader, line: &Line, t: u64, end: u64) -> Option<u64> {
     let mut t = t;
-    for _ in 0..8192 {
-        match reader.verdict(t) {
-            None => return t,
-            Some(Verdict::Bad) => assert!(rt; t < 2 || t >= line.first && t < line.whole),
-            Some(Verdict::Whole(found)) => {
-                assert!(rt; t >= 2 && (t < line.first || t >= line.whole));
-                assert_eq!(rt; *found, container(t));
-            }
+    for _ in t..end {
+        let right = match reader.verdict(t) {
+            None => return Some(t),
+            Some(verdict) => is_right(line, t, &verdict),
+        };
+        if !right {
+            return None;
         }
         reader.next();
         t = t.wrapping_add(1);
     }
-    t
+    Some(t)
 }
 
-#[test]
-fn lines(rt: HostRuntime) {
-    let lines = [
+/// Gives a cell, where number `t` is not decided, and passes the numbers that are decided then.
+fn give(reader: &mut LineReader, line: &Line, cell: Cell, t: u64, end: u64) -> Option<u64> {
+    if reader.verdict(t).is_some() {
+        return None;
+    }
+    reader.cell(cell);
+    pass(reader, line, t, end)
+}
+
+/// Gives a line its cells, and then its end. Tells the number that is not decided by the cells, and that after three more, where all
+/// are right.
+fn numbers(reader: &mut LineReader, line: &Line) -> Option<(u64, u64)> {
+    let mut t = 0;
+    for n in 0..line.total {
+        if let Some(cell) = cell(line, n) {
+            t = give(reader, line, cell, t, u64::MAX)?;
+        }
+    }
+    let end = give(reader, line, Cell::End, t, t.wrapping_add(3))?;
+    Some((t, end))
+}
+
+/// Lines that lock after a failure.
+fn lines() -> [Line; 3] {
+    [
         // The line locks by the containers 144 and 145.
         Line {
             first: 100,
@@ -89,25 +118,20 @@ fn lines(rt: HostRuntime) {
             total: 2100,
             whole: 2066,
         },
-    ];
-    for line in &lines {
-        let mut reader = LineReader::default();
-        let mut t = 0;
-        for n in 0..line.total {
-            if let Some(cell) = cell(line, n) {
-                assert!(rt; reader.verdict(t).is_none());
-                reader.cell(cell);
-                t = pass(&rt, &mut reader, line, t);
-            }
-        }
-        assert_eq!(rt; t, line.total);
-        // End decides all further numbers.
-        assert!(rt; reader.verdict(t).is_none());
-        reader.cell(Cell::End);
-        for _ in 0..3 {
-            assert!(rt; matches!(reader.verdict(t), Some(Verdict::Bad)));
-            reader.next();
-            t = t.wrapping_add(1);
-        }
+    ]
+}
+
+/// The numbers of each line.
+fn all_numbers() -> [Option<(u64, u64)>; 3] {
+    let mut seen = [None; 3];
+    for (numbers_of, line) in seen.iter_mut().zip(&lines()) {
+        *numbers_of = numbers(&mut LineReader::default(), line);
     }
+    seen
+}
+
+#[test]
+fn numbers_of_lines(rt: HostRuntime) {
+    let wanted = [Some((200, 203)), Some((4600, 4603)), Some((2100, 2103))];
+    assert_eq!(rt; all_numbers(), wanted);
 }

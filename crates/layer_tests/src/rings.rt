@@ -1,10 +1,8 @@
 //! Worked rows of bursts, with all ends on one thread.
+use crate::counting::Counter;
 use line_core::{LineCore, Windows};
-use member_ring::{
-    Burst, Gate, IdleCause, LineEnds, LineWorker, OpenGate, RingIn, Who, line_rings,
-};
-use std::sync::atomic::{AtomicU64, Ordering};
-use std::test::Fail;
+use member_ring::{Burst, IdleCause, LineEnds, LineWorker, RingIn, RingOut, Who, line_rings};
+use std::alloc::Global;
 use vc_cell::{Cell, Container, PAYLOAD};
 
 // A container that tells its number.
@@ -15,110 +13,93 @@ fn container(n: u8) -> Container {
     }
 }
 
-// The next cell in the ring, if there is one.
-fn next(ring: &mut RingIn<Cell>) -> Option<Cell> {
-    if ring.ready() { Some(ring.pop()) } else { None }
-}
-
-#[test]
-fn a_burst_goes_as_far_as_its_rings(rt: HostRuntime) -> Result<(), Fail> {
+// A worker of line 3 with no windows, and the far ends of its rings.
+fn worker(
+    alloc: Global,
+    ring: u16,
+    delay: u16,
+    total: u32,
+) -> Option<(LineWorker, RingOut<Container>, RingIn<Cell>)> {
+    let windows = Windows::new(alloc, &[]).ok()?;
+    let core = LineCore::new(alloc, delay, windows, total).ok()?;
     let LineEnds {
-        mut tx,
+        tx,
         tx_out,
         rx,
-        mut rx_out,
-    } = line_rings(rt.alloc(), 2)?;
-    let windows = Windows::new(rt.alloc(), &[])?;
-    let core = LineCore::new(rt.alloc(), 0, windows, 41)?;
-    let mut worker = LineWorker::new(0, tx_out, core, rx);
-    assert_eq!(rt; worker.burst(&OpenGate), Burst::Idle(IdleCause::Empty));
-    for n in 0..3 {
-        assert!(rt; tx.ready());
-        tx.push(container(n));
-    }
-    assert_eq!(rt; worker.burst(&OpenGate), Burst::Moved);
-    assert_eq!(rt; worker.burst(&OpenGate), Burst::Idle(IdleCause::Full));
-    assert_eq!(rt; next(&mut rx_out), Some(Cell::Good(container(0))));
-    assert_eq!(rt; next(&mut rx_out), Some(Cell::Good(container(1))));
-    assert_eq!(rt; next(&mut rx_out), None);
-    assert_eq!(rt; worker.burst(&OpenGate), Burst::Moved);
-    assert_eq!(rt; next(&mut rx_out), Some(Cell::Good(container(2))));
-    assert_eq!(rt; worker.burst(&OpenGate), Burst::Idle(IdleCause::Empty));
-    Ok(())
+        rx_out,
+    } = line_rings(alloc, ring).ok()?;
+    Some((LineWorker::new(3, tx_out, core, rx), tx, rx_out))
 }
 
-#[test]
-fn the_end_is_pushed_once(rt: HostRuntime) -> Result<(), Fail> {
-    let LineEnds {
-        mut tx,
-        tx_out,
-        rx,
-        mut rx_out,
-    } = line_rings(rt.alloc(), 4)?;
-    let windows = Windows::new(rt.alloc(), &[])?;
-    let core = LineCore::new(rt.alloc(), 1, windows, 1)?;
-    let mut worker = LineWorker::new(3, tx_out, core, rx);
-    assert!(rt; tx.ready());
-    tx.push(container(9));
-    assert_eq!(rt; worker.burst(&OpenGate), Burst::Moved);
-    for _ in 0..3 {
-        assert_eq!(rt; worker.burst(&OpenGate), Burst::Done);
+// The letter of what a burst did.
+fn burst_letter(burst: Burst) -> u8 {
+    match burst {
+        Burst::Moved => b'm',
+        Burst::Idle(IdleCause::Empty) => b'e',
+        Burst::Idle(IdleCause::Full) => b'f',
+        Burst::Done => b'd',
     }
-    for want in [Some(Cell::Good(container(9))), Some(Cell::End), None] {
-        assert_eq!(rt; next(&mut rx_out), want);
-    }
-    Ok(())
 }
 
-// Counts how often line 3 passes, and how often it moved.
-#[derive(Drop)]
-struct Counter {
-    passed: AtomicU64,
-    moved: AtomicU64,
+// The letter of the next cell in a ring: the digit of its container, or a letter.
+fn cell_letter(ring: &mut RingIn<Cell>) -> u8 {
+    if !ring.ready() {
+        return b'-';
+    }
+    match ring.pop() {
+        Cell::Good(found) if found == container(found.h4) => found.h4,
+        Cell::Good(_) => b'?',
+        Cell::Fail => b'F',
+        Cell::End => b'E',
+    }
 }
 
-impl Gate for Counter {
-    fn pass(&self, who: Who) {
-        if who == Who::Line(3) {
-            self.passed.fetch_add(1, Ordering::SeqCst);
+// Does what a letter says, and answers with another one: `b` is a burst, `n` pops the next cell, and a digit pushes its container.
+fn answer(
+    letter: u8,
+    worker: &mut LineWorker,
+    tx: &mut RingOut<Container>,
+    rx: &mut RingIn<Cell>,
+    gate: &Counter,
+) -> u8 {
+    match letter {
+        b'b' => burst_letter(worker.burst(gate)),
+        b'n' => cell_letter(rx),
+        digit if tx.ready() => {
+            tx.push(container(digit));
+            b'.'
         }
+        _ => b'f',
     }
+}
 
-    fn moved(&self, who: Who) {
-        if who == Who::Line(3) {
-            self.moved.fetch_add(1, Ordering::SeqCst);
+// The answers to each of these letters.
+fn answers(alloc: Global, ring: u16, delay: u16, total: u32, text: &mut [u8], gate: &Counter) {
+    if let Some((mut worker, mut tx, mut rx)) = worker(alloc, ring, delay, total) {
+        for letter in text.iter_mut() {
+            *letter = answer(*letter, &mut worker, &mut tx, &mut rx, gate);
         }
     }
 }
 
 #[test]
-fn each_burst_passes_the_gate(rt: HostRuntime) -> Result<(), Fail> {
-    let LineEnds {
-        mut tx,
-        tx_out,
-        rx,
-        rx_out: _,
-    } = line_rings(rt.alloc(), 4)?;
-    let windows = Windows::new(rt.alloc(), &[])?;
-    let core = LineCore::new(rt.alloc(), 0, windows, 2)?;
-    let mut worker = LineWorker::new(3, tx_out, core, rx);
-    let gate = Counter {
-        passed: AtomicU64::new(0),
-        moved: AtomicU64::new(0),
-    };
-    let mut answers = [Burst::Done; 5];
-    for (n, answer) in answers.iter_mut().enumerate() {
-        if n % 2 == 1 && tx.ready() {
-            tx.push(container(9));
-        }
-        *answer = worker.burst(&gate);
-    }
-    let empty = Burst::Idle(IdleCause::Empty);
-    assert_eq!(rt;
-        answers,
-        [empty, Burst::Moved, empty, Burst::Moved, Burst::Done]
-    );
-    assert_eq!(rt; gate.passed.load(Ordering::SeqCst), 5);
-    assert_eq!(rt; gate.moved.load(Ordering::SeqCst), 2);
-    Ok(())
+fn a_burst_goes_as_far_as_its_rings(rt: HostRuntime) {
+    let mut text = *b"b012bbnnnbnb";
+    answers(rt.alloc(), 2, 0, 41, &mut text, &Counter::new(Who::Sink));
+    assert_eq!(rt; text, *b"e...mf01-m2e");
+}
+
+#[test]
+fn the_end_is_pushed_once(rt: HostRuntime) {
+    let mut text = *b"9bbbbnnn";
+    answers(rt.alloc(), 4, 1, 1, &mut text, &Counter::new(Who::Sink));
+    assert_eq!(rt; text, *b".mddd9E-");
+}
+
+#[test]
+fn each_burst_passes_the_gate(rt: HostRuntime) {
+    let gate = Counter::new(Who::Line(3));
+    let mut text = *b"b9bb9bb";
+    answers(rt.alloc(), 4, 0, 2, &mut text, &gate);
+    assert_eq!(rt; (text, gate.counts()), (*b"e.me.md", (5, 2)));
 }

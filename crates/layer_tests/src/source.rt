@@ -1,12 +1,11 @@
 //! Worked frames.
-ghost use Rattle.std.specs.Prelude.{◌≡◌, ℕ, ◌+◌, ◌<◌, ◌≤◌, length};
+ghost use Rattle.std.specs.Prelude.{◌≡◌, ℕ, ◌+◌, ◌%◌, ◌<◌, ◌≤◌, ◌⊎◌, length, IfSome};
 ghost use Rattle.source_core.specs.Terminal.{SameKind};
 
 use lcas_packet::Packet;
 use lcas_source::SourceTable;
-use source_core::{AcceptFault, Command, CommandFault, SourceCore};
-use std::process::Abort;
-use std::test::Fail;
+use source_core::{Command, SourceCore};
+use std::alloc::Global;
 use vc_cell::{BackCell, Container, Ctrl, PAYLOAD};
 
 const EMPTY: Container = Container {
@@ -59,61 +58,87 @@ const H4: [u8; 40] = [
     0x00, 0x21, 0x32, 0x13, 0x04, 0x15, 0x16, 0x47,
 ];
 
-/// A line is added, and a frame waits: the line carries payload from frame 40 on.
-#[test]
-fn first_payload(rt: HostRuntime) -> Result<(), Fail> {
-    let alloc = rt.alloc();
-    let cells = [back(0x7f, true), back(0xff, true)];
-    let mut core = SourceCore::new(alloc, 1, 1, 2340)?;
-    let mut out = [EMPTY];
-    assert_eq!(rt; core.add(0), Ok(()));
-    assert_eq!(rt; core.accept(&[0; 64]), Ok(()));
-    for t in 0..40usize {
-        tick(&mut core, &cells, &mut out);
-        assert_eq!(rt; out[0].h4, H4[t], "frame {t}");
-        assert!(rt; out[0].payload.iter().all(|octet| *octet == 0));
+/// A source whose first lines, so many of them, are added.
+fn source(alloc: Global, lines: u8, lag: u16, size: u16, added: u8) -> Option<SourceCore>
+    requires lines { lines ≤ 128 }
+    requires size { size ≤ 2340 }
+    ensures lines { IfSome result (λ core. core.lines ≡ lines) }
+    ensures ticks { IfSome result (λ core. core.ticks ≡ 0) }
+{
+    let mut core = SourceCore::new(alloc, lines, lag, size).ok()?;
+    for line in 0..added {
+        let _ = core.add(line);
     }
-    tick(&mut core, &cells, &mut out);
-    let [container] = &out;
-    assert_eq!(rt; &container.payload[..28], STREAM.as_slice());
-    Ok(())
+    Some(core)
 }
 
-/// A refusal can be asked for before.
+/// The source of one line that is added, and of a frame of so many zeros that waits.
+fn one_line(alloc: Global, octets: usize) -> Option<SourceCore>
+    ensures lines { IfSome result (λ core. core.lines ≡ 1) }
+    ensures ticks { IfSome result (λ core. core.ticks ≡ 0) }
+{
+    let zeros = [0; 2325];
+    let frame = zeros.get(..octets)?;
+    let mut core = source(alloc, 1, 1, 2340, 1)?;
+    let _ = core.accept(frame);
+    Some(core)
+}
+
+/// Makes a frame for each place of `h4`, where the sink says at once that it reads the line, and then one more, which lies in `out`.
+/// Tells whether the payload of all but the last is 0.
+fn make(core: &mut SourceCore, h4: &mut [u8], out: &mut [Container; 1]) -> bool
+    requires lines { core.old.lines ≡ 1 }
+    requires none { core.old.ticks ≡ 0 }
+    requires few { length h4.old ≤ 100 }
+{
+    let cells = [back(0x7f, true), back(0xff, true)];
+    let mut blank = true;
+    for place in h4.iter_mut() {
+        tick(core, &cells, out);
+        *place = out[0].h4;
+        blank &= out[0].payload.iter().all(|octet| *octet == 0);
+    }
+    tick(core, &cells, out);
+    blank
+}
+
+/// The H4 octets of the first forty frames, whether their payload is 0, and the first octets of the next one.
+fn beginning(alloc: Global) -> Option<([u8; 40], bool, [u8; 28])> {
+    let mut core = one_line(alloc, 64)?;
+    let mut h4 = [0; 40];
+    let mut out = [EMPTY];
+    let blank = make(&mut core, &mut h4, &mut out);
+    let mut octets = [0; 28];
+    let [container] = &out;
+    octets.copy_from_slice(&container.payload[..28]);
+    Some((h4, blank, octets))
+}
+
+/// A line is added, and a frame waits: the line carries payload from frame 40 on.
 #[test]
-fn refusals_that_are_asked_for(rt: HostRuntime) -> Result<(), Fail> {
-    let mut core = SourceCore::new(rt.alloc(), 1, 1, 2340)?;
-    let short = Some(AcceptFault::Length { n: 63 });
-    assert_eq!(rt; core.frame_refusal(&[0; 63]), short);
-    assert_eq!(rt; core.frame_refusal(&[0; 64]), None);
-    assert_eq!(rt; core.command_refusal(Command::Add(0)), None);
-    assert_eq!(rt; core.add(0), Ok(()));
-    let twice = Some(CommandFault::AlreadyIn);
-    assert_eq!(rt; core.command_refusal(Command::Add(0)), twice);
-    Ok(())
+fn first_payload(rt: HostRuntime) {
+    assert_eq!(rt; beginning(rt.alloc()), Some((H4, true, STREAM)));
+}
+
+/// Four octets of frame 41 from a place on, after a frame of so many octets.
+fn later(alloc: Global, octets: usize, place: usize) -> Option<[u8; 4]>
+    requires { place ≤ 100 }
+{
+    let mut core = one_line(alloc, octets)?;
+    let mut out = [EMPTY];
+    make(&mut core, &mut [0; 41], &mut out);
+    let mut seen = [0; 4];
+    let [container] = &out;
+    seen.copy_from_slice(&container.payload[place..place + 4]);
+    Some(seen)
 }
 
 /// A frame of 2,324 octets ends with frame 40, and one more octet is carried in the next one.
 #[test]
-fn a_frame_that_fits(rt: HostRuntime) -> Result<(), Fail> {
+fn a_frame_that_fits(rt: HostRuntime) {
     let alloc = rt.alloc();
-    let cells = [back(0x7f, true), back(0xff, true)];
-    for (len, place) in [(2324, 0), (2325, 1)] {
-        let mut core = SourceCore::new(alloc, 1, 1, 2340)?;
-        let mut out = [EMPTY];
-        let frame = vec![in alloc; 0u8; len]?;
-        assert_eq!(rt; core.add(0), Ok(()));
-        assert_eq!(rt; core.accept(&frame), Ok(()));
-        for _ in 0..42usize {
-            tick(&mut core, &cells, &mut out);
-        }
-        let [container] = &out;
-        assert_eq!(rt;
-            &container.payload[place..place + 4],
-            [0xb6, 0xab, 0x31, 0xe0].as_slice()
-        );
-    }
-    Ok(())
+    let idle = Some([0xb6, 0xab, 0x31, 0xe0]);
+    assert_eq!(rt; [later(alloc, 2324, 0), later(alloc, 2325, 1)], [idle; 2]);
 }
 
 /// The return packet of a sink that reads the packets of all lines but one, where status goes in groups of eight.
@@ -134,40 +159,54 @@ fn answer(table: &SourceTable, lines: u8, group: u8, silent: Option<u8>) -> Back
     back(mst, rs_ack)
 }
 
-/// Which lines carry payload: an octet of a stream of idles is never 0.
-fn carrying(out: &[Container; 3]) -> [bool; 3] {
-    [
-        out[0].payload[0] != 0,
-        out[1].payload[0] != 0,
-        out[2].payload[0] != 0,
-    ]
+/// Keeps the return packet of that sink, where a decision step was made before the last frame.
+fn hear(core: &SourceCore, lines: u8, silent: Option<u8>, cells: &mut [BackCell; 80])
+    requires { core.now.ticks % 16 ≡ 9 }
+{
+    let k = core.ticks() / 16;
+    if let Some(cell) = cells.get_mut(k as usize) {
+        *cell = answer(core.table(), lines, (k % 16) as u8, silent);
+    }
+}
+
+/// Which lines carry payload from frame 600 on, where the second one is removed before that frame. An octet of a stream of idles is
+/// never 0.
+fn carrying(core: &mut SourceCore) -> [[bool; 3]; 17]
+    requires lines { core.old.lines ≡ 3 }
+    requires none { core.old.ticks ≡ 0 }
+{
+    let mut cells = [BackCell::Lost; 80];
+    let mut out = [EMPTY; 3];
+    let mut seen = [[false; 3]; 17];
+    for t in 0..617usize {
+        if t == 600 {
+            let _ = core.remove(1);
+        }
+        tick(core, &cells, &mut out);
+        if t % 16 == 8 {
+            hear(core, 3, None, &mut cells);
+        }
+        if t >= 600 {
+            seen[t - 600] = [
+                out[0].payload[0] != 0,
+                out[1].payload[0] != 0,
+                out[2].payload[0] != 0,
+            ];
+        }
+    }
+    seen
 }
 
 /// Three lines are added, and the second one is removed at 600 ticks: all carry payload up to frame 615, and two of them from then on.
 #[test]
-fn a_removal(rt: HostRuntime) -> Result<(), Fail> {
-    let alloc = rt.alloc();
-    let mut core = SourceCore::new(alloc, 3, 1, 756)?;
-    let mut cells = [BackCell::Lost; 40];
-    let mut out = [EMPTY; 3];
-    for line in 0..3 {
-        assert_eq!(rt; core.add(line), Ok(()));
-    }
-    for t in 0..617usize {
-        if t == 600 {
-            assert_eq!(rt; core.remove(1), Ok(()));
-        }
-        tick(&mut core, &cells, &mut out);
-        if t % 16 == 8 {
-            cells[t / 16] = answer(core.table(), 3, (t / 16 % 16) as u8, None);
-        }
-        match t {
-            600..616 => assert_eq!(rt; carrying(&out), [true, true, true], "frame {t}"),
-            616 => assert_eq!(rt; carrying(&out), [true, false, true]),
-            _ => {}
-        }
-    }
-    Ok(())
+fn a_removal(rt: HostRuntime) {
+    let seen = match source(rt.alloc(), 3, 1, 756, 3) {
+        Some(mut core) => carrying(&mut core),
+        None => [[false; 3]; 17],
+    };
+    let mut wanted = [[true; 3]; 17];
+    wanted[16] = [true, false, true];
+    assert_eq!(rt; seen, wanted);
 }
 
 /// Draws of a generator of 64 bits.
@@ -193,16 +232,12 @@ fn digest(sum: &mut u64, n: u8) {
 }
 
 /// What lands before a frame, where anything is drawn to: a frame of the client, a command.
-fn land(draws: &mut Draws, frame: &mut [u8; 1600], core: &mut SourceCore, sum: &mut u64)
+fn land(draws: &mut Draws, core: &mut SourceCore, sum: &mut u64)
     ensures ticks { core.new.ticks ≡ core.old.ticks }
     ensures kind { SameKind core.new core.old }
 {
     if draws.below(3) == 0 {
-        let len = usize::from(draws.below(1500)) + 60;
-        for octet in frame.iter_mut() {
-            *octet = draws.below(256) as u8;
-        }
-        digest(sum, u8::from(core.accept(&frame[..len]).is_ok()));
+        land_frame(draws, core, sum);
     }
     if draws.below(120) == 0 {
         let adds = draws.below(3) > 0;
@@ -216,16 +251,69 @@ fn land(draws: &mut Draws, frame: &mut [u8; 1600], core: &mut SourceCore, sum: &
     }
 }
 
-/// Twelve hundred frames of six lines, whose digests another program has found.
-#[test]
-fn drawn_frames(rt: HostRuntime) -> Result<(), Fail> {
-    let alloc = rt.alloc();
-    let mut draws = Draws(5);
+/// A frame of drawn octets.
+fn land_frame(draws: &mut Draws, core: &mut SourceCore, sum: &mut u64)
+    ensures ticks { core.new.ticks ≡ core.old.ticks }
+    ensures kind { SameKind core.new core.old }
+{
     let mut frame = [0; 1600];
-    let mut core = SourceCore::new(alloc, 6, 2, 756)?;
+    let len = usize::from(draws.below(1500)) + 60;
+    for octet in &mut frame {
+        *octet = draws.below(256) as u8;
+    }
+    digest(sum, u8::from(core.accept(&frame[..len]).is_ok()));
+}
+
+/// Keeps the return packet of a sink that a drawn line is not read at, if at any, or none.
+fn hear_some(draws: &mut Draws, core: &SourceCore, cells: &mut [BackCell; 80])
+    requires { core.now.ticks % 16 ≡ 9 }
+{
+    let lost = draws.below(8) == 0;
+    let silent = draws.below(18) as u8;
+    if !lost {
+        hear(core, 6, Some(silent), cells);
+    }
+}
+
+/// Goes on with a digest of a frame.
+fn digest_frame(sum: &mut u64, out: &[Container; 6]) {
+    for container in out {
+        digest(sum, container.h4);
+        for octet in &container.payload[..760] {
+            digest(sum, *octet);
+        }
+    }
+}
+
+/// The digests of twelve hundred frames, after each two hundred.
+fn drawn(core: &mut SourceCore) -> [u64; 6]
+    requires lines { core.old.lines ≡ 6 }
+    requires none { core.old.ticks ≡ 0 }
+{
+    let mut draws = Draws(5);
     let mut cells = [BackCell::Lost; 80];
     let mut out = [EMPTY; 6];
     let mut sum = 0;
+    let mut sums = [0; 6];
+    for t in 0..1200usize {
+        land(&mut draws, core, &mut sum);
+        tick(core, &cells, &mut out);
+        if t % 16 == 8 {
+            hear_some(&mut draws, core, &mut cells);
+        }
+        digest_frame(&mut sum, &out);
+        sums[t / 200] = sum;
+    }
+    sums
+}
+
+/// Twelve hundred frames of six lines, whose digests another program has found.
+#[test]
+fn drawn_frames(rt: HostRuntime) {
+    let sums = match source(rt.alloc(), 6, 2, 756, 4) {
+        Some(mut core) => drawn(&mut core),
+        None => [0; 6],
+    };
     let digests = [
         1_968_506_556_928_311_926,
         1_045_169_976_846_713_160,
@@ -234,28 +322,5 @@ fn drawn_frames(rt: HostRuntime) -> Result<(), Fail> {
         11_463_284_530_136_696_199,
         10_275_626_585_195_555_367,
     ];
-    for line in 0..4 {
-        assert_eq!(rt; core.add(line), Ok(()));
-    }
-    for t in 0..1200usize {
-        land(&mut draws, &mut frame, &mut core, &mut sum);
-        tick(&mut core, &cells, &mut out);
-        if t % 16 == 8 {
-            let lost = draws.below(8) == 0;
-            let silent = draws.below(18) as u8;
-            if !lost {
-                cells[t / 16] = answer(core.table(), 6, (t / 16 % 16) as u8, Some(silent));
-            }
-        }
-        for container in &out {
-            digest(&mut sum, container.h4);
-            for octet in &container.payload[..760] {
-                digest(&mut sum, *octet);
-            }
-        }
-        if t % 200 == 199 {
-            assert_eq!(rt; sum, digests[t / 200], "frame {t}");
-        }
-    }
-    Ok(())
+    assert_eq!(rt; sums, digests);
 }

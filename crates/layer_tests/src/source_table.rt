@@ -5,7 +5,6 @@ ghost use Rattle.std.specs.Prelude.{◌≡◌, ◌<◌};
 use lcas_packet::Packet;
 use lcas_source::{CommandFault, SourceState, SourceTable};
 use session_model::Command;
-use std::process::Abort;
 use vc_cell::{BackCell, Ctrl};
 
 /// The return packet that says this member status and this RS-Ack.
@@ -23,39 +22,70 @@ fn back(mst: u8, rs_ack: bool) -> BackCell {
     BackCell::Packet(packet.nibbles())
 }
 
+/// What is seen of a line that is added: its state before the first step and after it, what its packets say after the first step and
+/// the second one, and how many lines carry payload then.
+type Steps = ([SourceState; 2], (Ctrl, u8, bool), (Ctrl, u8, u8), usize);
+
+/// A line is added, and its member status is OK from the second step on.
+fn steps_of_one_line(rs_ack: bool) -> Steps {
+    let mut table = SourceTable::new(1);
+    let before = table.state(0);
+    let _ = table.add(0);
+    table.decide(None);
+    let first = table.packet(0);
+    let after = table.state(0);
+    table.decide(Some(back(0x7f, rs_ack)));
+    let second = table.packet(0);
+    (
+        [before, after],
+        (first.ctrl, first.sq, first.chg),
+        (second.ctrl, second.sq, second.act),
+        table.active().len(),
+    )
+}
+
 #[test]
 fn one_line(rt: HostRuntime) {
-    for (rs_ack, ctrl, act) in [(true, Ctrl::Eos, 1), (false, Ctrl::Add, 0)] {
-        let mut table = SourceTable::new(1);
-        assert_eq!(rt; table.state(0), SourceState::Idle);
-        assert_eq!(rt; table.add(0), Ok(()));
-        table.decide(None);
-        let packet = table.packet(0);
-        assert_eq!(rt; (packet.ctrl, packet.sq, packet.chg), (Ctrl::Add, 0, true));
-        assert_eq!(rt; table.state(0), SourceState::Add);
-        table.decide(Some(back(0x7f, rs_ack)));
-        let packet = table.packet(0);
-        assert_eq!(rt; (packet.ctrl, packet.sq, packet.act), (ctrl, 0, act));
-        assert_eq!(rt; table.active().len(), usize::from(act));
+    let states = [SourceState::Idle, SourceState::Add];
+    let first = (Ctrl::Add, 0, true);
+    assert_eq!(rt;
+        [steps_of_one_line(true), steps_of_one_line(false)],
+        [
+            (states, first, (Ctrl::Eos, 0, 1), 1),
+            (states, first, (Ctrl::Add, 0, 0), 0)
+        ]
+    );
+}
+
+/// The answers to an unknown line, to one that is not in, to one that is in already, to one command too much, and to the same after a
+/// step; and how many commands were accepted before that.
+fn answers() -> ([Result<(), CommandFault>; 5], u32) {
+    let mut table = SourceTable::new(2);
+    let unknown = table.add(2);
+    let not_in = table.remove(0);
+    let mut twice = Ok(());
+    let mut accepted = 0u32;
+    for _ in 0..32 {
+        let first = table.add(0).is_ok();
+        twice = table.add(0);
+        let second = table.remove(0).is_ok();
+        accepted = accepted.saturating_add(u32::from(first) + u32::from(second));
     }
+    let full = table.add(0);
+    table.decide(None);
+    ([unknown, not_in, twice, full, table.add(0)], accepted)
 }
 
 #[test]
 fn refusals(rt: HostRuntime) {
-    let mut table = SourceTable::new(2);
-    assert_eq!(rt; table.add(2), Err(CommandFault::UnknownLine { lines: 2 }));
-    assert_eq!(rt; table.remove(0), Err(CommandFault::NotIn));
-    for _ in 0..32 {
-        assert_eq!(rt; table.add(0), Ok(()));
-        assert_eq!(rt; table.add(0), Err(CommandFault::AlreadyIn));
-        assert_eq!(rt; table.remove(0), Ok(()));
-    }
-    assert_eq!(rt;
-        table.add(0),
-        Err(CommandFault::TooManyPending { pending: 64 })
-    );
-    table.decide(None);
-    assert_eq!(rt; table.add(0), Ok(()));
+    let wanted = [
+        Err(CommandFault::UnknownLine { lines: 2 }),
+        Err(CommandFault::NotIn),
+        Err(CommandFault::AlreadyIn),
+        Err(CommandFault::TooManyPending { pending: 64 }),
+        Ok(()),
+    ];
+    assert_eq!(rt; answers(), (wanted, 64));
 }
 
 /// What the packets of three lines say: CHG, ACT, and of each line its control word and its sequence number.
@@ -93,8 +123,7 @@ fn answer(table: &SourceTable, group: u8, silent: Option<u8>) -> BackCell
 const IDLE: (Ctrl, u8) = (Ctrl::Idle, 255);
 
 /// Three lines are added one after the other, and the second one is removed.
-#[test]
-fn a_removal(rt: HostRuntime) {
+fn a_removal() -> Option<usize> {
     let commands = [
         (0, Command::Add(0)),
         (0, Command::Add(1)),
@@ -117,12 +146,11 @@ fn a_removal(rt: HostRuntime) {
         ),
         (37, (false, 2, [(Ctrl::Norm, 0), IDLE, (Ctrl::Eos, 1)])),
     ];
-    follow(&rt, 1, None, &commands, &packets);
+    first_wrong(1, None, &commands, &packets)
 }
 
 /// A change waits for its acknowledgement, and a status of before it is not used.
-#[test]
-fn a_change_that_waits(rt: HostRuntime) {
+fn a_change_that_waits() -> Option<usize> {
     let commands = [
         (0, Command::Add(0)),
         (34, Command::Remove(0)),
@@ -134,12 +162,11 @@ fn a_change_that_waits(rt: HostRuntime) {
         (38, (true, 0, [IDLE, (Ctrl::Add, 0), IDLE])),
         (68, (true, 1, [IDLE, (Ctrl::Eos, 0), IDLE])),
     ];
-    follow(&rt, 4, None, &commands, &packets);
+    first_wrong(4, None, &commands, &packets)
 }
 
 /// The first line is not seen, and the second one goes before it.
-#[test]
-fn a_line_that_is_not_seen(rt: HostRuntime) {
+fn a_line_that_is_not_seen() -> Option<usize> {
     let commands = [(0, Command::Add(0)), (0, Command::Add(1))];
     let packets = [
         (0, (true, 0, [(Ctrl::Add, 0), IDLE, IDLE])),
@@ -147,38 +174,56 @@ fn a_line_that_is_not_seen(rt: HostRuntime) {
         (17, (true, 0, [(Ctrl::Add, 1), (Ctrl::Add, 0), IDLE])),
         (33, (true, 1, [(Ctrl::Add, 1), (Ctrl::Eos, 0), IDLE])),
     ];
-    follow(&rt, 1, Some(0), &commands, &packets);
+    first_wrong(1, Some(0), &commands, &packets)
 }
 
-/// Makes 69 steps of three lines with these commands, each before its step, where the sink does not read one of the lines, and each
-/// return packet comes after a lag. Tries what packets say.
-fn follow(
-    rt: &impl Abort,
+/// Gives the commands that come before a step. Tells whether all are accepted.
+fn accepts(table: &mut SourceTable, commands: &[(usize, Command)], step: usize) -> bool
+    ensures { table.new.steps ≡ table.old.steps }
+{
+    let mut accepted = true;
+    for (at, command) in commands {
+        if *at == step {
+            accepted &= match *command {
+                Command::Add(line) => table.add(line).is_ok(),
+                Command::Remove(line) => table.remove(line).is_ok(),
+            };
+        }
+    }
+    accepted
+}
+
+/// The first of 69 steps at which a command is refused, or the packets say otherwise, where each return packet comes `lag` steps later
+/// and the sink does not read one of the lines. Each command comes before its step.
+fn first_wrong(
     lag: usize,
     silent: Option<u8>,
     commands: &[(usize, Command)],
     packets: &[(usize, Said)],
-) {
+) -> Option<usize> {
     let mut table = SourceTable::new(3);
     let mut cells = [BackCell::Lost; 69];
     for step in 0..69 {
-        for (at, command) in commands {
-            if *at == step {
-                let accepted = match *command {
-                    Command::Add(line) => table.add(line),
-                    Command::Remove(line) => table.remove(line),
-                };
-                assert_eq!(rt; accepted, Ok(()));
-            }
-        }
+        let accepted = accepts(&mut table, commands, step);
         table.decide(step.checked_sub(lag).map(|k| cells[k]));
         cells[step] = answer(&table, (step % 16) as u8, silent);
-        for (at, packet) in packets {
-            if *at == step {
-                assert_eq!(rt; said(&table), *packet, "packet {step}");
-            }
+        let said = said(&table);
+        let mut wanted = packets.iter().filter(|packet| packet.0 == step);
+        if !accepted || !wanted.all(|packet| packet.1 == said) {
+            return Some(step);
         }
     }
+    None
+}
+
+#[test]
+fn courses(rt: HostRuntime) {
+    let wrong = [
+        a_removal(),
+        a_change_that_waits(),
+        a_line_that_is_not_seen(),
+    ];
+    assert_eq!(rt; wrong, [None; 3]);
 }
 
 /// Draws of a generator of 64 bits.
@@ -244,7 +289,40 @@ fn cell(draws: &mut Draws, chg: bool) -> Option<BackCell> {
     }
 }
 
-/// Four hundred steps of twenty-four lines, whose digests another program has found.
+/// Goes on with a digest of what the packets of 24 lines say, and gives their change bit.
+fn digest_packets(sum: &mut u64, table: &SourceTable) -> bool
+    requires { 0 < table.now.steps }
+{
+    let first = table.packet(0);
+    digest(sum, u8::from(first.chg));
+    digest(sum, first.act);
+    for line in 0..24 {
+        let packet = table.packet(line);
+        digest(sum, packet.ctrl.code());
+        digest(sum, packet.sq);
+    }
+    first.chg
+}
+
+/// The digests of four hundred steps of twenty-four lines, after each fifty.
+fn drawn() -> [u64; 8] {
+    let mut draws = Draws(7);
+    let mut table = SourceTable::new(24);
+    let mut chg = false;
+    let mut sum = 0;
+    let mut sums = [0; 8];
+    for step in 0..400usize {
+        if draws.below(5) == 0 {
+            digest(&mut sum, ask(&mut draws, &mut table));
+        }
+        table.decide(cell(&mut draws, chg));
+        chg = digest_packets(&mut sum, &table);
+        sums[step / 50] = sum;
+    }
+    sums
+}
+
+/// Four hundred steps, whose digests another program has found.
 #[test]
 fn drawn_steps(rt: HostRuntime) {
     let digests = [
@@ -257,26 +335,5 @@ fn drawn_steps(rt: HostRuntime) {
         334_643_379_268_468_692,
         14_997_702_163_969_560_106,
     ];
-    let mut draws = Draws(7);
-    let mut table = SourceTable::new(24);
-    let mut chg = false;
-    let mut sum = 0;
-    for step in 0..400usize {
-        if draws.below(5) == 0 {
-            digest(&mut sum, ask(&mut draws, &mut table));
-        }
-        table.decide(cell(&mut draws, chg));
-        let packet = table.packet(0);
-        chg = packet.chg;
-        digest(&mut sum, u8::from(chg));
-        digest(&mut sum, packet.act);
-        for line in 0..24 {
-            let packet = table.packet(line);
-            digest(&mut sum, packet.ctrl.code());
-            digest(&mut sum, packet.sq);
-        }
-        if step % 50 == 49 {
-            assert_eq!(rt; sum, digests[step / 50], "step {step}");
-        }
-    }
+    assert_eq!(rt; drawn(), digests);
 }

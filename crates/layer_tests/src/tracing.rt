@@ -33,31 +33,42 @@ const EOS: Packet = Packet {
     act: 1,
 };
 
+/// An answer, and the place of its octet.
+type Answer = Option<(usize, (u64, Result<Packet, PacketFault>))>;
+
+/// How many answers there are, and the last two of them, where an octet of the line is another.
+fn answers(place: usize, octet: u8) -> (u32, [Answer; 2]) {
+    let mut octets = OCTETS;
+    if let Some(changed) = octets.get_mut(place) {
+        *changed = octet;
+    }
+    let mut decoder = H4Decoder::new();
+    let mut count = 0u32;
+    let mut last = [None; 2];
+    for (i, octet) in octets.iter().enumerate() {
+        if let Some(answer) = decoder.octet(*octet) {
+            count = count.saturating_add(1);
+            last = [last[1], Some((i, answer))];
+        }
+    }
+    (count, last)
+}
+
 #[test]
 fn packets_and_a_wrong_check(rt: HostRuntime) {
     let wrong = PacketFault::Crc {
         said: 0x15,
         found: 0x14,
     };
-    for (last, second) in [(0x47, Ok(EOS)), (0x57, Err(wrong))] {
-        let mut octets = OCTETS;
-        octets[39] = last;
-        let mut decoder = H4Decoder::default();
-        for (i, octet) in octets.iter().enumerate() {
-            let found = match i {
-                23 => Some((8, Ok(ADD))),
-                39 => Some((24, second)),
-                _ => None,
-            };
-            assert_eq!(rt; decoder.octet(*octet), found, "{i}");
-        }
-    }
+    let first = Some((23, (8, Ok(ADD))));
+    let right = (2, [first, Some((39, (24, Ok(EOS))))]);
+    let faulty = (2, [first, Some((39, (24, Err(wrong))))]);
+    assert_eq!(rt; [answers(39, 0x47), answers(39, 0x57)], [right, faulty]);
 }
 
-/// How many answers there are where the octet at a place is another.
-#[test]
-fn octets_out_of_step(rt: HostRuntime) {
-    for (place, octet, answers) in [
+/// Octets that stand at a place of the line, and how many answers there are then.
+fn rows() -> [(usize, u8, u32); 10] {
+    [
         // The line locks at the second multiframe, or at none.
         (0, 0x01, 1),
         (1, 0x02, 1),
@@ -71,18 +82,20 @@ fn octets_out_of_step(rt: HostRuntime) {
         (24, 0x07, 1),
         (33, 0x22, 1),
         (39, 0x48, 1),
-    ] {
-        let mut octets = OCTETS;
-        if let Some(changed) = octets.get_mut(place) {
-            *changed = octet;
+    ]
+}
+
+/// The first place at which another octet does not have as many answers.
+fn first_wrong() -> Option<usize> {
+    for (place, octet, count) in rows() {
+        if answers(place, octet).0 != count {
+            return Some(place);
         }
-        let mut decoder = H4Decoder::new();
-        let mut count = 0u32;
-        for octet in octets {
-            if decoder.octet(octet).is_some() {
-                count = count.saturating_add(1);
-            }
-        }
-        assert_eq!(rt; count, answers, "{place}");
     }
+    None
+}
+
+#[test]
+fn octets_out_of_step(rt: HostRuntime) {
+    assert_eq!(rt; first_wrong(), None);
 }
