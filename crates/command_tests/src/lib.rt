@@ -1,10 +1,16 @@
 //! Tests of both programs by their calls: words, inputs and faults at each call, the walk or session that is handed back, and workers that
-//! run beside each other. Nothing is here but tests.
+//! run beside each other. Nothing is here but tests. Begin with `rows`, which says what a row is.
 #![tactic(auto)]
 
 #[cfg(test)]
+mod door;
+#[cfg(test)]
 mod group;
 #[cfg(test)]
+mod rows;
+#[cfg(test)]
 mod running;
+#[cfg(test)]
+mod scripts;
 #[cfg(test)]
 mod walking;

@@ -1,6 +1,10 @@
-//! Tests of scripts, of walks by single events and whole, and of a group for a lock. Nothing is here but tests.
+//! Tests of the edge, of scripts, of walks by single events, and of a group for a lock. Nothing is here but tests.
 #![tactic(auto)]
 
+#[cfg(test)]
+mod courses;
+#[cfg(test)]
+mod edge;
 #[cfg(test)]
 mod groups;
 #[cfg(test)]

@@ -1,18 +1,12 @@
-//! Walks by single events, and walks of whole scripts.
-
-mod table;
-
+//! Walks by single events. Walks of whole scripts are among the rows of `command_tests`.
 ghost use Rattle.std.specs.Prelude.{◌≡◌, ◌≤◌, length};
 ghost use Rattle.session_model.specs.Valid.{IsValid};
 
-use report_text::{GOT_ROOM, REFUSED_ROOM, TOTAL_ROOM, got_line, refused_line, total_line};
+use crate::courses::{Answer, course};
 use script_read::read_script;
-use session_model::{EventLine, EventList, SourceState};
+use session_model::SourceState;
 use sink_core::KeptFrames;
-use std::alloc::{AllocError, Global};
-use std::process::Abort;
-use std::test::Fail;
-use table::{CASES, COURSES, Course};
+use std::alloc::Global;
 use walk_core::{Event, Moved, Walk};
 
 /// Makes an event, where it is of no line beyond the last.
@@ -50,137 +44,77 @@ fn repeat(
     moved
 }
 
-/// Makes rounds.
-fn rounds(walk: &mut Walk, count: u32, out: &mut KeptFrames)
-    ensures { walk.new.script ≡ walk.old.script }
-{
-    for _ in 0..count {
-        walk.round(out);
-    }
-}
-
-/// Does what an event line says, where it is of no line beyond the last.
-fn follow(walk: &mut Walk, lines: u8, line: EventLine, out: &mut KeptFrames)
+/// Makes the events of a course. Whether the last answer of each is right.
+fn makes(walk: &mut Walk, lines: u8, steps: &[Answer], out: &mut KeptFrames) -> bool
     requires valid { IsValid walk.old.script }
     requires lines { lines ≡ walk.old.script.config.lines }
-    ensures { walk.new.script ≡ walk.old.script }
 {
-    let (event, count) = match line {
-        EventLine::Client(count) => (Event::Accept, count),
-        EventLine::Operator(count) => (Event::Command, count),
-        EventLine::Tick(count) => (Event::Tick, count),
-        EventLine::Carry(line, count) => (Event::Carry(line), count),
-        EventLine::Back(count) => (Event::Back, count),
-        EventLine::Take(count) => (Event::Take, count),
-        EventLine::Round(count) => return rounds(walk, count, out),
-        EventLine::Drain => return walk.drain(out),
+    let mut are_right = true;
+    for (event, count, moved) in steps {
+        let last = repeat(walk, lines, *event, *count, out);
+        are_right = are_right && last == Some(*moved);
+    }
+    are_right
+}
+
+/// Whether a course is right in the walk of a script, with frames kept here.
+fn is_right(alloc: Global, text: &[u8], number: u8, out: &mut KeptFrames) -> bool
+    requires { length text.now ≤ 67108864 }
+{
+    let Ok(script) = read_script(alloc, text) else {
+        return false;
     };
-    repeat(walk, lines, event, count, out);
-}
-
-/// Octets of a text that stand for others: the end of a line, and octets of a frame.
-fn text_of(alloc: Global, short: &[u8]) -> Result<Vec<u8>, AllocError> {
-    let mut text = Vec::new(alloc);
-    for octet in short {
-        let (digits, count) = match *octet {
-            b'/' => (b"\n".as_slice(), 1u16),
-            b'*' => (b"5a".as_slice(), 63),
-            b'%' => (b"c3".as_slice(), 1399),
-            _ => (std::slice::from_ref(octet), 1),
-        };
-        for _ in 0..count {
-            text.extend_from_slice(digits)?;
-        }
-    }
-    Ok(text)
-}
-
-/// The lines of the frames that were delivered, of the refusals, and of the totals.
-fn report(alloc: Global, walk: &Walk, out: &KeptFrames) -> Result<Vec<u8>, AllocError> {
-    let mut text = Vec::new(alloc);
-    let mut got = [0; GOT_ROOM];
-    for frame in out.frames() {
-        if frame.len() <= 9600 {
-            let n = got_line(frame, &mut got);
-            text.extend_from_slice(&got[..n])?;
-        }
-    }
-    let mut refused = [0; REFUSED_ROOM];
-    for (item, why) in walk.refusals() {
-        let n = refused_line(*item, why, &mut refused);
-        text.extend_from_slice(&refused[..n])?;
-    }
-    let mut total = [0; TOTAL_ROOM];
-    let n = total_line(&walk.totals(), &mut total);
-    text.extend_from_slice(&total[..n])?;
-    Ok(text)
-}
-
-/// The event lines of a script.
-fn copy_of(alloc: Global, events: &EventList) -> Result<Vec<EventLine>, AllocError> {
-    Vec::from_slice(alloc, &events.0)
-}
-
-/// What comes of a script.
-fn outcome(alloc: Global, script: &[u8]) -> Result<Vec<u8>, Fail>
-    requires { length script.now ≤ 67108864 }
-{
-    let script = read_script(alloc, script)?;
     let lines = script.config.lines;
-    let events = copy_of(alloc, &script.events)?;
-    let mut walk = Walk::new(alloc, script)?;
-    let mut out = KeptFrames::new(alloc)?;
-    for line in &events {
-        follow(&mut walk, lines, *line, &mut out);
+    match Walk::new(alloc, script) {
+        Ok(mut walk) => makes(&mut walk, lines, course(number), out),
+        Err(_) => false,
     }
-    if events.is_empty() {
-        walk.drain(&mut out);
+}
+
+/// Which courses are right.
+fn right_courses(alloc: Global) -> [bool; 3] {
+    match KeptFrames::new(alloc) {
+        Ok(mut out) => {
+            let soon = b"lines 1\ndelays 0\nring 1\nlag 1\nticks 41\n";
+            let late = b"lines 1\ndelays 0\nring 1\nlag 2\nticks 41\n";
+            [
+                is_right(alloc, soon, 0, &mut out),
+                is_right(alloc, late, 1, &mut out),
+                is_right(alloc, late, 2, &mut out),
+            ]
+        }
+        Err(_) => [false; 3],
     }
-    Ok(report(alloc, &walk, &out)?)
 }
 
 #[test]
-fn scripts_are_walked(rt: HostRuntime) -> Result<(), Fail> {
-    let alloc = rt.alloc();
-    for (i, case) in CASES.iter().enumerate() {
-        let script = text_of(alloc, case.script)?;
-        assert!(rt; script.len() <= 67_108_864);
-        let want = text_of(alloc, case.outcome)?;
-        assert_eq!(rt; outcome(alloc, &script)?, want, "script {i}");
-    }
-    Ok(())
+fn events_answer(rt: HostRuntime) {
+    assert_eq!(rt; right_courses(rt.alloc()), [true; 3]);
 }
 
-#[test]
-fn a_line_is_added(rt: HostRuntime) -> Result<(), Fail> {
+/// Whether the line of a walk is in the group once it has drained.
+fn is_added(walk: &mut Walk, out: &mut KeptFrames) -> bool {
+    walk.drain(out);
+    walk.totals().taken == 41 && walk.table().state(0) == SourceState::Norm
+}
+
+/// Whether it is in the walk of a script that adds it.
+fn is_line_added(alloc: Global, out: &mut KeptFrames) -> bool {
     let text = b"lines 1\ndelays 0\nring 1\nlag 1\nticks 41\nadd 0 0\n";
-    let mut walk = Walk::new(rt.alloc(), read_script(rt.alloc(), text)?)?;
-    let mut out = KeptFrames::new(rt.alloc())?;
-    walk.drain(&mut out);
-    assert_eq!(rt; walk.totals().taken, 41);
-    assert_eq!(rt; walk.table().state(0), SourceState::Norm);
-    Ok(())
-}
-
-/// Makes the events of a course, and compares the last answer of each.
-fn run_course(rt: &impl Abort, alloc: Global, (lag, steps): Course) -> Result<(), Fail> {
-    let text = format!(in alloc; "lines 1\ndelays 0\nring 1\nlag {lag}\nticks 41\n")?;
-    assert!(rt; text.len() < 100);
-    let script = read_script(alloc, text.as_bytes())?;
-    let lines = script.config.lines;
-    let mut walk = Walk::new(alloc, script)?;
-    let mut out = KeptFrames::new(alloc)?;
-    for (i, (event, count, moved)) in steps.iter().enumerate() {
-        let last = repeat(&mut walk, lines, *event, *count, &mut out);
-        assert_eq!(rt; last, Some(*moved), "lag {lag}, {i}");
+    let Ok(script) = read_script(alloc, text) else {
+        return false;
+    };
+    match Walk::new(alloc, script) {
+        Ok(mut walk) => is_added(&mut walk, out),
+        Err(_) => false,
     }
-    Ok(())
 }
 
 #[test]
-fn events_answer(rt: HostRuntime) -> Result<(), Fail> {
-    for course in COURSES {
-        run_course(&rt, rt.alloc(), course)?;
-    }
-    Ok(())
+fn a_line_is_added(rt: HostRuntime) {
+    let is_right = match KeptFrames::new(rt.alloc()) {
+        Ok(mut out) => is_line_added(rt.alloc(), &mut out),
+        Err(_) => false,
+    };
+    assert!(rt; is_right);
 }
