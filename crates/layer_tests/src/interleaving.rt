@@ -2,7 +2,7 @@
 ghost use Rattle.std.specs.Prelude.{◌≡◌, ℕ, ◌-◌, ◌*◌, ◌<◌, ◌≤◌, length, slice_index, IfSome};
 
 use std::alloc::Global;
-use vc_cell::{Container, PAYLOAD};
+use vc_cell::{Container, HeldContainer, PAYLOAD};
 use vcat_interleave::{gather, gather_places, spread, spread_places};
 
 // The first octets that a member of three carries of a row, whether 0 is all that follows, and what is gathered of it alone.
@@ -49,16 +49,18 @@ fn lines(alloc: Global, members: usize) -> Option<Vec<u8>>
 }
 
 // So many boxes.
-fn boxes(alloc: Global, members: usize) -> Option<Vec<Box<Container>>>
+fn boxes(alloc: Global, members: usize) -> Option<Vec<Box<HeldContainer>>>
     ensures { IfSome result (λ boxes. length boxes.items ≡ members) }
 {
-    let blank = Container {
+    let full = Container {
         h4: 7,
         payload: [0xff; PAYLOAD],
     };
     let mut boxes = Vec::new(alloc);
     for _ in 0..members {
-        boxes.push(Box::new(alloc, blank).ok()?).ok()?;
+        let mut place = HeldContainer::new();
+        place.put(&full);
+        boxes.push(Box::new(alloc, place).ok()?).ok()?;
     }
     Some(boxes)
 }
@@ -77,7 +79,7 @@ fn row(alloc: Global, octets: usize) -> Option<Vec<u8>>
 // Whether a row is back once it was spread over all lines and gathered. The last line has rank 0.
 fn is_back(
     active: &[u8],
-    containers: &mut [Box<Container>],
+    containers: &mut [Box<HeldContainer>],
     row: &[u8],
     places: usize,
     back: &mut [u8],

@@ -7,7 +7,7 @@ use lcas_packet::Packet;
 use realign_core::{RowAnswer, RowGather};
 use session_model::{Item, ItemKind, Octets};
 use std::alloc::Global;
-use vc_cell::{BackCell, Container, Ctrl, PAYLOAD};
+use vc_cell::{BackCell, Container, Ctrl, HeldContainer, PAYLOAD};
 use walk_parts::{ReturnPath, WalkLine, held_item, next_command, next_frame};
 
 const CONTAINER: Container = Container {
@@ -16,9 +16,9 @@ const CONTAINER: Container = Container {
 };
 
 // A push, where the line can take one. The container lies in a box of the caller's.
-fn push(line: &mut WalkLine, place: &mut Box<Container>) {
+fn push(line: &mut WalkLine, place: &mut Box<HeldContainer>) {
     if !line.all_pushed() && !line.is_full() {
-        **place = CONTAINER;
+        place.put(&CONTAINER);
         line.push(place);
     }
 }
@@ -38,7 +38,7 @@ fn line(alloc: Global) -> Option<WalkLine> {
 fn filled_and_popped(
     line: &mut WalkLine,
     rows: &mut RowGather,
-    place: &mut Box<Container>,
+    place: &mut Box<HeldContainer>,
 ) -> ([bool; 7], u32) {
     let early = line.pop_into(rows, 0);
     push(line, place);
@@ -55,7 +55,7 @@ fn filled_and_popped(
 
 // The same of a line that is made for it.
 fn a_line(alloc: Global) -> Option<([bool; 7], u32)> {
-    let mut place = Box::new(alloc, CONTAINER).ok()?;
+    let mut place = Box::new(alloc, HeldContainer::new()).ok()?;
     let mut rows = RowGather::new(alloc, 1).ok()?;
     let mut line = line(alloc)?;
     Some(filled_and_popped(&mut line, &mut rows, &mut place))
