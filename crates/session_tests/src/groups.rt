@@ -1,12 +1,12 @@
 //! A small script by hand, over real rings.
-ghost use Rattle.std.specs.Prelude.{◌≡◌, ◌≤◌, length, IfOk};
+ghost use Rattle.std.specs.Prelude.{◌≡◌, length, IfOk};
 ghost use Rattle.session_model.specs.Valid.{IsValid};
 ghost use Rattle.group_lock.specs.Rings.{AreUnused};
 
+use crate::scripts::read;
 use group_lock::{GroupState, ItemRef, SubmitFault, TickAnswer};
 use member_ring::{LineEnds, RingIn, RingOut, back_ring, line_rings};
 use report_text::{Refusal, Totals};
-use script_read::read_script;
 use session_model::Script;
 use source_core::{AcceptFault, CommandFault};
 use std::alloc::{AllocError, Global};
@@ -102,18 +102,28 @@ fn group_of(alloc: Global, script: &Script, entries: u32, bytes: u64) -> Result<
 }
 
 /// The group of a text.
-fn group_in(alloc: Global, text: &[u8], entries: u32, bytes: u64) -> Option<Group>
-    requires { length text.now ≤ 67108864 }
-{
-    match read_script(alloc, text) {
+fn group_in(alloc: Global, text: &[u8], entries: u32, bytes: u64) -> Option<Group> {
+    match read(alloc, text) {
         Ok(script) => group_of(alloc, &script, entries, bytes).ok(),
         Err(_) => None,
     }
 }
 
-/// The steps of a group to whose journal everything goes.
-fn landing_steps() -> [Try; 15] {
-    [
+/// Whether all steps are answered so, and these are what is counted and refused after them.
+fn is_right(group: &mut Group, steps: &[Try], totals: Totals, refused: &[(u32, Refusal)]) -> bool {
+    are_answered(&mut group.state, &mut group.back, steps)
+        && group.state.totals() == totals
+        && group.state.refusals() == refused
+}
+
+/// A command and a frame that the journal has room for.
+fn landing() -> &'static [u8] {
+    b"lines 1\ndelays 0\nring 1\nlag 1\nticks 41\nlost 0 1\nadd 0 0\nadd 0 0\nframe 5 07\n"
+}
+
+/// What is due lands before a tick.
+fn lands_before_a_tick(group: &mut Group) -> bool {
+    let steps = [
         Try::Frame(2, Err(SubmitFault::Early { now: 0 })),
         Try::Add(1, Err(SubmitFault::NotNext { next: Some(0) })),
         Try::Ticks(1, TickAnswer::Held { item: 0 }),
@@ -129,11 +139,7 @@ fn landing_steps() -> [Try; 15] {
         Try::Back,
         Try::Ticks(8, TickAnswer::Ticked),
         Try::Ticks(2, TickAnswer::TxFull { line: 0 }),
-    ]
-}
-
-/// Whether these are what is counted and refused after those steps.
-fn has_landed(group: &GroupState) -> bool {
+    ];
     let totals = Totals {
         ticks: 32,
         taken: 0,
@@ -143,32 +149,16 @@ fn has_landed(group: &GroupState) -> bool {
         got: 0,
     };
     let refused = [(1, Refusal::Command(CommandFault::AlreadyIn))];
-    group.totals() == totals && group.refusals() == refused.as_slice()
+    is_right(group, &steps, totals, &refused)
 }
 
-/// Whether each step is answered so, and what is counted is right.
-fn lands(group: &mut Group) -> [bool; 2] {
-    let are_right = are_answered(&mut group.state, &mut group.back, &landing_steps());
-    [are_right, has_landed(&group.state)]
+/// A frame and commands whose journal has one entry, and an octet too few for the frame.
+fn full() -> &'static [u8] {
+    b"lines 1\ndelays 0\nring 1\nlag 1\nticks 1\nframe 0 07\nadd 0 0\nadd 0 0\n"
 }
 
-/// The same from a script on.
-fn lands_before_a_tick(alloc: Global) -> [bool; 2] {
-    let text =
-        b"lines 1\ndelays 0\nring 1\nlag 1\nticks 41\nlost 0 1\nadd 0 0\nadd 0 0\nframe 5 07\n";
-    match group_in(alloc, text, 2, 64) {
-        Some(mut group) => lands(&mut group),
-        None => [false; 2],
-    }
-}
-
-#[test]
-fn what_is_due_lands_before_a_tick(rt: HostRuntime) {
-    assert_eq!(rt; lands_before_a_tick(rt.alloc()), [true; 2]);
-}
-
-/// The steps of a group whose journal has one entry, and an octet too few for a frame.
-fn full_steps() -> [Try; 7] {
+/// The source refuses before a full journal does.
+fn refuses_before_a_full_journal(group: &mut Group) -> bool {
     let few = SubmitFault::JournalFull {
         entries: 1,
         bytes: 63,
@@ -177,28 +167,47 @@ fn full_steps() -> [Try; 7] {
         entries: 0,
         bytes: 63,
     };
-    let short = SubmitFault::Frame(AcceptFault::Length { n: 63 });
-    [
+    let short = AcceptFault::Length { n: 63 };
+    let steps = [
         Try::Frame(0, Err(few)),
         Try::Add(1, Ok(())),
         Try::Add(2, Err(SubmitFault::Command(CommandFault::AlreadyIn))),
         Try::Frame(0, Err(none)),
         Try::Ticks(1, TickAnswer::Held { item: 0 }),
-        Try::Short(0, Err(short)),
+        Try::Short(0, Err(SubmitFault::Frame(short))),
         Try::Ticks(1, TickAnswer::Ticked),
-    ]
+    ];
+    let totals = Totals {
+        ticks: 1,
+        taken: 0,
+        frames: 0,
+        commands: 1,
+        refused: 2,
+        got: 0,
+    };
+    let refused = [
+        (0, Refusal::Frame(short)),
+        (2, Refusal::Command(CommandFault::AlreadyIn)),
+    ];
+    is_right(group, &steps, totals, &refused)
 }
 
-/// Whether each of them is answered so.
-fn refuses_in_order(alloc: Global) -> bool {
-    let text = b"lines 1\ndelays 0\nring 1\nlag 1\nticks 1\nframe 0 07\nadd 0 0\nadd 0 0\n";
-    match group_in(alloc, text, 1, 63) {
-        Some(mut group) => are_answered(&mut group.state, &mut group.back, &full_steps()),
+/// Whether a group of one of both texts is right.
+fn is_group(alloc: Global, is_full: bool) -> bool {
+    let (text, entries, bytes) = if is_full {
+        (full(), 1, 63)
+    } else {
+        (landing(), 2, 64)
+    };
+    match group_in(alloc, text, entries, bytes) {
+        Some(mut group) if is_full => refuses_before_a_full_journal(&mut group),
+        Some(mut group) => lands_before_a_tick(&mut group),
         None => false,
     }
 }
 
 #[test]
-fn the_source_refuses_before_a_full_journal_does(rt: HostRuntime) {
-    assert!(rt; refuses_in_order(rt.alloc()));
+fn what_is_due_lands_or_is_refused(rt: HostRuntime) {
+    assert!(rt; is_group(rt.alloc(), false));
+    assert!(rt; is_group(rt.alloc(), true));
 }

@@ -1,12 +1,11 @@
 //! Loads, and what is in them.
-ghost use Rattle.session_model.specs.Valid.{IsWithin};
 
 use make_load::make;
-use session_model::{ItemKind, Script};
+use session_model::{Config, ItemKind, Script};
 use std::alloc::Global;
 
 /// What is told of the frames of a load: how many there are, their octets and the sum of those, and the due tick of the last one.
-#[derive(Clone, Copy, Default)]
+#[derive(Clone, Copy, Default, PartialEq, Eq)]
 struct Frames {
     count: u64,
     octets: u64,
@@ -35,65 +34,45 @@ fn frames_of(script: &Script) -> Frames {
     frames
 }
 
-/// What a load says, or nothing for want of memory.
-fn described(alloc: Global, script: &Script) -> String {
-    let config = &script.config;
-    let Frames {
-        count,
-        octets,
-        sum,
-        last,
-    } = frames_of(script);
-    let delays = config.delays.0.as_slice();
-    let items = script.items.0.len();
-    match format!(in alloc;
-        "lines {} ring {} lag {} ticks {} size {} delays {delays:?} items {items} frames {count} octets {octets} sum {sum} last {last}",
-        config.lines, config.ring, config.lag, config.ticks, config.size
-    ) {
-        Ok(text) => text,
-        Err(_) => String::new(alloc),
-    }
+/// Whether a network has these numbers, and what is the same in each load.
+fn has_numbers(config: &Config, lines: u8, ticks: u32) -> bool {
+    config.lines == lines
+        && config.ring == 64
+        && config.lag == 4
+        && config.ticks == ticks
+        && config.size == 2340
 }
 
-/// Whether the load of a number says what is wanted.
-fn is_load(alloc: Global, number: u64, lines: u8, ticks: u32, want: &str) -> bool
-    requires lines { IsWithin 1 64 lines }
-    requires ticks { IsWithin 1 1000000 ticks }
-{
+/// Whether the load of a number has these delays, so many items, and these frames.
+fn is_load(
+    alloc: Global,
+    (number, lines, ticks): (u64, u8, u32),
+    delays: &[u16],
+    items: usize,
+    frames: Frames,
+) -> bool {
+    if lines < 1 || lines > 64 || ticks < 1 || ticks > 1_000_000 {
+        return false;
+    }
     match make(alloc, number, lines, ticks) {
-        Ok(script) => described(alloc, &script).as_str() == want,
+        Ok(script) => {
+            has_numbers(&script.config, lines, ticks)
+                && script.config.delays.0.as_slice() == delays
+                && script.items.0.len() == items
+                && frames_of(&script) == frames
+        }
         Err(_) => false,
     }
 }
 
-/// What four loads say.
-fn wanted(load: u8) -> &'static str {
-    match load {
-        0 => {
-            "lines 1 ring 64 lag 4 ticks 1 size 2340 delays [33] items 2 frames 1 octets 1012 sum 124859 last 0"
-        }
-        1 => {
-            "lines 2 ring 64 lag 4 ticks 8 size 2340 delays [22, 2] items 3 frames 1 octets 266 sum 33319 last 0"
-        }
-        2 => {
-            "lines 3 ring 64 lag 4 ticks 9 size 2340 delays [9, 14, 33] items 5 frames 2 octets 1399 sum 175711 last 8"
-        }
-        _ => {
-            "lines 8 ring 64 lag 4 ticks 4000 size 2340 delays [19, 31, 2, 12, 15, 3, 33, 7] items 508 frames 500 octets 405860 sum 51766787 last 3992"
-        }
+/// Frames as they are counted.
+fn counted(count: u64, octets: u64, sum: u64, last: u32) -> Frames {
+    Frames {
+        count,
+        octets,
+        sum,
+        last,
     }
-}
-
-#[test]
-fn loads_are_those_of_their_numbers(rt: HostRuntime) {
-    let alloc = rt.alloc();
-    let are_right = [
-        is_load(alloc, 1, 1, 1, wanted(0)),
-        is_load(alloc, 0, 2, 8, wanted(1)),
-        is_load(alloc, 18446744073709551615, 3, 9, wanted(2)),
-        is_load(alloc, 7, 8, 4000, wanted(3)),
-    ];
-    assert_eq!(rt; are_right, [true; 4]);
 }
 
 /// Whether a load has one frame, of 1,012 octets, that begins as is wanted.
@@ -112,7 +91,7 @@ fn is_drawn(script: &Script) -> bool {
     is_right
 }
 
-/// Whether the first load is so.
+/// Whether the octets of the frame of the first load are drawn in order.
 fn is_first_drawn(alloc: Global) -> bool {
     match make(alloc, 1, 1, 1) {
         Ok(script) => is_drawn(&script),
@@ -121,6 +100,16 @@ fn is_first_drawn(alloc: Global) -> bool {
 }
 
 #[test]
-fn the_octets_of_a_frame_are_drawn_in_order(rt: HostRuntime) {
-    assert!(rt; is_first_drawn(rt.alloc()));
+fn loads_are_those_of_their_numbers(rt: HostRuntime) {
+    let alloc = rt.alloc();
+    let first = counted(1, 1012, 124859, 0);
+    assert!(rt; is_load(alloc, (1, 1, 1), &[33], 2, first));
+    let second = counted(1, 266, 33319, 0);
+    assert!(rt; is_load(alloc, (0, 2, 8), &[22, 2], 3, second));
+    let third = counted(2, 1399, 175711, 8);
+    assert!(rt; is_load(alloc, (18446744073709551615, 3, 9), &[9, 14, 33], 5, third));
+    let fourth = counted(500, 405860, 51766787, 3992);
+    let delays = [19, 31, 2, 12, 15, 3, 33, 7];
+    assert!(rt; is_load(alloc, (7, 8, 4000), &delays, 508, fourth));
+    assert!(rt; is_first_drawn(alloc));
 }

@@ -1,8 +1,10 @@
 //! Texts of many lines, and what each line of a script says. What faults are told of is among the rows of `command_tests`.
+ghost use Rattle.std.specs.Prelude.{IfOk};
+ghost use Rattle.session_model.specs.Valid.{IsValid};
 
-use script_read::{ScriptFault, read_script};
+use script_read::{LineKind, ScriptFault, read_script};
 use session_model::{EventLine, Item, ItemKind, Script, Window, WindowList};
-use std::alloc::{AllocError, Global};
+use std::alloc::Global;
 
 /// Appends octets, if memory is there.
 fn say(text: &mut Vec<u8>, octets: &[u8]) {
@@ -41,48 +43,49 @@ fn windows(alloc: Global, of_return_path: bool, count: u16, is_late: bool) -> Ve
 }
 
 /// Reads a text that is not too long.
-fn read(alloc: Global, text: &[u8]) -> Result<Script, ScriptFault> {
+pub fn read(alloc: Global, text: &[u8]) -> Result<Script, ScriptFault>
+    ensures { IfOk result IsValid }
+{
     if text.len() > 67_108_864 {
         return Err(ScriptFault::Memory);
     }
     read_script(alloc, text)
 }
 
-/// What is told of a fault.
-fn told_of(alloc: Global, fault: ScriptFault) -> String {
-    match format!(in alloc; "{fault}") {
-        Ok(text) => text,
-        Err(AllocError) => String::new(alloc),
-    }
-}
-
-/// Whether of a text is told what is wanted, or nothing.
-fn is_told(alloc: Global, text: &[u8], want: &str) -> bool {
-    match read(alloc, text) {
-        Ok(_) => want.is_empty(),
-        Err(fault) => told_of(alloc, fault).as_str() == want,
-    }
-}
-
-/// Whether so many windows are told what is wanted.
-fn are_told(alloc: Global, of_return_path: bool, count: u16, is_late: bool, want: &str) -> bool {
+/// Whether so many windows have what is wanted as their fault.
+fn is_fault(
+    alloc: Global,
+    of_return_path: bool,
+    count: u16,
+    is_late: bool,
+    want: Option<ScriptFault>,
+) -> bool {
     let text = windows(alloc, of_return_path, count, is_late);
-    is_told(alloc, text.as_slice(), want)
+    match read(alloc, text.as_slice()) {
+        Ok(_) => want.is_none(),
+        Err(fault) => want == Some(fault),
+    }
 }
 
-/// A line of the group, and the return path, may have 256 windows.
+/// Whether a line of the group, or the return path, may have 256 windows.
+fn is_limit(alloc: Global, of_return_path: bool) -> bool {
+    let late = ScriptFault::Line {
+        number: 261,
+        kind: LineKind::Order,
+    };
+    let many = ScriptFault::Line {
+        number: 262,
+        kind: LineKind::Range,
+    };
+    is_fault(alloc, of_return_path, 255, true, Some(late))
+        && is_fault(alloc, of_return_path, 256, false, None)
+        && is_fault(alloc, of_return_path, 256, true, Some(many))
+}
+
 #[test]
 fn windows_have_a_limit(rt: HostRuntime) {
-    let alloc = rt.alloc();
-    let are_right = [
-        are_told(alloc, false, 255, true, "fault: line 261: order"),
-        are_told(alloc, false, 256, false, ""),
-        are_told(alloc, false, 256, true, "fault: line 262: range"),
-        are_told(alloc, true, 255, true, "fault: line 261: order"),
-        are_told(alloc, true, 256, false, ""),
-        are_told(alloc, true, 256, true, "fault: line 262: range"),
-    ];
-    assert_eq!(rt; are_right, [true; 6]);
+    assert!(rt; is_limit(rt.alloc(), false));
+    assert!(rt; is_limit(rt.alloc(), true));
 }
 
 /// A script with each line that there is.
@@ -176,20 +179,17 @@ fn has_events(script: &Script) -> bool {
     script.events.0.as_slice() == want.as_slice()
 }
 
-/// Which parts of the script with each line are right.
-fn right_parts(alloc: Global) -> [bool; 4] {
+/// Whether the script with each line says them all.
+fn is_each_line_read(alloc: Global) -> bool {
     match read(alloc, each_line()) {
-        Ok(script) => [
-            has_numbers(&script),
-            has_lists(&script),
-            has_items(&script),
-            has_events(&script),
-        ],
-        Err(_) => [false; 4],
+        Ok(script) => {
+            has_numbers(&script) && has_lists(&script) && has_items(&script) && has_events(&script)
+        }
+        Err(_) => false,
     }
 }
 
 #[test]
 fn each_line_says_its_part(rt: HostRuntime) {
-    assert_eq!(rt; right_parts(rt.alloc()), [true; 4]);
+    assert!(rt; is_each_line_read(rt.alloc()));
 }

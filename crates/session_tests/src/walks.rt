@@ -1,9 +1,9 @@
 //! Walks by single events. Walks of whole scripts are among the rows of `command_tests`.
-ghost use Rattle.std.specs.Prelude.{◌≡◌, ◌≤◌, length};
+ghost use Rattle.std.specs.Prelude.{◌≡◌};
 ghost use Rattle.session_model.specs.Valid.{IsValid};
 
 use crate::courses::{Answer, course};
-use script_read::read_script;
+use crate::scripts::read;
 use session_model::SourceState;
 use sink_core::KeptFrames;
 use std::alloc::Global;
@@ -57,64 +57,48 @@ fn makes(walk: &mut Walk, lines: u8, steps: &[Answer], out: &mut KeptFrames) -> 
     are_right
 }
 
-/// Whether a course is right in the walk of a script, with frames kept here.
-fn is_right(alloc: Global, text: &[u8], number: u8, out: &mut KeptFrames) -> bool
-    requires { length text.now ≤ 67108864 }
-{
-    let Ok(script) = read_script(alloc, text) else {
-        return false;
-    };
-    let lines = script.config.lines;
-    match Walk::new(alloc, script) {
-        Ok(mut walk) => makes(&mut walk, lines, course(number), out),
-        Err(_) => false,
-    }
-}
-
-/// Which courses are right.
-fn right_courses(alloc: Global) -> [bool; 3] {
-    match KeptFrames::new(alloc) {
-        Ok(mut out) => {
-            let soon = b"lines 1\ndelays 0\nring 1\nlag 1\nticks 41\n";
-            let late = b"lines 1\ndelays 0\nring 1\nlag 2\nticks 41\n";
-            [
-                is_right(alloc, soon, 0, &mut out),
-                is_right(alloc, late, 1, &mut out),
-                is_right(alloc, late, 2, &mut out),
-            ]
-        }
-        Err(_) => [false; 3],
-    }
-}
-
-#[test]
-fn events_answer(rt: HostRuntime) {
-    assert_eq!(rt; right_courses(rt.alloc()), [true; 3]);
-}
-
 /// Whether the line of a walk is in the group once it has drained.
 fn is_added(walk: &mut Walk, out: &mut KeptFrames) -> bool {
     walk.drain(out);
     walk.totals().taken == 41 && walk.table().state(0) == SourceState::Norm
 }
 
-/// Whether it is in the walk of a script that adds it.
-fn is_line_added(alloc: Global, out: &mut KeptFrames) -> bool {
-    let text = b"lines 1\ndelays 0\nring 1\nlag 1\nticks 41\nadd 0 0\n";
-    let Ok(script) = read_script(alloc, text) else {
+/// The script of each course, and last one that adds its line.
+fn text_of(number: u8) -> &'static [u8] {
+    match number {
+        0 => b"lines 1\ndelays 0\nring 1\nlag 1\nticks 41\n",
+        1 | 2 => b"lines 1\ndelays 0\nring 1\nlag 2\nticks 41\n",
+        _ => b"lines 1\ndelays 0\nring 1\nlag 1\nticks 41\nadd 0 0\n",
+    }
+}
+
+/// Whether a course is right in the walk of its script.
+fn is_right(alloc: Global, number: u8, out: &mut KeptFrames) -> bool {
+    let Ok(script) = read(alloc, text_of(number)) else {
         return false;
     };
+    let lines = script.config.lines;
     match Walk::new(alloc, script) {
+        Ok(mut walk) if number < 3 => makes(&mut walk, lines, course(number), out),
         Ok(mut walk) => is_added(&mut walk, out),
         Err(_) => false,
     }
 }
 
+/// Whether all are.
+fn are_all_right(alloc: Global, out: &mut KeptFrames) -> bool {
+    let mut are_right = true;
+    for number in 0..4u8 {
+        are_right = are_right && is_right(alloc, number, out);
+    }
+    are_right
+}
+
 #[test]
-fn a_line_is_added(rt: HostRuntime) {
-    let is_right = match KeptFrames::new(rt.alloc()) {
-        Ok(mut out) => is_line_added(rt.alloc(), &mut out),
+fn events_answer(rt: HostRuntime) {
+    let are_right = match KeptFrames::new(rt.alloc()) {
+        Ok(mut out) => are_all_right(rt.alloc(), &mut out),
         Err(_) => false,
     };
-    assert!(rt; is_right);
+    assert!(rt; are_right);
 }
