@@ -2,7 +2,7 @@
 ghost use Rattle.std.specs.Prelude.{◌≡◌, ◌≤◌, IfOk, IfErr, None, Some};
 ghost use Rattle.script_read.specs.Words.{words, number_at};
 ghost use Rattle.script_read.specs.Statements.{place, rest_fault, words_fault, words_said, said};
-ghost use Rattle.script_read.specs.declared.draft.Statement.TheVariants.{Event};
+ghost use Rattle.script_read.specs.declared.draft.Statement.TheVariants as says;
 ghost use Rattle.script_read.specs.Drafts.{IsStop, IsDraft, IsPlaced, Fits, one_fault};
 ghost use Rattle.session_model.specs.Valid.{IsCount};
 
@@ -31,8 +31,8 @@ fn read_event(draft: &Draft, keyword: Keyword, rest: &[u8]) -> Result<EventLine,
     requires stands { IsPlaced draft.now.next (place keyword) }
     requires config { IsDraft draft.now }
     ensures ok { IfOk result (λ read. (rest_fault draft.now keyword (words rest.now) ≡ None)
-        × (Event read ≡ said keyword (words rest.now))) }
-    ensures fits { IfOk result (λ read. Fits draft.now (Event read)) }
+        × (says.Event read ≡ said keyword (words rest.now))) }
+    ensures fits { IfOk result (λ read. Fits draft.now (says.Event read)) }
     ensures err { IfErr result (λ stop.
         IsStop stop (rest_fault draft.now keyword (words rest.now))) }
 {
@@ -55,8 +55,45 @@ fn read_event(draft: &Draft, keyword: Keyword, rest: &[u8]) -> Result<EventLine,
     }
 }
 
-// What the words after a keyword say that stands in its place.
-fn read_rest(alloc: Global, draft: &Draft, keyword: Keyword, rest: &[u8]) -> Result<Statement, Stop>
+// What the words after the keyword of an item say.
+fn read_item(alloc: Global, draft: &Draft, keyword: Keyword, rest: &[u8]) -> Result<Item, Stop>
+    requires item { place keyword ≡ 7 }
+    requires stands { IsPlaced draft.now.next (place keyword) }
+    requires config { IsDraft draft.now }
+    ensures ok { IfOk result (λ read. (rest_fault draft.now keyword (words rest.now) ≡ None)
+        × (says.Item read ≡ said keyword (words rest.now))) }
+    ensures fits { IfOk result (λ read. Fits draft.now (says.Item read)) }
+    ensures err { IfErr result (λ stop.
+        IsStop stop (rest_fault draft.now keyword (words rest.now))) }
+{
+    match keyword {
+        Keyword::Frame => read_frame(alloc, draft, rest),
+        Keyword::Add => {
+            let (due, line) = read_command(draft, rest)?;
+            Ok(Item {
+                due,
+                kind: ItemKind::Add(line),
+            })
+        }
+        Keyword::Remove => {
+            let (due, line) = read_command(draft, rest)?;
+            Ok(Item {
+                due,
+                kind: ItemKind::Remove(line),
+            })
+        }
+        _ => unreachable!(),
+    }
+}
+
+// What the words after the keyword of a line of the configuration or of a window say.
+fn read_setting(
+    alloc: Global,
+    draft: &Draft,
+    keyword: Keyword,
+    rest: &[u8],
+) -> Result<Statement, Stop>
+    requires setting { place keyword ≤ 6 }
     requires stands { IsPlaced draft.now.next (place keyword) }
     requires config { IsDraft draft.now }
     ensures ok { IfOk result (λ read. (rest_fault draft.now keyword (words rest.now) ≡ None)
@@ -80,20 +117,31 @@ fn read_rest(alloc: Global, draft: &Draft, keyword: Keyword, rest: &[u8]) -> Res
             let (first, end) = read_lost(draft, rest)?;
             Ok(Statement::Lost(first, end))
         }
-        Keyword::Frame => Ok(Statement::Item(read_frame(alloc, draft, rest)?)),
-        Keyword::Add => {
-            let (due, line) = read_command(draft, rest)?;
-            Ok(Statement::Item(Item {
-                due,
-                kind: ItemKind::Add(line),
-            }))
-        }
-        Keyword::Remove => {
-            let (due, line) = read_command(draft, rest)?;
-            Ok(Statement::Item(Item {
-                due,
-                kind: ItemKind::Remove(line),
-            }))
+        _ => unreachable!(),
+    }
+}
+
+// What the words after a keyword say that stands in its place.
+fn read_rest(alloc: Global, draft: &Draft, keyword: Keyword, rest: &[u8]) -> Result<Statement, Stop>
+    requires stands { IsPlaced draft.now.next (place keyword) }
+    requires config { IsDraft draft.now }
+    ensures ok { IfOk result (λ read. (rest_fault draft.now keyword (words rest.now) ≡ None)
+        × (read ≡ said keyword (words rest.now))) }
+    ensures fits { IfOk result (λ read. Fits draft.now read) }
+    ensures err { IfErr result (λ stop.
+        IsStop stop (rest_fault draft.now keyword (words rest.now))) }
+{
+    match keyword {
+        Keyword::Container
+        | Keyword::Lines
+        | Keyword::Delays
+        | Keyword::Ring
+        | Keyword::Lag
+        | Keyword::Ticks
+        | Keyword::Fail
+        | Keyword::Lost => read_setting(alloc, draft, keyword, rest),
+        Keyword::Frame | Keyword::Add | Keyword::Remove => {
+            Ok(Statement::Item(read_item(alloc, draft, keyword, rest)?))
         }
         Keyword::Client
         | Keyword::Operator

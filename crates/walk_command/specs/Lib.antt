@@ -6,3 +6,4 @@ pub mod Ended
 pub mod Run
 pub mod Written
 pub mod Trace
+pub mod Begun

@@ -2,6 +2,7 @@
 //! The program itself only makes its input and outputs and hands them over. Begin with `walk_top`.
 #![tactic(auto)]
 
+mod begun;
 mod decode;
 mod hex_lines;
 mod make;

@@ -16,8 +16,9 @@ ghost use Rattle.walk_command.specs.Ended.{WritesWalk, WritesTrace, StopsBoth, S
 ghost use Rattle.walk_command.specs.Texts.{counts_in, walk_text, decision_text, decisions_text, trace_text};
 ghost use Rattle.walk_command.specs.Trace.{events_of, IsTurn, IsTold};
 
+use crate::begun::{Size, read_walk};
 use crate::walk::{Ended, stopped, write_rest};
-use command_parts::{Stop, read_whole_script, take_back};
+use command_parts::{Stop, take_back};
 use got_out::{GotOut, MayFail};
 use outside_io::{ByteSink, ByteSource, Failed, put_all};
 use session_model::{Event, EventLine};
@@ -43,13 +44,6 @@ enum Turn {
     Try(Event),
     /// A round is made.
     Round,
-}
-
-/// The lines and the ticks of a script.
-#[derive(Clone, Copy)]
-struct Size {
-    lines: u8,
-    ticks: u32,
 }
 
 /// Writes the line of the last decision step.
@@ -392,21 +386,12 @@ pub fn trace<S: ByteSource, K: ByteSink, E: ByteSink>(
     ensures write_quiet { result.stop ≢ Some Stop.Write →
         (K.faults out.new ≡ K.faults out.old) × (E.faults notes.new ≡ E.faults notes.old) }
 {
-    let script = match read_whole_script(alloc, script) {
-        Ok(script) => script,
+    let begun = match read_walk(alloc, script) {
+        Ok(begun) => begun,
         Err(stop) => return stopped(stop),
     };
-    let size = Size {
-        lines: script.config.lines,
-        ticks: script.config.ticks,
-    };
-    let Ok(lines) = Vec::from_slice(alloc, script.events.0.as_slice()) else {
-        return stopped(Stop::Memory);
-    };
-    let Ok(mut walk) = Walk::new(alloc, script) else {
-        return stopped(Stop::Memory);
-    };
-    match write_trace(&mut walk, lines.as_slice(), size, out, notes) {
+    let mut walk = begun.walk;
+    match write_trace(&mut walk, begun.lines.as_slice(), begun.size, out, notes) {
         Ok(()) => Ended {
             stop: None,
             walk: Some(walk),

@@ -18,7 +18,8 @@ ghost use Rattle.walk_command.specs.Ended.{WritesWalk, WritesWalkPart, HandsBack
 ghost use Rattle.walk_command.specs.Run.{RunsTo};
 ghost use Rattle.walk_command.specs.Texts.{counts_in, walk_text};
 
-use command_parts::{Stop, read_whole_script, take_back};
+use crate::begun::read_walk;
+use command_parts::{Stop, take_back};
 use got_out::GotOut;
 use outside_io::{ByteSink, ByteSource, Failed};
 use session_model::{Event, EventLine};
@@ -137,17 +138,12 @@ pub fn walk<S: ByteSource, K: ByteSink>(alloc: Global, script: &mut S, out: &mut
         K.faults out.new ≡ one_more (K.faults out.old) }
     ensures write_quiet { result.stop ≢ Some Stop.Write → K.faults out.new ≡ K.faults out.old }
 {
-    let script = match read_whole_script(alloc, script) {
-        Ok(script) => script,
+    let begun = match read_walk(alloc, script) {
+        Ok(begun) => begun,
         Err(stop) => return stopped(stop),
     };
-    let Ok(lines) = Vec::from_slice(alloc, script.events.0.as_slice()) else {
-        return stopped(Stop::Memory);
-    };
-    let Ok(mut walk) = Walk::new(alloc, script) else {
-        return stopped(Stop::Memory);
-    };
-    match write_walk(&mut walk, lines.as_slice(), out) {
+    let mut walk = begun.walk;
+    match write_walk(&mut walk, begun.lines.as_slice(), out) {
         Ok(()) => Ended {
             stop: None,
             walk: Some(walk),

@@ -1,12 +1,8 @@
 -- A script is read, its walk is traced, and its texts are written or a write fails.
-use Rattle.std.proofs.Common.{Option, Some, sym, ◌∙◌, ap, subst}
-use Rattle.session_model.specs.declared.script.Script.{Script}
-use Rattle.session_model.specs.Counts.{begin}
-use Rattle.session_model.specs.Valid.{IsValid}
-use Rattle.walk_law.specs.Walk.{walk_plan}
+use Rattle.std.proofs.Common.{Option, Some, refl, sym, ◌∙◌, subst}
 use Rattle.command_parts.specs.declared.stop.Stop.{Stop}
-use Rattle.command_parts.specs.declared.stop.Stop.TheVariants.{Usage, NotHex, Write, Memory}
-use Rattle.command_parts.specs.Stop.{ReadsScript, cut, short}
+use Rattle.command_parts.specs.declared.stop.Stop.TheVariants.{Usage, NotHex, Write}
+use Rattle.command_parts.specs.Stop.{ReadsScript, cut}
 use Rattle.walk_command.specs.Texts.{walk_text, trace_text}
 use Rattle.command_parts.proofs.StopLaws.{reads-late, not-run, same-stop}
 use Rattle.walk_command.proofs.WriteLaws.{writes-walk, hands-back}
@@ -16,7 +12,7 @@ use Rattle.walk_command.proofs.trace.trace.Goals as goal
 -- ---- nothing was read, or no script
 pub returns-in-Err-clause-reads : goal.returns-in-Err-clause-reads
 returns-in-Err-clause-reads g c =
-    let P : Option Stop → Type 0 = λ stop. ReadsScript g.S.ByteSource.left g.S.ByteSource.faults c.args.script.now c.read_whole_script.new.source stop in
+    let P : Option Stop → Type 0 = λ stop. ReadsScript g.S.ByteSource.left g.S.ByteSource.faults c.args.script.now c.read_walk.new.source stop in
     subst P (sym c.stopped.ensures.stop) c.in-Err.ensures.stopped
 
 pub returns-in-Err-clause-command : goal.returns-in-Err-clause-command
@@ -34,43 +30,26 @@ returns-in-Err-clause-write_failed g c stopped = absurd (c.in-Err.ensures.causes
 pub returns-in-Err-clause-handed : goal.returns-in-Err-clause-handed
 returns-in-Err-clause-handed g c run = absurd (not-run c.stopped.result.stop c.in-Err.stop c.stopped.ensures.stop c.in-Err.ensures.causes.1 run)
 
--- ---- memory is short
-pub returns-in_default-clause-reads : goal.returns-in_default-clause-reads
-returns-in_default-clause-reads g c =
-    let P : Option Stop → Type 0 = λ stop. ReadsScript g.S.ByteSource.left g.S.ByteSource.faults c.args.script.now c.read_whole_script.new.source stop in
-    subst P (sym c.stopped-in_default.ensures.stop) (reads-late g.S.ByteSource.left g.S.ByteSource.faults c.args.script.now c.read_whole_script.new.source (Some Memory) short c.in-Ok.ensures.done)
-
-pub returns-in_default-clause-handed : goal.returns-in_default-clause-handed
-returns-in_default-clause-handed g c run = absurd (not-run c.stopped-in_default.result.stop Memory c.stopped-in_default.ensures.stop (λ e. absurd cc) run)
-
-pub returns-in_default-new-clause-reads : goal.returns-in_default-new-clause-reads
-returns-in_default-new-clause-reads g c =
-    let P : Option Stop → Type 0 = λ stop. ReadsScript g.S.ByteSource.left g.S.ByteSource.faults c.args.script.now c.read_whole_script.new.source stop in
-    subst P (sym c.stopped-in_default-new.ensures.stop) (reads-late g.S.ByteSource.left g.S.ByteSource.faults c.args.script.now c.read_whole_script.new.source (Some Memory) short c.in-Ok.ensures.done)
-
-pub returns-in_default-new-clause-handed : goal.returns-in_default-new-clause-handed
-returns-in_default-new-clause-handed g c run = absurd (not-run c.stopped-in_default-new.result.stop Memory c.stopped-in_default-new.ensures.stop (λ e. absurd cc) run)
-
 -- ---- the walk
 pub write_trace-requires-clause-valid : goal.write_trace-requires-clause-valid
-write_trace-requires-clause-valid g c = subst IsValid (sym c.in-Ok-new.ensures.script) c.in-Ok.ensures.valid
+write_trace-requires-clause-valid g c = c.in-Ok.ensures.begun.valid
 
 pub write_trace-requires-clause-begun : goal.write_trace-requires-clause-begun
-write_trace-requires-clause-begun g c = c.in-Ok-new.ensures.counts ∙ ap (λ (s : Script). begin (walk_plan s)) (sym c.in-Ok-new.ensures.script)
+write_trace-requires-clause-begun g c = c.in-Ok.ensures.begun.counts
 
 pub returns-in-Ok-write_trace-clause-walked : goal.returns-in-Ok-write_trace-clause-walked
 returns-in-Ok-write_trace-clause-walked g c e =
-    writes-walk g.K.ByteSink.written g.K.ByteSink.faults (g.S.ByteSource.left c.args.script.now) c.in-Ok.script c.in-Ok-new.walk.script c.args.out.now c.write_trace.new.out
-    c.in-Ok-new.ensures.script c.in-Ok.ensures.script c.in-Ok-write_trace.ensures.walked
+    writes-walk g.K.ByteSink.written g.K.ByteSink.faults (g.S.ByteSource.left c.args.script.now) c.in-Ok.begun.walk.script c.in-Ok.begun.walk.script c.args.out.now c.write_trace.new.out
+    refl c.in-Ok.ensures.script c.in-Ok-write_trace.ensures.walked
 
 pub returns-in-Ok-write_trace-clause-traced : goal.returns-in-Ok-write_trace-clause-traced
 returns-in-Ok-write_trace-clause-traced g c e =
-    writes-trace g.E.ByteSink.written g.E.ByteSink.faults (g.S.ByteSource.left c.args.script.now) c.in-Ok.script c.in-Ok-new.walk.script c.args.notes.now c.write_trace.new.notes
-    c.in-Ok-new.ensures.script c.in-Ok.ensures.script c.in-Ok-write_trace.ensures.traced
+    writes-trace g.E.ByteSink.written g.E.ByteSink.faults (g.S.ByteSource.left c.args.script.now) c.in-Ok.begun.walk.script c.in-Ok.begun.walk.script c.args.notes.now c.write_trace.new.notes
+    refl c.in-Ok.ensures.script c.in-Ok-write_trace.ensures.traced
 
 pub returns-in-Ok-write_trace-clause-handed : goal.returns-in-Ok-write_trace-clause-handed
 returns-in-Ok-write_trace-clause-handed g c e =
-    hands-back (g.S.ByteSource.left c.args.script.now) c.in-Ok.script c.in-Ok-new.walk.script c.write_trace.new.walk c.in-Ok-new.ensures.script c.in-Ok.ensures.script
+    hands-back (g.S.ByteSource.left c.args.script.now) c.in-Ok.begun.walk.script c.in-Ok.begun.walk.script c.write_trace.new.walk refl c.in-Ok.ensures.script
     c.write_trace.ensures.script c.write_trace.ensures.counts
 
 pub returns-in-Ok-write_trace-clause-write_quiet : goal.returns-in-Ok-write_trace-clause-write_quiet
@@ -78,19 +57,19 @@ returns-in-Ok-write_trace-clause-write_quiet g c e = (c.in-Ok-write_trace.ensure
 
 -- ---- a write has failed
 pub returns-clause-reads : goal.returns-clause-reads
-returns-clause-reads g c = reads-late g.S.ByteSource.left g.S.ByteSource.faults c.args.script.now c.read_whole_script.new.source (Some Write) cut c.in-Ok.ensures.done
+returns-clause-reads g c = reads-late g.S.ByteSource.left g.S.ByteSource.faults c.args.script.now c.read_walk.new.source (Some Write) cut c.in-Ok.ensures.done
 
 pub returns-clause-part : goal.returns-clause-part
 returns-clause-part g c e =
-    stops-in-trace g.K.ByteSink.written g.K.ByteSink.faults c.args.out.now c.write_trace.new.out g.E.ByteSink.written g.E.ByteSink.faults c.args.notes.now c.write_trace.new.notes (g.S.ByteSource.left c.args.script.now) c.in-Ok.script c.in-Ok-new.walk.script
-    c.in-Ok-new.ensures.script c.in-Ok.ensures.script c.in-Err-write_trace.ensures.err
+    stops-in-trace g.K.ByteSink.written g.K.ByteSink.faults c.args.out.now c.write_trace.new.out g.E.ByteSink.written g.E.ByteSink.faults c.args.notes.now c.write_trace.new.notes (g.S.ByteSource.left c.args.script.now) c.in-Ok.begun.walk.script c.in-Ok.begun.walk.script
+    refl c.in-Ok.ensures.script c.in-Err-write_trace.ensures.err
 
 pub returns-clause-handed : goal.returns-clause-handed
 returns-clause-handed g c e =
-    hands-back (g.S.ByteSource.left c.args.script.now) c.in-Ok.script c.in-Ok-new.walk.script c.write_trace.new.walk c.in-Ok-new.ensures.script c.in-Ok.ensures.script
+    hands-back (g.S.ByteSource.left c.args.script.now) c.in-Ok.begun.walk.script c.in-Ok.begun.walk.script c.write_trace.new.walk refl c.in-Ok.ensures.script
     c.write_trace.ensures.script c.write_trace.ensures.counts
 
 pub returns-clause-write_failed : goal.returns-clause-write_failed
 returns-clause-write_failed g c e =
-    let script = c.in-Ok-new.walk.script in
+    let script = c.in-Ok.begun.walk.script in
     fails-once g.K.ByteSink.written g.K.ByteSink.faults c.args.out.now c.write_trace.new.out g.E.ByteSink.written g.E.ByteSink.faults c.args.notes.now c.write_trace.new.notes (walk_text script) (trace_text script) c.in-Err-write_trace.ensures.err
