@@ -134,7 +134,7 @@ fn packet_rows() -> &'static str {
     decode;\t| => 5;;fault: line 1: hex|"
 }
 
-/// What is answered where the first call of `out` fails, the second, and so on; the last answer is that without a fault. Short lines go out together.
+/// What is answered where the first call of `out` fails, the second, and so on, and last without a fault. Short lines go out together.
 fn put_rows() -> &'static str {
     "\
     walk;lines 3|delays 0 0 0|ring 1|lag 1|ticks 700|add 0 0|add 0 1|add 0 2|remove 600 1|frame 0 5a*64|frame 0 5a*64|frame 0 5a*64| => \
