@@ -5,7 +5,7 @@ ghost use Rattle.source_core.specs.Terminal.{SameKind};
 use crate::Done;
 use lcas_packet::Packet;
 use source_core::SourceCore;
-use std::alloc::Global;
+use std::alloc::{AllocError, Global};
 use vc_cell::{BackCell, Container, Ctrl, PAYLOAD};
 
 /// The octets of each frame.
@@ -86,13 +86,21 @@ pub(crate) fn source(alloc: Global, members: u8, octets: u64) -> Option<Done>
     requires some { 0 < members }
     requires most { members ≤ 128 }
 {
+    made(alloc, members, octets).ok()
+}
+
+/// The same, or want of memory.
+fn made(alloc: Global, members: u8, octets: u64) -> Result<Done, AllocError>
+    requires some { 0 < members }
+    requires most { members ≤ 128 }
+{
     let blank = Container {
         h4: 0,
         payload: [0; PAYLOAD],
     };
     let frame = [0x5au8; FRAME];
-    let mut out = vec![in alloc; blank; usize::from(members)].ok()?;
-    let mut core = SourceCore::new(alloc, members, 1, 2340).ok()?;
+    let mut out = vec![in alloc; blank; usize::from(members)]?;
+    let mut core = SourceCore::new(alloc, members, 1, 2340)?;
     add_all(&mut core, &mut out);
     let a_frame = (PAYLOAD * usize::from(members)) as u64;
     let rounds = octets.div_ceil(a_frame).min(FRAMES);
@@ -105,5 +113,5 @@ pub(crate) fn source(alloc: Global, members: u8, octets: u64) -> Option<Done>
         }
     }
     let octets = rounds.wrapping_mul(a_frame);
-    Some(Done { octets, sum })
+    Ok(Done { octets, sum })
 }
