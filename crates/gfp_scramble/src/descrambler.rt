@@ -124,8 +124,8 @@ impl Descrambler {
         self.given == SETTLED
     }
 
-    /// Forgets the octets before, and is settled again once six octets were given: from the seventh on, in whatever calls they come, they
-    /// are those that were scrambled.
+    /// Forgets the octets before, and is settled again once six octets were given: from the seventh on, in whatever
+    /// calls they come, they are those that were scrambled.
     pub fn forget(&mut self)
         ensures { Stands self.new false [] }
     {
