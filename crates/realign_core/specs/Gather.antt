@@ -37,7 +37,8 @@ decided_lines (line ∷ lines) = if is_open line.numbers then 0 else suc (decide
 
 -- the first line on which it is not decided, none where it is decided on each
 abbrev pub open_line : Gather → Option ℕ
-open_line gather = if nat_lt (decided_lines gather.lines) (line_count gather) then Some (decided_lines gather.lines) else None
+open_line gather = if nat_lt (decided_lines gather.lines) (line_count gather) then Some
+    (decided_lines gather.lines) else None
 
 -- it is decided on each line
 abbrev pub AreDecided : Gather → Type 0
