@@ -17,5 +17,5 @@ mod statement;
 mod words;
 
 pub use fault::{LineKind, ScriptFault};
-pub use laws::fault_law;
+pub use laws::{fault_law, valid_law};
 pub use script::read_script;
