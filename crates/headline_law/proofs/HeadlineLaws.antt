@@ -21,7 +21,8 @@ use Rattle.headline_law.proofs.ReportLaws.{is_headline}
 -- a walk takes no row beyond the ticks
 few-rows : (script : Script) → IsValid script → (counts_in script).rows ≤ script.config.ticks
 few-rows script valid =
-    let within = counts-within script (counts_in script) (valid-walks script valid) (walked-reached (walk_plan script) script.events) in
+    let within = counts-within script (counts_in script) (valid-walks script valid)
+    (walked-reached (walk_plan script) script.events) in
     omega (arith, within.0, within.1)
 
 pub walk_headline : (text : List ℕ) (script : Script) → length text ≤ 67108864 → script_of text ≡ Ok script →
@@ -38,7 +39,8 @@ run_headline text script short said =
     let all = script.config.ticks in
     (script, said, is_headline script all all (numbered 0 script.items) valid (omega arith))
 
-pub walk-same : (text : List ℕ) (script : Script) → length text ≤ 67108864 → script_of text ≡ Ok script → script.events ≡ [] →
+pub walk-same : (text : List ℕ) (script : Script) → length text ≤ 67108864 → script_of text ≡ Ok script →
+    script.events ≡ [] →
     walk_text script ≡ final_report script
 walk-same text script short said none =
     ap (λ events. report_of script (walked (walk_plan script) events)) none

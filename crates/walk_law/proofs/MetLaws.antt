@@ -37,7 +37,8 @@ equal-rise n x i j d before within =
     omega (arith, one, other)
 
 -- nothing is carried out in steps of which a list says so
-none-of : (f : ℕ → Option Command) (from n : ℕ) → map f (range_with_len from n) ≡ replicate n None → (i : ℕ) → from ≤ i → i < from + n → f i ≡ None
+none-of : (f : ℕ → Option Command) (from n : ℕ) → map f (range_with_len from n) ≡ replicate n None → (i : ℕ) →
+    from ≤ i → i < from + n → f i ≡ None
 none-of f from zero same i low high = absurd (omega (arith, low, high))
 none-of f from (suc n) same i low high =
     let here : f from ≡ None = cc in
@@ -59,8 +60,10 @@ unfolding window AreWindows
 one-window = record {
   few = omega arith;
   apart = (omega arith, omega arith, tt);
-  ends = All-cons (λ (window : Window). window.end ≤ 1100) window [] (omega arith) (All-nil (λ (window : Window). window.end ≤ 1100));
-  slips = All-cons (λ (window : Window). window.slip ≤ 2047) window [] (omega arith) (All-nil (λ (window : Window). window.slip ≤ 2047));
+  ends = All-cons (λ (window : Window). window.end ≤ 1100) window [] (omega arith)
+      (All-nil (λ (window : Window). window.end ≤ 1100));
+  slips = All-cons (λ (window : Window). window.slip ≤ 2047) window [] (omega arith)
+      (All-nil (λ (window : Window). window.slip ≤ 2047));
 }
 
 failing-network : IsNetwork failing_config
@@ -84,14 +87,18 @@ abbrev late_frame : ℕ → Item
 late_frame octet = item 1040 (Frame (replicate 64 octet))
 
 frame-fits : (octet : ℕ) → octet < 256 → IsItem 1100 (late_frame octet)
-frame-fits octet low = ((let e : 1040 < 1100 = omega arith in e), ((omega arith, omega arith), All-replicate (λ o. o < 256) 64 octet low))
+frame-fits octet low = (
+  (let e : 1040 < 1100 = omega arith in e),
+  ((omega arith, omega arith), All-replicate (λ o. o < 256) 64 octet low),
+)
 
 pub failing-valid : IsValid failing_script
 unfolding frame_dues command_dues
 failing-valid = record {
   network = failing-network;
   items = record {
-    each = All-cons (IsItem 1100) (item 0 (Add 0)) (late_frame 1 ∷ late_frame 2 ∷ late_frame 3 ∷ []) (omega arith, omega arith)
+    each = All-cons (IsItem 1100) (item 0 (Add 0)) (late_frame 1 ∷ late_frame 2 ∷ late_frame 3 ∷ [])
+        (omega arith, omega arith)
         (All-cons (IsItem 1100) (late_frame 1) (late_frame 2 ∷ late_frame 3 ∷ []) (frame-fits 1 (omega arith))
         (All-cons (IsItem 1100) (late_frame 2) (late_frame 3 ∷ []) (frame-fits 2 (omega arith))
         (All-cons (IsItem 1100) (late_frame 3) [] (frame-fits 3 (omega arith)) (All-nil (IsItem 1100)))));
@@ -113,7 +120,8 @@ all-late =
     All-cons IsLate one (two ∷ three ∷ []) (omega arith)
     (All-cons IsLate two (three ∷ []) (omega arith) (All-cons IsLate three [] (omega arith) (All-nil IsLate)))
 
-clear-later : (t line : ℕ) → 1032 ≤ t → line < 1 → IsClear (slice_index_or failing_script.config.windows line []) (row_from t) (t + 1)
+clear-later : (t line : ℕ) → 1032 ≤ t → line < 1 →
+    IsClear (slice_index_or failing_script.config.windows line []) (row_from t) (t + 1)
 unfolding window
 clear-later t zero late low = λ k d inside. later k d inside
   where
@@ -139,7 +147,8 @@ unfolding carried are_whole after keep none_kept cells_before said_before exchan
 failing-none = refl
 
 failing-read : (line k : ℕ) → k < 16 → is_read failing line k ≡ true
-failing-read line k low = (readable-whole (carried_by failing line) k).1 (clear-whole (slice_index_or failing.windows line []) (16 * k) (16 * k + 24) (clear line))
+failing-read line k low = (readable-whole (carried_by failing line) k).1
+    (clear-whole (slice_index_or failing.windows line []) (16 * k) (16 * k + 24) (clear line))
   where
     clear : (line : ℕ) → IsClear (slice_index_or failing.windows line []) (16 * k) (16 * k + 24)
     clear zero zero d inside = inl (omega (arith, low))
@@ -153,7 +162,9 @@ failing-adds = record {
   adds = record {
     added = failing-first;
     alone = λ i command later low is. absurd
-        (none-some command (sym (none-of (carried_out failing (session_cells failing)) 1 17 failing-none i (omega (arith, later)) (omega (arith, low))) ∙ is));
+        (none-some command (sym
+        (none-of (carried_out failing (session_cells failing)) 1 17 failing-none i (omega (arith, later))
+        (omega (arith, low))) ∙ is));
   };
   come = λ k low high. refl;
   read = λ other is k low high. failing-read other k (omega (arith, high));
@@ -168,8 +179,10 @@ unfolding silent_window AreWindows
 whole-window = record {
   few = omega arith;
   apart = (omega arith, omega arith, tt);
-  ends = All-cons (λ (window : Window). window.end ≤ 600) silent_window [] (omega arith) (All-nil (λ (window : Window). window.end ≤ 600));
-  slips = All-cons (λ (window : Window). window.slip ≤ 2047) silent_window [] (omega arith) (All-nil (λ (window : Window). window.slip ≤ 2047));
+  ends = All-cons (λ (window : Window). window.end ≤ 600) silent_window [] (omega arith)
+      (All-nil (λ (window : Window). window.end ≤ 600));
+  slips = All-cons (λ (window : Window). window.slip ≤ 2047) silent_window [] (omega arith)
+      (All-nil (λ (window : Window). window.slip ≤ 2047));
 }
 
 no-window : HasFailures 600 []
@@ -188,7 +201,8 @@ silent-network = record {
   delay_each = refl;
   delays = All-replicate (λ delay. delay ≤ 2047) 2 0 (omega arith);
   windows_each = refl;
-  windows = All-cons (HasFailures 600) (silent_window ∷ []) ([] ∷ []) whole-window (All-cons (HasFailures 600) [] [] no-window (All-nil (HasFailures 600)));
+  windows = All-cons (HasFailures 600) (silent_window ∷ []) ([] ∷ []) whole-window
+      (All-cons (HasFailures 600) [] [] no-window (All-nil (HasFailures 600)));
   lost = record { few = omega arith; apart = tt; ends = All-nil (λ (window : ℕ × ℕ). window.1 ≤ 62500) };
   ring = (omega arith, omega arith);
   lag = (omega arith, omega arith);
@@ -235,20 +249,26 @@ fails n low = rw (le-leb 0 n (omega arith), lt-ltb n 600 low, lt-ltb (n + 0) 600
 never-read : (k : ℕ) → 16 * k < 600 → is_read silent 0 k ≡ false
 never-read k low =
     false_from_ne_true (is_read silent 0 k)
-    (λ read. let whole : carried_by silent 0 (16 * k) ≡ Whole = (readable-whole (carried_by silent 0) k).0 read (16 * k) (omega arith) (omega arith) in
+    (λ read. let whole : carried_by silent 0 (16 * k) ≡ Whole = (readable-whole (carried_by silent 0) k).0 read
+    (16 * k) (omega arith) (omega arith) in
     let wrong : Fails ≡ Whole = sym (fails (16 * k) low) ∙ whole in cc)
 
 -- and all of line 1
 seen-read : (k : ℕ) → is_read silent 1 k ≡ true
-seen-read k = (readable-whole (carried_by silent 1) k).1 (clear-whole [] (16 * k) (16 * k + 24) (λ i d inside. absurd (omega (arith, inside))))
+seen-read k = (readable-whole (carried_by silent 1) k).1
+    (clear-whole [] (16 * k) (16 * k + 24) (λ i d inside. absurd (omega (arith, inside))))
 
-in-add : (order : List Member) → order ≡ member_of 0 adding ∷ member_of 1 adding ∷ [] → (sq other : ℕ) → slice_get order sq ≡ Some (member_of other adding) →
+in-add : (order : List Member) → order ≡ member_of 0 adding ∷ member_of 1 adding ∷ [] → (sq other : ℕ) →
+    slice_get order sq ≡ Some (member_of other adding) →
     (other ≡ 1 → ⊥) → other ≡ 0
-in-add order same sq other there not_one = at sq (subst (λ l. slice_get l sq ≡ Some (member_of other adding)) same there)
+in-add order same sq other there not_one = at sq
+    (subst (λ l. slice_get l sq ≡ Some (member_of other adding)) same there)
   where
-    at : (sq : ℕ) → slice_get (member_of 0 adding ∷ member_of 1 adding ∷ []) sq ≡ Some (member_of other adding) → other ≡ 0
+    at : (sq : ℕ) → slice_get (member_of 0 adding ∷ member_of 1 adding ∷ []) sq ≡ Some (member_of other adding) →
+        other ≡ 0
     at zero is = sym (ap (λ (m : Member). m.line) (same_Some (member_of 0 adding) (member_of other adding) is))
-    at (suc zero) is = absurd (not_one (sym (ap (λ (m : Member). m.line) (same_Some (member_of 1 adding) (member_of other adding) is))))
+    at (suc zero) is = absurd
+        (not_one (sym (ap (λ (m : Member). m.line) (same_Some (member_of 1 adding) (member_of other adding) is))))
     at (suc (suc sq)) is = absurd (none-some (member_of other adding) is)
 
 pub silent-adds : AddsAmongSilent silent 1 1
@@ -258,11 +278,14 @@ silent-adds = record {
   adds = record {
     added = silent-first;
     alone = λ i command later low is. absurd
-        (none-some command (sym (none-of (carried_out silent (session_cells silent)) 2 32 silent-none i (omega (arith, later)) (omega (arith, low))) ∙ is));
+        (none-some command (sym
+        (none-of (carried_out silent (session_cells silent)) 2 32 silent-none i (omega (arith, later))
+        (omega (arith, low))) ∙ is));
   };
   come = λ k low high. refl;
   read = λ k low high. seen-read k;
   others = λ other is not_one k low high.
-      let zero_line : other ≡ 0 = in-add (table_of silent (session_cells silent) 1).order silent-order is.0 other is.1 not_one in
+      let zero_line : other ≡ 0 = in-add
+      (table_of silent (session_cells silent) 1).order silent-order is.0 other is.1 not_one in
       subst (λ line. is_read silent line k ≡ false) (sym zero_line) (never-read k (omega (arith, high)));
 }
