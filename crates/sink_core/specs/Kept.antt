@@ -1,12 +1,5 @@
--- What had been given before the frames that are spoken of.
+-- Frames that are kept.
 use Rattle.std.specs.Prelude.{◌≡◌, ℕ, Bool, false, List}
-
--- the octets that had been written, how many writes had failed, and the name of the reference by which is written. One that keeps frames
--- and writes nothing needs none of them
-pub record Start : Type 0 where
-  pub octets : List ℕ
-  pub faults : ℕ
-  pub name : ℕ
 
 -- frames that are kept, and whether there was no room for one
 pub record Kept : Type 0 where
