@@ -1,0 +1,3 @@
+mod TextLaws
+pub mod LanguageLaws
+pub mod FirstFaultLaws
