@@ -5,3 +5,5 @@ pub mod RowLaws
 mod GrowthLaws
 mod ValidLaws
 mod FirstFaultLaws
+mod FitLaws
+pub mod ReadLaws

@@ -1,7 +1,8 @@
 //! What the definition of the language means, apart from how it computes.
-ghost use Rattle.std.specs.Prelude.{◌≡◌, ◌↔◌, ℕ, List, Ok, Err};
+ghost use Rattle.std.specs.Prelude.{◌≡◌, ◌↔◌, ◌≤◌, ℕ, List, length, Ok, Err};
 ghost use Rattle.std.specs.Str.Lines.{lines};
 ghost use Rattle.session_model.specs.declared.script.Script.{Script};
+ghost use Rattle.session_model.specs.Valid.{IsValid};
 ghost use Rattle.text_lines.specs.declared.fault.LineKind.{LineKind};
 ghost use Rattle.text_lines.specs.FirstFault.{IsFirstFault};
 ghost use Rattle.script_read.specs.declared.fault.ScriptFault.TheVariants.{Line};
@@ -17,4 +18,11 @@ pub fn fault_law()
         ↔ IsFirstFault script_lines 1 at_first (lines text) number kind }
     ensures script { (text : List ℕ) (script : Script) →
         (script_of text ≡ Ok script) ↔ IsScriptOf (lines text) script }
+{}
+
+/// A text of at most 67,108,864 octets that is a script says one that can be walked: its numbers are in their ranges, its windows and
+/// items in order, and its rings and lag fit.
+pub fn valid_law()
+    ensures { (text : List ℕ) (script : Script) → length text ≤ 67108864 →
+        script_of text ≡ Ok script → IsValid script }
 {}

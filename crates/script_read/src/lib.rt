@@ -16,5 +16,5 @@ mod script;
 mod statement;
 
 pub use fault::ScriptFault;
-pub use laws::fault_law;
+pub use laws::{fault_law, valid_law};
 pub use script::read_script;

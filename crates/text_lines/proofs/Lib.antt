@@ -1,3 +1,4 @@
-mod TextLaws
+pub mod TextLaws
 pub mod LanguageLaws
 pub mod FirstFaultLaws
+pub mod FieldLaws

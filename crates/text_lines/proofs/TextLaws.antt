@@ -1,9 +1,10 @@
 -- How a text is cut into lines, and a line into words.
-use Rattle.std.proofs.Common.{◌≡◌, ◌≢◌, ℕ, ◌-◌, ◌<◌, ◌==◌, List, [], ◌∷◌, ◌++◌, length, arith, refl, ap, sym, ◌∙◌, slice_index_or, take, drop, All, false}
-use Rattle.std.specs.List.{slice_split}
+use Rattle.std.proofs.Common.{◌≡◌, ◌≢◌, ℕ, ◌-◌, ◌<◌, ◌==◌, List, [], ◌∷◌, ◌++◌, length, arith, refl, ap, sym, ◌∙◌, slice_index_or, take, drop, All, false, ◌+◌, ◌≤◌, inl, inr}
+use Rattle.std.specs.List.{slice_split, onto_first}
 use Rattle.std.specs.Str.Lines.{lines, lines_of_parts, strip_carriage_return}
 use Rattle.std.proofs.lemmas.List.{take_all, length-drop, length-take-le}
 use Rattle.std.proofs.lemmas.List.Splits.{slice_split_none, slice_split_at, slice_split-cons_yes, length-slice_split}
+use Rattle.std.proofs.lemmas.Bool.{cases_Bool}
 use Rattle.std.proofs.lemmas.Bool.Decides.{nat_tests}
 use Rattle.text_lines.specs.Cut.{Lacks}
 use Rattle.text_lines.specs.Words.{words}
@@ -85,3 +86,27 @@ words_last line text n none same some lacks =
 
 pub words_nothing : (line text : List ℕ) → words text ≡ words line → length text ≡ 0 → words line ≡ []
 words_nothing line text same none = sym same ∙ ap (λ (t : List ℕ). words t) (nothing text none) ∙ words_none
+
+-- ---- how many lines
+last_part : (part : List ℕ) → length (lines_of_parts (part ∷ [])) ≤ 1
+last_part part = elim (cases_Bool (length part == 0)) [ inl none ↦ rw none (omega arith) | inr some ↦ rw some (omega arith) ]
+
+more_parts : (c : ℕ) (parts : List (List ℕ)) → length (lines_of_parts (onto_first c parts)) ≤ length (lines_of_parts parts) + 1
+more_parts c [] = omega arith
+more_parts c (part ∷ []) = let one = last_part (c ∷ part) in omega (arith, one)
+more_parts c (part ∷ next ∷ parts) = omega arith
+
+after_line : (parts : List (List ℕ)) → length (lines_of_parts ([] ∷ parts)) ≤ length (lines_of_parts parts) + 1
+after_line [] = omega arith
+after_line (part ∷ parts) = omega arith
+
+-- no text has more lines than octets
+pub lines_few : (text : List ℕ) → length (lines text) ≤ length text
+lines_few [] = omega arith
+lines_few (c ∷ text) =
+    let less = lines_few text in
+    let parts : List (List ℕ) = slice_split (λ b. b == 10) text in
+    elim (cases_Bool (c == 10)) [
+      | inl ends ↦ rw ends (let one = after_line parts in omega (arith, less, one))
+      | inr other ↦ rw other (let one = more_parts c parts in omega (arith, less, one))
+    ]
