@@ -5,7 +5,7 @@
 //! `member_law` and `answer_law` are what is promised of a script.
 #![tactic(auto)]
 
-ghost use Rattle.std.specs.Prelude.{◌≡◌, ◌↔◌, ℕ, Bool, true, ◌+◌, ◌-◌, ◌*◌, ◌/◌, ◌%◌, ◌<◌, ◌≤◌, ◌==◌, ◌&&◌, nat_le, nat_lt, min, if◌then◌else◌, List, [], ◌∷◌, ◌++◌, map, fold, length, take, drop, slice_get, slice_index_or, Option, Some, None, is_none, option_map};
+ghost use Rattle.std.specs.Prelude.{◌≡◌, ◌↔◌, ℕ, Bool, true, ◌+◌, ◌-◌, ◌*◌, ◌/◌, ◌%◌, ◌<◌, ◌≤◌, ◌==◌, ◌&&◌, nat_le, nat_lt, min, if◌then◌else◌, List, [], ◌∷◌, ◌++◌, map, fold, length, take, drop, slice_get, slice_index_or, All, Option, Some, None, is_none, option_map};
 ghost use Rattle.std.specs.List.{range_with_len};
 ghost use Rattle.vc_cell.specs.declared.Cell.{Cell};
 ghost use Rattle.session_model.specs.declared.window.Window.{Window};
@@ -315,7 +315,8 @@ pub fn delivery_law()
         ≡ frames_by (place_after script script.config.ticks) (session_pieces script) }
 {}
 
-/// Which rows a failure leaves whole, and what is delivered before the first that it spoils: just what would be without it.
+/// Which rows a failure leaves whole; and while it has spoiled none, no frame is lost: just those are delivered whose last octet the rows
+/// carry.
 pub fn clear_law()
     ensures clear { (windows : List Window) (from end : ℕ) → IsClear windows from end →
         AreWhole (carried windows) from end }
@@ -343,9 +344,10 @@ pub fn failure_law()
     ensures accepted { (script : Script) → IsValid script →
         map (λ (extent : Extent). extent.frame) (session_extents script) ++ session_waiting script
         ≡ accepted_frames script }
-    ensures ways { (script : Script) (rows : ℕ) (frame : Extent) → frame.from < frame.to →
+    ensures ways { (script : Script) (rows : ℕ) → All (λ (frame : Extent).
         (is_frame_lost (segments (session_rows script rows)) (session_extents script) frame ≡ true)
-        ↔ Lost (segments (session_rows script rows)) (session_extents script) frame }
+        ↔ Lost (segments (session_rows script rows)) (session_extents script) frame)
+        (session_extents script) }
 {}
 
 /// A walk is never stuck, and takes no row before its tick: where rows are left, some event moves or a Take pops a cell; the inbox never
