@@ -1,4 +1,3 @@
-mod TextLaws
 mod DelayLaws
 mod DraftLaws
 mod LimitLaws

@@ -7,7 +7,7 @@ use Rattle.session_model.specs.Rows.{first_open}
 use Rattle.line_law.specs.StableRows.{IsLonger}
 use Rattle.realign_core.specs.Gather.{Gather, line_count}
 use Rattle.realign_core.specs.Gather.{Stands as Gathers}
-use Rattle.sink_core.specs.Start.{Start}
+use Rattle.outside_io.specs.Start.{Start}
 use Rattle.sink_core.specs.Core.{Core, Stands}
 use Rattle.sink_core.specs.Given.{added_frames}
 use Rattle.member_ring.specs.declared.ends.RingIn.{RingIn}
