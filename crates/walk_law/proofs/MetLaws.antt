@@ -51,20 +51,30 @@ none-of f from (suc n) same i low high =
     same_or_later : (from i : ℕ) → from ≤ i → (from ≡ i) ⊎ (suc from ≤ i)
     same_or_later from i low = grind (arith, low)
 
+-- ---- windows
+abbrev EndsBy : ℕ → Window → Type 0
+EndsBy ticks window = window.end ≤ ticks
+
+abbrev IsShort : Window → Type 0
+IsShort window = window.slip ≤ 2047
+
+one_failure : (ticks : ℕ) (window : Window) → window.slip + window.first < window.end → EndsBy ticks window → IsShort window →
+    HasFailures ticks (window ∷ [])
+unfolding AreWindows
+one_failure ticks window sign ends short = record {
+  few = omega arith;
+  apart = (omega arith, sign, tt);
+  ends = All-cons (EndsBy ticks) window [] ends (All-nil (EndsBy ticks));
+  slips = All-cons IsShort window [] short (All-nil IsShort);
+}
+
+no_failure : (ticks : ℕ) → HasFailures ticks []
+unfolding AreWindows
+no_failure ticks = record { few = omega arith; apart = tt; ends = All-nil (EndsBy ticks); slips = All-nil IsShort }
+
 -- ---- a line that fails once
 window : Window
 window = record { first = 1000; «end» = 1003; slip = 1 }
-
-one-window : HasFailures 1100 (window ∷ [])
-unfolding window AreWindows
-one-window = record {
-  few = omega arith;
-  apart = (omega arith, omega arith, tt);
-  ends = All-cons (λ (window : Window). window.end ≤ 1100) window [] (omega arith)
-      (All-nil (λ (window : Window). window.end ≤ 1100));
-  slips = All-cons (λ (window : Window). window.slip ≤ 2047) window [] (omega arith)
-      (All-nil (λ (window : Window). window.slip ≤ 2047));
-}
 
 failing-network : IsNetwork failing_config
 unfolding window AreApart slip_after
@@ -73,7 +83,8 @@ failing-network = record {
   delay_each = refl;
   delays = All-cons (λ delay. delay ≤ 2047) 0 [] (omega arith) (All-nil (λ delay. delay ≤ 2047));
   windows_each = refl;
-  windows = All-cons (HasFailures 1100) (window ∷ []) [] one-window (All-nil (HasFailures 1100));
+  windows = All-cons (HasFailures 1100) (window ∷ []) []
+      (one_failure 1100 window (omega arith) (omega arith) (omega arith)) (All-nil (HasFailures 1100));
   lost = record { few = omega arith; apart = tt; ends = All-nil (λ (window : ℕ × ℕ). window.1 ≤ 62500) };
   ring = (omega arith, omega arith);
   lag = (omega arith, omega arith);
@@ -174,26 +185,6 @@ failing-adds = record {
 silent_window : Window
 silent_window = record { first = 0; «end» = 600; slip = 0 }
 
-whole-window : HasFailures 600 (silent_window ∷ [])
-unfolding silent_window AreWindows
-whole-window = record {
-  few = omega arith;
-  apart = (omega arith, omega arith, tt);
-  ends = All-cons (λ (window : Window). window.end ≤ 600) silent_window [] (omega arith)
-      (All-nil (λ (window : Window). window.end ≤ 600));
-  slips = All-cons (λ (window : Window). window.slip ≤ 2047) silent_window [] (omega arith)
-      (All-nil (λ (window : Window). window.slip ≤ 2047));
-}
-
-no-window : HasFailures 600 []
-unfolding AreWindows
-no-window = record {
-  few = omega arith;
-  apart = tt;
-  ends = All-nil (λ (window : Window). window.end ≤ 600);
-  slips = All-nil (λ (window : Window). window.slip ≤ 2047);
-}
-
 silent-network : IsNetwork silent_config
 unfolding silent_window AreApart slip_after
 silent-network = record {
@@ -201,8 +192,9 @@ silent-network = record {
   delay_each = refl;
   delays = All-replicate (λ delay. delay ≤ 2047) 2 0 (omega arith);
   windows_each = refl;
-  windows = All-cons (HasFailures 600) (silent_window ∷ []) ([] ∷ []) whole-window
-      (All-cons (HasFailures 600) [] [] no-window (All-nil (HasFailures 600)));
+  windows = All-cons (HasFailures 600) (silent_window ∷ []) ([] ∷ [])
+      (one_failure 600 silent_window (omega arith) (omega arith) (omega arith))
+      (All-cons (HasFailures 600) [] [] (no_failure 600) (All-nil (HasFailures 600)));
   lost = record { few = omega arith; apart = tt; ends = All-nil (λ (window : ℕ × ℕ). window.1 ≤ 62500) };
   ring = (omega arith, omega arith);
   lag = (omega arith, omega arith);
