@@ -17,6 +17,8 @@ mod line;
 #[cfg(test)]
 mod parts;
 #[cfg(test)]
+mod pointers;
+#[cfg(test)]
 mod reading;
 #[cfg(test)]
 mod realignment;
