@@ -1,5 +1,6 @@
 -- A worked script: what is refused, what is accepted, and what is counted.
 use Rattle.std.specs.Prelude.{ℕ, Bool, true, false, List, [], ◌∷◌, ◌++◌, map, replicate, codes}
+use Rattle.std.specs.List.{range_with_len}
 use Rattle.session_model.specs.declared.refusal.AcceptFault.TheVariants.{Length}
 use Rattle.session_model.specs.declared.refusal.CommandFault.TheVariants.{UnknownLine, AlreadyIn, NotIn}
 use Rattle.session_model.specs.declared.script.Config.{Config}
@@ -102,7 +103,7 @@ abbrev pub one_frame : List (List ℕ)
 one_frame = replicate 64 7 ∷ []
 
 -- ---- a failure
--- one line, added at once, of which containers 1000 and 1001 fail and 1002 vanishes
+-- one line, added at once, of which containers 1000 and 1001 fail and 1002 vanishes; and three frames after that
 abbrev pub failing_config : Config
 failing_config = record {
   lines = 1;
@@ -115,15 +116,36 @@ failing_config = record {
   size = 756;
 }
 
-abbrev pub failing_script : Script
-failing_script = record { config = failing_config; items = item 0 (Add 0) ∷ []; events = [] }
+abbrev pub failing_items : List Item
+failing_items =
+    item 0 (Add 0) ∷ item 1040 (Frame (replicate 64 1)) ∷ item 1040 (Frame (replicate 64 2)) ∷ item 1040 (Frame (replicate 64 3)) ∷ []
 
--- the rows at each end of the gaps
+abbrev pub failing_script : Script
+failing_script = record { config = failing_config; items = failing_items; events = [] }
+
+-- rows 999 to 1032: of the gaps, the first has 10 rows and the second 16, with 6 whole ones between
 abbrev pub seen_rows : List ℕ
-seen_rows = 999 ∷ 1000 ∷ 1009 ∷ 1010 ∷ 1015 ∷ 1016 ∷ 1031 ∷ 1032 ∷ []
+seen_rows = range_with_len 999 34
 
 abbrev pub seen_whole : List Bool
-seen_whole = true ∷ false ∷ false ∷ true ∷ true ∷ false ∷ false ∷ true ∷ []
+seen_whole = true ∷ replicate 10 false ++ replicate 6 true ++ replicate 16 false ++ true ∷ []
 
 abbrev pub whole_rows : Script → List ℕ → List Bool
 whole_rows script rows = map (λ t. is_whole_row (scenario_of script) (session_of script) t) rows
+
+-- ---- a line that is seen beside one that isn't
+-- two lines, added at once; nothing of line 0 arrives
+abbrev pub silent_config : Config
+silent_config = record {
+  lines = 2;
+  delays = 0 ∷ 0 ∷ [];
+  windows = (record { first = 0; «end» = 600; slip = 0 } ∷ []) ∷ [] ∷ [];
+  lost = [];
+  ring = 1;
+  lag = 1;
+  ticks = 600;
+  size = 756;
+}
+
+abbrev pub silent_script : Script
+silent_script = record { config = silent_config; items = item 0 (Add 0) ∷ item 0 (Add 1) ∷ []; events = [] }
