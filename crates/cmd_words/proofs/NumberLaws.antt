@@ -3,7 +3,7 @@ use Rattle.std.proofs.Common.{◌≡◌, ℕ, ◌+◌, ◌-◌, ◌*◌, ◌<◌
 use Rattle.std.specs.Prelude.{Some, None}
 use Rattle.std.proofs.lemmas.List.{at_drop_more}
 use Rattle.std.proofs.lemmas.Bool.Decides.{nat_tests}
-use Rattle.script_read.specs.Words.{number_after, number_of}
+use Rattle.text_lines.specs.Words.{number_after, number_of}
 use Rattle.cmd_words.specs.Commands.{is_number, number_in}
 
 -- more digits make no number less

@@ -5,7 +5,7 @@ use Rattle.cmd_words.specs.declared.command.Command.{Command}
 use Rattle.cmd_words.specs.declared.command.Command.TheVariants.{Walk, Decode, Make, Run}
 use Rattle.cmd_words.specs.declared.command.Program.{Program}
 use Rattle.cmd_words.specs.declared.command.Program.TheVariants as program
-use Rattle.script_read.specs.Words.{is_digit, number_of}
+use Rattle.text_lines.specs.Words.{is_digit, number_of}
 
 abbrev pub word_at : ℕ → List (List ℕ) → List ℕ
 word_at i ws = slice_index_or ws i []

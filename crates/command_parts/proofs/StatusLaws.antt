@@ -1,6 +1,6 @@
 -- Which cause a status tells.
 use Rattle.std.proofs.Common.{◌≡◌, ◌≢◌, ◌⊎◌, ℕ, Option, Some, None, refl, inl, inr, arith}
-use Rattle.script_read.specs.declared.fault.LineKind.{LineKind}
+use Rattle.text_lines.specs.declared.fault.LineKind.{LineKind}
 use Rattle.script_read.specs.declared.fault.ScriptFault.{ScriptFault}
 use Rattle.script_read.specs.declared.fault.ScriptFault.TheVariants.{Line, Slip, Spread, Lag}
 use Rattle.script_read.specs.declared.fault.ScriptFault.TheVariants as fault

@@ -2,8 +2,8 @@
 use Rattle.std.specs.Prelude.{ℕ, List, ◌++◌, codes, decimal}
 use Rattle.cmd_words.specs.declared.command.Program.{Program}
 use Rattle.cmd_words.specs.declared.command.Program.TheVariants as program
-use Rattle.script_read.specs.declared.fault.LineKind.{LineKind}
-use Rattle.script_read.specs.declared.fault.LineKind.TheVariants.{Word, Number, Hex, Range, Order, Missing}
+use Rattle.text_lines.specs.declared.fault.LineKind.{LineKind}
+use Rattle.text_lines.specs.declared.fault.LineKind.TheVariants.{Word, Number, Hex, Range, Order, Missing}
 use Rattle.script_read.specs.declared.fault.ScriptFault.{ScriptFault}
 use Rattle.script_read.specs.declared.fault.ScriptFault.TheVariants.{Line, Slip, Spread, Lag, Memory}
 use Rattle.command_parts.specs.declared.stop.Stop.{Stop}

@@ -8,7 +8,8 @@ use crate::stop::Stop;
 use cmd_words::Program;
 use outside_io::{ByteSink, put_all};
 use report_text::LineCursor;
-use script_read::{LineKind, ScriptFault};
+use script_read::ScriptFault;
+use text_lines::LineKind;
 
 /// Room for a note.
 const NOTE_ROOM: usize = 128;

@@ -59,7 +59,7 @@ module _ (more : List ℕ) where
         (confirm-longer n r (p + (4 + pli)) (drop (4 + pli) octets) f g (omega (arith, size, within)) agree)))
   ]
 
-  hunt_within-few : (k : ℕ) (r : Bool) (p : ℕ) (octets : List ℕ) → length octets < 4 → hunt_within head k r p octets ≡ None
+  pub hunt_within-few : (k : ℕ) (r : Bool) (p : ℕ) (octets : List ℕ) → length octets < 4 → hunt_within head k r p octets ≡ None
   unfolding hunt_within
   hunt_within-few zero r p octets few = refl
   hunt_within-few (suc k) r p octets few = rw (no_header head octets few) (hunt_within-few k r (p + 1) (drop 1 octets) (omega (arith, few, length-drop 1 octets)))

@@ -13,13 +13,13 @@ use Rattle.session_model.specs.Source.{table_of}
 use Rattle.session_model.specs.Client.{Stream, frame_refusal, offered, place_of, stream_before, frames_in}
 use Rattle.session_model.specs.Journal.{accepted_offers, offers_before, frames_before}
 use Rattle.session_model.specs.SessionRows.{is_whole_row}
-use Rattle.session_model.specs.Segment.{StreamRow, deliver}
+use Rattle.session_model.specs.Segment.{deliver}
 use Rattle.session_model.specs.Loss.{extents, TrueStarts, frames_kept}
 use Rattle.session_model.specs.SessionStream.{row_of, rows_of}
 use Rattle.session_law.proofs.ClientLaws.{stream_before-frames}
 use Rattle.loss_law.specs.Carried.{Carry, IsSentFrame, IsSentPiece, AreOctets, IsUndamaged}
 use Rattle.loss_law.proofs.KeptLaws.{deliver-kept, All-front}
-use Rattle.loss_law.proofs.WholeLaws.{deliver-whole}
+use Rattle.loss_law.proofs.WholeLaws.{IsWhole, deliver-whole}
 use Rattle.loss_law.proofs.ExtentLaws.{frames_ended}
 use Rattle.loss_law.proofs.PrefixLaws.{all_frames, frames_to-first}
 use Rattle.loss_law.proofs.SessionStreamLaws.{pieces-open, rows-carry, rows-length, All-accepted}
@@ -142,13 +142,15 @@ undamaged-whole scenario cells t undamaged =
           rw (late, heard) (all-true (λ line. is_read scenario line k && is_good (carried_by scenario line) t) (active (table_of scenario cells k)) each)
     ]
 
-rows-whole : (scenario : Scenario) (cells : List (Option Told)) (t : ℕ) → IsUndamaged scenario → All (λ (row : StreamRow). row.whole ≡ true) (rows_of scenario cells t)
+-- rows are whole by their numbers
+pub rows-whole : (scenario : Scenario) (cells : List (Option Told)) (rows : ℕ) →
+    ((t : ℕ) → t < rows → is_whole_row scenario cells t ≡ true) → All IsWhole (rows_of scenario cells rows)
 unfolding rows_of
-rows-whole scenario cells zero undamaged = All-nil (λ (row : StreamRow). row.whole ≡ true)
-rows-whole scenario cells (suc t) undamaged =
-    let P : StreamRow → Type 0 = λ row. row.whole ≡ true in
-    All-append P (rows_of scenario cells t) (row_of scenario cells t ∷ []) (rows-whole scenario cells t undamaged)
-    (All-cons P (row_of scenario cells t) [] (undamaged-whole scenario cells t undamaged) (All-nil P))
+rows-whole scenario cells zero each = All-nil IsWhole
+rows-whole scenario cells (suc rows) each =
+    All-append IsWhole (rows_of scenario cells rows) (row_of scenario cells rows ∷ [])
+    (rows-whole scenario cells rows (λ t low. each t (omega arith)))
+    (All-cons IsWhole (row_of scenario cells rows) [] (each rows (omega arith)) (All-nil IsWhole))
 
 pub session-hitless : (scenario : Scenario) (cells : List (Option Told)) (t n : ℕ) → AreOctets scenario → IsUndamaged scenario → t ≤ n →
     deliver 9600 (rows_of scenario cells t) ≡ frames_by (place_of scenario cells t) (stream_before scenario cells n).pieces
@@ -158,7 +160,7 @@ session-hitless scenario cells t n octets undamaged low =
     let opens = pieces-open scenario cells n in
     let sent = rest-sent pieces opens.0 opens.1 (pieces-sent scenario cells n octets) in
     let carried : Carry rows (idle ∷ idle ∷ opens.0) = subst (Carry rows) opens.1 (rows-carry scenario cells t n low) in
-    deliver-whole 9600 opens.0 rows (omega arith) sent carried (rows-whole scenario cells t undamaged)
+    deliver-whole 9600 opens.0 rows (omega arith) sent carried (rows-whole scenario cells t (λ row low. undamaged-whole scenario cells row undamaged))
     ∙ ap₂ frames_by (rows-length scenario cells t n low) (sym opens.1)
 
 -- they are the first of the accepted frames

@@ -4,7 +4,7 @@ ghost use Rattle.std.specs.Io.KnownBytes.{IsAtEnd};
 ghost use Rattle.outside_io.specs.Faults.{one_more};
 ghost use Rattle.outside_io.specs.Transfer.{Tells};
 ghost use Rattle.script_read.specs.Script.{script_of};
-ghost use Rattle.script_read.specs.declared.fault.LineKind.{LineKind};
+ghost use Rattle.text_lines.specs.declared.fault.LineKind.{LineKind};
 ghost use Rattle.script_read.specs.declared.fault.ScriptFault.{ScriptFault};
 ghost use Rattle.script_read.specs.declared.fault.ScriptFault.TheVariants.{Line};
 ghost use Rattle.command_parts.specs.Words.{command_in};

@@ -3,9 +3,9 @@ use Rattle.std.proofs.Common.{◌≡◌, ℕ, List, [], ◌∷◌, length, refl,
 use Rattle.std.proofs.lemmas.Bool.Decides.{nat_tests}
 use Rattle.std.specs.Prelude.{Option, None, Some, replicate}
 use Rattle.std.specs.Option.{option_or}
-use Rattle.script_read.specs.declared.fault.LineKind.{LineKind}
-use Rattle.script_read.specs.Words.{number_of}
-use Rattle.script_read.specs.Statements.{fields_fault, number_fault, within}
+use Rattle.text_lines.specs.declared.fault.LineKind.{LineKind}
+use Rattle.text_lines.specs.Words.{number_of}
+use Rattle.text_lines.specs.Fields.{fields_fault, number_fault, within}
 use Rattle.script_read.specs.Drafts.{delays_fault}
 
 -- the first fault of delays

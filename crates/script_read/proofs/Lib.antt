@@ -1,4 +1,3 @@
-mod TextLaws
 mod DelayLaws
 mod DraftLaws
 mod LimitLaws
@@ -6,3 +5,5 @@ pub mod RowLaws
 mod GrowthLaws
 mod ValidLaws
 mod FirstFaultLaws
+mod FitLaws
+pub mod ReadLaws

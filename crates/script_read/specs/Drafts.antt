@@ -1,41 +1,34 @@
 -- What a draft meets, and what a line may say that stands after those of a draft.
-use Rattle.std.specs.Prelude.{◌≡◌, ◌⊎◌, ⊤, ℕ, ◌==◌, ◌<◌, ◌≤◌, not, List, [], ◌∷◌, length, replicate, Option, Some, All}
+use Rattle.std.specs.Prelude.{◌≡◌, ◌⊎◌, ⊤, ℕ, ◌==◌, ◌<◌, ◌≤◌, not, List, [], ◌∷◌, length, replicate, Option, All}
 use Rattle.std.specs.Option.{option_or}
 use Rattle.session_model.specs.declared.window.Window.{Window}
 use Rattle.session_model.specs.declared.script.Config.{Config}
 use Rattle.session_model.specs.declared.script.ItemKind.{ItemKind}
 use Rattle.session_model.specs.declared.script.ItemKind.TheVariants as item
 use Rattle.session_model.specs.Counts.{dues_of, frame_dues, command_dues}
-use Rattle.script_read.specs.declared.fault.LineKind.{LineKind}
-use Rattle.script_read.specs.declared.fault.LineKind.TheVariants.{Word}
+use Rattle.text_lines.specs.declared.fault.LineKind.{LineKind}
+use Rattle.text_lines.specs.declared.fault.LineKind.TheVariants.{Word}
 use Rattle.script_read.specs.declared.fault.ScriptFault.{ScriptFault}
 use Rattle.script_read.specs.declared.fault.ScriptFault.TheVariants as fault
-use Rattle.script_read.specs.declared.fault.Stop.{Stop}
-use Rattle.script_read.specs.declared.fault.Stop.TheVariants as stop
+use Rattle.text_lines.specs.declared.fault.LineStop.{LineStop}
+use Rattle.text_lines.specs.declared.fault.LineStop.TheVariants as stop
 use Rattle.script_read.specs.declared.draft.Statement.{Statement}
 use Rattle.script_read.specs.declared.draft.Statement.TheVariants as says
 use Rattle.script_read.specs.declared.draft.Draft.{Draft}
-use Rattle.script_read.specs.Words.{word_at}
-use Rattle.script_read.specs.Statements.{where_true, within, number_fault, fields_fault, size_of, size_fault, windows_of, last_end, last_lost}
+use Rattle.text_lines.specs.Words.{word_at}
+use Rattle.text_lines.specs.Fields.{where_true, within, name_fault, fields_fault}
+use Rattle.script_read.specs.Statements.{container_names, windows_of, last_end, last_lost}
 use Rattle.session_model.specs.Valid.{IsWithin, HasLosses, IsSize, IsItem, AreItems, IsEvent}
 
 -- ---- faults
--- a line that wasn't read has this fault, unless memory was short
-abbrev pub IsStop : Stop → Option LineKind → Type 0
-IsStop (stop.Line kind) found = found ≡ Some kind
-IsStop stop.Memory found = ⊤
-
 -- the fault of line n, which wasn't read
-abbrev pub fault_at : ℕ → Stop → ScriptFault
-fault_at n (stop.Line kind) = fault.Line n kind
+abbrev pub fault_at : ℕ → LineStop → ScriptFault
+fault_at n (stop.Fault kind) = fault.Line n kind
 fault_at n stop.Memory = fault.Memory
 
--- the fault of the words of a line of one number, of a container, and of a number of delays
-abbrev pub one_fault : ℕ → ℕ → List (List ℕ) → Option LineKind
-one_fault least most ws = option_or (where_true (not (length ws == 1)) Word) (number_fault least most (word_at 0 ws))
-
+-- the fault of the words of a container, and of a number of delays
 abbrev pub container_fault : List (List ℕ) → Option LineKind
-container_fault ws = option_or (where_true (not (length ws == 1)) Word) (size_fault (size_of (word_at 0 ws)))
+container_fault ws = option_or (where_true (not (length ws == 1)) Word) (name_fault container_names (word_at 0 ws))
 
 abbrev pub delays_fault : ℕ → List (List ℕ) → Option LineKind
 delays_fault n ws = option_or (where_true (not (length ws == n)) Word) (fields_fault (replicate n (within 0 2047)) 0 ws)

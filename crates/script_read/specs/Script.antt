@@ -1,16 +1,17 @@
 -- The script that a text says, or its first fault.
-use Rattle.std.specs.Prelude.{ℕ, ◌+◌, ◌-◌, ◌/◌, nat_le, nat_lt, List, [], ◌∷◌, Option, Some, None, Result, Ok, Err, if◌then◌else◌}
-use Rattle.std.specs.Str.Lines.{lines}
+use Rattle.std.specs.Prelude.{◌≡◌, ◌≤◌, ℕ, ◌+◌, ◌-◌, ◌/◌, nat_le, nat_lt, List, [], ◌∷◌, Option, Some, None, Result, Ok, Err, if◌then◌else◌}
+use Rattle.text_lines.specs.declared.fault.LineKind.{LineKind}
+use Rattle.text_lines.specs.declared.fault.LineKind.TheVariants.{Missing}
+use Rattle.text_lines.specs.Fields.{where_true}
+use Rattle.text_lines.specs.Language.{Language, said_by}
+use Rattle.text_lines.specs.FirstFault.{AreSound}
 use Rattle.session_model.specs.declared.window.Window.{Window}
 use Rattle.session_model.specs.declared.script.Config.{Config}
 use Rattle.session_model.specs.declared.script.Script.{Script}
 use Rattle.session_model.specs.Plan.{greatest, least, greatest_slip}
-use Rattle.script_read.specs.declared.fault.LineKind.{LineKind}
-use Rattle.script_read.specs.declared.fault.LineKind.TheVariants.{Missing}
 use Rattle.script_read.specs.declared.fault.ScriptFault.{ScriptFault}
 use Rattle.script_read.specs.declared.fault.ScriptFault.TheVariants as fault
 use Rattle.script_read.specs.declared.draft.Draft.{Draft}
-use Rattle.script_read.specs.Words.{words}
 use Rattle.script_read.specs.Statements.{words_fault, words_said, after, at_first}
 
 -- ---- the tests of a script all of whose lines are right
@@ -46,32 +47,34 @@ abbrev pub config_fault : Config → Option ScriptFault
 config_fault c = fault_or (slip_fault 0 c.windows) (fault_or (spread_fault c) (lag_fault c))
 
 -- ---- the lines
-abbrev pub unless_fault : {T : Type 0} → Option ScriptFault → Result T ScriptFault → Result T ScriptFault
-unless_fault None r = r
-unless_fault (Some f) r = Err f
+-- a line of the configuration isn't there at the end
+abbrev pub missing_line : Draft → Option LineKind
+missing_line d = where_true (nat_lt d.next 6) Missing
 
-abbrev pub at_line : ℕ → Option LineKind → Option ScriptFault
-at_line n None = None
-at_line n (Some kind) = Some (fault.Line n kind)
-
--- after the last line, where the next one had the number n
-abbrev pub at_end : ℕ → Draft → Result Draft ScriptFault
-at_end n d = if nat_lt d.next 6 then Err (fault.Line n Missing) else Ok d
-
--- what lines say, from number n on, after those that a draft is of; or the fault of the first of them that has one
-unfoldable pub draft_from : ℕ → Draft → List (List ℕ) → Result Draft ScriptFault
-draft_from n d [] = at_end n d
-draft_from n d (l ∷ ls) =
-    unless_fault (at_line n (words_fault d (words l))) (draft_from (n + 1) (after d (words_said (words l))) ls)
+-- the lines of scripts, one after another
+abbrev pub script_lines : Language Draft LineKind
+script_lines = record { first = at_first; fault = words_fault; after = λ d ws. after d (words_said ws); missing = missing_line }
 
 -- ---- the text
 abbrev pub script_in : Draft → Script
 script_in d = record { config = d.config; items = d.items; events = d.events }
 
-abbrev pub script_of_draft : Result Draft ScriptFault → Result Script ScriptFault
-script_of_draft (Err f) = Err f
-script_of_draft (Ok d) = unless_fault (config_fault d.config) (Ok (script_in d))
+abbrev pub script_unless : Option ScriptFault → Script → Result Script ScriptFault
+script_unless None script = Ok script
+script_unless (Some f) script = Err f
 
--- lines are counted from 1
+abbrev pub script_of_draft : Result Draft (ℕ × LineKind) → Result Script ScriptFault
+script_of_draft (Err at) = Err (fault.Line at.0 at.1)
+script_of_draft (Ok d) = script_unless (config_fault d.config) (script_in d)
+
 abbrev pub script_of : List ℕ → Result Script ScriptFault
-script_of text = script_of_draft (draft_from 1 at_first (lines text))
+script_of text = script_of_draft (said_by script_lines text)
+
+-- ---- as a relation
+-- no line is faulty, the configuration is whole, and its tests find no fault
+pub record IsScriptOf (ls : List (List ℕ)) (script : Script) : Type 0 where
+  pub now : Draft
+  pub sound : AreSound script_lines at_first ls now
+  pub whole : 6 ≤ now.next
+  pub passes : config_fault now.config ≡ None
+  pub is : script ≡ script_in now

@@ -1,21 +1,20 @@
 -- The lines of a script: what each may say after those before it, which fault it has first, and what it adds to them.
-use Rattle.std.specs.Prelude.{unwrap_or, ℕ, ◌+◌, ◌-◌, ◌==◌, ◌&&◌, ◌||◌, nat_le, nat_lt, not, Bool, true, false, List, [], ◌∷◌, ◌++◌, length, map, replicate, Option, Some, None, Result, Ok, Err, slice_index_or, slice_set, drop, codes, bytes_eq, if◌then◌else◌}
+use Rattle.std.specs.Prelude.{unwrap_or, ℕ, ◌-◌, ◌==◌, ◌&&◌, ◌||◌, nat_le, nat_lt, not, Bool, false, List, [], ◌∷◌, ◌++◌, length, map, replicate, Option, Some, None, slice_index_or, slice_set, drop, codes, bytes_eq, if◌then◌else◌}
 use Rattle.std.specs.Option.{option_or}
-use Rattle.hex.specs.Hex.{decode_of}
-use Rattle.hex.specs.declared.error.FromHexError.{FromHexError}
+use Rattle.text_lines.specs.declared.fault.LineKind.{LineKind}
+use Rattle.text_lines.specs.declared.fault.LineKind.TheVariants.{Word, Range, Order, Missing}
+use Rattle.text_lines.specs.Words.{word_at, is_skipped, number_of, number_at, octets_of}
+use Rattle.text_lines.specs.Fields.{Field, within, any, above, digits, one_of, where_true, fields_fault}
 use Rattle.session_model.specs.declared.window.Window.{Window}
 use Rattle.session_model.specs.declared.script.Item.{Item}
 use Rattle.session_model.specs.declared.script.ItemKind.{ItemKind}
 use Rattle.session_model.specs.declared.script.ItemKind.TheVariants as item
 use Rattle.session_model.specs.declared.script.EventLine.TheVariants as event
-use Rattle.script_read.specs.declared.fault.LineKind.{LineKind}
-use Rattle.script_read.specs.declared.fault.LineKind.TheVariants.{Word, Number, Hex, Range, Order, Missing}
 use Rattle.script_read.specs.declared.keyword.Keyword.{Keyword}
 use Rattle.script_read.specs.declared.keyword.Keyword.TheVariants as word
 use Rattle.script_read.specs.declared.draft.Statement.{Statement}
 use Rattle.script_read.specs.declared.draft.Statement.TheVariants as says
 use Rattle.script_read.specs.declared.draft.Draft.{Draft}
-use Rattle.script_read.specs.Words.{word_at, is_number, number_of, number_at, octets_of}
 
 -- ---- the first word
 -- the words that may begin an event line
@@ -74,10 +73,6 @@ place word.Take = 8
 place word.Round = 8
 place word.Drain = 8
 
--- a fault where a test finds one
-abbrev pub where_true : Bool → LineKind → Option LineKind
-where_true found kind = if found then Some kind else None
-
 -- before place 6 each line has its place, and that of the container may be passed over; from there on no line comes back to an
 -- earlier part
 abbrev pub place_fault : ℕ → ℕ → Option LineKind
@@ -86,17 +81,13 @@ place_fault next at =
     (where_true (nat_lt at next) Order)
 
 -- ---- the other words
--- what such a word has to be: a number within two bounds; any number; a number above that of the word before it, up to a bound;
--- the digits of 1 to 65,535 octets; a container's name
-pub data Field : Type 0 where
-  within : ℕ → ℕ → Field
-  any : Field
-  above : ℕ → Field
-  digits : Field
-  container : Field
+-- the names of containers
+abbrev pub container_names : List (List ℕ)
+container_names = codes "vc3" ∷ codes "vc4" ∷ []
 
+-- what the words after a keyword have to be
 abbrev pub fields : Draft → Keyword → List Field
-fields d word.Container = container ∷ []
+fields d word.Container = one_of container_names ∷ []
 fields d word.Lines = within 1 128 ∷ []
 fields d word.Delays = replicate d.config.lines (within 0 2047)
 fields d word.Ring = within 1 2048 ∷ []
@@ -104,7 +95,7 @@ fields d word.Lag = within 1 512 ∷ []
 fields d word.Ticks = within 1 1000000 ∷ []
 fields d word.Fail = within 0 (d.config.lines - 1) ∷ any ∷ above d.config.ticks ∷ within 0 2047 ∷ []
 fields d word.Lost = any ∷ above 62500 ∷ []
-fields d word.Frame = within 0 (d.config.ticks - 1) ∷ digits ∷ []
+fields d word.Frame = within 0 (d.config.ticks - 1) ∷ digits 1 65535 ∷ []
 fields d word.Add = within 0 (d.config.ticks - 1) ∷ within 0 255 ∷ []
 fields d word.Remove = within 0 (d.config.ticks - 1) ∷ within 0 255 ∷ []
 fields d word.Client = within 1 1000000 ∷ []
@@ -116,36 +107,9 @@ fields d word.Take = within 1 1000000 ∷ []
 fields d word.Round = within 1 1000000 ∷ []
 fields d word.Drain = []
 
-abbrev pub number_fault : ℕ → ℕ → List ℕ → Option LineKind
-number_fault least most w =
-    option_or (where_true (not (is_number w)) Number)
-    (where_true (not (nat_le least (number_of w) && nat_le (number_of w) most)) Range)
-
-abbrev pub octets_fault : Result (List ℕ) FromHexError → Option LineKind
-octets_fault (Err e) = Some Hex
-octets_fault (Ok octets) = where_true (not (nat_le 1 (length octets) && nat_le (length octets) 65535)) Range
-
 -- the payload octets of a container, by its name
 abbrev pub size_of : List ℕ → Option ℕ
 size_of w = if bytes_eq w (codes "vc3") then Some 756 else if bytes_eq w (codes "vc4") then Some 2340 else None
-
-abbrev pub size_fault : Option ℕ → Option LineKind
-size_fault None = Some Word
-size_fault (Some size) = None
-
--- the fault of a word, where the number before it is this one
-abbrev pub field_fault : Field → ℕ → List ℕ → Option LineKind
-field_fault (within least most) before w = number_fault least most w
-field_fault any before w = number_fault 0 9999999999 w
-field_fault (above most) before w = number_fault (before + 1) most w
-field_fault digits before w = octets_fault (decode_of w)
-field_fault container before w = size_fault (size_of w)
-
--- word by word from the left
-abbrev pub fields_fault : List Field → ℕ → List (List ℕ) → Option LineKind
-fields_fault [] before ws = None
-fields_fault (f ∷ fs) before [] = None
-fields_fault (f ∷ fs) before (w ∷ ws) = option_or (field_fault f before w) (fields_fault fs (number_of w) ws)
 
 -- ---- what the lines before it leave no room for
 -- the windows of a line so far, and the end of the last of them
@@ -186,11 +150,6 @@ rest_fault d k ws =
 abbrev pub known_fault : Draft → List (List ℕ) → Option Keyword → Option LineKind
 known_fault d ws None = Some Word
 known_fault d ws (Some k) = option_or (place_fault d.next (place k)) (rest_fault d k ws)
-
--- a line without words, or whose first word begins with '#'
-abbrev pub is_skipped : List (List ℕ) → Bool
-is_skipped [] = true
-is_skipped (w ∷ ws) = slice_index_or w 0 0 == 35
 
 -- of the words of a line
 abbrev pub words_fault : Draft → List (List ℕ) → Option LineKind

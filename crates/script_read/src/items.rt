@@ -1,39 +1,19 @@
 //! The words of items and of event lines that name a line.
-ghost use Rattle.std.specs.Prelude.{◌≡◌, ◌≤◌, ◌<◌, All, IfOk, IfErr, None, Some, length};
-ghost use Rattle.hex.specs.Hex.{decode_of};
-ghost use Rattle.script_read.specs.Words.{words, number_at, octets_of};
-ghost use Rattle.script_read.specs.Statements.{rest_fault, said, octets_fault};
+ghost use Rattle.std.specs.Prelude.{◌≡◌, ◌≤◌, ◌<◌, IfOk, IfErr, None, Some};
+ghost use Rattle.text_lines.specs.Words.{words, number_at};
+ghost use Rattle.text_lines.specs.Fields.{IsStop};
+ghost use Rattle.script_read.specs.Statements.{rest_fault, said};
 ghost use Rattle.session_model.specs.Valid.{IsWithin, IsItem};
-ghost use Rattle.script_read.specs.Drafts.{IsStop, IsDraft, last_due};
+ghost use Rattle.script_read.specs.Drafts.{IsDraft, last_due};
 
 use crate::draft::{Draft, Statement};
-use crate::fault::{LineKind, Stop};
 use crate::keyword::Keyword;
-use crate::words::{number_within, two_words};
-use hex_text::decode_into;
 use session_model::{EventLine, Item, ItemKind, Octets};
 use std::alloc::Global;
-
-// The octets of a frame, decoded into where they stay.
-fn read_octets(alloc: Global, digits: &[u8]) -> Result<Octets, Stop>
-    ensures ok { IfOk result (λ octets. (octets_fault (decode_of digits.now) ≡ None)
-        × (octets ≡ octets_of digits.now)) }
-    ensures fits { IfOk result (λ octets. IsWithin 1 65535 (length octets)) }
-    ensures octets { IfOk result (λ octets. All (λ octet. octet < 256) octets) }
-    ensures err { IfErr result (λ stop. IsStop stop (octets_fault (decode_of digits.now))) }
-{
-    let mut octets = Vec::with_capacity(alloc, digits.len() / 2)?;
-    if decode_into(digits, &mut octets).is_err() {
-        return Err(Stop::Line(LineKind::Hex));
-    }
-    if octets.is_empty() || octets.len() > 65_535 {
-        return Err(Stop::Line(LineKind::Range));
-    }
-    Ok(Octets(octets))
-}
+use text_lines::{LineKind, LineStop, number_within, octets_within, two_words};
 
 /// A frame, and when it is due.
-pub(crate) fn read_frame(alloc: Global, draft: &Draft, rest: &[u8]) -> Result<Item, Stop>
+pub(crate) fn read_frame(alloc: Global, draft: &Draft, rest: &[u8]) -> Result<Item, LineStop>
     requires stands { 6 ≤ draft.now.next }
     requires config { IsDraft draft.now }
     ensures ok { IfOk result (λ item. (rest_fault draft.now Keyword.Frame (words rest.now) ≡ None)
@@ -44,16 +24,16 @@ pub(crate) fn read_frame(alloc: Global, draft: &Draft, rest: &[u8]) -> Result<It
         IsStop stop (rest_fault draft.now Keyword.Frame (words rest.now))) }
 {
     let Some((due, digits)) = two_words(rest) else {
-        return Err(Stop::Line(LineKind::Word));
+        return Err(LineStop::Fault(LineKind::Word));
     };
     let due = number_within(due, 0, u64::from(draft.config.ticks) - 1)? as u32;
-    let octets = read_octets(alloc, digits)?;
+    let octets = octets_within(alloc, digits, 1, 65_535)?;
     if due < draft.frame_due {
-        return Err(Stop::Line(LineKind::Order));
+        return Err(LineStop::Fault(LineKind::Order));
     }
     Ok(Item {
         due,
-        kind: ItemKind::Frame(octets),
+        kind: ItemKind::Frame(Octets(octets)),
     })
 }
 

@@ -3,7 +3,7 @@ ghost use Rattle.std.specs.Prelude.{◌≡◌, IfErr, OnOk, None, Some};
 ghost use Rattle.script_read.specs.Statements.{keyword_of, item_keyword, event_keyword, place, place_fault};
 ghost use Rattle.script_read.specs.Drafts.{IsPlaced};
 
-use crate::fault::LineKind;
+use text_lines::LineKind;
 
 /// The words that may begin a line, in the order of a script.
 #[derive(Clone, Copy, Debug, PartialEq, Eq)]

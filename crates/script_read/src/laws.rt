@@ -1,12 +1,13 @@
 //! What the definition of the language means, apart from how it computes.
-ghost use Rattle.std.specs.Prelude.{◌≡◌, ◌↔◌, ℕ, List, Ok, Err};
+ghost use Rattle.std.specs.Prelude.{◌≡◌, ◌↔◌, ◌≤◌, ℕ, List, length, Ok, Err};
 ghost use Rattle.std.specs.Str.Lines.{lines};
 ghost use Rattle.session_model.specs.declared.script.Script.{Script};
-ghost use Rattle.script_read.specs.declared.fault.LineKind.{LineKind};
+ghost use Rattle.session_model.specs.Valid.{IsValid};
+ghost use Rattle.text_lines.specs.declared.fault.LineKind.{LineKind};
+ghost use Rattle.text_lines.specs.FirstFault.{IsFirstFault};
 ghost use Rattle.script_read.specs.declared.fault.ScriptFault.TheVariants.{Line};
 ghost use Rattle.script_read.specs.Statements.{at_first};
-ghost use Rattle.script_read.specs.Script.{script_of};
-ghost use Rattle.script_read.specs.FirstFault.{IsFirstFault, IsScriptOf};
+ghost use Rattle.script_read.specs.Script.{script_of, script_lines, IsScriptOf};
 
 /// A text has the fault of a line exactly where that line is faulty after lines none of which is, or where no line is faulty and the
 /// configuration isn't whole at the end. It is a script exactly where no line is faulty, the configuration is whole, and slips,
@@ -14,7 +15,14 @@ ghost use Rattle.script_read.specs.FirstFault.{IsFirstFault, IsScriptOf};
 pub fn fault_law()
     ensures line { (text : List ℕ) (number : ℕ) (kind : LineKind) →
         (script_of text ≡ Err (Line number kind))
-        ↔ IsFirstFault 1 at_first (lines text) number kind }
+        ↔ IsFirstFault script_lines 1 at_first (lines text) number kind }
     ensures script { (text : List ℕ) (script : Script) →
         (script_of text ≡ Ok script) ↔ IsScriptOf (lines text) script }
+{}
+
+/// A text of at most 67,108,864 octets that is a script says one that can be walked: its numbers are in their ranges, its windows and
+/// items in order, and its rings and lag fit.
+pub fn valid_law()
+    ensures { (text : List ℕ) (script : Script) → length text ≤ 67108864 →
+        script_of text ≡ Ok script → IsValid script }
 {}

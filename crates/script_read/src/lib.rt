@@ -14,8 +14,7 @@ mod limits;
 mod network;
 mod script;
 mod statement;
-mod words;
 
-pub use fault::{LineKind, ScriptFault};
-pub use laws::fault_law;
+pub use fault::ScriptFault;
+pub use laws::{fault_law, valid_law};
 pub use script::read_script;

@@ -1,29 +1,18 @@
 //! The words of the lines that say what the network is: delays, the container, windows of lines and of the return path.
 ghost use Rattle.std.specs.Prelude.{◌≡◌, ◌≤◌, ◌<◌, length, IfOk, IfErr, None, Some, slice_index_or, [], map, All};
-ghost use Rattle.script_read.specs.Words.{words, word_at, number_at, number_of};
+ghost use Rattle.text_lines.specs.Words.{words, word_at, number_of};
+ghost use Rattle.text_lines.specs.Fields.{IsStop};
 ghost use Rattle.script_read.specs.Statements.{rest_fault, said, last_end, last_lost, size_of};
 ghost use Rattle.session_model.specs.Valid.{IsSize};
-ghost use Rattle.script_read.specs.Drafts.{IsStop, IsDraft, IsNext, IsNextLost, one_fault, container_fault, delays_fault};
+ghost use Rattle.script_read.specs.Drafts.{IsDraft, IsNext, IsNextLost, container_fault, delays_fault};
 
 use crate::draft::{Draft, Statement};
-use crate::fault::{LineKind, Stop};
 use crate::keyword::Keyword;
-use crate::words::{count_words, four_words, next_word, number_within, one_word, two_words};
 use session_model::{Delays, LostList, Window, WindowList, WindowLists};
 use std::alloc::Global;
-
-/// The only number of a line.
-pub(crate) fn read_one(rest: &[u8], least: u64, most: u64) -> Result<u64, LineKind>
-    ensures ok { IfOk result (λ n.
-        (one_fault least most (words rest.now) ≡ None) × (n ≡ number_at 0 (words rest.now))) }
-    ensures fits { IfOk result (λ n. (least ≤ n) × (n ≤ most)) }
-    ensures err { IfErr result (λ kind. one_fault least most (words rest.now) ≡ Some kind) }
-{
-    let Some(word) = one_word(rest) else {
-        return Err(LineKind::Word);
-    };
-    number_within(word, least, most)
-}
+use text_lines::{
+    LineKind, LineStop, count_words, four_words, next_word, number_within, one_word, two_words,
+};
 
 /// The payload octets of the container that a line names.
 pub(crate) fn read_container(rest: &[u8]) -> Result<u16, LineKind>
@@ -45,7 +34,7 @@ pub(crate) fn read_container(rest: &[u8]) -> Result<u16, LineKind>
 }
 
 /// The delays of a number of lines.
-pub(crate) fn read_delays(alloc: Global, rest: &[u8], lines: u8) -> Result<Delays, Stop>
+pub(crate) fn read_delays(alloc: Global, rest: &[u8], lines: u8) -> Result<Delays, LineStop>
     ensures ok { IfOk result (λ delays. (delays_fault lines (words rest.now) ≡ None)
         × (delays ≡ map number_of (words rest.now))) }
     ensures fits { IfOk result (λ delays.
@@ -53,7 +42,7 @@ pub(crate) fn read_delays(alloc: Global, rest: &[u8], lines: u8) -> Result<Delay
     ensures err { IfErr result (λ stop. IsStop stop (delays_fault lines (words rest.now))) }
 {
     if count_words(rest) != usize::from(lines) {
-        return Err(Stop::Line(LineKind::Word));
+        return Err(LineStop::Fault(LineKind::Word));
     }
     let mut delays = Vec::with_capacity(alloc, usize::from(lines))?;
     let mut further = rest;
@@ -61,7 +50,7 @@ pub(crate) fn read_delays(alloc: Global, rest: &[u8], lines: u8) -> Result<Delay
         further = later;
         let delay = match number_within(word, 0, 2047) {
             Ok(delay) => delay as u16,
-            Err(kind) => return Err(Stop::Line(kind)),
+            Err(kind) => return Err(LineStop::Fault(kind)),
         };
         delays.push(delay)?;
     }

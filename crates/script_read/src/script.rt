@@ -1,38 +1,37 @@
 //! The reader of a whole text.
 ghost use Rattle.std.specs.Prelude.{◌≡◌, ◌⊎◌, ◌≤◌, length, IfOk, IfErr, Ok, Err};
-ghost use Rattle.std.specs.Str.Lines.{lines};
-ghost use Rattle.script_read.specs.Statements.{at_first};
-ghost use Rattle.script_read.specs.Script.{script_of, script_in, draft_from};
+ghost use Rattle.text_lines.specs.Language.{said_by};
+ghost use Rattle.script_read.specs.Script.{script_of, script_in, script_lines};
 ghost use Rattle.script_read.specs.Drafts.{IsDraft, fault_at};
 ghost use Rattle.session_model.specs.Valid.{IsValid};
 
 use crate::draft::Draft;
-use crate::fault::{LineKind, ScriptFault, Stop};
+use crate::fault::ScriptFault;
 use crate::growth::{add, no_lines};
 use crate::limits::fault_of_config;
 use crate::statement::read_line;
-use crate::words::next_line;
 use session_model::Script;
 use std::alloc::Global;
+use text_lines::{LineKind, LineStop, next_line};
 
 // The fault of a line that wasn't read.
-fn fault_of(number: u32, stop: Stop) -> ScriptFault
+fn fault_of(number: u32, stop: LineStop) -> ScriptFault
     ensures { result ≡ fault_at number stop }
 {
     match stop {
-        Stop::Line(kind) => ScriptFault::Line { number, kind },
-        Stop::Memory => ScriptFault::Memory,
+        LineStop::Fault(kind) => ScriptFault::Line { number, kind },
+        LineStop::Memory => ScriptFault::Memory,
     }
 }
 
 // What the lines of a text say.
 fn read_draft(alloc: Global, text: &[u8]) -> Result<Draft, ScriptFault>
     requires { length text.now ≤ 67108864 }
-    ensures ok { IfOk result (λ draft. draft_from 1 at_first (lines text.now) ≡ Ok draft) }
+    ensures ok { IfOk result (λ draft. said_by script_lines text.now ≡ Ok draft) }
     ensures stands { IfOk result (λ draft. IsDraft draft × (6 ≤ draft.next)) }
     ensures few { IfOk result (λ draft. length draft.items ≤ 67108864) }
     ensures err { IfErr result (λ fault. (fault ≡ ScriptFault.Memory)
-        ⊎ (draft_from 1 at_first (lines text.now) ≡ Err fault)) }
+        ⊎ (script_of text.now ≡ Err fault)) }
 {
     let mut draft = no_lines(alloc);
     let mut rest = text;

@@ -1,32 +1,32 @@
 //! A line of a script: which one it is, and what it says.
 ghost use Rattle.std.specs.Prelude.{◌≡◌, ◌≤◌, IfOk, IfErr, None, Some};
-ghost use Rattle.script_read.specs.Words.{words, number_at};
+ghost use Rattle.text_lines.specs.Words.{words, number_at};
+ghost use Rattle.text_lines.specs.Fields.{one_fault, IsStop};
 ghost use Rattle.script_read.specs.Statements.{place, rest_fault, words_fault, words_said, said};
 ghost use Rattle.script_read.specs.declared.draft.Statement.TheVariants as says;
-ghost use Rattle.script_read.specs.Drafts.{IsStop, IsDraft, IsPlaced, Fits, one_fault};
+ghost use Rattle.script_read.specs.Drafts.{IsDraft, IsPlaced, Fits};
 ghost use Rattle.session_model.specs.Valid.{IsCount};
 
 use crate::draft::{Draft, Statement};
-use crate::fault::{LineKind, Stop};
 use crate::items::{read_carry, read_command, read_frame};
 use crate::keyword::{Keyword, check_place};
-use crate::network::{read_container, read_delays, read_fail, read_lost, read_one};
-use crate::words::next_word;
+use crate::network::{read_container, read_delays, read_fail, read_lost};
 use session_model::{EventLine, Item, ItemKind};
 use std::alloc::Global;
+use text_lines::{LineKind, LineStop, first_word, next_word, one_number};
 
 // The count of an event line.
-fn read_count(rest: &[u8]) -> Result<u32, Stop>
+fn read_count(rest: &[u8]) -> Result<u32, LineStop>
     ensures ok { IfOk result (λ n.
         (one_fault 1 1000000 (words rest.now) ≡ None) × (n ≡ number_at 0 (words rest.now))) }
     ensures fits { IfOk result IsCount }
     ensures err { IfErr result (λ stop. IsStop stop (one_fault 1 1000000 (words rest.now))) }
 {
-    Ok(read_one(rest, 1, 1_000_000)? as u32)
+    Ok(one_number(rest, 1, 1_000_000)? as u32)
 }
 
 // What the words after the keyword of an event line say.
-fn read_event(draft: &Draft, keyword: Keyword, rest: &[u8]) -> Result<EventLine, Stop>
+fn read_event(draft: &Draft, keyword: Keyword, rest: &[u8]) -> Result<EventLine, LineStop>
     requires event { place keyword ≡ 8 }
     requires stands { IsPlaced draft.now.next (place keyword) }
     requires config { IsDraft draft.now }
@@ -49,14 +49,14 @@ fn read_event(draft: &Draft, keyword: Keyword, rest: &[u8]) -> Result<EventLine,
         Keyword::Round => Ok(EventLine::Round(read_count(rest)?)),
         Keyword::Drain => match next_word(rest) {
             None => Ok(EventLine::Drain),
-            Some(_) => Err(Stop::Line(LineKind::Word)),
+            Some(_) => Err(LineStop::Fault(LineKind::Word)),
         },
         _ => unreachable!(),
     }
 }
 
 // What the words after the keyword of an item say.
-fn read_item(alloc: Global, draft: &Draft, keyword: Keyword, rest: &[u8]) -> Result<Item, Stop>
+fn read_item(alloc: Global, draft: &Draft, keyword: Keyword, rest: &[u8]) -> Result<Item, LineStop>
     requires item { place keyword ≡ 7 }
     requires stands { IsPlaced draft.now.next (place keyword) }
     requires config { IsDraft draft.now }
@@ -92,7 +92,7 @@ fn read_setting(
     draft: &Draft,
     keyword: Keyword,
     rest: &[u8],
-) -> Result<Statement, Stop>
+) -> Result<Statement, LineStop>
     requires setting { place keyword ≤ 6 }
     requires stands { IsPlaced draft.now.next (place keyword) }
     requires config { IsDraft draft.now }
@@ -104,11 +104,11 @@ fn read_setting(
 {
     match keyword {
         Keyword::Container => Ok(Statement::Container(read_container(rest)?)),
-        Keyword::Lines => Ok(Statement::Lines(read_one(rest, 1, 128)? as u8)),
+        Keyword::Lines => Ok(Statement::Lines(one_number(rest, 1, 128)? as u8)),
         Keyword::Delays => Ok(Statement::Delays(read_delays(alloc, rest, draft.config.lines)?)),
-        Keyword::Ring => Ok(Statement::Ring(read_one(rest, 1, 2048)? as u16)),
-        Keyword::Lag => Ok(Statement::Lag(read_one(rest, 1, 512)? as u16)),
-        Keyword::Ticks => Ok(Statement::Ticks(read_one(rest, 1, 1_000_000)? as u32)),
+        Keyword::Ring => Ok(Statement::Ring(one_number(rest, 1, 2048)? as u16)),
+        Keyword::Lag => Ok(Statement::Lag(one_number(rest, 1, 512)? as u16)),
+        Keyword::Ticks => Ok(Statement::Ticks(one_number(rest, 1, 1_000_000)? as u32)),
         Keyword::Fail => {
             let (m, window) = read_fail(draft, rest)?;
             Ok(Statement::Fail(m, window))
@@ -122,7 +122,12 @@ fn read_setting(
 }
 
 // What the words after a keyword say that stands in its place.
-fn read_rest(alloc: Global, draft: &Draft, keyword: Keyword, rest: &[u8]) -> Result<Statement, Stop>
+fn read_rest(
+    alloc: Global,
+    draft: &Draft,
+    keyword: Keyword,
+    rest: &[u8],
+) -> Result<Statement, LineStop>
     requires stands { IsPlaced draft.now.next (place keyword) }
     requires config { IsDraft draft.now }
     ensures ok { IfOk result (λ read. (rest_fault draft.now keyword (words rest.now) ≡ None)
@@ -155,24 +160,21 @@ fn read_rest(alloc: Global, draft: &Draft, keyword: Keyword, rest: &[u8]) -> Res
 }
 
 /// What a line says after those of a draft.
-pub(crate) fn read_line(alloc: Global, draft: &Draft, line: &[u8]) -> Result<Statement, Stop>
+pub(crate) fn read_line(alloc: Global, draft: &Draft, line: &[u8]) -> Result<Statement, LineStop>
     requires { IsDraft draft.now }
     ensures ok { IfOk result (λ read. (words_fault draft.now (words line.now) ≡ None)
         × (read ≡ words_said (words line.now))) }
     ensures fits { IfOk result (λ read. Fits draft.now read) }
     ensures err { IfErr result (λ stop. IsStop stop (words_fault draft.now (words line.now))) }
 {
-    let Some((word, rest)) = next_word(line) else {
+    let Some((word, rest)) = first_word(line) else {
         return Ok(Statement::Nothing);
     };
-    if word.first() == Some(&b'#') {
-        return Ok(Statement::Nothing);
-    }
     let Some(keyword) = Keyword::of(word) else {
-        return Err(Stop::Line(LineKind::Word));
+        return Err(LineStop::Fault(LineKind::Word));
     };
     match check_place(draft.next, keyword.place()) {
         Ok(()) => read_rest(alloc, draft, keyword, rest),
-        Err(kind) => Err(Stop::Line(kind)),
+        Err(kind) => Err(LineStop::Fault(kind)),
     }
 }

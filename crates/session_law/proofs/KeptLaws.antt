@@ -4,11 +4,11 @@ use Rattle.std.proofs.lemmas.Option.{same_Some}
 use Rattle.std.proofs.lemmas.Bool.{eqb-true}
 use Rattle.session_model.specs.declared.table.Command.{Command}
 use Rattle.session_model.specs.declared.table.Command.TheVariants.{Add as add, Remove as remove}
-use Rattle.session_model.specs.Scenario.{Scenario}
+use Rattle.session_model.specs.Scenario.{Scenario, is_lost}
 use Rattle.session_model.specs.declared.table.Member.{Member}
 use Rattle.session_model.specs.Table.{kept_of, keep, Table, Told, acknowledged_by, heard, told_on, exchange, exchanged}
 use Rattle.session_model.specs.Source.{Source, change_by, change, after, cell_at, source_at, told_at}
-use Rattle.session_model.specs.Back.{said, status}
+use Rattle.session_model.specs.Back.{said, status, return_packet}
 use Rattle.session_law.specs.Feedback.{WasSaid, table_before}
 use Rattle.session_law.proofs.TableLaws.{heard-count}
 use Rattle.session_law.proofs.FeedbackLaws.{IsSession, known, says_count, cell-taken, same_lines_since}
@@ -38,9 +38,13 @@ change-kept source table sq ok e =
     ] e
 
 -- ---- one step
--- a packet tells of the count, and of the status
-abbrev pub Says : Scenario → List (Option Told) → ℕ → ℕ → Bool → Type 0
-Says scenario cells j sq ok = (k : ℕ) × (k + scenario.lag ≤ j) × (said scenario cells k ≡ (table_before scenario cells j).count) × (status scenario cells k sq ≡ ok)
+-- a packet that came tells of the count, and of the status
+record Says (scenario : Scenario) (cells : List (Option Told)) (j sq : ℕ) (ok : Bool) : Type 0 where
+  pub packet : ℕ
+  pub taken : packet + scenario.lag ≤ j
+  pub come : slice_index_or cells packet None ≡ Some (return_packet scenario cells packet)
+  pub whole : said scenario cells packet ≡ (table_before scenario cells j).count
+  pub says : status scenario cells packet sq ≡ ok
 
 heard-kept : (scenario : Scenario) (cells : List (Option Told)) → IsSession scenario cells → 0 < scenario.lag → (j sq : ℕ) (ok : Bool) →
     ((kept_of (table_before scenario cells j)) sq ≡ Some ok → Says scenario cells j sq ok) → (kept_of (heard_at scenario cells j)) sq ≡ Some ok → Says scenario cells j sq ok
@@ -69,7 +73,13 @@ heard-kept scenario cells session lag j sq ok before =
                   | true ↦ λ test is.
                       let oks = kept-is scenario cells (status scenario cells k sq) k sq (eqb-true (sq / 8) group test) refl in
                       let same : Some (status scenario cells k sq) ≡ Some ok = sym oks ∙ ap (λ t. slice_get t.oks (sq % 8)) (sym packet) ∙ is in
-                      (k, omega (arith, at), whole, same_Some (status scenario cells k sq) ok same)
+                      record {
+                        packet = k;
+                        taken = omega (arith, at);
+                        come = taken.1 ∙ ap Some packet;
+                        whole = whole;
+                        says = same_Some (status scenario cells k sq) ok same;
+                      }
                   | false ↦ λ test is. before is
                 ] refl is_kept
           ] refl
@@ -91,20 +101,27 @@ kept-says scenario cells session lag (suc j) sq ok e =
     let kept = change-kept (source_at scenario cells j) (told_on (heard_at scenario cells j)) sq ok (subst (λ t. (kept_of t) sq ≡ Some ok) next e) in
     let before = heard-kept scenario cells session lag j sq ok (kept-says scenario cells session lag j sq ok) kept.0 in
     let count = ap (λ t. t.count) next ∙ kept.1 ∙ heard_at-count scenario cells j in
-    (before.0, omega (arith, before.1), before.2 ∙ sym count, before.3)
+    let taken = before.taken in
+    record { packet = before.packet; taken = omega (arith, taken); come = before.come; whole = before.whole ∙ sym count; says = before.says }
 
 told_at-kept : (scenario : Scenario) (cells : List (Option Told)) (j sq : ℕ) → (kept_of (told_at scenario cells j)) sq ≡ (kept_of (heard_at scenario cells j)) sq
 unfolding heard_at
 told_at-kept scenario cells j sq = ap (λ t. (kept_of t) sq) (told_at-table scenario cells j)
 
-pub acts_on : (scenario : Scenario) (cells : List (Option Told)) → IsSession scenario cells → 0 < scenario.lag → (j sq : ℕ) (ok : Bool) →
-    (kept_of (told_at scenario cells j)) sq ≡ Some ok → WasSaid scenario cells j sq ok
-acts_on scenario cells session lag j sq ok e =
-    let says = heard-kept scenario cells session lag j sq ok (kept-says scenario cells session lag j sq ok) (sym (told_at-kept scenario cells j sq) ∙ e) in
+-- the return cells of a session, of which those that came weren't lost
+pub acts_on : (scenario : Scenario) (cells : List (Option Told)) → IsSession scenario cells →
+    ((k : ℕ) (told : Told) → slice_index_or cells k None ≡ Some told → is_lost scenario k ≡ false) → 0 < scenario.lag →
+    (j sq : ℕ) (ok : Bool) → (kept_of (told_at scenario cells j)) sq ≡ Some ok → WasSaid scenario cells j sq ok
+acts_on scenario cells session come lag j sq ok e =
+    let is = sym (told_at-kept scenario cells j sq) ∙ e in
+    let says = heard-kept scenario cells session lag j sq ok (kept-says scenario cells session lag j sq ok) is in
+    let taken = says.taken in
     record {
-      packet = says.0;
-      taken = says.1;
-      whole = says.2;
-      says = says.3;
-      lines = same_lines_since scenario cells j says.0 (omega (arith, says.1)) says.2;
+      packet = says.packet;
+      taken = taken;
+      come = says.come;
+      kept = come says.packet (return_packet scenario cells says.packet) says.come;
+      whole = says.whole;
+      says = says.says;
+      lines = same_lines_since scenario cells j says.packet (omega (arith, taken, lag)) says.whole;
     }

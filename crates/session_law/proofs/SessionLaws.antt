@@ -135,17 +135,31 @@ session-cell scenario n k lag inside =
     let same = return_cell-agree scenario (cells_before scenario k ++ cell ∷ split.0) (cells_before scenario k) k agree in
     rw split.1 (rw size at seam ∙ sym same)
 
-is_return_packet : (scenario : Scenario) (cells : List (Option Told)) (k : ℕ) (told : Told) → return_cell scenario cells k ≡ Some told → told ≡ return_packet scenario cells k
-is_return_packet scenario cells k told =
-    elim (is_lost scenario k) as (λ b. (if b then None else Some (return_packet scenario cells k)) ≡ Some told → told ≡ return_packet scenario cells k) [
+-- a cell that came is the return packet, and wasn't lost
+abbrev Came : Scenario → List (Option Told) → ℕ → Told → Type 0
+Came scenario cells k told = (is_lost scenario k ≡ false) × (told ≡ return_packet scenario cells k)
+
+came : (scenario : Scenario) (cells : List (Option Told)) (k : ℕ) (told : Told) → return_cell scenario cells k ≡ Some told →
+    Came scenario cells k told
+came scenario cells k told =
+    elim (is_lost scenario k) as (λ b. (if b then None else Some (return_packet scenario cells k)) ≡ Some told →
+    (b ≡ false) × (told ≡ return_packet scenario cells k)) [
       | true ↦ λ is. absurd (none-some told is)
-      | false ↦ λ is. sym (same_Some (return_packet scenario cells k) told is)
+      | false ↦ λ is. (refl, sym (same_Some (return_packet scenario cells k) told is))
+    ]
+
+session-came : (scenario : Scenario) (n k : ℕ) (told : Told) → 0 < scenario.lag →
+    slice_index_or (cells_before scenario n) k None ≡ Some told → Came scenario (cells_before scenario n) k told
+session-came scenario n k told lag is =
+    let size = cells_before-length scenario n in
+    elim (cases_lt k n) [
+      | inl inside ↦ came scenario (cells_before scenario n) k told (sym (session-cell scenario n k lag inside) ∙ is)
+      | inr beyond ↦ absurd (none-some told (sym (get_or_past (cells_before scenario n) k None (omega arith)) ∙ is))
     ]
 
 pub session-law : (scenario : Scenario) (n : ℕ) → 0 < scenario.lag → IsSession scenario (cells_before scenario n)
-session-law scenario n lag k told is =
-    let size = cells_before-length scenario n in
-    elim (cases_lt k n) [
-      | inl inside ↦ is_return_packet scenario (cells_before scenario n) k told (sym (session-cell scenario n k lag inside) ∙ is)
-      | inr beyond ↦ absurd (none-some told (sym (get_or_past (cells_before scenario n) k None (omega arith)) ∙ is))
-    ]
+session-law scenario n lag k told is = (session-came scenario n k told lag is).1
+
+pub session-kept : (scenario : Scenario) (n k : ℕ) (told : Told) → 0 < scenario.lag →
+    slice_index_or (cells_before scenario n) k None ≡ Some told → is_lost scenario k ≡ false
+session-kept scenario n k told lag is = (session-came scenario n k told lag is).0

@@ -1,10 +1,10 @@
 -- G.7042, what the source may conclude from a return packet.
-use Rattle.std.specs.Prelude.{◌≡◌, ℕ, ◌+◌, ◌%◌, ◌<◌, ◌≤◌, Bool, List, map, Option, Some, None, slice_index_or}
-use Rattle.session_model.specs.Scenario.{Scenario}
+use Rattle.std.specs.Prelude.{◌≡◌, ℕ, ◌+◌, ◌%◌, ◌<◌, ◌≤◌, Bool, false, List, map, Option, Some, None, slice_index_or}
+use Rattle.session_model.specs.Scenario.{Scenario, is_lost}
 use Rattle.session_model.specs.declared.table.Member.{Member}
 use Rattle.session_model.specs.Table.{Table, Told}
 use Rattle.session_model.specs.Source.{after, table_of}
-use Rattle.session_model.specs.Back.{said, status}
+use Rattle.session_model.specs.Back.{said, status, return_packet}
 
 -- the lines of an order, by SQ
 abbrev pub lines_of : List Member → List ℕ
@@ -32,11 +32,13 @@ TellsOf scenario cells j k = said scenario cells k ≡ (table_before scenario ce
 abbrev pub SameLines : Scenario → List (Option Told) → ℕ → ℕ → Type 0
 SameLines scenario cells j k = lines_of (table_before scenario cells j).order ≡ lines_of (table_of scenario cells k).order
 
--- a status that step j acts on was said in a return packet that it has taken, which tells of the very count of the table before
--- step j, and in whose table the same lines had the same SQs
+-- a status that step j acts on was said in a return packet that wasn't lost, and that this step or one before it has taken.
+-- It tells of the very count of the table before step j, and in its table the same lines had the same SQs
 pub record WasSaid (scenario : Scenario) (cells : List (Option Told)) (j sq : ℕ) (ok : Bool) : Type 0 where
   pub packet : ℕ
   pub taken : packet + scenario.lag ≤ j
+  pub come : slice_index_or cells packet None ≡ Some (return_packet scenario cells packet)
+  pub kept : is_lost scenario packet ≡ false
   pub whole : TellsOf scenario cells j packet
   pub says : status scenario cells packet sq ≡ ok
   pub lines : SameLines scenario cells j packet

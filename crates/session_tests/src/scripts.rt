@@ -2,9 +2,10 @@
 ghost use Rattle.std.specs.Prelude.{IfOk};
 ghost use Rattle.session_model.specs.Valid.{IsValid};
 
-use script_read::{LineKind, ScriptFault, read_script};
+use script_read::{ScriptFault, read_script};
 use session_model::{EventLine, Item, ItemKind, Script, Window, WindowList};
 use std::alloc::Global;
+use text_lines::LineKind;
 
 /// Appends octets, if memory is there.
 fn say(text: &mut Vec<u8>, octets: &[u8]) {

@@ -11,12 +11,14 @@ ghost use Rattle.trace_core.specs.Wording.{AreWorded, AreOnly, PacketsStay};
 ghost use Rattle.trace_core.specs.Worked.{AreRead, IsRefused};
 
 mod lines;
+mod vc;
 
 use h4_multiframe::{MfiLock, Place};
 use lcas_packet::{Packet, PacketFault, read};
 pub use lines::{FOUND_ROOM, TRACE_ROOM, end_line, found_line, trace_line};
 use std::marker::Model;
 use vc_bits::{nibble_hi, nibble_lo};
+pub use vc::vc_line;
 
 /// Finds the control packets in the H4 octets of a line, all of whose cells are good.
 #[derive(Clone, Copy)]

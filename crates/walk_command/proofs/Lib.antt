@@ -1,9 +1,8 @@
 pub mod MakeLaws
 pub mod TraceLaws
 pub mod EndLaws
-pub mod DecodedLaws
 pub mod HexLineLaws
-pub mod LineLaws
+pub mod DecodedLaws
 pub mod CountLaws
 pub mod RunLaws
 pub mod WriteLaws

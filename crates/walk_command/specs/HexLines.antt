@@ -1,45 +1,42 @@
--- A text of lines of hexadecimal digits. Spaces at either end of a line are dropped; a line with nothing else, or whose first
--- other octet is '#', is skipped.
-use Rattle.std.specs.Prelude.{◌≡◌, ◌≢◌, ℕ, ◌+◌, ◌==◌, List, [], ◌∷◌, ◌++◌, length, map, reverse, All, Option, Some, None, if◌then◌else◌}
-use Rattle.std.specs.List.{flat_map}
+-- A text of lines of hexadecimal digits: each line that isn't skipped has one word, two digits of either case for each octet.
+use Rattle.std.specs.Prelude.{◌≡◌, ℕ, List, [], ◌∷◌, ◌++◌, Option, Some, None, is_none, unwrap_or, Result, Ok, Err, if◌then◌else◌}
 use Rattle.std.specs.Result.{result_ok}
-use Rattle.std.specs.Str.Lines.{lines}
 use Rattle.hex.specs.Hex.{decode_of}
+use Rattle.text_lines.specs.declared.fault.LineKind.{LineKind}
+use Rattle.text_lines.specs.declared.fault.LineKind.TheVariants.{Hex}
+use Rattle.text_lines.specs.Words.{is_skipped}
+use Rattle.text_lines.specs.Fields.{where_true}
+use Rattle.text_lines.specs.Language.{Language, said_by}
 
--- a text behind the spaces at its front
-unfoldable pub behind_spaces : List ℕ → List ℕ
-behind_spaces [] = []
-behind_spaces (c ∷ text) = if c == 32 then behind_spaces text else c ∷ text
+-- the octets of the only word
+abbrev pub word_octets : List (List ℕ) → Option (List ℕ)
+word_octets [] = None
+word_octets (w ∷ []) = result_ok (decode_of w)
+word_octets (w ∷ v ∷ ws) = None
 
--- a text between the spaces at its ends
-abbrev pub trimmed : List ℕ → List ℕ
-trimmed text = reverse (behind_spaces (reverse (behind_spaces text)))
+-- the octets of a line by its words, where it is skipped or has digits
+abbrev pub line_octets : List (List ℕ) → Option (List ℕ)
+line_octets ws = if is_skipped ws then Some [] else word_octets ws
 
--- the octets of a trimmed line, where it is skipped or has digits of either case, two for each octet
-abbrev pub word_octets : List ℕ → Option (List ℕ)
-word_octets [] = Some []
-word_octets (c ∷ word) = if c == 35 then Some [] else result_ok (decode_of (c ∷ word))
+-- the lines one after another: their octets so far
+abbrev pub hex_lines : Language (List ℕ) LineKind
+hex_lines = record {
+  first = [];
+  fault = λ octets ws. where_true (is_none (line_octets ws)) Hex;
+  after = λ octets ws. octets ++ unwrap_or (line_octets ws) [];
+  missing = λ octets. None;
+}
 
-abbrev pub line_octets : List ℕ → Option (List ℕ)
-line_octets line = word_octets (trimmed line)
+abbrev pub hex_text : Result (List ℕ) (ℕ × LineKind) → Result (List ℕ) ℕ
+hex_text (Ok octets) = Ok octets
+hex_text (Err at) = Err at.0
 
--- the octets of a text none of whose lines is faulty
-pub record IsHexText (text octets : List ℕ) : Type 0 where
-  pub parts : List (List ℕ)
-  pub each : map line_octets (lines text) ≡ map Some parts
-  pub all : octets ≡ flat_map (λ part. part) parts
+-- the octets that the lines of a text say, or the number of the first that isn't hexadecimal, counted from 1
+abbrev pub hex_text_of : List ℕ → Result (List ℕ) ℕ
+hex_text_of text = hex_text (said_by hex_lines text)
 
--- the first faulty line of a text, counted from 1
-pub record IsFirstFault (text : List ℕ) (number : ℕ) : Type 0 where
-  pub before : List (List ℕ)
-  pub line : List ℕ
-  pub behind : List (List ℕ)
-  pub here : lines text ≡ before ++ line ∷ behind
-  pub count : number ≡ length before + 1
-  pub faulty : line_octets line ≡ None
-  pub parts : List (List ℕ)
-  pub sound : map line_octets before ≡ map Some parts
+abbrev pub IsHexText : List ℕ → List ℕ → Type 0
+IsHexText text octets = hex_text_of text ≡ Ok octets
 
--- a line holds no LF
-abbrev pub IsLine : List ℕ → Type 0
-IsLine line = All (λ octet. octet ≢ 10) line
+abbrev pub IsFirstFault : List ℕ → ℕ → Type 0
+IsFirstFault text number = hex_text_of text ≡ Err number

@@ -1,9 +1,9 @@
 -- Which rows are whole, and what is delivered while they are.
-use Rattle.std.proofs.Common.{◌≡◌, ℕ, zero, suc, ◌+◌, ◌-◌, ◌*◌, ◌/◌, ◌<◌, ◌≤◌, nat_le, nat_lt, ◌&&◌, ◌++◌, Bool, true, false, inl, inr, List, [], ◌∷◌, length, slice_index_or, All, Option, refl, sym, ◌∙◌, ap, ap₂, subst, arith}
+use Rattle.std.proofs.Common.{◌≡◌, ℕ, suc, ◌+◌, ◌-◌, ◌*◌, ◌/◌, ◌<◌, ◌≤◌, nat_le, nat_lt, ◌&&◌, Bool, true, false, inl, inr, List, [], ◌∷◌, length, slice_index_or, All, Option, refl, sym, ◌∙◌, ap, ap₂, subst, arith}
 use Rattle.std.specs.List.{list_all}
 use Rattle.std.proofs.lemmas.Bool.{lt-leb, ltb-false, cases_Bool, cases_lt}
 use Rattle.std.proofs.lemmas.List.{get_or_past}
-use Rattle.std.proofs.lemmas.List.Elements.{All-nil, All-cons, All-append}
+use Rattle.std.proofs.lemmas.List.Elements.{All-nil, All-cons}
 use Rattle.session_model.specs.declared.window.Window.{Window}
 use Rattle.session_model.specs.declared.window.Carried.{Carried}
 use Rattle.session_model.specs.declared.window.Carried.TheVariants.{Whole}
@@ -15,17 +15,17 @@ use Rattle.session_model.specs.Table.{Told, active}
 use Rattle.session_model.specs.Source.{table_of}
 use Rattle.session_model.specs.Back.{session_cells}
 use Rattle.session_model.specs.SessionRows.{is_whole_row}
-use Rattle.session_model.specs.Segment.{StreamRow, Segment, Segments, row_by, segments_on, segments}
+use Rattle.session_model.specs.Segment.{Segment, octets_of_rows}
 use Rattle.session_model.specs.Loss.{StartsTrue}
-use Rattle.session_model.specs.SessionStream.{row_of, rows_of}
+use Rattle.session_model.specs.SessionStream.{rows_of}
 use Rattle.session_model.specs.Valid.{IsValid}
 use Rattle.session_law.specs.Session.{AreWhole}
 use Rattle.session_law.proofs.DamageLaws.{readable-whole, good-whole, heard-line}
 use Rattle.loss_law.specs.Carried.{Carry, IsSentPiece}
 use Rattle.loss_law.proofs.FilterLaws.{and_false}
-use Rattle.loss_law.proofs.SessionLossLaws.{pieces-sent}
+use Rattle.loss_law.proofs.SessionLossLaws.{pieces-sent, rows-whole}
 use Rattle.loss_law.proofs.SessionStreamLaws.{pieces-open, rows-carry, rows-length}
-use Rattle.loss_law.proofs.WholeLaws.{deliver-whole}
+use Rattle.loss_law.proofs.WholeLaws.{only_segment, deliver-whole}
 use Rattle.script_law.proofs.ItemLaws.{are_octets}
 use Rattle.walk_law.specs.Delivered.{delivered_of}
 use Rattle.walk_law.specs.Promise.{session_pieces, place_after, IsClear, row_from, AreWholeBefore, ConfirmsTrue}
@@ -96,17 +96,6 @@ module _ (script : Script) (some : 0 < length script.config.windows) (t : ℕ)
       ]
 
 -- ---- the rows before the first that isn't whole
-abbrev IsWhole : StreamRow → Type 0
-IsWhole row = row.whole ≡ true
-
-rows-whole : (scenario : Scenario) (cells : List (Option Told)) (rows : ℕ) → ((t : ℕ) → t < rows → is_whole_row scenario cells t ≡ true) → All IsWhole (rows_of scenario cells rows)
-unfolding rows_of
-rows-whole scenario cells zero each = All-nil IsWhole
-rows-whole scenario cells (suc rows) each =
-    All-append IsWhole (rows_of scenario cells rows) (row_of scenario cells rows ∷ [])
-    (rows-whole scenario cells rows (λ t low. each t (omega arith)))
-    (All-cons IsWhole (row_of scenario cells rows) [] (each rows (omega arith)) (All-nil IsWhole))
-
 pub delivered-before : (script : Script) (rows : ℕ) → IsValid script → rows ≤ script.config.ticks → AreWholeBefore script rows →
     delivered_of script rows ≡ frames_by (place_after script rows) (session_pieces script)
 delivered-before script rows valid low whole =
@@ -120,24 +109,12 @@ delivered-before script rows valid low whole =
     deliver-whole 9600 opens.0 (rows_of scenario cells rows) (omega arith) sent carry (rows-whole scenario cells rows whole)
     ∙ ap₂ frames_by (rows-length scenario cells rows script.config.ticks low) (sym opens.1)
 
--- ---- whole rows have one segment
-whole-segments : (rows : List StreamRow) (last : Segment) → last.first ≡ true → All IsWhole rows →
-    (final : Segment) × (final.first ≡ true) × (segments_on (record { ended = []; last = last }) rows ≡ record { ended = []; last = final })
-unfolding segments_on
-whole-segments [] last first each = (last, first, refl)
-whole-segments (row ∷ rows) last first each =
-    let whole : row.whole ≡ true = each 0 row (omega arith) in
-    let (final, is_first, e) =
-    whole-segments rows (record { first = last.first; base = last.base; octets = last.octets ++ row.octets }) first (λ k d inside. each (suc k) d (omega arith)) in
-    (final, is_first, ap (λ whole. segments_on (row_by whole (record { ended = []; last = last }) row.octets) rows) whole ∙ e)
-
+-- whole rows have one segment, so nothing is confirmed after a break
 pub whole-starts : (script : Script) (rows : ℕ) → AreWholeBefore script rows → ConfirmsTrue script rows
 whole-starts script rows whole =
     let scenario : Scenario = scenario_of script in
     let cells : List (Option Told) = session_cells scenario in
     let pieces : List Piece = session_pieces script in
-    let (final, is_first, e) =
-    whole-segments (rows_of scenario cells rows) (record { first = true; base = 0; octets = [] }) refl (rows-whole scenario cells rows whole) in
-    let only : segments (rows_of scenario cells rows) ≡ final ∷ [] = ap (λ (come : Segments). come.ended ++ come.last ∷ []) e in
-    subst (All (StartsTrue pieces)) (sym only)
-    (All-cons (StartsTrue pieces) final [] (λ later. absurd (let f : true ≡ false = sym is_first ∙ later in cc)) (All-nil (StartsTrue pieces)))
+    let only : Segment = record { first = true; base = 0; octets = octets_of_rows (rows_of scenario cells rows) } in
+    subst (All (StartsTrue pieces)) (sym (only_segment (rows_of scenario cells rows) (rows-whole scenario cells rows whole)))
+    (All-cons (StartsTrue pieces) only [] (λ later. absurd cc) (All-nil (StartsTrue pieces)))

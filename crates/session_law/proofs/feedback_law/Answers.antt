@@ -1,6 +1,6 @@
 -- What a return packet tells of.
 use Rattle.session_model.specs.Back.{cells_before}
-use Rattle.session_law.proofs.SessionLaws.{session-law}
+use Rattle.session_law.proofs.SessionLaws.{session-law, session-kept}
 use Rattle.session_law.proofs.FeedbackLaws.{feedback, same_lines}
 use Rattle.session_law.proofs.KeptLaws.{acts_on}
 use Rattle.session_law.proofs.feedback_law.Goals as goal
@@ -14,4 +14,5 @@ returns-clause-same_lines c = λ scenario n j k told takes tells.
     same_lines scenario (cells_before scenario n) takes.lag j k takes.later tells
 
 pub returns-clause-statuses : goal.returns-clause-statuses
-returns-clause-statuses c = λ scenario n j sq ok lag kept. acts_on scenario (cells_before scenario n) (session-law scenario n lag) lag j sq ok kept
+returns-clause-statuses c = λ scenario n j sq ok lag kept.
+    acts_on scenario (cells_before scenario n) (session-law scenario n lag) (λ k told. session-kept scenario n k told lag) lag j sq ok kept

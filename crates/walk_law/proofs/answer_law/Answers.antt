@@ -2,7 +2,7 @@
 use Rattle.std.proofs.Common.{◌<◌, arith}
 use Rattle.session_model.specs.Scenario.{Scenario, scenario_of, packets}
 use Rattle.session_model.specs.Back.{session_cells}
-use Rattle.session_law.proofs.SessionLaws.{session-law}
+use Rattle.session_law.proofs.SessionLaws.{session-law, session-kept}
 use Rattle.session_law.proofs.FeedbackLaws.{feedback, same_lines}
 use Rattle.session_law.proofs.KeptLaws.{acts_on}
 use Rattle.walk_law.proofs.answer_law.Goals as goal
@@ -22,4 +22,5 @@ returns-clause-statuses c script j sq ok can kept =
     let scenario : Scenario = scenario_of script in
     let fits_lag = can.lag in
     let lag : 0 < scenario.lag = omega arith in
-    acts_on scenario (session_cells scenario) (session-law scenario (packets scenario) lag) lag j sq ok kept
+    acts_on scenario (session_cells scenario) (session-law scenario (packets scenario) lag)
+    (λ k told. session-kept scenario (packets scenario) k told lag) lag j sq ok kept

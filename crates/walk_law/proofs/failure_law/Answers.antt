@@ -1,10 +1,12 @@
 -- With failures.
+use Rattle.std.proofs.Common.{slice_index_or, arith}
 use Rattle.session_model.specs.Segment.{segments}
+use Rattle.session_model.specs.Loss.{Extent}
 use Rattle.loss_law.proofs.CutLaws.{Stands-all}
 use Rattle.loss_law.proofs.WayLaws.{way_of, lost_of}
+use Rattle.loss_law.proofs.ExtentLaws.{extents-between}
 use Rattle.walk_law.specs.Delivered.{session_rows}
-use Rattle.walk_law.specs.Promise.{session_extents}
-use Rattle.std.proofs.Common.{arith}
+use Rattle.walk_law.specs.Promise.{session_pieces, session_extents}
 use Rattle.walk_law.proofs.PlanLaws.{valid-walks}
 use Rattle.walk_law.proofs.EndLaws.{counts-within}
 use Rattle.walk_law.proofs.PromiseLaws.{frames-kept, frames-known}
@@ -17,10 +19,12 @@ pub returns-clause-accepted : goal.returns-clause-accepted
 returns-clause-accepted c = frames-known
 
 pub returns-clause-ways : goal.returns-clause-ways
-returns-clause-ways c script rows frame long = (
-  way_of (session_extents script) frame (segments (session_rows script rows)),
-  lost_of (session_extents script) frame (segments (session_rows script rows)) long (Stands-all (session_rows script rows)).order,
-)
+returns-clause-ways c script rows k d inside =
+    let frame : Extent = slice_index_or (session_extents script) k d in
+    let long = (extents-between 0 (session_pieces script) k d inside).size in (
+      way_of (session_extents script) frame (segments (session_rows script rows)),
+      lost_of (session_extents script) frame (segments (session_rows script rows)) long (Stands-all (session_rows script rows)).order,
+    )
 
 pub returns-clause-walked : goal.returns-clause-walked
 returns-clause-walked c script s valid walked true_starts =

@@ -1,6 +1,6 @@
 -- The first fault of the delays, and their values.
 use Rattle.std.proofs.Common.{◌≡◌, ◌∙◌, ◌++◌, ℕ, List, [], length, map, ap, sym, rules, append-nil}
-use Rattle.script_read.specs.Words.{words, number_of}
+use Rattle.text_lines.specs.Words.{words, number_of}
 use Rattle.script_read.proofs.DelayLaws.{delays_said, delay_fails, delay_faults}
 use Rattle.script_read.proofs.network.read_delays.Goals as goal
 

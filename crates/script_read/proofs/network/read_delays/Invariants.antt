@@ -1,6 +1,6 @@
 -- The words read so far have no fault, and these values.
 use Rattle.std.proofs.Common.{◌≡◌, ◌++◌, ◌≤◌, All, length, map}
-use Rattle.script_read.specs.Words.{words, number_of}
+use Rattle.text_lines.specs.Words.{words, number_of}
 use Rattle.script_read.proofs.DelayLaws.{delay_faults}
 use Rattle.script_read.proofs.network.read_delays.Given as goal
 

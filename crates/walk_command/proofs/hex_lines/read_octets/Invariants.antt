@@ -1,15 +1,17 @@
--- The lines so far are read, and none was faulty.
+-- What the lines read so far say; the rest of the text is read from there.
+use Rattle.std.specs.Str.Lines.{lines}
 use Rattle.std.specs.Vec.{vec_capacity}
-use Rattle.std.proofs.Common.{◌/◌, ◌+◌, ◌*◌, ◌≤◌, length, vec_len}
-use Rattle.walk_command.proofs.HexLineLaws.{IsRead}
+use Rattle.std.proofs.Common.{◌≡◌, ◌/◌, ◌+◌, ◌*◌, ◌≤◌, length, vec_len}
+use Rattle.text_lines.specs.Language.{said_from, said_by}
+use Rattle.walk_command.specs.HexLines.{hex_lines}
 use Rattle.walk_command.proofs.hex_lines.read_octets.Given as goal
 
 abbrev pub invariant-loop-line : goal.invariant-loop-line
 invariant-loop-line l = record {
-  read : IsRead l.fn.text l.rest l.number l.octets.items;
+  value : said_by hex_lines l.fn.text ≡ said_from hex_lines l.number l.octets.items (lines l.rest);
   room : length l.fn.text / 2 ≤ vec_capacity l.octets;
   size : 2 * vec_len l.octets + length l.rest ≤ length l.fn.text;
-  small : l.number + length l.rest ≤ length l.fn.text;
+  small : l.number + length l.rest ≤ length l.fn.text + 1;
 }
 
 abbrev pub decreases-loop-line : goal.decreases-loop-line

@@ -1,7 +1,7 @@
 -- Arm by arm, by the cause that the status tells.
 use Rattle.std.proofs.Common.{◌≡◌, ◌⊎◌, ℕ, Option, Some, None, IfSome, Err, sym, ◌∙◌, ap, subst, inl, inr, arith}
 use Rattle.outside_io.specs.Transfer.{Appends, AppendsPart, Tells}
-use Rattle.script_read.specs.declared.fault.LineKind.TheVariants.{Hex}
+use Rattle.text_lines.specs.declared.fault.LineKind.TheVariants.{Hex}
 use Rattle.script_read.specs.declared.fault.ScriptFault.{ScriptFault}
 use Rattle.script_read.specs.Script.{script_of}
 use Rattle.cmd_words.specs.declared.command.Command.TheVariants.{Make}

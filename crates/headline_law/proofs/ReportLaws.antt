@@ -1,0 +1,138 @@
+-- The frames that a report tells, as they are picked out of those of the stream.
+use Rattle.std.proofs.Common.{◌≡◌, ◌⊎◌, ℕ, ◌+◌, ◌<◌, ◌≤◌, Bool, true, false, not, List, ◌++◌, length, filter, slice_index_or, All, refl, sym, ◌∙◌, ap, arith, inl, inr}
+use Rattle.std.specs.Prelude.{◌&&◌, ◌||◌}
+use Rattle.std.proofs.lemmas.Bool.{cases_Bool, and_parts, not-true, leb-true, le-leb}
+use Rattle.session_model.specs.declared.script.Script.{Script}
+use Rattle.session_model.specs.Scenario.{Scenario, scenario_of}
+use Rattle.session_model.specs.Back.{session_cells}
+use Rattle.session_model.specs.Segment.{StreamRow, Segment, segments, octets_of_rows}
+use Rattle.session_model.specs.SessionStream.{rows_of}
+use Rattle.session_model.specs.Loss.{Extent, is_carried, lies_in, is_frame_lost}
+use Rattle.session_model.specs.Valid.{IsValid}
+use Rattle.report_text.specs.Report.{got_texts, total_text}
+use Rattle.loss_law.specs.Carried.{IsUndamaged}
+use Rattle.loss_law.proofs.CutLaws.{Stands-all}
+use Rattle.loss_law.proofs.WayLaws.{way_of, lost_of}
+use Rattle.loss_law.proofs.ExtentLaws.{extents-between}
+use Rattle.loss_law.proofs.SessionStreamLaws.{rows-length}
+use Rattle.loss_law.proofs.WholeLaws.{IsWhole, only_segment}
+use Rattle.loss_law.proofs.SessionLossLaws.{undamaged-whole, rows-whole}
+use Rattle.walk_law.specs.Delivered.{session_rows}
+use Rattle.walk_law.specs.Landed.{Numbered, refusals_among, totals_among}
+use Rattle.walk_law.specs.Promise.{session_pieces, session_extents, place_after, HasNoFailure, AreWholeBefore, ConfirmsTrue}
+use Rattle.walk_law.specs.Report.{refused_texts, report_among}
+use Rattle.walk_law.proofs.PlanLaws.{valid-walks}
+use Rattle.walk_law.proofs.PromiseLaws.{frames-kept, frames-known}
+use Rattle.walk_law.proofs.WholeLaws.{whole-starts}
+use Rattle.headline_law.specs.Headline.{ComesThrough, ArePicked, Reports, IsHeadline}
+
+-- ---- which frames come through
+module _ (script : Script) (rows : ℕ) (low : rows ≤ script.config.ticks) where
+  abbrev parts : List Segment
+  parts = segments (session_rows script rows)
+
+  abbrev octets : List ℕ
+  octets = octets_of_rows (session_rows script rows)
+
+  -- the test by which frames are kept
+  abbrev is_kept : Extent → Bool
+  is_kept e = is_carried (length octets) e && not (is_frame_lost parts (session_extents script) e)
+
+  ends : length octets ≡ place_after script rows
+  ends = rows-length (scenario_of script) (session_cells (scenario_of script)) rows script.config.ticks low
+
+  comes : (e : Extent) → e.from < e.to → e.to ≤ place_after script rows →
+      is_frame_lost parts (session_extents script) e ≡ false →
+      ComesThrough script rows e
+  comes e long carried kept =
+      let order = (Stands-all (session_rows script rows)).order in
+      record {
+        carried = carried;
+        kept = λ lost. (let wrong : true ≡ false = sym (lost_of (session_extents script) e parts long order lost)
+            ∙ kept in cc);
+      }
+
+  through : (e : Extent) → e.from < e.to → is_kept e ≡ true → ComesThrough script rows e
+  through e long is =
+      let halves = and_parts (is_carried (length octets) e) (not (is_frame_lost parts (session_extents script) e)) is in
+      let carried = leb-true e.to (length octets) halves.0 in
+      comes e long (omega (arith, carried, ends)) (not-true (is_frame_lost parts (session_extents script) e) halves.1)
+
+  back : (e : Extent) → ComesThrough script rows e → is_kept e ≡ true
+  back e is =
+      let fits = is.carried in
+      let carried : is_carried (length octets) e ≡ true = le-leb e.to (length octets) (omega (arith, fits, ends)) in
+      elim (cases_Bool (is_frame_lost parts (session_extents script) e)) [
+        | inl lost ↦ absurd (is.kept (way_of (session_extents script) e parts lost))
+        | inr kept ↦ rw (carried, kept) refl
+      ]
+
+  kept-picked : ArePicked (ComesThrough script rows) (session_extents script) (filter is_kept (session_extents script))
+  kept-picked = record {
+    test = is_kept;
+    decides = λ i d inside. (
+      through (slice_index_or (session_extents script) i d) (extents-between 0 (session_pieces script) i d inside).size,
+      back (slice_index_or (session_extents script) i d),
+    );
+    are = refl;
+  }
+
+  reports : (ticks : ℕ) (items : List Numbered) → IsValid script → ConfirmsTrue script rows →
+      Reports script ticks rows items (report_among script ticks rows items)
+  reports ticks items valid starts = record {
+    accepted = sym (frames-known script valid);
+    through = filter is_kept (session_extents script);
+    picked = kept-picked;
+    lines = ap
+        (λ frames. got_texts frames ++ refused_texts (refusals_among script items)
+        ++ total_text (totals_among script ticks rows items))
+        (frames-kept script rows valid low starts);
+  }
+
+-- ---- where each row is whole, no frame is lost that they carry
+whole-kept : (rows : List StreamRow) (all : List Extent) (e : Extent) → All IsWhole rows →
+    e.to ≤ length (octets_of_rows rows) →
+    is_frame_lost (segments rows) all e ≡ false
+whole-kept rows all e whole fits =
+    let only : Segment = record { first = true; base = 0; octets = octets_of_rows rows } in
+    let lies : lies_in only e ≡ true =
+    rw (le-leb 0 e.from (omega arith), le-leb e.to (0 + length (octets_of_rows rows)) (omega (arith, fits))) refl in
+    ap (λ (parts : List Segment). is_frame_lost parts all e) (only_segment rows whole)
+    ∙ ap (λ b. not ((b && true) || false)) lies
+
+module _ (script : Script) (valid : IsValid script) (none : HasNoFailure script) where
+  abbrev scenario : Scenario
+  scenario = scenario_of script
+
+  fine : IsUndamaged scenario
+  fine = record { some_line = (valid-walks script valid).some; none = none }
+
+  whole : (rows : ℕ) → AreWholeBefore script rows
+  whole rows t inside = undamaged-whole scenario (session_cells scenario) t fine
+
+  each-whole : (rows : ℕ) → All IsWhole (rows_of scenario (session_cells scenario) rows)
+  each-whole rows = rows-whole scenario (session_cells scenario) rows (whole rows)
+
+  none-starts : (rows : ℕ) → ConfirmsTrue script rows
+  none-starts rows = whole-starts script rows (whole rows)
+
+  none-lost : (rows : ℕ) → rows ≤ script.config.ticks →
+      All (λ (frame : Extent). frame.to ≤ place_after script rows → ComesThrough script rows frame)
+      (session_extents script)
+  none-lost rows low i d inside carried =
+      let e : Extent = slice_index_or (session_extents script) i d in
+      comes script rows low e (extents-between 0 (session_pieces script) i d inside).size carried
+      (whole-kept (session_rows script rows) (session_extents script) e (each-whole rows)
+      (omega (arith, carried, ends script rows low)))
+
+-- ---- the headline
+pub is_headline : (script : Script) (ticks rows : ℕ) (items : List Numbered) → IsValid script →
+    rows ≤ script.config.ticks →
+    IsHeadline script ticks rows items (report_among script ticks rows items)
+is_headline script ticks rows items valid low =
+    let starts-true : HasNoFailure script ⊎ ConfirmsTrue script rows → ConfirmsTrue script rows = λ premise.
+    elim premise [ inl none ↦ none-starts script valid none rows | inr starts ↦ starts ] in
+    record {
+      tells = λ premise. reports script rows low ticks items valid (starts-true premise);
+      hitless = λ none. none-lost script valid none rows low;
+    }

@@ -1,0 +1,4 @@
+pub mod TextLaws
+pub mod LanguageLaws
+pub mod FirstFaultLaws
+pub mod FieldLaws

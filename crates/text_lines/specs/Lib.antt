@@ -1,0 +1,5 @@
+pub mod Cut
+pub mod Words
+pub mod Fields
+pub mod Language
+pub mod FirstFault
