@@ -162,5 +162,5 @@ fn line_of_a_vc(rt: HostRuntime) {
     let mut line = [0; 64];
     feed.next(&mut vc);
     let end = vc_line(&vc, &mut line);
-    assert!(rt; line[..end] == *b"vc 2 sum 294798\n");
+    assert!(rt; &line[..end] == b"vc 2 sum 294798\n".as_slice());
 }

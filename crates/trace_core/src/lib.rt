@@ -1,4 +1,4 @@
-//! Finds the control packets of a line in its H4 octets, octet by octet, and puts together the lines of a decoding and of a trace.
+//! Finds the control packets of a line in its H4 octets, octet by octet, and puts together the lines of a decoding, of a trace and of a VC-4.
 //! Begin with `H4Decoder` and `trace_line`; `packets_law` says that the decoder's definition is what is worded of packets. How a packet
 //! is read is not said here, and nothing is written to an output.
 #![tactic(auto)]
