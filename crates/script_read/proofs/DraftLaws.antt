@@ -1,6 +1,6 @@
 -- The lines of a script, one line on and at the end.
 use Rattle.std.proofs.Common.{◌≡◌, ℕ, ◌+◌, ◌<◌, ◌≤◌, List, ◌∷◌, ap, sym, ◌∙◌, arith, refl, true, false, inl, inr, ◌⊎◌}
-use Rattle.std.specs.Prelude.{None, Some, Ok, Err, nat_lt}
+use Rattle.std.specs.Prelude.{None, Some, Err, nat_lt}
 use Rattle.std.proofs.lemmas.Bool.{cases_lt}
 use Rattle.std.proofs.lemmas.Bool.Decides.{nat_tests}
 use Rattle.text_lines.specs.declared.fault.LineKind.{LineKind}

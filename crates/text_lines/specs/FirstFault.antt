@@ -1,5 +1,5 @@
 -- Which line of a text is the first that has a fault, as a relation.
-use Rattle.std.specs.Prelude.{◌≡◌, ◌⊎◌, ℕ, ◌+◌, List, [], ◌∷◌, ◌++◌, length, Option, Some, None}
+use Rattle.std.specs.Prelude.{◌≡◌, ◌⊎◌, ℕ, ◌+◌, List, [], ◌∷◌, ◌++◌, length, Some, None}
 use Rattle.text_lines.specs.Words.{words}
 use Rattle.text_lines.specs.Language.{Language}
 

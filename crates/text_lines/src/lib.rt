@@ -11,6 +11,4 @@ mod words;
 pub use fault::{LineKind, LineStop};
 pub use fields::{number_within, octets_within, one_number};
 pub use lines::next_line;
-pub use words::{
-    count_words, first_word, four_words, next_word, one_word, three_words, two_words,
-};
+pub use words::{count_words, first_word, four_words, next_word, one_word, three_words, two_words};
