@@ -4,6 +4,7 @@
 #![tactic(auto)]
 
 ghost use Rattle.std.specs.Prelude.{◌≡◌, ℕ, ◌+◌, ◌*◌, ◌%◌, ◌<◌, List, [], ◌∷◌, ◌++◌, length, Option, Some, None};
+ghost use Rattle.h4_multiframe.specs.declared.Place.{Place as PlaceData};
 ghost use Rattle.h4_multiframe.specs.Place.{IsPlace};
 ghost use Rattle.h4_multiframe.specs.Stands.{Stands};
 
@@ -28,6 +29,14 @@ pub enum Place {
     /// The line was locked before this cell and stays so, and its frame has this number.
     At(u16),
 }
+
+/// A cell is one of these, with one number; and more cells after it change nothing of what it is.
+pub fn place_law()
+    ensures only { (cells : List (Option ℕ)) (place : ℕ) (a b : PlaceData) →
+        IsPlace cells place a → IsPlace cells place b → a ≡ b }
+    ensures stays { (cells more : List (Option ℕ)) (place : ℕ) (a : PlaceData) →
+        place < length cells → IsPlace cells place a → IsPlace (cells ++ more) place a }
+{}
 
 /// What the lock knows after the last cell.
 #[derive(Clone, Copy)]

@@ -7,7 +7,7 @@ ghost use Rattle.session_model.specs.GroupBit.{bits_from};
 use std::marker::Model;
 
 /// The bits of a packet and of the fourteen after it.
-#[derive(Drop)]
+#[derive(Clone, Copy)]
 pub struct GroupBits {
     /// Fifteen bits, the first one the most significant.
     register: u16,
@@ -15,13 +15,19 @@ pub struct GroupBits {
 
 impl Model for GroupBits {
     ghost use Rattle.std.specs.Prelude.{List, Bool, ◌<◌, ◌^◌};
-    ghost use Rattle.remainder.specs.Bits.{bits};
+    ghost use Rattle.remainder.specs.Bits.{bits, number};
+    ghost use Rattle.std.proofs.Common.{◌∙◌, ap, mod-eq_of_lt};
+    ghost use Rattle.remainder.proofs.BitLaws.{number-bits};
 
     ghost Value = { List Bool };
 
     ghost view = { λ group. bits 15 group.register };
 
     ghost invariant = { λ group. group.register < 2 ^ 15 };
+
+    ghost inverse = { λ group. record { register = number group } };
+
+    ghost inverse_ok = { λ group within. ap (λ register. record { register = register }) (number-bits 15 group.register ∙ mod-eq_of_lt within) };
 }
 
 impl GroupBits {

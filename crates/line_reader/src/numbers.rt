@@ -18,7 +18,7 @@ const NUMBERS: u16 = 4096;
 
 /// The numbers of a line. What its last cell decided is kept until it was passed: a count of bad numbers, or one whole number, whose
 /// container the caller keeps in a place.
-#[derive(Drop)]
+#[derive(Clone, Copy)]
 pub struct LineNumbers {
     lock: MfiLock,
     /// The next number modulo 4,096.
@@ -37,6 +37,8 @@ impl Model for LineNumbers {
     ghost invariant = { λ numbers. numbers.next < 4096 };
 
     ghost view = { λ numbers. record { lock = numbers.lock; next = numbers.next; bad = numbers.bad; whole = numbers.whole; ended = numbers.ended } };
+
+    ghost inverse = { λ numbers. record { lock = numbers.lock; next = numbers.next; bad = numbers.bad; whole = numbers.whole; ended = numbers.ended } };
 }
 
 impl Default for LineNumbers {

@@ -11,7 +11,7 @@ use std::marker::Model;
 use vc_cell::{Cell, Container, PAYLOAD};
 
 /// Reads the cells of a line.
-#[derive(Drop)]
+#[derive(Clone, Copy)]
 pub struct LineReader {
     numbers: LineNumbers,
     place: Container,
@@ -23,6 +23,8 @@ impl Model for LineReader {
     ghost Value = { Reader };
 
     ghost view = { λ reader. record { numbers = reader.numbers; place = reader.place } };
+
+    ghost inverse = { λ reader. record { numbers = reader.numbers; place = reader.place } };
 }
 
 impl Default for LineReader {

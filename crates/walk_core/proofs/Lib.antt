@@ -11,3 +11,4 @@ pub mod LandLaws
 pub mod LandSteps
 pub mod TotalLaws
 pub mod TakenLaws
+pub mod CarrySteps

@@ -5,3 +5,4 @@ pub mod Carry
 pub mod Opened
 pub mod Landing
 pub mod Take
+pub mod Waiting

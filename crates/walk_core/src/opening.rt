@@ -15,7 +15,7 @@ use sink_core::SinkCore;
 use source_core::SourceCore;
 use std::alloc::{AllocError, Global};
 use vc_cell::HeldContainer;
-use walk_parts::{ReturnPath, WalkLine};
+use walk_parts::{ReturnPath, WalkLine, blank_boxes};
 
 /// The frames that the send rings hold.
 pub(crate) const SENDS: usize = 32;
@@ -117,20 +117,9 @@ fn new_sent(alloc: Global, lines: u8) -> Result<Vec<Vec<Box<HeldContainer>>>, Al
 {
     let mut sent = Vec::with_capacity(alloc, SENDS)?;
     for _ in 0..SENDS {
-        sent.push(new_frame(alloc, lines)?)?;
+        sent.push(blank_boxes(alloc, u16::from(lines))?)?;
     }
     Ok(sent)
-}
-
-/// An empty box for each line.
-fn new_frame(alloc: Global, lines: u8) -> Result<Vec<Box<HeldContainer>>, AllocError>
-    ensures { IfOk result (λ frame. length frame.items ≡ lines) }
-{
-    let mut frame = Vec::with_capacity(alloc, usize::from(lines))?;
-    for _ in 0..lines {
-        frame.push(Box::new(alloc, HeldContainer::new())?)?;
-    }
-    Ok(frame)
 }
 
 /// The lines of a script, before any carry.

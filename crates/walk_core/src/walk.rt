@@ -1,9 +1,10 @@
 //! A walk of a script, event by event.
 
-ghost use Rattle.std.specs.Prelude.{◌≡◌, ◌↔◌, ℕ, true, false, suc, ◌+◌, ◌*◌, ◌/◌, ◌%◌, ◌==◌, ◌&&◌, nat_le, ◌<◌, ◌≤◌, if◌then◌else◌, [], ◌∷◌, ◌++◌, List, length, map, min, All, replicate, drop, slice_get, Option, Some, None, IsSome, IfOk};
+ghost use Rattle.std.specs.Prelude.{◌≡◌, ◌↔◌, ℕ, true, false, suc, ◌+◌, ◌*◌, ◌/◌, ◌%◌, ◌==◌, ◌&&◌, nat_le, ◌<◌, ◌≤◌, if◌then◌else◌, [], ◌∷◌, ◌++◌, List, length, map, min, All, replicate, drop, slice_get, Option, Some, None, IsSome, IfOk, IfSome, IfNone, option_map};
+ghost use Rattle.std.specs.Option.{option_copied};
 ghost use Rattle.session_model.specs.declared.walk.Event.TheVariants.{Accept, Command, Tick, Carry, Back, Take};
 ghost use Rattle.session_model.specs.Valid.{IsValid};
-ghost use Rattle.session_model.specs.Counts.{begin, step, full, run, round, drain, bound, carries_from};
+ghost use Rattle.session_model.specs.Counts.{begin, step, full, in_send, run, round, drain, bound, carries_from};
 ghost use Rattle.session_model.specs.Scenario.{Scenario, steps_in};
 ghost use Rattle.session_model.specs.Table.{Told};
 ghost use Rattle.session_model.specs.Sent.{frame_of};
@@ -23,6 +24,8 @@ ghost use Rattle.session_model.specs.declared.script.Script.{Script};
 ghost use Rattle.walk_law.specs.Walk.{path_on};
 ghost use Rattle.walk_parts.specs.Ringed.{Ringed, ring_of};
 ghost use Rattle.walk_core.specs.Opened.{IsNew};
+ghost use Rattle.walk_core.specs.Waiting.{send_ring, receive_ring};
+ghost use Rattle.line_reader.specs.Told.{cell_of};
 ghost use Rattle.walk_core.specs.Carry.{carry_cause, CanCarry, IsSentOn, IsCarriedAt, HasRoom};
 ghost use Rattle.std.specs.Vec.{vec_capacity};
 ghost use Rattle.walk_core.specs.Landing.{stall_by, met_by, with_kind, IsParted};
@@ -37,6 +40,7 @@ use crate::moved::{Moved, StepNote};
 use crate::opening::{Ends, Opened, Paths, Returns, SENDS, open};
 use lcas_packet::Packet;
 use lcas_source::SourceTable;
+use line_reader::CellRef;
 use realign_core::RowGather;
 use report_text::{Refusal, Totals};
 use session_model::{Event, Item, ItemKind, Script, StallCause};
@@ -44,7 +48,7 @@ use sink_core::{FrameOut, SinkCore, TakeAnswer};
 use source_core::SourceCore;
 use std::alloc::{AllocError, Global};
 use std::marker::Model;
-use vc_cell::{BackCell, HeldContainer};
+use vc_cell::{BackCell, Container, HeldContainer};
 use walk_parts::{ReturnPath, WalkLine, held_item, next_command, next_frame};
 
 /// The first row that ends a packet.
@@ -200,6 +204,33 @@ impl Walk {
         ensures steps { result.now.steps ≡ steps_in self.now.counts.ticks }
     {
         self.source.table()
+    }
+
+    /// The container at a place of the send ring of a line, from the oldest on, or `None` beyond the last one that waits there.
+    pub fn send_ring(&self, line: u8, place: u32) -> Option<&Container>
+        requires { line < self.now.script.config.lines }
+        ensures { option_copied result
+            ≡ slice_get (send_ring self.now.script self.now.counts line) place }
+    {
+        let m = usize::from(line);
+        match frame_at(
+            &self.lines[m],
+            self.script.config.ticks,
+            self.source.ticks(),
+            place,
+        ) {
+            Some(t) => Some(self.sent[t as usize % SENDS][m].container()),
+            None => None,
+        }
+    }
+
+    /// The cell at a place of the receive ring of a line, from the oldest on, or `None` beyond the last one that waits there.
+    pub fn receive_ring(&self, line: u8, place: u32) -> Option<CellRef<'_>>
+        requires { line < self.now.script.config.lines }
+        ensures { option_map cell_of result
+            ≡ slice_get (receive_ring self.now.script self.now.counts line) place }
+    {
+        self.lines[usize::from(line)].waiting(place)
     }
 
     /// A walk of a script before any event, of what was opened for it.
@@ -662,6 +693,21 @@ fn first_full(lines: &[WalkLine], total: u32, ticks: u32) -> Option<u8>
         }
     }
     None
+}
+
+/// The frame whose container is at a place of a line's send ring, from the oldest on, where so many wait there.
+fn frame_at(own: &WalkLine, total: u32, ticks: u32, place: u32) -> Option<u32>
+    requires { min own.now.carried total ≤ ticks }
+    ensures waits { IfSome result (λ t. (place < in_send total ticks (line_counts own.now))
+        × (t ≡ min own.now.carried total + place)) }
+    ensures none { IfNone result (in_send total ticks (line_counts own.now) ≤ place) }
+{
+    let first = own.carried().min(total);
+    if place < ticks - first {
+        Some(first + place)
+    } else {
+        None
+    }
 }
 
 /// Whether a line waits for a container.

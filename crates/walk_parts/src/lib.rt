@@ -3,10 +3,12 @@
 //! `held_item` say what lands next. In which order events come, and what the terminals make of it, is not said here.
 #![tactic(auto)]
 
+mod boxes;
 mod items;
 mod line;
 mod path;
 
+pub use boxes::blank_boxes;
 pub use items::{held_item, next_command, next_frame};
 pub use line::WalkLine;
 pub use path::ReturnPath;

@@ -1,24 +1,25 @@
 //! A line of a walk with its receive ring.
 
-ghost use Rattle.std.specs.Prelude.{◌≡◌, ◌≢◌, ℕ, ◌+◌, ◌-◌, ◌<◌, ◌≤◌, ◌↔◌, [], ◌∷◌, true, List, length, slice_get, slice_set, IfOk, IsTrue, is_some};
+ghost use Rattle.std.specs.Prelude.{◌≡◌, ◌≢◌, ℕ, ◌+◌, ◌-◌, ◌<◌, ◌≤◌, ◌↔◌, [], ◌∷◌, true, List, length, drop, slice_get, slice_set, IfOk, IsTrue, is_some, option_map};
 ghost use Rattle.vc_cell.specs.declared.Container.{Container};
 ghost use Rattle.vc_cell.specs.declared.Cell.{Cell};
 ghost use Rattle.line_core.specs.Carry.{carry_cells};
 ghost use Rattle.line_core.specs.Line.{Calls, opened, and_push, and_flush, path_cells, IsEnded};
-ghost use Rattle.line_reader.specs.Told.{cell_with};
+ghost use Rattle.line_reader.specs.Told.{cell_with, cell_of};
 ghost use Rattle.session_model.specs.Damage.{AreWindows};
 ghost use Rattle.session_model.specs.Number.{verdict};
 ghost use Rattle.realign_core.specs.Gather.{Stands as Gathers, line_count, IsOpenAt};
 ghost use Rattle.session_model.specs.Rows.{first_open};
 ghost use Rattle.walk_parts.specs.Ringed.{Ringed, ring_of, Has, popped_cells, IsNext, IsPopped, popped_until, leaves_open, with_sign, count_of, is_at};
 
+use crate::boxes::blank_boxes;
 use failure_window::{Window, Windows};
 use line_core::{Carry, LineCore};
-use line_reader::CellSign;
+use line_reader::{CellRef, CellSign};
 use realign_core::{RowAnswer, RowGather};
 use std::alloc::{AllocError, Global};
 use std::marker::Model;
-use vc_cell::HeldContainer;
+use vc_cell::{Container, HeldContainer};
 
 /// A line with its receive ring: the cells that it gave and that weren't popped. Only its making takes memory, and a container is
 /// copied nowhere on its way into the line, through it and out of the ring.
@@ -72,7 +73,7 @@ impl WalkLine {
         Ok(WalkLine {
             core: LineCore::new(alloc, delay, windows, total)?,
             signs: vec![in alloc; Carry::Nothing; usize::from(ring)]?,
-            places: blank_places(alloc, ring)?,
+            places: blank_boxes(alloc, ring)?,
             carried: 0,
             given: 0,
             popped: 0,
@@ -107,6 +108,18 @@ impl WalkLine {
         ensures within { self.now.given ≤ self.now.popped + ring_of self.now }
     {
         (self.given - self.popped) as usize == self.signs.len()
+    }
+
+    /// The cell at a place of the receive ring, from the oldest on, or `None` beyond the last one that waits.
+    pub fn waiting(&self, place: u32) -> Option<CellRef<'_>>
+        ensures { (calls : Calls) → Has self.now calls → option_map cell_of result
+            ≡ slice_get (drop self.now.popped (path_cells calls)) place }
+    {
+        if place >= self.given - self.popped {
+            return None;
+        }
+        let slot = (self.popped + place) as usize % self.signs.len();
+        Some(cell_at(self.signs[slot], self.places[slot].container()))
     }
 
     /// Carries a container on, and keeps the cell that comes out, if any. It takes the container's box, and leaves another one.
@@ -178,17 +191,6 @@ impl WalkLine {
     }
 }
 
-/// So many places with a box each.
-fn blank_places(alloc: Global, count: u16) -> Result<Vec<Box<HeldContainer>>, AllocError>
-    ensures { IfOk result (λ places. length places.items ≡ count) }
-{
-    let mut places = Vec::with_capacity(alloc, usize::from(count))?;
-    for _ in 0..count {
-        places.push(Box::new(alloc, HeldContainer::new())?)?;
-    }
-    Ok(places)
-}
-
 /// Changes the boxes of two places for each other. A place that is to be filled gets the box that was emptied last, since this lies
 /// nearest in the caches of the processor.
 fn exchange(places: &mut Vec<Box<HeldContainer>>, a: usize, b: usize)
@@ -225,6 +227,17 @@ fn waits_for(rows: &RowGather, line: u8) -> bool
     match rows.row() {
         RowAnswer::Row => false,
         RowAnswer::Waiting { line: least } => least == line,
+    }
+}
+
+/// The cell that a carry gave, whose container lies in this place.
+fn cell_at(carry: Carry, place: &Container) -> CellRef<'_>
+    ensures { (cell : Cell) → carry_cells carry place.now ≡ cell ∷ [] → cell_of result ≡ cell }
+{
+    match carry {
+        Carry::Good => CellRef::Good(place),
+        Carry::End => CellRef::End,
+        Carry::Fail | Carry::Nothing => CellRef::Fail,
     }
 }
 

@@ -1,0 +1,115 @@
+-- What a carry of a line leaves of a walk, where the line was read at its number.
+use Rattle.std.proofs.Common.{◌≡◌, ℕ, ◌+◌, ◌%◌, ◌<◌, ◌≤◌, List, length, map, slice_get, slice_set, slice_index_or, Option, Some, None, sym, ◌∙◌, ap, subst, arith}
+use Rattle.std.specs.Global.{Vec, Box}
+use Rattle.vc_cell.specs.declared.Container.{Container}
+use Rattle.session_model.specs.declared.script.Script.{Script}
+use Rattle.session_model.specs.declared.walk.Event.TheVariants.{Carry}
+use Rattle.session_model.specs.declared.walk.StallCause.{StallCause}
+use Rattle.walk_law.specs.Walk.{path_on}
+use Rattle.walk_parts.specs.Ringed.{Ringed, ring_of}
+use Rattle.walk_parts.proofs.ItemLaws.{at-index}
+use Rattle.walk_core.specs.declared.moved.StepNote.{StepNote}
+use Rattle.walk_core.specs.declared.moved.Moved.TheVariants.{Yes, Stalled}
+use Rattle.walk_core.specs.Moved.{Walked, moved_of, counts_after}
+use Rattle.walk_core.specs.Parts.{Parts, Landing, frame_in, counts_of, line_counts, HasLine, IsWalk}
+use Rattle.walk_core.specs.Carry.{carry_cause, CanCarry, HasRoom, IsSentOn, IsCarriedAt}
+use Rattle.walk_core.proofs.CarryLaws.{same-some, line-has, line-room, carry-stays, carry-kept_at, carry-counts_at, carry-moved, line-sent, room-left}
+
+-- a line that has carried one container more, of the send rings as they were and as they are
+pub record IsOn (m : ℕ) (was line : Ringed) (before : List (Vec (Box Container)))
+    (after : List (List Container)) : Type 0 where
+  pub has : (script : Script) → HasLine script m was → IsSentOn script m was.carried before → HasLine script m line
+  pub carried : line.carried ≡ was.carried + 1
+  pub popped : line.popped ≡ was.popped
+  pub sent : IsCarriedAt (was.carried % 32) m (map frame_in before) after
+
+module _ (script : Script) (parts : Parts) (landing : Landing) (got : ℕ) (last : Option StepNote)
+    (is : IsWalk script parts landing got last)
+    (old : Walked) (view : record { script = script; counts = counts_of parts landing } ≡ old)
+    (m k : ℕ) (at : k ≡ m) (inside : m < old.script.config.lines) where
+  pub line-low : m < script.config.lines
+  line-low = let same = ap (λ (w : Walked). w.script.config.lines) view in omega (arith, inside, same)
+
+  pub line-within : k < length parts.lines
+  line-within = let low = line-low in let size = is.lines.size in omega (arith, low, size, at)
+
+  pub line-there : (line : Ringed) → line ≡ slice_index_or parts.lines k line → slice_get parts.lines m ≡ Some line
+  line-there line read =
+      at-index parts.lines m line (let low = line-low in let size = is.lines.size in omega (arith, low, size))
+      (read ∙ ap (λ j. slice_index_or parts.lines j line) at)
+
+  module _ (line : Ringed) (read : line ≡ slice_index_or parts.lines k line) (ticks : ℕ)
+      (now : ticks ≡ parts.source.ticks) (found : Option StallCause)
+      (clause : (script : Script) → HasLine script m line → HasRoom script m line →
+      found ≡ carry_cause script.config.ticks script.config.ring ticks m (path_on script m) (line_counts line))
+    where
+      cause-is : found ≡ carry_cause script.config.ticks script.config.ring parts.source.ticks m (path_on script m)
+          (line_counts line)
+      cause-is =
+          clause script (line-has script parts landing got last is m line-low line (line-there line read))
+          (line-room script parts landing got last is m line-low line (line-there line read))
+          ∙ ap (λ n. carry_cause script.config.ticks script.config.ring n m (path_on script m) (line_counts line)) now
+
+      pub line-stays : (cause : StallCause) → found ≡ Some cause →
+          (old.counts ≡ counts_after old.script old.counts (Carry m))
+          × (Stalled cause ≡ moved_of old.script old.counts (Carry m))
+      line-stays cause e =
+          subst (λ (w : Walked). (w.counts ≡ counts_after w.script w.counts (Carry m))
+          × (Stalled cause ≡ moved_of w.script w.counts (Carry m))) view
+          (carry-stays script parts landing got last is m line-low line (line-there line read) cause (sym e ∙ cause-is))
+
+      module _ (none : found ≡ None) (can : CanCarry line ticks) (own : Ringed)
+          (own_read : own ≡ slice_index_or parts.lines k own) where
+        own-is : own ≡ line
+        own-is = same-some own line (sym (line-there own own_read) ∙ line-there line read)
+
+        own-can : CanCarry own parts.source.ticks
+        own-can = subst (λ l. CanCarry l parts.source.ticks) (sym own-is) (subst (CanCarry line) now can)
+
+        pub line-runs : own.core.flushed ≤ own.core.delay
+        line-runs = own-can.runs
+
+        pub line-free : own.given < own.popped + ring_of own
+        line-free = room-left script parts landing got last is m line-low own (line-there own own_read) own-can.room
+
+        none-is : None ≡ carry_cause script.config.ticks script.config.ring parts.source.ticks m (path_on script m)
+            (line_counts own)
+        none-is =
+            sym none ∙ cause-is
+            ∙ ap (λ l. carry_cause script.config.ticks script.config.ring parts.source.ticks m (path_on script m)
+            (line_counts l)) (sym own-is)
+
+        module _ (before : List (Vec (Box Container))) (same : map frame_in before ≡ parts.sent) (after : Ringed)
+            (sent : List (List Container))
+            (on : IsOn k own after before sent) where
+          by : IsOn m own after before sent
+          by = subst (λ j. IsOn j own after before sent) at on
+
+          has : HasLine script m after
+          has =
+              by.has script (line-has script parts landing got last is m line-low own (line-there own own_read))
+              (line-sent script parts landing got last is m line-low own (line-there own own_read) before same own-can)
+
+          changed : IsCarriedAt (own.carried % 32) m parts.sent sent
+          changed = subst (λ was. IsCarriedAt (own.carried % 32) m was sent) same by.sent
+
+          pub line-kept : IsWalk script (record parts { lines = slice_set parts.lines k after; sent = sent }) landing
+              got last
+          line-kept =
+              carry-kept_at script parts landing got last is m line-low own
+              (line-there own own_read) after none-is has by.carried by.popped
+              sent changed k at
+
+          pub line-counts : counts_of (record parts { lines = slice_set parts.lines k after; sent = sent }) landing
+              ≡ counts_after old.script old.counts (Carry m)
+          line-counts =
+              carry-counts_at script parts landing got last is m line-low own
+              (line-there own own_read) after none-is has by.carried by.popped
+              sent changed k at
+              ∙ ap (λ (w : Walked). counts_after w.script w.counts (Carry m)) view
+
+          pub line-moves : Yes ≡ moved_of old.script old.counts (Carry m)
+          line-moves =
+              carry-moved script parts landing got last is m line-low own
+              (line-there own own_read) after none-is has by.carried by.popped
+              ∙ ap (λ (w : Walked). moved_of w.script w.counts (Carry m)) view
