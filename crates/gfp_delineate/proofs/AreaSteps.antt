@@ -109,7 +109,8 @@ module _ (old : Progress) (longest : ℕ) (first : Bool) (octets more : List ℕ
         let size : length all ≡ length before + length is.come = length-append before is.come in
         ap (λ l. l ++ plain) is.kept
         ∙ sym (drop-append-le (length before) (descrambled_octets all) plain (omega (arith, length-descrambled_octets all, size)))
-        ∙ sym (drop_further (unknown is.settled) (length before) (descrambled_octets (all ++ more)) (descrambled_octets all ++ plain)
+        ∙ sym (drop_further (unknown is.settled) (length before) (descrambled_octets (all ++ more))
+        (descrambled_octets all ++ plain)
         (unknown_within is.settled before is.known) (descrambles.answer is.settled all is.run.given))
         ∙ ap (λ l. drop (length before) (descrambled_octets l)) (append_assoc before is.come more)
 

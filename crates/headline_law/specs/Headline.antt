@@ -1,5 +1,6 @@
 -- The headline: what the report of a session tells, in the words of whoever wrote its script.
-use Rattle.std.specs.Prelude.{◌≡◌, ◌↔◌, ◌⊎◌, ℕ, ◌≤◌, Bool, true, List, ◌++◌, map, filter, All, Ok}
+use Rattle.std.specs.Prelude.{◌≡◌, ◌↔◌, ◌⊎◌, ℕ, ◌≤◌, Bool, true, List, ◌++◌, map, filter, All, Option, Ok}
+use Rattle.outside_io.specs.Transfer.{Appends}
 use Rattle.session_model.specs.declared.script.Script.{Script}
 use Rattle.session_model.specs.Segment.{segments}
 use Rattle.session_model.specs.Loss.{Extent, Lost}
@@ -61,3 +62,11 @@ abbrev pub IsRunHeadline : List ℕ → List ℕ → Type 0
 IsRunHeadline text written =
     (script : Script) × (script_of text ≡ Ok script)
     × (let all = script.config.ticks in IsHeadline script all all (numbered 0 script.items) written)
+
+-- ---- written on a sink, which tells its octets by `written` and its faults by `faults`
+-- a headline of a text, `IsWalkHeadline` or `IsRunHeadline`, was appended whole
+pub record WritesHeadline {K : Type 0} (IsHeadlineOf : List ℕ → List ℕ → Type 0) (written : K → Option (List ℕ))
+    (faults : K → ℕ) (old new : K) (text : List ℕ) : Type 0 where
+  pub report : List ℕ
+  pub is : IsHeadlineOf text report
+  pub appended : Appends written faults old new report

@@ -1,6 +1,6 @@
 -- The lines of a script, one line on and at the end.
 use Rattle.std.proofs.Common.{◌≡◌, ℕ, ◌+◌, ◌<◌, ◌≤◌, List, ◌∷◌, ap, sym, ◌∙◌, arith, refl, true, false, inl, inr, ◌⊎◌}
-use Rattle.std.specs.Prelude.{None, Some, Ok, Err, nat_lt}
+use Rattle.std.specs.Prelude.{None, Some, Err, nat_lt}
 use Rattle.std.proofs.lemmas.Bool.{cases_lt}
 use Rattle.std.proofs.lemmas.Bool.Decides.{nat_tests}
 use Rattle.text_lines.specs.declared.fault.LineKind.{LineKind}
@@ -20,19 +20,22 @@ use Rattle.script_read.specs.Drafts.{fault_at}
 use Rattle.script_read.specs.Script.{missing_line, script_lines, script_of_draft, script_of}
 
 -- a line without a fault
-pub line_said : (n : ℕ) (d new : Draft) (all : List (List ℕ)) (l : List ℕ) (ls : List (List ℕ)) (said : Statement) → all ≡ l ∷ ls
-    → words_fault d (words l) ≡ None → said ≡ words_said (words l) → new ≡ after d said
+pub line_said : (n : ℕ) (d new : Draft) (all : List (List ℕ)) (l : List ℕ) (ls : List (List ℕ)) (said : Statement)
+    → all ≡ l ∷ ls → words_fault d (words l) ≡ None → said ≡ words_said (words l) → new ≡ after d said
     → said_from script_lines n d all ≡ said_from script_lines (n + 1) new ls
 line_said n d new all l ls said first none says is =
     line_sound script_lines n d new all l ls first none (is ∙ ap (λ (r : Statement). after d r) says)
 
 -- the text whose line has this fault first
-pub line_told : (text : List ℕ) (n : ℕ) (kind : LineKind) → said_by script_lines text ≡ Err (n, kind) → script_of text ≡ Err (fault.Line n kind)
+pub line_told : (text : List ℕ) (n : ℕ) (kind : LineKind) → said_by script_lines text ≡ Err (n, kind)
+    → script_of text ≡ Err (fault.Line n kind)
 line_told text n kind is = ap script_of_draft is
 
 -- a line that was not read
-pub line_stops : (text : List ℕ) (n : ℕ) (d : Draft) (all : List (List ℕ)) (l : List ℕ) (ls : List (List ℕ)) (why : LineStop) (f : ScriptFault)
-    → said_by script_lines text ≡ said_from script_lines n d all → f ≡ fault_at n why → all ≡ l ∷ ls → IsStop why (words_fault d (words l))
+pub line_stops : (text : List ℕ) (n : ℕ) (d : Draft) (all : List (List ℕ)) (l : List ℕ) (ls : List (List ℕ))
+    (why : LineStop) (f : ScriptFault)
+    → said_by script_lines text ≡ said_from script_lines n d all → f ≡ fault_at n why → all ≡ l ∷ ls
+    → IsStop why (words_fault d (words l))
     → (f ≡ fault.Memory) ⊎ (script_of text ≡ Err f)
 line_stops text n d all l ls (stop.Fault kind) f same is first fails =
     inr (line_told text n kind (same ∙ line_faulty script_lines n d all l ls kind first fails) ∙ ap Err (sym is))

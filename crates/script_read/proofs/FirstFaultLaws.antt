@@ -27,7 +27,8 @@ is_line (Some (fault.Spread slow fast slip ring)) = false
 is_line (Some (fault.Lag lag least)) = false
 is_line (Some fault.Memory) = false
 
-neither : (f later : Option ScriptFault) → is_line f ≡ false → is_line later ≡ false → is_line (fault_or f later) ≡ false
+neither : (f later : Option ScriptFault) → is_line f ≡ false → is_line later ≡ false
+    → is_line (fault_or f later) ≡ false
 neither None later a b = b
 neither (Some f) later a b = a
 
@@ -43,12 +44,14 @@ windows_line m i (w ∷ ws) =
 slips_line : (m : ℕ) (lists : List (List Window)) → is_line (slip_fault m lists) ≡ false
 unfolding is_line
 slips_line m [] = refl
-slips_line m (ws ∷ lists) = neither (windows_fault m 0 ws) (slip_fault (m + 1) lists) (windows_line m 0 ws) (slips_line (m + 1) lists)
+slips_line m (ws ∷ lists) =
+    neither (windows_fault m 0 ws) (slip_fault (m + 1) lists) (windows_line m 0 ws) (slips_line (m + 1) lists)
 
 spread_line : (c : Config) → is_line (spread_fault c) ≡ false
 unfolding is_line
 spread_line c =
-    elim (cases_Bool (nat_le (greatest c.delays - least c.delays + greatest_slip c.windows + 1) c.ring)) [ inl fits ↦ rw fits refl | inr wide ↦ rw wide refl ]
+    elim (cases_Bool (nat_le (greatest c.delays - least c.delays + greatest_slip c.windows + 1) c.ring))
+    [ inl fits ↦ rw fits refl | inr wide ↦ rw wide refl ]
 
 lag_line : (c : Config) → is_line (lag_fault c) ≡ false
 unfolding is_line
@@ -76,9 +79,11 @@ read script = Ok script
 tested_line : (d : Draft) (m : ℕ) (kind : LineKind) (f : Option ScriptFault) → config_fault d.config ≡ f
     → script_unless f (script_in d) ≡ refused (fault.Line m kind) → ⊥
 tested_line d m kind None is e = cc
-tested_line d m kind (Some f) is e = no_line d.config m kind (is ∙ ap Some (let same : f ≡ fault.Line m kind = cc in same))
+tested_line d m kind (Some f) is e =
+    no_line d.config m kind (is ∙ ap Some (let same : f ≡ fault.Line m kind = cc in same))
 
-line_of : (r : Result Draft (ℕ × LineKind)) (m : ℕ) (kind : LineKind) → script_of_draft r ≡ refused (fault.Line m kind) → r ≡ told m kind
+line_of : (r : Result Draft (ℕ × LineKind)) (m : ℕ) (kind : LineKind)
+    → script_of_draft r ≡ refused (fault.Line m kind) → r ≡ told m kind
 line_of (Err at) m kind e =
     let number : at.0 ≡ m = cc in
     let same : at.1 ≡ kind = cc in
@@ -102,7 +107,8 @@ passed_tests : (d : Draft) (script : Script) (f : Option ScriptFault) → config
 passed_tests d script None is e = record { passes = is; is = (let same : script ≡ script_in d = cc in same) }
 passed_tests d script (Some f) is e = absurd cc
 
-script_from : (text : List ℕ) (script : Script) (r : Result Draft (ℕ × LineKind)) → said_by script_lines text ≡ r → script_of_draft r ≡ read script
+script_from : (text : List ℕ) (script : Script) (r : Result Draft (ℕ × LineKind)) → said_by script_lines text ≡ r
+    → script_of_draft r ≡ read script
     → IsScriptOf (lines text) script
 script_from text script (Err at) is e = absurd cc
 script_from text script (Ok d) is e =
@@ -112,7 +118,8 @@ script_from text script (Ok d) is e =
 
 script_back : (text : List ℕ) (script : Script) → IsScriptOf (lines text) script → script_of text ≡ read script
 script_back text script is =
-    ap script_of_draft ((all_said script_lines text is.now).1 (record { sound = is.sound; whole = config_whole is.now is.whole }))
+    ap script_of_draft ((all_said script_lines text is.now).1
+    (record { sound = is.sound; whole = config_whole is.now is.whole }))
     ∙ ap (λ (f : Option ScriptFault). script_unless f (script_in is.now)) is.passes ∙ ap read (sym is.is)
 
 pub said_script : (text : List ℕ) (script : Script) → (script_of text ≡ read script) ↔ IsScriptOf (lines text) script

@@ -1,5 +1,5 @@
 -- What a draft meets, and what a line may say that stands after those of a draft.
-use Rattle.std.specs.Prelude.{◌≡◌, ◌⊎◌, ⊤, ℕ, ◌==◌, ◌<◌, ◌≤◌, not, List, [], ◌∷◌, length, replicate, Option, Some, All}
+use Rattle.std.specs.Prelude.{◌≡◌, ◌⊎◌, ⊤, ℕ, ◌==◌, ◌<◌, ◌≤◌, not, List, [], ◌∷◌, length, replicate, Option, All}
 use Rattle.std.specs.Option.{option_or}
 use Rattle.session_model.specs.declared.window.Window.{Window}
 use Rattle.session_model.specs.declared.script.Config.{Config}

@@ -53,7 +53,8 @@ missing_line d = where_true (nat_lt d.next 6) Missing
 
 -- the lines of scripts, one after another
 abbrev pub script_lines : Language Draft LineKind
-script_lines = record { first = at_first; fault = words_fault; after = λ d ws. after d (words_said ws); missing = missing_line }
+script_lines =
+    record { first = at_first; fault = words_fault; after = λ d ws. after d (words_said ws); missing = missing_line }
 
 -- ---- the text
 abbrev pub script_in : Draft → Script

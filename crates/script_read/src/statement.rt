@@ -122,7 +122,12 @@ fn read_setting(
 }
 
 // What the words after a keyword say that stands in its place.
-fn read_rest(alloc: Global, draft: &Draft, keyword: Keyword, rest: &[u8]) -> Result<Statement, LineStop>
+fn read_rest(
+    alloc: Global,
+    draft: &Draft,
+    keyword: Keyword,
+    rest: &[u8],
+) -> Result<Statement, LineStop>
     requires stands { IsPlaced draft.now.next (place keyword) }
     requires config { IsDraft draft.now }
     ensures ok { IfOk result (λ read. (rest_fault draft.now keyword (words rest.now) ≡ None)

@@ -1,5 +1,5 @@
 -- What words without a fault say.
-use Rattle.std.proofs.Common.{◌≡◌, ℕ, zero, suc, ◌+◌, ◌<◌, ◌≤◌, nat_le, ◌&&◌, not, Bool, true, false, List, [], ◌∷◌, length, ap, sym, arith, refl, subst, All}
+use Rattle.std.proofs.Common.{◌≡◌, ℕ, zero, suc, ◌<◌, ◌≤◌, nat_le, ◌&&◌, not, Bool, true, false, List, [], ◌∷◌, length, ap, sym, arith, refl, subst, All}
 use Rattle.std.specs.Prelude.{Option, None, Some, Result, Ok, Err}
 use Rattle.std.specs.Option.{option_or}
 use Rattle.std.specs.Result.{result_unwrap_or}
@@ -27,10 +27,13 @@ inside least most n e =
     (leb-true least n is.0, leb-true n most is.1)
 
 -- ---- words
-pub number_ok : (least most : ℕ) (w : List ℕ) → number_fault least most w ≡ None → (least ≤ number_of w) × (number_of w ≤ most)
+pub number_ok : (least most : ℕ) (w : List ℕ) → number_fault least most w ≡ None
+    → (least ≤ number_of w) × (number_of w ≤ most)
 number_ok least most w none =
-    let later = or_none (where_true (not (is_number w)) Number) (where_true (not (nat_le least (number_of w) && nat_le (number_of w) most)) Range) none in
-    inside least most (number_of w) (where_none (not (nat_le least (number_of w) && nat_le (number_of w) most)) Range later.1)
+    let later = or_none (where_true (not (is_number w)) Number)
+    (where_true (not (nat_le least (number_of w) && nat_le (number_of w) most)) Range) none in
+    inside least most (number_of w)
+    (where_none (not (nat_le least (number_of w) && nat_le (number_of w) most)) Range later.1)
 
 -- octets, from least to most of them
 pub record AreOctets (least most : ℕ) (octets : List ℕ) : Type 0 where
@@ -42,22 +45,26 @@ bytes_all [] are i d low = absurd (omega arith)
 bytes_all (x ∷ xs) are zero d low = are 0
 bytes_all (x ∷ xs) are (suc i) d low = bytes_all xs (λ j. are (suc j)) i d (omega arith)
 
-digits_read : (least most : ℕ) (w : List ℕ) (r : Result (List ℕ) FromHexError) → decode_of w ≡ r → octets_fault least most r ≡ None
+digits_read : (least most : ℕ) (w : List ℕ) (r : Result (List ℕ) FromHexError) → decode_of w ≡ r
+    → octets_fault least most r ≡ None
     → AreOctets least most (octets_of w)
 digits_read least most w (Err e) is none = absurd cc
 digits_read least most w (Ok octets) is none =
     let same : octets ≡ octets_of w = sym (ap (λ (r : Result (List ℕ) FromHexError). result_unwrap_or r []) is) in
     subst (AreOctets least most) same
     (record {
-      size = inside least most (length octets) (where_none (not (nat_le least (length octets) && nat_le (length octets) most)) Range none);
+      size = inside least most (length octets)
+      (where_none (not (nat_le least (length octets) && nat_le (length octets) most)) Range none);
       each = bytes_all octets (decode_of-ok w octets is).3;
     })
 
-pub digits_ok : (least most : ℕ) (w : List ℕ) → octets_fault least most (decode_of w) ≡ None → AreOctets least most (octets_of w)
+pub digits_ok : (least most : ℕ) (w : List ℕ) → octets_fault least most (decode_of w) ≡ None
+    → AreOctets least most (octets_of w)
 digits_ok least most w none = digits_read least most w (decode_of w) refl none
 
 -- ---- the words of a line, by their number
-pub one_field : (f : Field) (ws : List (List ℕ)) → length ws ≡ 1 → fields_fault (f ∷ []) 0 ws ≡ None → field_fault f 0 (word_at 0 ws) ≡ None
+pub one_field : (f : Field) (ws : List (List ℕ)) → length ws ≡ 1 → fields_fault (f ∷ []) 0 ws ≡ None
+    → field_fault f 0 (word_at 0 ws) ≡ None
 one_field f [] size none = absurd (omega (arith, size))
 one_field f (w ∷ ws) size none = (or_none (field_fault f 0 w) (fields_fault [] (number_of w) ws) none).0
 
@@ -75,7 +82,8 @@ pub record FourFields (f g h k : Field) (ws : List (List ℕ)) : Type 0 where
   pub third : field_fault h (number_at 1 ws) (word_at 2 ws) ≡ None
   pub fourth : field_fault k (number_at 2 ws) (word_at 3 ws) ≡ None
 
-pub four_fields : (f g h k : Field) (ws : List (List ℕ)) → length ws ≡ 4 → fields_fault (f ∷ g ∷ h ∷ k ∷ []) 0 ws ≡ None → FourFields f g h k ws
+pub four_fields : (f g h k : Field) (ws : List (List ℕ)) → length ws ≡ 4
+    → fields_fault (f ∷ g ∷ h ∷ k ∷ []) 0 ws ≡ None → FourFields f g h k ws
 four_fields f g h k [] size none = absurd (omega (arith, size))
 four_fields f g h k (w ∷ []) size none = absurd (omega (arith, size))
 four_fields f g h k (w ∷ v ∷ ws) size none =

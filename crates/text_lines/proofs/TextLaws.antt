@@ -21,9 +21,11 @@ nothing (c ∷ text) none = absurd (omega arith)
 
 -- what is left after the end of a text
 pub end_is_empty : (text : List ℕ) (n : ℕ) → n ≡ 0 → take n (drop (length text) text) ≡ []
-end_is_empty text n none = nothing _ (omega (arith, none, length-drop (length text) text, length-take-le n (drop (length text) text)))
+end_is_empty text n none =
+    nothing _ (omega (arith, none, length-drop (length text) text, length-take-le n (drop (length text) text)))
 
-parts_more : (part : List ℕ) (parts : List (List ℕ)) → 0 < length parts → lines_of_parts (part ∷ parts) ≡ strip_carriage_return part ∷ lines_of_parts parts
+parts_more : (part : List ℕ) (parts : List (List ℕ)) → 0 < length parts
+    → lines_of_parts (part ∷ parts) ≡ strip_carriage_return part ∷ lines_of_parts parts
 parts_more part [] some = absurd (omega arith)
 parts_more part (next ∷ parts) some = refl
 
@@ -37,10 +39,13 @@ lines_front line rest lacks =
     let some : 0 < length (slice_split (λ b. b == 10) rest) = omega (arith, length-slice_split (λ b. b == 10) rest) in
     ap lines_of_parts split ∙ parts_more line (slice_split (λ b. b == 10) rest) some
 
-pub lines_cut : (text line rest stripped : List ℕ) → Lacks 10 line → text ≡ line ++ 10 ∷ rest → stripped ≡ strip_carriage_return line → lines text ≡ stripped ∷ lines rest
-lines_cut text line rest stripped lacks is said = ap lines is ∙ lines_front line rest lacks ∙ ap (λ (t : List ℕ). t ∷ lines rest) (sym said)
+pub lines_cut : (text line rest stripped : List ℕ) → Lacks 10 line → text ≡ line ++ 10 ∷ rest
+    → stripped ≡ strip_carriage_return line → lines text ≡ stripped ∷ lines rest
+lines_cut text line rest stripped lacks is said = ap lines is ∙ lines_front line rest lacks
+    ∙ ap (λ (t : List ℕ). t ∷ lines rest) (sym said)
 
-pub lines_last : (text : List ℕ) (n : ℕ) → n ≡ 0 → Lacks 10 text → 0 < length text → lines text ≡ text ∷ lines (take n (drop (length text) text))
+pub lines_last : (text : List ℕ) (n : ℕ) → n ≡ 0 → Lacks 10 text → 0 < length text
+    → lines text ≡ text ∷ lines (take n (drop (length text) text))
 lines_last text n none lacks some =
     ap lines_of_parts (slice_split_none (λ b. b == 10) text (none_in 10 text lacks)) ∙ part_last text some
     ∙ ap (λ (t : List ℕ). text ∷ lines t) (sym (end_is_empty text n none))
@@ -50,15 +55,18 @@ pub words_space : (c : ℕ) (text : List ℕ) → c ≡ 32 → words (c ∷ text
 unfolding words
 words_space c text is = rw (slice_split-cons_yes (λ b. b == 32) c text (grind (arith, nat_tests))) refl
 
-pub words_later : (text : List ℕ) (n d : ℕ) → 0 < length text → n ≡ length text - 1 → slice_index_or text 0 d ≡ 32 → words (take n (drop 1 text)) ≡ words text
+pub words_later : (text : List ℕ) (n d : ℕ) → 0 < length text → n ≡ length text - 1 → slice_index_or text 0 d ≡ 32
+    → words (take n (drop 1 text)) ≡ words text
 words_later [] n d some size is = absurd (omega arith)
-words_later (c ∷ text) n d some size is = ap (λ (t : List ℕ). words t) (take_all n text (omega arith)) ∙ sym (words_space c text is)
+words_later (c ∷ text) n d some size is = ap (λ (t : List ℕ). words t) (take_all n text (omega arith))
+    ∙ sym (words_space c text is)
 
 -- a word and its space stand in front of the other words
 pub words_front : (word rest : List ℕ) → Lacks 32 word → 0 < length word → words (word ++ 32 ∷ rest) ≡ word ∷ words rest
 unfolding words
 words_front [] rest lacks some = absurd (omega arith)
-words_front (c ∷ word) rest lacks some = rw (slice_split_at (λ b. b == 32) (c ∷ word) 32 rest (none_in 32 (c ∷ word) lacks) refl) refl
+words_front (c ∷ word) rest lacks some =
+    rw (slice_split_at (λ b. b == 32) (c ∷ word) 32 rest (none_in 32 (c ∷ word) lacks) refl) refl
 
 -- what has no space is one word
 pub words_only : (word : List ℕ) → Lacks 32 word → 0 < length word → words word ≡ word ∷ []
@@ -71,27 +79,34 @@ unfolding words
 words_none = refl
 
 -- the first octet of a text, which is no space, stands before what was cut at a space
-pub word_is_some : (text word rest : List ℕ) → 0 < length text → text ≡ word ++ 32 ∷ rest → ((c : ℕ) (more : List ℕ) → text ≡ c ∷ more → c ≢ 32) → 0 < length word
+pub word_is_some : (text word rest : List ℕ) → 0 < length text → text ≡ word ++ 32 ∷ rest
+    → ((c : ℕ) (more : List ℕ) → text ≡ c ∷ more → c ≢ 32) → 0 < length word
 word_is_some text [] rest some is first = absurd (first 32 rest is refl)
 word_is_some text (c ∷ word) rest some is first = omega arith
 
-pub words_cut : (line text word rest : List ℕ) → words text ≡ words line → 0 < length text → Lacks 32 word → text ≡ word ++ 32 ∷ rest
+pub words_cut : (line text word rest : List ℕ) → words text ≡ words line → 0 < length text → Lacks 32 word
+    → text ≡ word ++ 32 ∷ rest
     → ((c : ℕ) (more : List ℕ) → text ≡ c ∷ more → c ≢ 32) → words line ≡ word ∷ words rest
 words_cut line text word rest same some lacks is first =
     sym same ∙ ap (λ (t : List ℕ). words t) is ∙ words_front word rest lacks (word_is_some text word rest some is first)
 
-pub words_last : (line text : List ℕ) (n : ℕ) → n ≡ 0 → words text ≡ words line → 0 < length text → Lacks 32 text → words line ≡ text ∷ words (take n (drop (length text) text))
+pub words_last : (line text : List ℕ) (n : ℕ) → n ≡ 0 → words text ≡ words line → 0 < length text → Lacks 32 text
+    → words line ≡ text ∷ words (take n (drop (length text) text))
 words_last line text n none same some lacks =
-    sym same ∙ words_only text lacks some ∙ ap (λ (t : List (List ℕ)). text ∷ t) (sym words_none ∙ ap (λ (t : List ℕ). words t) (sym (end_is_empty text n none)))
+    sym same ∙ words_only text lacks some
+    ∙ ap (λ (t : List (List ℕ)). text ∷ t)
+    (sym words_none ∙ ap (λ (t : List ℕ). words t) (sym (end_is_empty text n none)))
 
 pub words_nothing : (line text : List ℕ) → words text ≡ words line → length text ≡ 0 → words line ≡ []
 words_nothing line text same none = sym same ∙ ap (λ (t : List ℕ). words t) (nothing text none) ∙ words_none
 
 -- ---- how many lines
 last_part : (part : List ℕ) → length (lines_of_parts (part ∷ [])) ≤ 1
-last_part part = elim (cases_Bool (length part == 0)) [ inl none ↦ rw none (omega arith) | inr some ↦ rw some (omega arith) ]
+last_part part =
+    elim (cases_Bool (length part == 0)) [ inl none ↦ rw none (omega arith) | inr some ↦ rw some (omega arith) ]
 
-more_parts : (c : ℕ) (parts : List (List ℕ)) → length (lines_of_parts (onto_first c parts)) ≤ length (lines_of_parts parts) + 1
+more_parts : (c : ℕ) (parts : List (List ℕ))
+    → length (lines_of_parts (onto_first c parts)) ≤ length (lines_of_parts parts) + 1
 more_parts c [] = omega arith
 more_parts c (part ∷ []) = let one = last_part (c ∷ part) in omega (arith, one)
 more_parts c (part ∷ next ∷ parts) = omega arith

@@ -19,8 +19,8 @@ abbrev pub IsStop : LineStop → Option LineKind → Type 0
 IsStop (stop.Fault kind) found = found ≡ Some kind
 IsStop stop.Memory found = ⊤
 
--- what a word has to be: a number within two bounds; any number; a number above that of the word before it, up to a bound; the
--- hexadecimal digits of a number of octets within two bounds; one of some names
+-- what a word has to be: a number within two bounds; any number; a number above that of the word before it, up to a
+-- bound; the hexadecimal digits of a number of octets within two bounds; one of some names
 pub data Field : Type 0 where
   within : ℕ → ℕ → Field
   any : Field
@@ -35,7 +35,8 @@ number_fault least most w =
 
 abbrev pub octets_fault : ℕ → ℕ → Result (List ℕ) FromHexError → Option LineKind
 octets_fault least most (Err e) = Some Hex
-octets_fault least most (Ok octets) = where_true (not (nat_le least (length octets) && nat_le (length octets) most)) Range
+octets_fault least most (Ok octets) =
+    where_true (not (nat_le least (length octets) && nat_le (length octets) most)) Range
 
 abbrev pub name_fault : List (List ℕ) → List ℕ → Option LineKind
 name_fault names w = where_true (not (list_any (λ name. bytes_eq w name) names)) Word

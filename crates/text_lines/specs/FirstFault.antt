@@ -1,5 +1,5 @@
 -- Which line of a text is the first that has a fault, as a relation.
-use Rattle.std.specs.Prelude.{◌≡◌, ◌⊎◌, ℕ, ◌+◌, List, [], ◌∷◌, ◌++◌, length, Option, Some, None}
+use Rattle.std.specs.Prelude.{◌≡◌, ◌⊎◌, ℕ, ◌+◌, List, [], ◌∷◌, ◌++◌, length, Some, None}
 use Rattle.text_lines.specs.Words.{words}
 use Rattle.text_lines.specs.Language.{Language}
 
@@ -10,7 +10,8 @@ AreSound language d (l ∷ ls) now =
     (language.fault d (words l) ≡ None) × AreSound language (language.after d (words l)) ls now
 
 -- line m is the first that has a fault, where the first line has the number n
-pub record IsFaulty {D K : Type 0} (language : Language D K) (n : ℕ) (d : D) (ls : List (List ℕ)) (m : ℕ) (fault : K) : Type 0 where
+pub record IsFaulty {D K : Type 0} (language : Language D K) (n : ℕ) (d : D) (ls : List (List ℕ)) (m : ℕ)
+    (fault : K) : Type 0 where
   pub before : List (List ℕ)
   pub line : List ℕ
   pub later : List (List ℕ)
@@ -21,7 +22,8 @@ pub record IsFaulty {D K : Type 0} (language : Language D K) (n : ℕ) (d : D) (
   pub faulty : language.fault now (words line) ≡ Some fault
 
 -- no line has a fault, and something is missing behind them
-pub record IsShort {D K : Type 0} (language : Language D K) (n : ℕ) (d : D) (ls : List (List ℕ)) (m : ℕ) (fault : K) : Type 0 where
+pub record IsShort {D K : Type 0} (language : Language D K) (n : ℕ) (d : D) (ls : List (List ℕ)) (m : ℕ)
+    (fault : K) : Type 0 where
   pub now : D
   pub sound : AreSound language d ls now
   pub count : m ≡ n + length ls

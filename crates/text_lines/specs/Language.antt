@@ -19,8 +19,8 @@ abbrev pub unless_fault : {D K : Type 0} → ℕ → Option K → Result D (ℕ 
 unless_fault n None said = said
 unless_fault n (Some fault) said = Err (n, fault)
 
--- what lines say, from number n on, after others that say d; or the number of the first that has a fault, and the fault. What is
--- missing has the number of the line that would come next
+-- what lines say, from number n on, after others that say d; or the number of the first that has a fault, and the
+-- fault. What is missing has the number of the line that would come next
 unfoldable pub said_from : {D K : Type 0} → Language D K → ℕ → D → List (List ℕ) → Result D (ℕ × K)
 said_from language n d [] = unless_fault n (language.missing d) (Ok d)
 said_from language n d (l ∷ ls) =

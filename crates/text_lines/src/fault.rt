@@ -9,7 +9,8 @@ use thiserror::Error;
 /// What is wrong with a line.
 #[derive(Clone, Copy, Debug, PartialEq, Eq, Error)]
 pub enum LineKind {
-    /// The first word isn't one that may begin a line, the number of words is wrong, or a word isn't one of the names that it may be.
+    /// The first word isn't one that may begin a line, the number of words is wrong, or a word isn't one of the names
+    /// that it may be.
     #[error("word")]
     Word,
     /// A number isn't one to ten decimal digits.

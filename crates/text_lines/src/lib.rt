@@ -1,6 +1,7 @@
-//! Lines of text for every command that reads them: lines and their words, numbers within a range, hexadecimal digits, and what can
-//! be wrong with a line. `Language` of the specs is a language of lines as plain data: what a text says in it, or its first fault by
-//! number, computes; which line that is stands in laws. Which words a line may have isn't known here. Begin with `next_line`.
+//! Lines of text for every command that reads them: lines and their words, numbers within a range, hexadecimal digits,
+//! and what can be wrong with a line. `Language` of the specs is a language of lines as plain data: what a text says in
+//! it, or its first fault by number, computes; which line that is stands in laws. Which words a line may have isn't
+//! known here. Begin with `next_line`.
 #![tactic(auto)]
 
 mod fault;
@@ -11,6 +12,4 @@ mod words;
 pub use fault::{LineKind, LineStop};
 pub use fields::{number_within, octets_within, one_number};
 pub use lines::next_line;
-pub use words::{
-    count_words, first_word, four_words, next_word, one_word, three_words, two_words,
-};
+pub use words::{count_words, first_word, four_words, next_word, one_word, three_words, two_words};

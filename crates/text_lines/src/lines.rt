@@ -27,7 +27,8 @@ fn without_return(line: &[u8]) -> &[u8]
     }
 }
 
-/// The first line of a text without its end, LF with at most one CR before it, and the text after it. The last line may lack its LF.
+/// The first line of a text without its end, an LF with at most one CR before it, and the text after it. The last line
+/// may lack its LF.
 pub fn next_line(text: &[u8]) -> Option<(&[u8], &[u8])>
     ensures some { IfSome result (λ parts. lines text.now ≡ parts.0.now ∷ lines parts.1.now) }
     ensures none { IfNone result (lines text.now ≡ []) }

@@ -13,7 +13,7 @@ use Rattle.command_parts.specs.Status.{most_octets, Rises}
 use Rattle.command_parts.specs.Stop.{status_at, IsLate, done, cut, short}
 use Rattle.command_parts.proofs.StatusLaws.{is-line}
 use Rattle.command_parts.proofs.CauseLaws.{some-all}
-use Rattle.walk_command.specs.HexLines.{IsFirstFault, IsHexText, line_octets}
+use Rattle.walk_command.specs.HexLines.{IsFirstFault, IsHexText}
 use Rattle.walk_command.specs.Ended.{IsGoodHex}
 
 -- after one fault and a note
@@ -33,15 +33,8 @@ module _ (Known : ℕ → Type 0) (Told : Stop → Type 0) (stop : Option Stop) 
       ]
 
 -- a text can't be right and have a faulty line
-one-faulty : (f : List ℕ → Option (List ℕ)) (before behind : List (List ℕ)) (line : List ℕ) (parts : List (List ℕ)) → f line ≡ None → map f (before ++ line ∷ behind) ≡ map Some parts → ⊥
-one-faulty f [] behind line [] none e = cc
-one-faulty f [] behind line (part ∷ parts) none e = let a : f line ≡ Some part = cc in cc
-one-faulty f (x ∷ before) behind line [] none e = cc
-one-faulty f (x ∷ before) behind line (part ∷ parts) none e =
-    one-faulty f before behind line parts none (let a : map f (before ++ line ∷ behind) ≡ map Some parts = cc in a)
-
 no-both : (text octets : List ℕ) (n : ℕ) → IsHexText text octets → IsFirstFault text n → ⊥
-no-both text octets n right bad = one-faulty line_octets bad.before bad.behind bad.line right.parts bad.faulty (ap (map line_octets) (sym bad.here) ∙ right.each)
+no-both text octets n right bad = let both = sym right ∙ bad in cc
 
 pub complete-hex : (known : Option (List ℕ)) (RS RW : Type 0) (s : ℕ) (stop : Option Stop) → s ≡ status_at stop → stop ≢ Some Usage → ((fault : ScriptFault) → stop ≢ Some (Fault fault))
     → (stop ≡ Some TooLong → IfSome known (λ text. most_octets < length text)) → ((n : ℕ) → stop ≡ Some (NotHex n) → IfSome known (λ text. IsFirstFault text n))

@@ -1,9 +1,10 @@
 -- Two scripts that meet what is asked of one.
-use Rattle.std.proofs.Common.{◌≡◌, ◌⊎◌, ℕ, zero, suc, ◌+◌, ◌*◌, ◌<◌, ◌≤◌, true, false, inl, inr, List, [], ◌∷◌, map, replicate, slice_get, slice_index_or, All, Option, Some, None, refl, sym, ◌∙◌, ap, subst, arith}
+use Rattle.std.proofs.Common.{◌≡◌, ◌⊎◌, ℕ, zero, suc, ◌+◌, ◌*◌, ◌<◌, ◌≤◌, true, false, inl, inr, List, [], ◌∷◌, map, length, replicate, slice_get, slice_index_or, All, Option, Some, None, refl, sym, ◌∙◌, ap, subst, arith}
 use Rattle.std.specs.List.{range_with_len}
 use Rattle.std.specs.List.Sorted.{IsNonDecreasing}
 use Rattle.std.proofs.lemmas.Bool.{le-leb, lt-ltb, false_from_ne_true}
 use Rattle.std.proofs.lemmas.Option.{none-some, same_Some}
+use Rattle.std.proofs.lemmas.List.{length-replicate}
 use Rattle.std.proofs.lemmas.List.Elements.{All-nil, All-cons, All-replicate}
 use Rattle.std.proofs.lemmas.List.Sorted.{IsNonDecreasingBy-short}
 use Rattle.session_model.specs.declared.window.Window.{Window}
@@ -13,8 +14,9 @@ use Rattle.session_model.specs.declared.script.ItemKind.TheVariants.{Frame, Add}
 use Rattle.session_model.specs.declared.table.Command.{Command}
 use Rattle.session_model.specs.declared.table.Command.TheVariants.{Add as add}
 use Rattle.session_model.specs.declared.table.Standing.TheVariants.{Add as adding}
-use Rattle.session_model.specs.Valid.{AreApart, HasFailures, IsNetwork, IsItem, IsEvent, IsValid}
+use Rattle.session_model.specs.Valid.{IsWithin, AreApart, HasFailures, IsNetwork, IsItem, IsEvent, IsValid}
 use Rattle.session_model.specs.Counts.{frame_dues, command_dues}
+use Rattle.session_model.specs.Plan.{FitsRing, FitsLag}
 use Rattle.session_model.specs.Damage.{carried, are_whole, AreWindows, slip_after}
 use Rattle.session_model.specs.declared.table.Member.{Member}
 use Rattle.session_model.specs.Table.{member_of, keep, none_kept, admit, turned, take_out, exchange}
@@ -25,7 +27,7 @@ use Rattle.session_model.specs.Back.{said_before, cells_before, session_cells}
 use Rattle.session_law.specs.Use.{AddsUndamaged, AddsAmongSilent}
 use Rattle.session_law.proofs.DamageLaws.{readable-whole}
 use Rattle.walk_law.specs.Promise.{IsClear, row_from, ConfirmsTrue}
-use Rattle.walk_law.specs.Worked.{item, failing_config, failing_script, silent_config, silent_script}
+use Rattle.walk_law.specs.Worked.{item, plain, failing_windows, failing_script, silent_windows, silent_script}
 use Rattle.walk_law.proofs.WholeLaws.{clear-whole, row-whole}
 use Rattle.walk_law.proofs.QuietLaws.{quiet-true}
 
@@ -51,37 +53,58 @@ none-of f from (suc n) same i low high =
     same_or_later : (from i : ℕ) → from ≤ i → (from ≡ i) ⊎ (suc from ≤ i)
     same_or_later from i low = grind (arith, low)
 
+-- ---- windows
+abbrev EndsBy : ℕ → Window → Type 0
+EndsBy ticks window = window.end ≤ ticks
+
+abbrev IsShort : Window → Type 0
+IsShort window = window.slip ≤ 2047
+
+one_failure : (ticks : ℕ) (window : Window) → window.slip + window.first < window.end → EndsBy ticks window → IsShort window →
+    HasFailures ticks (window ∷ [])
+unfolding AreWindows
+one_failure ticks window sign ends short = record {
+  few = omega arith;
+  apart = (omega arith, sign, tt);
+  ends = All-cons (EndsBy ticks) window [] ends (All-nil (EndsBy ticks));
+  slips = All-cons IsShort window [] short (All-nil IsShort);
+}
+
+no_failure : (ticks : ℕ) → HasFailures ticks []
+unfolding AreWindows
+no_failure ticks = record { few = omega arith; apart = tt; ends = All-nil (EndsBy ticks); slips = All-nil IsShort }
+
+-- ---- lines without delay
+plain_network : (windows : List (List Window)) (ring lag ticks : ℕ) → IsWithin 1 128 (length windows) →
+    All (HasFailures ticks) windows → IsWithin 1 2048 ring → IsWithin 1 512 lag → IsWithin 1 1000000 ticks →
+    FitsRing (plain windows ring lag ticks) → FitsLag (plain windows ring lag ticks) → IsNetwork (plain windows ring lag ticks)
+unfolding AreApart
+plain_network windows ring lag ticks lines failures some_ring some_lag some_ticks fits_ring fits_lag = record {
+  lines = lines;
+  delay_each = length-replicate (length windows) 0;
+  delays = All-replicate (λ delay. delay ≤ 2047) (length windows) 0 (omega arith);
+  windows_each = refl;
+  windows = failures;
+  lost = record { few = omega arith; apart = tt; ends = All-nil (λ (window : ℕ × ℕ). window.1 ≤ 62500) };
+  ring = some_ring;
+  lag = some_lag;
+  ticks = some_ticks;
+  size = inl refl;
+  fits_ring = fits_ring;
+  fits_lag = fits_lag;
+}
+
 -- ---- a line that fails once
 window : Window
 window = record { first = 1000; «end» = 1003; slip = 1 }
 
-one-window : HasFailures 1100 (window ∷ [])
-unfolding window AreWindows
-one-window = record {
-  few = omega arith;
-  apart = (omega arith, omega arith, tt);
-  ends = All-cons (λ (window : Window). window.end ≤ 1100) window [] (omega arith)
-      (All-nil (λ (window : Window). window.end ≤ 1100));
-  slips = All-cons (λ (window : Window). window.slip ≤ 2047) window [] (omega arith)
-      (All-nil (λ (window : Window). window.slip ≤ 2047));
-}
-
-failing-network : IsNetwork failing_config
-unfolding window AreApart slip_after
-failing-network = record {
-  lines = (omega arith, omega arith);
-  delay_each = refl;
-  delays = All-cons (λ delay. delay ≤ 2047) 0 [] (omega arith) (All-nil (λ delay. delay ≤ 2047));
-  windows_each = refl;
-  windows = All-cons (HasFailures 1100) (window ∷ []) [] one-window (All-nil (HasFailures 1100));
-  lost = record { few = omega arith; apart = tt; ends = All-nil (λ (window : ℕ × ℕ). window.1 ≤ 62500) };
-  ring = (omega arith, omega arith);
-  lag = (omega arith, omega arith);
-  ticks = (omega arith, omega arith);
-  size = inl refl;
-  fits_ring = omega arith;
-  fits_lag = omega arith;
-}
+failing-network : IsNetwork (plain failing_windows 4 2 1100)
+unfolding window slip_after
+failing-network =
+    plain_network failing_windows 4 2 1100 (omega arith, omega arith)
+    (All-cons (HasFailures 1100) (window ∷ []) [] (one_failure 1100 window (omega arith) (omega arith) (omega arith))
+    (All-nil (HasFailures 1100)))
+    (omega arith, omega arith) (omega arith, omega arith) (omega arith, omega arith) (omega arith) (omega arith)
 
 abbrev late_frame : ℕ → Item
 late_frame octet = item 1040 (Frame (replicate 64 octet))
@@ -174,43 +197,14 @@ failing-adds = record {
 silent_window : Window
 silent_window = record { first = 0; «end» = 600; slip = 0 }
 
-whole-window : HasFailures 600 (silent_window ∷ [])
-unfolding silent_window AreWindows
-whole-window = record {
-  few = omega arith;
-  apart = (omega arith, omega arith, tt);
-  ends = All-cons (λ (window : Window). window.end ≤ 600) silent_window [] (omega arith)
-      (All-nil (λ (window : Window). window.end ≤ 600));
-  slips = All-cons (λ (window : Window). window.slip ≤ 2047) silent_window [] (omega arith)
-      (All-nil (λ (window : Window). window.slip ≤ 2047));
-}
-
-no-window : HasFailures 600 []
-unfolding AreWindows
-no-window = record {
-  few = omega arith;
-  apart = tt;
-  ends = All-nil (λ (window : Window). window.end ≤ 600);
-  slips = All-nil (λ (window : Window). window.slip ≤ 2047);
-}
-
-silent-network : IsNetwork silent_config
-unfolding silent_window AreApart slip_after
-silent-network = record {
-  lines = (omega arith, omega arith);
-  delay_each = refl;
-  delays = All-replicate (λ delay. delay ≤ 2047) 2 0 (omega arith);
-  windows_each = refl;
-  windows = All-cons (HasFailures 600) (silent_window ∷ []) ([] ∷ []) whole-window
-      (All-cons (HasFailures 600) [] [] no-window (All-nil (HasFailures 600)));
-  lost = record { few = omega arith; apart = tt; ends = All-nil (λ (window : ℕ × ℕ). window.1 ≤ 62500) };
-  ring = (omega arith, omega arith);
-  lag = (omega arith, omega arith);
-  ticks = (omega arith, omega arith);
-  size = inl refl;
-  fits_ring = omega arith;
-  fits_lag = omega arith;
-}
+silent-network : IsNetwork (plain silent_windows 1 1 600)
+unfolding silent_window slip_after
+silent-network =
+    plain_network silent_windows 1 1 600 (omega arith, omega arith)
+    (All-cons (HasFailures 600) (silent_window ∷ []) ([] ∷ [])
+    (one_failure 600 silent_window (omega arith) (omega arith) (omega arith))
+    (All-cons (HasFailures 600) [] [] (no_failure 600) (All-nil (HasFailures 600))))
+    (omega arith, omega arith) (omega arith, omega arith) (omega arith, omega arith) (omega arith) (omega arith)
 
 pub silent-valid : IsValid silent_script
 unfolding frame_dues command_dues

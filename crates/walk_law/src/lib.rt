@@ -389,8 +389,9 @@ pub fn drain_law()
         report_of script (drained script s) ≡ final_report script }
 {}
 
-/// How soon a line that is added carries payload: fifteen packets and the lag later, where each line in ADD can be read meanwhile; and
-/// at most as long again later, where no other line in ADD can.
+/// How soon a line that is added carries payload, where no return packet is lost and no further command carried out in between: fifteen
+/// packets and the lag later, where each line in ADD can be read meanwhile; and at most as long again later, where it can be read and no
+/// other line in ADD can.
 pub fn member_law()
     ensures undamaged { (script : Script) (first line : ℕ) →
         AddsUndamaged (scenario_of script) first line →

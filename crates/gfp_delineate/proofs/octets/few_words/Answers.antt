@@ -24,7 +24,8 @@ returns-then-word_at-word-clause-stops c = λ same.
     let piece : List ℕ = c.args.piece.now in
     let stands : take 8 (drop at piece) ≡ to_le_bytes w64 c.word_at.result =
     sym (drop-take at 8 piece) ∙ ap (drop at) c.word_at.ensures
-    ∙ drop_at (take at piece) (to_le_bytes w64 c.word_at.result) at (omega (arith, length-take at piece, c.loop-i-test.true)) in
+    ∙ drop_at (take at piece) (to_le_bytes w64 c.word_at.result) at
+    (omega (arith, length-take at piece, c.loop-i-test.true)) in
     c.if-word_at-word.true
     (sym (from_le_bytes-to_le_bytes_8 c.word_at.result c.word_at.type_inv) ∙ ap (from_le_bytes w64) (sym stands ∙ same)
     ∙ from_le_bytes-to_le_bytes_8 c.args.word c.ranges.word.fits)

@@ -7,9 +7,11 @@ use Rattle.gfp_delineate.proofs.ListLaws.{written_after, take_one}
 use Rattle.gfp_delineate.proofs.octets.keep.Goals as goal
 
 -- the part of a list behind its front
-part_is : (n : ℕ) (xs items piece : List ℕ) → xs ≡ items ++ piece → length items ≡ n → take (length xs - n) (drop n xs) ≡ piece
+part_is : (n : ℕ) (xs items piece : List ℕ) → xs ≡ items ++ piece → length items ≡ n →
+    take (length xs - n) (drop n xs) ≡ piece
 part_is n xs items piece whole at =
-    take_all (length xs - n) (drop n xs) (omega (arith, length-drop n xs)) ∙ ap (drop n) whole ∙ drop_at items piece n at
+    take_all (length xs - n) (drop n xs) (omega (arith, length-drop n xs)) ∙ ap (drop n) whole
+    ∙ drop_at items piece n at
 
 pub returns-clause-stands : goal.returns-clause-stands
 returns-clause-stands c settled octets stands =
@@ -18,7 +20,8 @@ returns-clause-stands c settled octets stands =
     let piece = c.args.piece.now in
     let whole : xs ≡ items ++ piece = c.deref_mut.ensures.value ∙ c.in-Ok.ensures.items in
     let at : length items ≡ c.len-old.result =
-    omega (arith, c.deref_mut.ensures.len, c.in-Ok.ensures.len, ap length whole, length-append items piece, c.len-old.ensures) in
+    omega (arith, c.deref_mut.ensures.len, c.in-Ok.ensures.len, ap length whole, length-append items piece,
+    c.len-old.ensures) in
     subst (λ l. Stands c.area.new.self settled (octets ++ l)) (part_is c.len-old.result xs items piece whole at)
     (c.area.ensures.stands settled octets stands)
 

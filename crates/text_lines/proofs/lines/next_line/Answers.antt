@@ -5,7 +5,8 @@ use Rattle.text_lines.proofs.lines.next_line.Goals as goal
 
 pub returns-in-Some-clause-some : goal.returns-in-Some-clause-some
 returns-in-Some-clause-some c =
-    lines_cut c.args.text.now c.in-Some.line.now c.in-Some.rest.now c.without_return.result.now c.in-Some.ensures.before c.in-Some.ensures.some c.without_return.ensures
+    lines_cut c.args.text.now c.in-Some.line.now c.in-Some.rest.now c.without_return.result.now
+    c.in-Some.ensures.before c.in-Some.ensures.some c.without_return.ensures
 
 pub returns-in-None-clause-some : goal.returns-in-None-clause-some
 returns-in-None-clause-some c =

@@ -18,9 +18,12 @@ returns-clause-answer c settled octets stands =
     let u = unknown settled in
     let front = c.split_at_mut-words.result.0.now in
     let back = c.split_at_mut-words.result.1.now in
-    ap (λ l. drop u (descrambled_octets l)) (ap (λ l. octets ++ l) c.split_at_mut-words.ensures.value ∙ sym (append_assoc octets front back))
+    ap (λ l. drop u (descrambled_octets l))
+    (ap (λ l. octets ++ l) c.split_at_mut-words.ensures.value ∙ sym (append_assoc octets front back))
     ∙ c.octets.ensures.answer settled (octets ++ front) (c.words.ensures.stands settled octets stands)
-    ∙ drop_alike u u (descrambled_octets (octets ++ front)) (descrambled_octets octets ++ c.words.new.area) c.octets.new.area
-    (omega (arith, length-descrambled_octets (octets ++ front), length-descrambled_octets octets, length-append octets front, length-append (descrambled_octets octets) c.words.new.area, c.words.auto.area))
+    ∙ drop_alike u u (descrambled_octets (octets ++ front))
+    (descrambled_octets octets ++ c.words.new.area) c.octets.new.area
+    (omega (arith, length-descrambled_octets (octets ++ front), length-descrambled_octets octets,
+    length-append octets front, length-append (descrambled_octets octets) c.words.new.area, c.words.auto.area))
     (c.words.ensures.answer settled octets stands)
     ∙ ap (drop u) (append_assoc (descrambled_octets octets) c.words.new.area c.octets.new.area)

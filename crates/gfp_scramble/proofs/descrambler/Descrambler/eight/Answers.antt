@@ -8,4 +8,5 @@ pub returns-clause-answer : goal.returns-clause-answer
 returns-clause-answer c settled octets stands =
     ap (λ l. drop (unknown settled) (descrambled_octets (octets ++ l))) (sym c.word_of.ensures)
     ∙ c.word-descrambled.ensures.answer settled octets stands
-    ∙ ap (λ l. drop (unknown settled) (descrambled_octets octets ++ l)) (sym (c.copy_from_slice.ensures.after ∙ c.octets_of_word.ensures))
+    ∙ ap (λ l. drop (unknown settled) (descrambled_octets octets ++ l))
+    (sym (c.copy_from_slice.ensures.after ∙ c.octets_of_word.ensures))

@@ -16,11 +16,14 @@ loop-octet-preserved c =
     let so_far = c.loop-octet.invariant in
     record {
       stands = λ settled octets stands. subst (Stands c.byte.new.self settled) (given_more i was area fits size so_far.back octets) (c.byte.ensures.stands settled (octets ++ take i was) (so_far.stands settled octets stands));
-      front = λ settled octets stands. front_more i was area fits size so_far.back (unknown settled) descrambled_octets length-descrambled_octets octets c.byte.result (so_far.front settled octets stands)
+      front = λ settled octets stands. front_more i was area fits size so_far.back
+          (unknown settled) descrambled_octets length-descrambled_octets octets c.byte.result
+          (so_far.front settled octets stands)
           (c.byte.ensures.answer settled (octets ++ take i was) (so_far.stands settled octets stands));
       back = back_more i was area fits size so_far.back c.byte.result;
     }
 
 pub returns-clause-answer : goal.returns-clause-answer
 returns-clause-answer c settled octets stands =
-    front_all (unknown settled) descrambled_octets octets c.args.area.now c.loop-octet.area c.loop-octet.octet-index (omega (arith, c.loop-octet-test.false)) c.loop-octet.auto.area (c.loop-octet.invariant.front settled octets stands)
+    front_all (unknown settled) descrambled_octets octets c.args.area.now c.loop-octet.area c.loop-octet.octet-index
+    (omega (arith, c.loop-octet-test.false)) c.loop-octet.auto.area (c.loop-octet.invariant.front settled octets stands)

@@ -8,6 +8,7 @@ abbrev pub invariant-loop-octet : goal.invariant-loop-octet
 invariant-loop-octet l = record {
   stands : (settled : Bool) (octets : List ℕ) → Stands l.fn.self settled octets → Stands l.self settled (octets ++ take l.octet-index l.fn.area);
   front : (settled : Bool) (octets : List ℕ) → Stands l.fn.self settled octets →
-      drop (unknown settled) (descrambled_octets (octets ++ take l.octet-index l.fn.area)) ≡ drop (unknown settled) (descrambled_octets octets ++ take l.octet-index l.area);
+      drop (unknown settled) (descrambled_octets (octets ++ take l.octet-index l.fn.area))
+      ≡ drop (unknown settled) (descrambled_octets octets ++ take l.octet-index l.area);
   back : drop l.octet-index l.area ≡ drop l.octet-index l.fn.area;
 }
