@@ -17,8 +17,8 @@ use h4_multiframe::{MfiLock, Place};
 use lcas_packet::{Packet, PacketFault, read};
 pub use lines::{FOUND_ROOM, TRACE_ROOM, end_line, found_line, trace_line};
 use std::marker::Model;
-use vc_bits::{nibble_hi, nibble_lo};
 pub use vc::vc_line;
+use vc_bits::{nibble_hi, nibble_lo};
 
 /// Finds the control packets in the H4 octets of a line, all of whose cells are good.
 #[derive(Clone, Copy)]

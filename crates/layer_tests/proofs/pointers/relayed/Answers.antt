@@ -7,8 +7,8 @@ use Rattle.layer_tests.proofs.pointers.relayed.Goals as goal
 none : Start
 none = record { octets = []; faults = 0; name = 0 }
 
-pub relay-requires : goal.relay-requires
-relay-requires g c = record {
+pub relay-went-requires : goal.relay-went-requires
+relay-went-requires g c = record {
   behind = none;
   to = none;
   start = 0;
