@@ -63,38 +63,10 @@ fn is_added(walk: &mut Walk, out: &mut KeptFrames) -> bool {
     walk.totals().taken == 41 && walk.table().state(0) == SourceState::Norm
 }
 
-/// Whether this waits on the first line of a walk: a container with this H4 to be carried, and a cell to be popped.
-fn waits(walk: &Walk, sent: Option<u8>, given: bool) -> bool
-    requires { 0 < walk.now.script.config.lines }
-{
-    let h4 = match walk.send_ring(0, 0) {
-        Some(container) => Some(container.h4),
-        None => None,
-    };
-    h4 == sent && walk.receive_ring(0, 0).is_some() == given
-}
-
-/// Whether the rings of a walk tell of its first container, from the tick to the row.
-fn rings_tell(walk: &mut Walk, lines: u8, out: &mut KeptFrames) -> bool
-    requires valid { IsValid walk.old.script }
-    requires lines { lines ≡ walk.old.script.config.lines }
-{
-    if lines == 0 {
-        return false;
-    }
-    let at_first = waits(walk, None, false);
-    let _ = make(walk, lines, Event::Tick, out);
-    let made = waits(walk, Some(0), false);
-    let _ = make(walk, lines, Event::Carry(0), out);
-    let carried = waits(walk, None, true);
-    let _ = make(walk, lines, Event::Take, out);
-    at_first && made && carried && waits(walk, None, false)
-}
-
 /// The script of each course, and last one that adds its line.
 fn text_of(number: u8) -> &'static [u8] {
     match number {
-        0 | 3 => b"lines 1\ndelays 0\nring 1\nlag 1\nticks 41\n",
+        0 => b"lines 1\ndelays 0\nring 1\nlag 1\nticks 41\n",
         1 | 2 => b"lines 1\ndelays 0\nring 1\nlag 2\nticks 41\n",
         _ => b"lines 1\ndelays 0\nring 1\nlag 1\nticks 41\nadd 0 0\n",
     }
@@ -108,7 +80,6 @@ fn is_right(alloc: Global, number: u8, out: &mut KeptFrames) -> bool {
     let lines = script.config.lines;
     match Walk::new(alloc, script) {
         Ok(mut walk) if number < 3 => makes(&mut walk, lines, course(number), out),
-        Ok(mut walk) if number == 3 => rings_tell(&mut walk, lines, out),
         Ok(mut walk) => is_added(&mut walk, out),
         Err(_) => false,
     }
@@ -117,7 +88,7 @@ fn is_right(alloc: Global, number: u8, out: &mut KeptFrames) -> bool {
 /// Whether all are.
 fn are_all_right(alloc: Global, out: &mut KeptFrames) -> bool {
     let mut are_right = true;
-    for number in 0..5u8 {
+    for number in 0..4u8 {
         are_right = are_right && is_right(alloc, number, out);
     }
     are_right
