@@ -15,7 +15,8 @@ pub remainder-xors : (lower w flips : List Bool) → length w ≡ length flips
     → remainder lower (xors w flips) ≡ xors (remainder lower w) (remainder lower flips)
 remainder-xors lower w flips e =
     let zeros : List Bool = replicate (length lower) false in
-    let twice : xors zeros zeros ≡ zeros = xors-zeros (length lower) zeros (le_of_eq (length-replicate (length lower) false)) in
+    let twice : xors zeros zeros ≡ zeros = xors-zeros (length lower) zeros
+    (le_of_eq (length-replicate (length lower) false)) in
     ap₂ (λ n l. divide n lower l) (length_xors w flips e)
     (ap (λ l. xors w flips ++ l) (sym twice) ∙ sym (xors-append w flips zeros zeros e))
     ∙ divide-xors (length flips) lower (w ++ zeros) (flips ++ zeros)

@@ -1,6 +1,7 @@
--- The check of 32 bits over octets: the remainder by x^32 + x^26 + x^23 + x^22 + x^16 + x^12 + x^11 + x^10 + x^8 + x^7 + x^5
--- + x^4 + x^2 + x + 1, with the first 32 bits inverted before and the remainder inverted after. Ethernet (IEEE 802.3) takes the
--- least significant bit of each octet first; the frames of this project's own noise take the most significant one first.
+-- The check of 32 bits over octets: the remainder by x^32 + x^26 + x^23 + x^22 + x^16 + x^12 + x^11 + x^10 + x^8 +
+-- x^7 + x^5 + x^4 + x^2 + x + 1, with the first 32 bits inverted before and the remainder inverted after. Ethernet
+-- (IEEE 802.3) takes the least significant bit of each octet first; the frames of this project's own noise take the
+-- most significant one first.
 use Rattle.std.specs.Prelude.{ℕ, Bool, true, List, map, reverse, replicate}
 use Rattle.remainder.specs.Bits.{bits, number, octet_bits, octets_of, xors}
 use Rattle.remainder.specs.Remainder.{add_front, remainder}

@@ -1,5 +1,5 @@
-//! The check of 32 bits over octets (CRC-32), in either order of bits, as a definition with its laws. There is no code here. Begin
-//! with `specs/Crc32.antt`.
+//! The check of 32 bits over octets (CRC-32), in either order of bits, as a definition with its laws. There is no
+//! code here. Begin with `specs/Crc32.antt`.
 #![tactic(auto)]
 
 ghost use Rattle.std.specs.Prelude.{◌≡◌, ◌<◌, ℕ, Bool, List, [], ◌∷◌, length, All};
@@ -7,8 +7,8 @@ ghost use Rattle.remainder.specs.Bits.{xors};
 ghost use Rattle.remainder.specs.Remainder.{remainder};
 ghost use Rattle.crc32.specs.Crc32.{crc32, check_bits, most_first, least_first, fcs, fcs_in};
 
-/// A check has four octets. Where bits of what it is over are turned over, it differs by the remainder of a list with a 1 at
-/// each place where one is.
+/// A check has four octets. Where bits of what it is over are turned over, it differs by the remainder of a list with
+/// a 1 at each place where one is.
 pub fn check_law()
     ensures size { (octets : List ℕ) → length (fcs octets) ≡ 4 }
     ensures octets { (octets : List ℕ) → All (λ octet. octet < 256) (fcs octets) }

@@ -1,5 +1,5 @@
--- A client frame with a frame check sequence (FCS) behind it, and what comes of its area. Where the FCS stands and the order of
--- its bits are this project's own.
+-- A client frame with a frame check sequence (FCS) behind it, and what comes of its area. Where the FCS stands and
+-- the order of its bits are this project's own.
 use Rattle.std.specs.Prelude.{ℕ, ◌-◌, ◌/◌, ◌%◌, ◌^◌, ◌==◌, nat_lt, if◌then◌else◌, Bool, true, false, List, [], ◌∷◌, ◌++◌, length, take, drop, Option, Some, None}
 use Rattle.std.specs.Str.{bytes_eq}
 use Rattle.remainder.specs.Bits.{number, octet_bits}
@@ -19,7 +19,8 @@ fcs_header = 0x10 ∷ 0x01 ∷ 0x13 ∷ 0x52 ∷ []
 abbrev pub fcs_area : List ℕ → List ℕ
 fcs_area frame = fcs_header ++ (frame ++ fcs frame)
 
--- the first field in which a type field differs from that of an Ethernet frame with FCS. `PayloadFcs` says that PFI is 0
+-- the first field in which a type field differs from that of an Ethernet frame with FCS. `PayloadFcs` says that PFI
+-- is 0
 abbrev pub fcs_field_fault : ℕ → Option TypeFault
 fcs_field_fault field =
     if field / 2 ^ 13 == 0 then
@@ -47,7 +48,8 @@ word_of octets = number (octet_bits octets)
 
 -- an area with a sound type header, by its size and its check
 abbrev pub by_check : List ℕ → List ℕ → FcsOutcome
-by_check said info = if bytes_eq said (fcs info) then delivery info else dropping (Fcs (word_of said) (word_of (fcs info)))
+by_check said info =
+    if bytes_eq said (fcs info) then delivery info else dropping (Fcs (word_of said) (word_of (fcs info)))
 
 abbrev pub by_size : List ℕ → FcsOutcome
 by_size area =

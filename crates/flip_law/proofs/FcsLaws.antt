@@ -1,5 +1,5 @@
--- The area of a frame of which flips are left: with none the frame is delivered, and with one bit, or two that are 43 places apart, it is
--- dropped.
+-- The area of a frame of which flips are left: with none the frame is delivered, and with one bit, or two that are 43
+-- places apart, it is dropped.
 use Rattle.std.proofs.Common.{◌≡◌, ◌≢◌, ℕ, zero, suc, ◌+◌, ◌-◌, ◌*◌, ◌<◌, ◌≤◌, ◌⊎◌, Bool, true, false, Option, Some, None, List, [], ◌∷◌, ◌++◌, length, take, drop, replicate, All, refl, sym, ◌∙◌, ap, ap₂, subst, inl, inr, arith, append_assoc, le_of_eq}
 use Rattle.std.specs.Str.{bytes_eq}
 use Rattle.std.proofs.lemmas.List.{length-append, length-replicate, length-take, length-drop, take_at, drop_at, take-append-drop, replicate-append-replicate}
@@ -30,7 +30,8 @@ none_in_zeros : (bs : List Bool) (n : ℕ) → bs ≡ replicate n false → coun
 none_in_zeros bs n e = ap count e ∙ count-zeros n
 
 -- flips in octets and in their FCS, that leave something
-pub fcs_differs : (frame : List ℕ) (first second : List Bool) → length first ≡ 8 * length frame → length second ≡ 32 → IsOneOrTwo (first ++ second) →
+pub fcs_differs : (frame : List ℕ) (first second : List Bool) → length first ≡ 8 * length frame → length second ≡ 32
+    → IsOneOrTwo (first ++ second) →
     flipped second (fcs frame) ≢ fcs (flipped first frame)
 fcs_differs frame first second size four single e =
     let check : List Bool = check_bits (octet_bits frame) in
@@ -41,22 +42,28 @@ fcs_differs frame first second size four single e =
     ap (λ l. xors l second) (sym (octet_bits-fcs frame))
     ∙ sym (octet_bits-flipped second (fcs frame) (four ∙ sym (ap (λ n. 8 * n) (length-fcs frame))))
     ∙ ap octet_bits e ∙ octet_bits-fcs (flipped first frame)
-    ∙ ap check_bits (octet_bits-flipped first frame size) ∙ check_bits-xors (octet_bits frame) first (length-octet_bits frame ∙ sym size) in
+    ∙ ap check_bits (octet_bits-flipped first frame size)
+    ∙ check_bits-xors (octet_bits frame) first (length-octet_bits frame ∙ sym size) in
     let same : second ≡ rest =
-    sym (xors_twice check second (le_of_eq (four ∙ sym long))) ∙ ap (xors check) bits_same ∙ xors_twice check rest (le_of_eq (rest_long ∙ sym long)) in
+    sym (xors_twice check second (le_of_eq (four ∙ sym long))) ∙ ap (xors check) bits_same
+    ∙ xors_twice check rest (le_of_eq (rest_long ∙ sym long)) in
     let left : divide (length first) crc32 (first ++ second) ≡ replicate (length rest) false =
     divide_behind crc32 first second (four ∙ sym length-crc32) ∙ ap (xors rest) same ∙ xors-self rest in
     let some : 0 < count (divide (length first) crc32 (first ++ second)) =
     something_left (length first) (first ++ second) (omega (arith, length-append first second, four)) single in
-    let none : count (divide (length first) crc32 (first ++ second)) ≡ 0 = none_in_zeros (divide (length first) crc32 (first ++ second)) (length rest) left in
+    let none : count (divide (length first) crc32 (first ++ second)) ≡ 0 = none_in_zeros
+    (divide (length first) crc32 (first ++ second)) (length rest) left in
     absurd (omega arith)
 
 -- ---- flips in the first 32 bits
-header_differs : (flips : List Bool) (octets : List ℕ) → length flips ≡ 8 * length octets → 0 < count flips → flipped flips octets ≢ octets
+header_differs : (flips : List Bool) (octets : List ℕ) → length flips ≡ 8 * length octets → 0 < count flips
+    → flipped flips octets ≢ octets
 header_differs flips octets size some e =
-    let bits_same : xors (octet_bits octets) flips ≡ octet_bits octets = sym (octet_bits-flipped flips octets size) ∙ ap octet_bits e in
+    let bits_same : xors (octet_bits octets) flips ≡ octet_bits octets = sym (octet_bits-flipped flips octets size)
+    ∙ ap octet_bits e in
     let zeros : flips ≡ replicate (length (octet_bits octets)) false =
-    sym (xors_twice (octet_bits octets) flips (le_of_eq (size ∙ sym (length-octet_bits octets)))) ∙ ap (xors (octet_bits octets)) bits_same ∙ xors-self (octet_bits octets) in
+    sym (xors_twice (octet_bits octets) flips (le_of_eq (size ∙ sym (length-octet_bits octets))))
+    ∙ ap (xors (octet_bits octets)) bits_same ∙ xors-self (octet_bits octets) in
     let none : count flips ≡ 0 = none_in_zeros flips (length (octet_bits octets)) zeros in
     absurd (omega arith)
 
@@ -78,7 +85,8 @@ parts_by (Some fault) info said = dropping (Header fault)
 abbrev parts_outcome : List ℕ → List ℕ → List ℕ → FcsOutcome
 parts_outcome header info said = parts_by (fcs_type_fault header) info said
 
-module _ (header info said : List ℕ) (four : length header ≡ 4) (least : 64 ≤ length info) (most : length info ≤ 9600) (last : length said ≡ 4) where
+module _ (header info said : List ℕ) (four : length header ≡ 4) (least : 64 ≤ length info) (most : length info ≤ 9600)
+    (last : length said ≡ 4) where
   all : List ℕ
   all = header ++ (info ++ said)
 
@@ -89,14 +97,17 @@ module _ (header info said : List ℕ) (four : length header ≡ 4) (least : 64 
   info-all : take (length all - 8) (drop 4 all) ≡ info
   unfolding all
   info-all =
-      ap₂ take (let e : length all - 8 ≡ length info = omega (arith, length-all) in e) (drop_at header (info ++ said) 4 four)
+      ap₂ take (let e : length all - 8 ≡ length info = omega (arith, length-all) in e)
+      (drop_at header (info ++ said) 4 four)
       ∙ take_at info said (length info) refl
 
   said-all : drop (length all - 4) all ≡ said
   unfolding all
   said-all =
-      ap₂ drop (let e : length all - 4 ≡ 4 + length info = omega (arith, length-all) in e) (sym (append_assoc header info said))
-      ∙ drop_at (header ++ info) said (4 + length info) (let e : length (header ++ info) ≡ 4 + length info = omega (arith, length-append header info, four) in e)
+      ap₂ drop (let e : length all - 4 ≡ 4 + length info = omega (arith, length-all) in e)
+      (sym (append_assoc header info said))
+      ∙ drop_at (header ++ info) said (4 + length info)
+      (let e : length (header ++ info) ≡ 4 + length info = omega (arith, length-append header info, four) in e)
 
   by_type-parts : (fault : Option TypeFault) → by_type fault all ≡ parts_by fault info said
   by_type-parts None = rw (le-ltb (length all) 12 (omega (arith, length-all, least)), info-all, said-all) refl
@@ -105,13 +116,16 @@ module _ (header info said : List ℕ) (four : length header ≡ 4) (least : 64 
   outcome-parts : fcs_outcome true (header ++ (info ++ said)) ≡ parts_outcome header info said
   unfolding all
   outcome-parts =
-      rw (le-ltb 9608 (length all) (omega (arith, length-all, most)), take_at header (info ++ said) 4 four) (by_type-parts (fcs_type_fault header))
+      rw (le-ltb 9608 (length all) (omega (arith, length-all, most)), take_at header (info ++ said) 4 four)
+      (by_type-parts (fcs_type_fault header))
 
 -- ---- the area of a frame
 fcs_header_below : All (λ o. o < 256) fcs_header
 fcs_header_below =
     let below : ℕ → Type 0 = λ o. o < 256 in
-    All-cons below 16 (1 ∷ 19 ∷ 82 ∷ []) (omega arith) (All-cons below 1 (19 ∷ 82 ∷ []) (omega arith) (All-cons below 19 (82 ∷ []) (omega arith) (All-cons below 82 [] (omega arith) (All-nil below))))
+    All-cons below 16 (1 ∷ 19 ∷ 82 ∷ []) (omega arith)
+    (All-cons below 1 (19 ∷ 82 ∷ []) (omega arith)
+    (All-cons below 19 (82 ∷ []) (omega arith) (All-cons below 82 [] (omega arith) (All-nil below))))
 
 pub fcs_area_below : (frame : List ℕ) → IsFrame frame → All (λ o. o < 256) (fcs_area frame)
 fcs_area_below frame is =
@@ -142,14 +156,17 @@ drop_zeros k a rest h =
     ∙ ap (drop k) (append_assoc (replicate k false) (replicate (a - k) false) rest)
     ∙ drop_at (replicate k false) (replicate (a - k) false ++ rest) k (length-replicate k false)
 
-pub first_or_behind : (k : ℕ) (flips : List Bool) → IsOneOrTwo flips → (0 < count (take k flips)) ⊎ IsOneOrTwo (drop k flips)
+pub first_or_behind : (k : ℕ) (flips : List Bool) → IsOneOrTwo flips
+    → (0 < count (take k flips)) ⊎ IsOneOrTwo (drop k flips)
 first_or_behind k flips (one a b e) = elim (cases_lt a k) [
   | inl first ↦ inl (subst (λ l. 0 < count (take k l)) (sym e) (take_some k a (replicate b false) first))
   | inr past ↦ inr (one (a - k) b (ap (drop k) e ∙ drop_zeros k a (true ∷ replicate b false) past))
 ]
 first_or_behind k flips (two a b e) = elim (cases_lt a k) [
-  | inl first ↦ inl (subst (λ l. 0 < count (take k l)) (sym e) (take_some k a (replicate 42 false ++ (true ∷ replicate b false)) first))
-  | inr past ↦ inr (two (a - k) b (ap (drop k) e ∙ drop_zeros k a (true ∷ (replicate 42 false ++ (true ∷ replicate b false))) past))
+  | inl first ↦ inl (subst (λ l. 0 < count (take k l)) (sym e)
+  (take_some k a (replicate 42 false ++ (true ∷ replicate b false)) first))
+  | inr past ↦ inr (two (a - k) b
+  (ap (drop k) e ∙ drop_zeros k a (true ∷ (replicate 42 false ++ (true ∷ replicate b false))) past))
 ]
 
 -- ---- it is dropped with one bit, or two, turned over
@@ -183,13 +200,15 @@ module _ (frame : List ℕ) (flips : List Bool) (is : IsFrame frame) (size : len
   unfolding first
   whole = ap (λ l. first ++ l) behind ∙ take-append-drop 32 flips
 
-  parts : flipped flips (fcs_area frame) ≡ flipped first fcs_header ++ (flipped middle frame ++ flipped last (fcs frame))
+  parts : flipped flips (fcs_area frame) ≡ flipped first fcs_header ++
+      (flipped middle frame ++ flipped last (fcs frame))
   parts =
       ap (λ l. flipped l (fcs_area frame)) (sym whole)
       ∙ flipped-append first (middle ++ last) fcs_header (frame ++ fcs frame) length-first
       ∙ ap (λ l. flipped first fcs_header ++ l) (flipped-append middle last frame (fcs frame) length-middle)
 
-  outcome : fcs_outcome true (flipped flips (fcs_area frame)) ≡ parts_outcome (flipped first fcs_header) (flipped middle frame) (flipped last (fcs frame))
+  outcome : fcs_outcome true (flipped flips (fcs_area frame)) ≡ parts_outcome (flipped first fcs_header)
+      (flipped middle frame) (flipped last (fcs frame))
   outcome =
       ap (fcs_outcome true) parts
       ∙ outcome-parts (flipped first fcs_header) (flipped middle frame) (flipped last (fcs frame))
@@ -199,7 +218,8 @@ module _ (frame : List ℕ) (flips : List Bool) (is : IsFrame frame) (size : len
       (length-flipped last (fcs frame) ∙ length-fcs frame)
 
   -- with the type header as it was or not
-  by_header : (fault : Option TypeFault) (info said : List ℕ) → bytes_eq said (fcs info) ≡ false → frame_in (parts_by fault info said) ≡ []
+  by_header : (fault : Option TypeFault) (info said : List ℕ) → bytes_eq said (fcs info) ≡ false
+    → frame_in (parts_by fault info said) ≡ []
   by_header None info said e = rw e refl
   by_header (Some fault) info said e = refl
 
@@ -215,10 +235,13 @@ module _ (frame : List ℕ) (flips : List Bool) (is : IsFrame frame) (size : len
         let differs : header ≢ fcs_header = header_differs first fcs_header length-first some in
         ap frame_in outcome
         ∙ faulty (fcs_type_fault header) (flipped middle frame) (flipped last (fcs frame))
-        (λ none. differs (fcs_type_fault-right header (length-flipped first fcs_header) (flipped_below first fcs_header) none)))
+        (λ none. differs (fcs_type_fault-right header (length-flipped first fcs_header)
+        (flipped_below first fcs_header) none)))
     | inr more ↦ (
         let differs : bytes_eq (flipped last (fcs frame)) (fcs (flipped middle frame)) ≡ false =
         bytes_eq-false (flipped last (fcs frame)) (fcs (flipped middle frame))
         (fcs_differs frame middle last length-middle length-last (subst IsOneOrTwo (sym behind) more)) in
-        ap frame_in outcome ∙ by_header (fcs_type_fault (flipped first fcs_header)) (flipped middle frame) (flipped last (fcs frame)) differs)
+        ap frame_in outcome
+        ∙ by_header (fcs_type_fault (flipped first fcs_header)) (flipped middle frame)
+        (flipped last (fcs frame)) differs)
   ]

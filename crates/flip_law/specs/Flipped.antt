@@ -32,8 +32,8 @@ area_flips flips frame = take (area_size frame) (drop 32 flips)
 abbrev pub flips_after : List Bool → List ℕ → List Bool
 flips_after flips frame = drop (area_size frame) (drop 32 flips)
 
--- the flips of an area and of the 43 bits of areas before it, where `before` has those of all areas before it. Before the first
--- area there is none
+-- the flips of an area and of the 43 bits of areas before it, where `before` has those of all areas before it. Before
+-- the first area there is none
 abbrev pub window : List Bool → List Bool → List Bool
 window before area = drop (length before) (replicate 43 false ++ before) ++ area
 
@@ -51,7 +51,8 @@ clear before flips (frame ∷ frames) =
     (if count (window before (area_flips flips frame)) == 0 then frame ∷ [] else [])
     ++ clear (before ++ area_flips flips frame) (flips_after flips frame) frames
 
--- ---- a worked stream: three frames of 64 zero octets, which are sent as 236 octets, and one flip, by the place of its octet and the
+-- ---- a worked stream: three frames of 64 zero octets, which are sent as 236 octets, and one flip, by the place of
+-- its octet and the
 -- place of the bit in it
 abbrev pub worked_frames : List (List ℕ)
 worked_frames = replicate 3 (replicate 64 0)

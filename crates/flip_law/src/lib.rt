@@ -1,6 +1,6 @@
-//! Laws of a stream of frames with FCS of which single bits are turned over: header correction reads each core header, descrambling
-//! spreads a flip to two places at most, the FCS finds it, and the frames that get through are just those that it doesn't touch.
-//! There is no code here. Begin with `flip_law`.
+//! Laws of a stream of frames with FCS of which single bits are turned over: header correction reads each core
+//! header, descrambling spreads a flip to two places at most, the FCS finds it, and the frames that get through are
+//! just those that it doesn't touch. There is no code here. Begin with `flip_law`.
 #![tactic(auto)]
 
 ghost use Rattle.std.specs.Prelude.{◌∷◌, ◌==◌, slice_index_or, ◌≡◌, ◌≢◌, ◌↔◌, ◌<◌, ℕ, ◌+◌, ◌*◌, ◌≤◌, ◌++◌, Bool, false, List, [], true, length, take, drop, replicate, All, Option, Some, None};
@@ -30,8 +30,8 @@ pub fn near_law()
         IsFixed word check other → other ≡ right }
 {}
 
-/// Descrambling is linear. Where there is no flip in an area and in the 43 area bits before it, there is none in the descrambled
-/// area; where there is one, one bit of it is turned over, or two that are 43 places apart.
+/// Descrambling is linear. Where there is no flip in an area and in the 43 area bits before it, there is none in the
+/// descrambled area; where there is one, one bit of it is turned over, or two that are 43 places apart.
 pub fn window_law()
     ensures linear { (bits flips : List Bool) →
         descrambled (xors bits flips) ≡ xors (descrambled bits) (descrambled flips) }
@@ -49,8 +49,8 @@ pub fn fcs_law()
         flipped second (fcs frame) ≢ fcs (flipped first frame) }
 {}
 
-/// A frame comes through as it is sent, and with one bit of its descrambled area turned over, or two that are 43 places apart, it
-/// is dropped.
+/// A frame comes through as it is sent, and with one bit of its descrambled area turned over, or two that are 43
+/// places apart, it is dropped.
 pub fn area_law()
     ensures header { (octets : List ℕ) → length octets ≡ 4 → All (λ o. o < 256) octets →
         (fcs_type_fault octets ≡ None) ↔ (octets ≡ fcs_header) }
@@ -61,9 +61,9 @@ pub fn area_law()
         frame_in (fcs_outcome true (flipped flips (fcs_area frame))) ≡ [] }
 {}
 
-/// Where the first eight octets of the stream have no flip, each other core header has at most one, and each area with the 43 area
-/// bits before it has at most one, the frames delivered are, in order and each once, exactly those whose area and the 43 area bits
-/// before it have none.
+/// Where the first eight octets of the stream have no flip, each other core header has at most one, and each area
+/// with the 43 area bits before it has at most one, the frames delivered are, in order and each once, exactly those
+/// whose area and the 43 area bits before it have none.
 pub fn flip_law()
     ensures { (frames : List (List ℕ)) (flips : List Bool) → All IsFrame frames →
         length flips ≡ 8 * length (fcs_stream frames) → take 64 flips ≡ replicate 64 false →
@@ -71,8 +71,8 @@ pub fn flip_law()
         fcs_delivered (flipped flips (fcs_stream frames)) ≡ clear [] (drop 64 flips) frames }
 {}
 
-/// The same where each flip is told by the place of an octet and of a bit in it. Where these rise strictly, a bit is turned over
-/// exactly where there is a flip at its place.
+/// The same where each flip is told by the place of an octet and of a bit in it. Where these rise strictly, a bit is
+/// turned over exactly where there is a flip at its place.
 pub fn place_law()
     ensures delivered { (frames : List (List ℕ)) (flips : List Flip) (all : List Bool) →
         All IsFrame frames → All (LiesIn (length (fcs_stream frames))) flips →
@@ -84,8 +84,8 @@ pub fn place_law()
         ≡ list_any (λ flip. at flip == place) flips }
 {}
 
-/// Worked: of three frames of 64 zero octets, one flip in a core header stops none, one in an area stops that frame, and one in the
-/// last bit of an area stops the next one too.
+/// Worked: of three frames of 64 zero octets, one flip in a core header stops none, one in an area stops that frame,
+/// and one in the last bit of an area stops the next one too.
 pub fn worked_law()
     ensures in_header { fcs_delivered (flipped (one_flip 8 0) (fcs_stream worked_frames))
         ≡ replicate 3 (replicate 64 0) }

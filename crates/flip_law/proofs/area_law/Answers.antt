@@ -5,7 +5,8 @@ use Rattle.flip_law.proofs.FcsLaws.{fcs_area-delivered, fcs_area-dropped}
 use Rattle.flip_law.proofs.area_law.Goals as goal
 
 pub returns-clause-header : goal.returns-clause-header
-returns-clause-header c = λ octets size all. (fcs_type_fault-right octets size all, λ e. ap fcs_type_fault e ∙ fcs_header_right)
+returns-clause-header c =
+    λ octets size all. (fcs_type_fault-right octets size all, λ e. ap fcs_type_fault e ∙ fcs_header_right)
 
 pub returns-clause-delivered : goal.returns-clause-delivered
 returns-clause-delivered c = fcs_area-delivered

@@ -23,13 +23,15 @@ both false b e = absurd cc
 at_most : (a b : ℕ) → nat_le a b ≡ true → a ≤ b
 at_most a b e = grind (arith, nat_tests)
 
-AreFew-tested : (before flips : List Bool) (frames : List (List ℕ)) → are_few before flips frames ≡ true → AreFew before flips frames
+AreFew-tested : (before flips : List Bool) (frames : List (List ℕ)) → are_few before flips frames ≡ true
+    → AreFew before flips frames
 unfolding are_few AreFew
 AreFew-tested before flips [] e = tt
 AreFew-tested before flips (frame ∷ frames) e =
     let one = both (nat_le (count (take 32 flips)) 1) _ e in
     let more = both (nat_le (count (window before (area_flips flips frame))) 1) _ one.1 in
-    (at_most _ 1 one.0, at_most _ 1 more.0, AreFew-tested (before ++ area_flips flips frame) (flips_after flips frame) frames more.1)
+    (at_most _ 1 one.0, at_most _ 1 more.0, AreFew-tested (before ++ area_flips flips frame)
+    (flips_after flips frame) frames more.1)
 
 frames_fit : All IsFrame worked_frames
 frames_fit = All-replicate IsFrame 3 (replicate 64 0) (record {
@@ -44,19 +46,24 @@ worked_size = refl
 
 size : (place bit : ℕ) → 8 * place + bit ≤ 1887 → length (one_flip place bit) ≡ 8 * length (fcs_stream worked_frames)
 size place bit h =
-    omega (arith, length-append (replicate (8 * place + bit) false) (true ∷ replicate (1887 - (8 * place + bit)) false), length-replicate (8 * place + bit) false, length-replicate (1887 - (8 * place + bit)) false, length-fcs_stream worked_frames, worked_size)
+    omega (arith, length-append (replicate (8 * place + bit) false)
+    (true ∷ replicate (1887 - (8 * place + bit)) false), length-replicate (8 * place + bit) false, length-replicate
+    (1887 - (8 * place + bit)) false, length-fcs_stream worked_frames, worked_size)
 
 pub returns-clause-in_header : goal.returns-clause-in_header
 unfolding are_few count clear
 returns-clause-in_header c =
-    delivered-clear worked_frames (one_flip 8 0) frames_fit (size 8 0 (omega arith)) refl (AreFew-tested [] (drop 64 (one_flip 8 0)) worked_frames refl)
+    delivered-clear worked_frames (one_flip 8 0) frames_fit (size 8 0 (omega arith)) refl
+    (AreFew-tested [] (drop 64 (one_flip 8 0)) worked_frames refl)
 
 pub returns-clause-in_area : goal.returns-clause-in_area
 unfolding are_few count clear
 returns-clause-in_area c =
-    delivered-clear worked_frames (one_flip 120 0) frames_fit (size 120 0 (omega arith)) refl (AreFew-tested [] (drop 64 (one_flip 120 0)) worked_frames refl)
+    delivered-clear worked_frames (one_flip 120 0) frames_fit (size 120 0 (omega arith)) refl
+    (AreFew-tested [] (drop 64 (one_flip 120 0)) worked_frames refl)
 
 pub returns-clause-at_end : goal.returns-clause-at_end
 unfolding are_few count clear
 returns-clause-at_end c =
-    delivered-clear worked_frames (one_flip 159 7) frames_fit (size 159 7 (omega arith)) refl (AreFew-tested [] (drop 64 (one_flip 159 7)) worked_frames refl)
+    delivered-clear worked_frames (one_flip 159 7) frames_fit (size 159 7 (omega arith)) refl
+    (AreFew-tested [] (drop 64 (one_flip 159 7)) worked_frames refl)
