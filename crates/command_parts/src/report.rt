@@ -2,7 +2,7 @@
 ghost use Rattle.std.specs.Prelude.{◌≡◌, ℕ, List, ◌++◌};
 ghost use Rattle.report_text.specs.Report.{total_text};
 ghost use Rattle.walk_law.specs.Report.{refused_texts};
-ghost use Rattle.sink_core.specs.Start.{Start};
+ghost use Rattle.outside_io.specs.Start.{Start};
 ghost use Rattle.got_out.specs.Told.{HasText};
 
 use got_out::GotOut;

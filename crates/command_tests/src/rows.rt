@@ -24,7 +24,7 @@ pub enum Program {
 pub enum Turns {
     /// Nothing.
     Whole,
-    /// Each worker waits at its first pass until all have come.
+    /// Each worker waits at its first pass until all have come, and the sink until all others have moved.
     Meeting,
     /// The input comes seven octets at a time, and the call of the source fails that has the turn's number.
     Takes,

@@ -55,7 +55,8 @@ fn untold_rows() -> &'static str {
     "run 2;x| => 5;;"
 }
 
-/// A frame and a command over two lines, of whose workers each one waits for all.
+/// A frame and a command over two lines, of whose workers each one waits for all, and the sink until each other one has moved. Until then
+/// there is room for 72 ticks, and the frame lands at the 60th.
 fn meeting_row() -> &'static str {
     "run 2;lines 2|delays 0 3|ring 64|lag 4|ticks 200|add 0 0|frame 60 07*64| => \
     0+;got 07*64|total ticks 200 taken 200 frames 1 commands 1 refused 0 got 1|;"

@@ -1,8 +1,7 @@
 -- More octets of an area in SYNC.
-use Rattle.std.proofs.Common.{◌≡◌, ℕ, ◌+◌, ◌-◌, ◌<◌, ◌≤◌, Bool, true, List, [], ◌∷◌, ◌++◌, length, take, drop, inl, inr, Some, sym, ◌∙◌, ap, subst, arith, append_assoc, length-append}
-use Rattle.std.specs.Prelude.{◌⊎◌}
-use Rattle.std.proofs.lemmas.List.{append-nil, drop-append-le}
-use Rattle.gfp_scramble.specs.Descrambler.{Descrambling, Continues, DescramblesTo}
+use Rattle.std.proofs.Common.{◌≡◌, ℕ, ◌+◌, ◌-◌, ◌<◌, ◌≤◌, Bool, true, false, List, [], ◌∷◌, ◌++◌, length, take, drop, inl, inr, Some, sym, ◌∙◌, ap, subst, arith, append_assoc, length-append}
+use Rattle.std.proofs.lemmas.List.{append-nil, drop-append-le, drop-drop}
+use Rattle.gfp_scramble.specs.Descrambler.{Descrambling, IsKnown, unknown, Continues, DescramblesTo}
 use Rattle.gfp_scramble.specs.Descrambler as descrambler
 use Rattle.session_model.specs.declared.Why.{Why}
 use Rattle.session_model.specs.Core.{head}
@@ -26,10 +25,23 @@ use Rattle.gfp_delineate.proofs.RunSteps.{to-header, to-area, to-passing, outcom
 abbrev pub holding : Progress → Phase → Descrambling → List ℕ → Progress
 holding old phase descrambling area = record old { phase = phase; descrambling = descrambling; area = area }
 
--- with these octets a descrambler becomes another, and descrambles them to others where it knows the octets before
+-- with these octets a descrambler becomes another, and descrambles them to others
 pub record Descrambles (old new : Descrambling) (more plain : List ℕ) : Type 0 where
   pub stands : Continues old new more
   pub answer : DescramblesTo old more plain
+
+-- two lists that agree from a place on agree from each later one
+drop_further : (u n : ℕ) (xs ys : List ℕ) → u ≤ n → drop u xs ≡ drop u ys → drop n xs ≡ drop n ys
+drop_further u n xs ys within same =
+    let place : u + (n - u) ≡ n = omega arith in
+    ap (λ k. drop k xs) (sym place) ∙ sym (drop-drop (n - u) u xs)
+    ∙ ap (drop (n - u)) same ∙ drop-drop (n - u) u ys ∙ ap (λ k. drop k ys) place
+
+-- where a descrambler knows these octets, there are as many as it doesn't know
+unknown_within : (settled : Bool) (octets : List ℕ) → IsKnown settled octets → unknown settled ≤ length octets
+unknown_within true octets known = omega arith
+unknown_within false octets (inl start) = absurd cc
+unknown_within false octets (inr enough) = enough
 
 -- a run with more octets of an area
 follows-more : (old : Progress) (first : Bool) (octets : List ℕ) (ended : List Run) (settled : Bool) (before : List (List ℕ)) (header come more : List ℕ) (phase : Phase) (next : Descrambling) (area : List ℕ) →
@@ -95,10 +107,12 @@ module _ (old : Progress) (longest : ℕ) (first : Bool) (octets more : List ℕ
         let before : List ℕ = joined is.before in
         let all : List ℕ = before ++ is.come in
         let size : length all ≡ length before + length is.come = length-append before is.come in
-        let known : (is.settled ≡ true) ⊎ (6 ≤ length all) = elim is.known [ inl start ↦ inl start | inr enough ↦ inr (omega (arith, size, enough)) ] in
         ap (λ l. l ++ plain) is.kept
         ∙ sym (drop-append-le (length before) (descrambled_octets all) plain (omega (arith, length-descrambled_octets all, size)))
-        ∙ ap (drop (length before)) (sym (descrambles.answer is.settled all is.run.given known) ∙ ap descrambled_octets (append_assoc before is.come more))
+        ∙ sym (drop_further (unknown is.settled) (length before) (descrambled_octets (all ++ more))
+        (descrambled_octets all ++ plain)
+        (unknown_within is.settled before is.known) (descrambles.answer is.settled all is.run.given))
+        ∙ ap (λ l. drop (length before) (descrambled_octets l)) (append_assoc before is.come more)
 
     keep-part : length more < left → Taken (holding old (SyncArea (left - length more)) next (old.area ++ plain)) longest first octets more []
     keep-part few =

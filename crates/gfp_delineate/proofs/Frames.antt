@@ -1,12 +1,11 @@
 -- The frames that an answer tells.
-use Rattle.std.proofs.Common.{◌≡◌, ℕ, ◌+◌, ◌≤◌, Bool, true, false, List, [], ◌++◌, length, map, drop, inl, inr, Option, Some, None, refl, sym, ◌∙◌, ap, arith, length-drop}
+use Rattle.std.proofs.Common.{◌≡◌, ℕ, ◌+◌, ◌≤◌, Bool, true, false, List, [], length, map, drop, inl, inr, Option, Some, None, refl, sym, ap, arith, length-drop}
 use Rattle.std.specs.Prelude.{◌↔◌, IfSome, IsTrue}
 use Rattle.std.specs.List.{flat_map}
 use Rattle.std.specs.Option.{option_to_list}
 use Rattle.std.proofs.lemmas.Bool.{le-leb, lt-leb, cases_lt}
-use Rattle.std.proofs.lemmas.List.Concat.{flat_map-append}
-use Rattle.session_model.specs.Outcome.{delivery, outcomes}
-use Rattle.session_model.specs.Delivery.{frame_in, delivered}
+use Rattle.session_model.specs.Outcome.{delivery}
+use Rattle.session_model.specs.Delivery.{frame_in}
 use Rattle.gfp_delineate.specs.declared.Step.{Step}
 use Rattle.gfp_delineate.specs.declared.Step.TheVariants.{Nothing, Frame, Dropped}
 use Rattle.gfp_delineate.specs.Receiver.{Progress, Receiver, frame_of, outcomes_told, told_outcomes}
@@ -26,13 +25,6 @@ pub frames_told : (receiver : Receiver) (step : Step) → flat_map frame_in (tol
 frames_told receiver Nothing = refl
 frames_told receiver Frame = frames_held (frame_of receiver)
 frames_told receiver (Dropped why) = refl
-
-pub delivered-told : (receiver : Receiver) (step : Step) (longest : ℕ) (octets more : List ℕ) → outcomes longest true more ≡ outcomes longest true octets ++ told_outcomes receiver step →
-    delivered longest more ≡ delivered longest octets ++ told receiver step
-delivered-told receiver step longest octets more outcome =
-    ap (flat_map frame_in) outcome
-    ∙ flat_map-append frame_in (outcomes longest true octets) (told_outcomes receiver step)
-    ∙ ap (λ l. delivered longest octets ++ l) (frames_told receiver step)
 
 -- ---- what a call tells, where it holds a frame exactly at the answer Frame
 frame-held : (progress : Progress) (holds : Bool) → IsTrue holds → 4 ≤ length progress.area → frame_of (record { progress = progress; holds = holds }) ≡ Some (drop 4 progress.area)

@@ -1,7 +1,7 @@
 -- Idle frames that go on from a place in a header, to the same place in the header behind them.
 use Rattle.std.proofs.Common.{◌≡◌, ℕ, zero, suc, ◌-◌, ◌<◌, List, [], ◌++◌, take, drop, inl, refl, sym, ◌∙◌, ap, subst, arith}
 use Rattle.std.proofs.lemmas.List.{append-nil, take-append-drop}
-use Rattle.session_model.specs.Core.{head, core_header}
+use Rattle.session_model.specs.Core.{head}
 use Rattle.session_model.specs.Outcome.{outcomes}
 use Rattle.session_model.proofs.CoreLaws.{head-core_header}
 use Rattle.session_model.proofs.IdleLaws.{idle_header, core_header-idle}

@@ -38,6 +38,18 @@ abbrev pub frame_of : Receiver → Option (List ℕ)
 frame_of receiver =
     if receiver.holds && nat_le 4 (length receiver.progress.area) then Some (drop 4 receiver.progress.area) else None
 
+-- in SYNC, where a header is due, those of its octets that have come
+abbrev pub header_begun_in : Phase → List ℕ → Option (List ℕ)
+header_begun_in (Hunt have) window = None
+header_begun_in (PresyncArea left) window = None
+header_begun_in (PresyncHeader have) window = None
+header_begun_in (SyncHeader have) window = Some (drop (4 - have) window)
+header_begun_in (SyncArea left) window = None
+header_begun_in (SyncPassing left why) window = None
+
+abbrev pub header_begun : Receiver → Option (List ℕ)
+header_begun receiver = header_begun_in receiver.progress.phase receiver.progress.window
+
 -- the outcomes that an answer tells, where this frame is held
 abbrev pub outcomes_told : Option (List ℕ) → Step → List Outcome
 outcomes_told frame Nothing = []

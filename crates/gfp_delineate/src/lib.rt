@@ -5,13 +5,14 @@
 //! new segment. `delivery_law` says what comes of a stream that is taken from its start.
 #![tactic(auto)]
 
-ghost use Rattle.std.specs.Prelude.{◌≡◌, ◌≢◌, ℕ, ◌+◌, ◌-◌, ◌<◌, ◌≤◌, ◌↔◌, Bool, true, false, List, [], ◌∷◌, ◌++◌, length, take, All, IfOk, IfSome, IsSome, IsTrue};
+ghost use Rattle.std.specs.Prelude.{◌≡◌, ◌≢◌, ℕ, ◌+◌, ◌-◌, ◌<◌, ◌≤◌, ◌↔◌, Bool, true, false, List, [], ◌∷◌, ◌++◌, length, take, All, IfOk, IfSome, IfNone, IsSome, IsTrue};
+ghost use Rattle.session_model.specs.Core.{core_header};
 ghost use Rattle.session_model.specs.Piece.{stream_of, opening, frames_by};
 ghost use Rattle.session_model.specs.Run.{is_sync};
 ghost use Rattle.session_model.specs.Outcome.{outcomes};
 ghost use Rattle.session_model.specs.Delivery.{delivered};
 ghost use Rattle.gfp_delineate.specs.Repeated.{idles_from};
-ghost use Rattle.gfp_delineate.specs.Receiver.{most, StandsIn, Advances, Brings, frame_of, told_outcomes, IsClientFrame};
+ghost use Rattle.gfp_delineate.specs.Receiver.{most, StandsIn, Advances, Brings, frame_of, header_begun, told_outcomes, IsClientFrame};
 
 mod octets;
 mod steps;
@@ -158,18 +159,22 @@ impl Delineator {
         self.phase = Phase::Hunt { have: 0 };
     }
 
-    /// How many octets of the header of an idle frame came last, below four, in SYNC where a header is due, and `None` in all other
-    /// states. Idle frames that go on from there change nothing.
+    /// How many octets of the header of an idle frame came last, below four, in SYNC where a header is due, and `None`
+    /// exactly in all other states. Idle frames that go on from there change nothing.
     pub fn idle_place(&self) -> Option<usize>
         ensures below { IfSome result (λ place. place < 4) }
+        ensures idle { IfSome result (λ place.
+            header_begun self.now ≡ Some (take place (core_header 0))) }
+        ensures none { IfNone result ((place : ℕ) →
+            header_begun self.now ≢ Some (take place (core_header 0))) }
         ensures stays { IfSome result (λ place. (count : ℕ) →
             Advances self.now self.now (idles_from place count)
             × Brings self.now (idles_from place count) []) }
     {
         match self.phase {
-            Phase::SyncHeader { have } if begins_idle(&self.window, have) => Some(usize::from(
-                have,
-            )),
+            Phase::SyncHeader { have } if begins_idle(&self.window, have) => {
+                Some(usize::from(have))
+            }
             _ => None,
         }
     }

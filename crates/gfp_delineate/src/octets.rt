@@ -1,6 +1,6 @@
 //! Octets of a piece that are taken in one go.
 
-ghost use Rattle.std.specs.Prelude.{◌≡◌, ◌+◌, ◌-◌, ◌*◌, ◌<◌, ◌≤◌, true, ◌∷◌, [], ◌++◌, length, take, drop, replicate, vec_len};
+ghost use Rattle.std.specs.Prelude.{◌≡◌, ◌≢◌, ℕ, ◌+◌, ◌-◌, ◌*◌, ◌<◌, ◌≤◌, true, ◌∷◌, [], ◌++◌, length, take, drop, replicate, vec_len};
 ghost use Rattle.std.specs.Vec.{vec_capacity};
 ghost use Rattle.std.specs.Int.{to_le_bytes, w64};
 ghost use Rattle.gfp_scramble.specs.Descrambler.{Continues, DescramblesTo};
@@ -34,11 +34,13 @@ pub fn idle_run(piece: &[u8]) -> usize
     }
 }
 
-/// How often octets begin with a word, again and again. The first octet of the word is its least significant one.
+/// How often octets begin with a word, again and again, until another word comes or fewer than eight octets are left.
+/// The first octet of the word is its least significant one.
 #[inline]
 pub fn word_run(piece: &[u8], word: u64) -> usize
     ensures within { 8 * result ≤ length piece.now }
     ensures run { take (8 * result) piece.now ≡ repeated result (to_le_bytes w64 word) }
+    ensures stops { take 8 (drop (8 * result) piece.now) ≢ to_le_bytes w64 word }
 {
     let blocks = block_run(piece, word);
     8 * blocks + few_words(&piece[64 * blocks..], word)
@@ -63,6 +65,7 @@ fn block_run(piece: &[u8], word: u64) -> usize
 fn few_words(piece: &[u8], word: u64) -> usize
     ensures within { 8 * result ≤ length piece.now }
     ensures run { take (8 * result) piece.now ≡ repeated result (to_le_bytes w64 word) }
+    ensures stops { take 8 (drop (8 * result) piece.now) ≢ to_le_bytes w64 word }
 {
     for i in 0..piece.len() / 8 {
         if word_at(piece, 8 * i) != word {
@@ -134,8 +137,10 @@ fn is_idle(piece: &[u8], at: usize) -> bool
 /// Whether the last octets of a header are the first ones of an idle frame's.
 pub fn begins_idle(window: &[u8; 4], have: u8) -> bool
     requires { have < 4 }
-    ensures { result ≡ true →
+    ensures begun { result ≡ true →
         drop (4 - have) window.now ≡ take have (0xb6 ∷ 0xab ∷ 0x31 ∷ 0xe0 ∷ []) }
+    ensures all { (place : ℕ) →
+        drop (4 - have) window.now ≡ take place (0xb6 ∷ 0xab ∷ 0x31 ∷ 0xe0 ∷ []) → result ≡ true }
 {
     let have = usize::from(have);
     &window[4 - have..] == &IDLE[..have]

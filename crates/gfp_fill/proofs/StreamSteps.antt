@@ -20,6 +20,33 @@ use Rattle.gfp_fill.specs.Stream.{Sender, head_of, Stands, HasWritten}
 pub long : (pieces : List Piece) → length (stream_of pieces) ≡ size pieces
 long pieces = length-stream_of pieces ∙ sum-map size_of pieces
 
+-- ---- a filler and a place in a stream tell the queue
+-- how many octets are left of the pieces that are begun
+octets_left : (sender : Sender) (queue : Held) (stream : Stream) (place : ℕ) → Stands sender queue stream place →
+    length (drop place (stream_of stream.pieces)) ≡ length (head_of sender) + length queue.begun
+octets_left sender queue stream place stands =
+    let all : List ℕ = stands.given ++ queue.begun in
+    let area : List ℕ = drop (length stands.given) (scrambled_octets all) in
+    let size : length area ≡ length queue.begun =
+    omega (arith, length-drop (length stands.given) (scrambled_octets all), length-scrambled_octets all,
+    length-append stands.given queue.begun) in
+    ap length stands.rest ∙ length-append (head_of sender) area ∙ ap (λ n. length (head_of sender) + n) size
+
+-- two lists that are alike end alike
+same_end : (a b c d : List ℕ) → a ++ b ≡ c ++ d → length b ≡ length d → b ≡ d
+same_end a b c d e size =
+    let front : length a ≡ length c = omega (arith, ap length e, length-append a b, length-append c d, size) in
+    sym (drop_at a b (length c) front) ∙ ap (drop (length c)) e ∙ drop_at c d (length c) refl
+
+pub one_queue : (sender : Sender) (queue other : Held) (stream : Stream) (place : ℕ) →
+    Stands sender queue stream place → Stands sender other stream place → other ≡ queue
+one_queue sender queue other stream place one two =
+    let size : length other.begun ≡ length queue.begun =
+    omega (arith, octets_left sender queue stream place one, octets_left sender other stream place two) in
+    let made : List (List ℕ) → List ℕ → Held = λ waiting begun. record { waiting = waiting; begun = begun } in
+    ap₂ made (two.waits ∙ sym one.waits)
+    (same_end two.given other.begun one.given queue.begun (sym two.areas ∙ one.areas) size)
+
 -- ---- octets of pieces that are begun are written
 part_written : (stream : Stream) (place n : ℕ) (sender : Sender) (queue : Held) (rest octets : List ℕ)
     → place ≤ size stream.pieces → drop place (stream_of stream.pieces) ≡ rest → n ≤ length rest → octets ≡ take n rest

@@ -70,7 +70,8 @@ impl Filler {
         }
     }
 
-    /// Writes the next `out.len()` octets of the stream. A frame stops waiting when its first octet is written.
+    /// Writes the next `out.len()` octets of the stream. A frame stops waiting when its first octet is written. The queue is
+    /// that of the calls before: with one that doesn't hold the frame that is being sent the filler stands nowhere.
     pub fn fill(&mut self, waiting: &mut FrameQueue, out: &mut [u8])
         ensures stands { (stream : Stream) (place : ℕ) → Stands self.old waiting.old stream place →
             let further = place + length out.old in

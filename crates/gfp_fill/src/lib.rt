@@ -6,7 +6,8 @@
 ghost use Rattle.std.specs.Prelude.{◌≡◌, ℕ, ◌+◌, ◌≤◌, List, [], ◌++◌, length, take, drop};
 ghost use Rattle.session_model.specs.Piece.{Piece, stream_of, opening};
 ghost use Rattle.session_model.specs.Client.{size, Stream, offered, begun, reached, IsFewest};
-ghost use Rattle.gfp_fill.specs.Stream.{next_pieces, unsent};
+ghost use Rattle.gfp_fill.specs.Queue.{Held};
+ghost use Rattle.gfp_fill.specs.Stream.{next_pieces, unsent, Sender, Stands};
 
 mod filler;
 mod octets;
@@ -17,7 +18,8 @@ pub use queue::{FrameQueue, MAX_FRAME, MAX_WAITING, MIN_FRAME};
 pub use session_model::AcceptFault;
 
 /// The pieces of a stream that reaches a place are the fewest, a place can be reached in parts, and octets that are written stand
-/// in each longer stream. Where all frames wait from the start, the pieces are those of the opening.
+/// in each longer stream. Where all frames wait from the start, the pieces are those of the opening. For a filler and a place in a
+/// stream there is one queue with which it stands there: that which holds the frame that it is sending.
 pub fn filling_law()
     ensures fewest { (place : ℕ) (stream : Stream) →
         IsFewest stream.pieces place (reached place stream).pieces }
@@ -29,6 +31,9 @@ pub fn filling_law()
         record { pieces = stream.pieces ++ next_pieces n stream.waiting; waiting = drop n stream.waiting } }
     ensures opening { (frames : List (List ℕ)) (idles : ℕ) →
         begun (length frames + idles) (unsent frames) ≡ record { pieces = opening frames idles; waiting = [] } }
+    ensures queue { (sender : Sender) (queue other : Held) (stream : Stream) (place : ℕ) →
+        Stands sender queue stream place → Stands sender other stream place →
+        other ≡ queue }
     ensures offers { (stream : Stream) (frame : List ℕ) →
         (offered stream frame).pieces ≡ stream.pieces }
     ensures long { (pieces : List Piece) → length (stream_of pieces) ≡ size pieces }

@@ -1,10 +1,22 @@
--- More octets of an area that is scrambled or descrambled in place. `f` are the octets that come of a list.
+-- More octets of an area that is scrambled or descrambled in place. `f` are the octets that come of a list, as many
+-- as it has, and nothing is said of the first `u`.
 use Rattle.std.proofs.Math.Seq.{take-add}
 use Rattle.std.proofs.lemmas.Slice.{take-put_mid, drop-put_mid}
 use borrow.Rule.Slice.PartMut.{put_mid}
-use Rattle.std.proofs.Common.{◌≡◌, ℕ, ◌+◌, ◌-◌, ◌*◌, ◌/◌, ◌<◌, ◌≤◌, inl, inr, Bool, List, [], ◌∷◌, ◌++◌, length, take, drop, set, get_or, sym, ap, ◌∙◌, arith, append_assoc, length-append}
-use Rattle.gfp_scramble.specs.Descrambler.{IsKnown}
+use Rattle.std.proofs.Common.{◌≡◌, ℕ, ◌+◌, ◌-◌, ◌*◌, ◌/◌, ◌<◌, ◌≤◌, List, [], ◌∷◌, ◌++◌, length, take, drop, set, get_or, sym, ap, ◌∙◌, arith, append_assoc, length-append}
+use Rattle.gfp_scramble.proofs.SettlingLaws.{drop_alike}
 use Rattle.std.proofs.lemmas.List.{take_all, take_more, take_more_set, drop_more, drop-set-lt, drop-drop, length-take, length-drop}
+
+-- octets behind two lists that agree
+front_longer : (n u : ℕ) (f : List ℕ → List ℕ) → ((l : List ℕ) → length (f l) ≡ length l) →
+    (octets was area more : List ℕ) → length area ≡ length was →
+    drop u (f (octets ++ take n was)) ≡ drop u (f octets ++ take n area) →
+    drop u (f (octets ++ take n was) ++ more) ≡ drop u (f octets ++ (take n area ++ more))
+front_longer n u f same octets was area more size front =
+    drop_alike u u (f (octets ++ take n was)) (f octets ++ take n area) more
+    (omega (arith, same (octets ++ take n was), same octets, length-append octets (take n was), length-append
+    (f octets) (take n area), length-take n was, length-take n area, size)) front
+    ∙ ap (drop u) (append_assoc (f octets) (take n area) more)
 
 module _ (i : ℕ) (was area : List ℕ) (fits : i < length was) (size : length area ≡ length was) (back : drop i area ≡ drop i was) where
   octet_same : get_or area i 0 ≡ get_or was i 0
@@ -28,12 +40,15 @@ module _ (i : ℕ) (was area : List ℕ) (fits : i < length was) (size : length 
       append_assoc octets (take i was) (get_or area i 0 ∷ [])
       ∙ sym (ap (λ l. octets ++ l) (take_more was i 0 fits ∙ ap (λ o. take i was ++ o ∷ []) (sym octet_same)))
 
-  pub front_more : (f : List ℕ → List ℕ) (octets : List ℕ) (x : ℕ) → f (octets ++ take i was) ≡ f octets ++ take i area →
-      f ((octets ++ take i was) ++ get_or area i 0 ∷ []) ≡ f (octets ++ take i was) ++ x ∷ [] →
-      f (octets ++ take (i + 1) was) ≡ f octets ++ take (i + 1) (set area i x)
-  front_more f octets x front answer =
-      ap f (sym (given_more octets)) ∙ answer ∙ ap (λ l. l ++ x ∷ []) front ∙ append_assoc (f octets) (take i area) (x ∷ [])
-      ∙ ap (λ l. f octets ++ l) (sym (take_more_set area i x (omega arith)))
+  pub front_more : (u : ℕ) (f : List ℕ → List ℕ) → ((l : List ℕ) → length (f l) ≡ length l) →
+      (octets : List ℕ) (x : ℕ) →
+      drop u (f (octets ++ take i was)) ≡ drop u (f octets ++ take i area) →
+      drop u (f ((octets ++ take i was) ++ get_or area i 0 ∷ [])) ≡ drop u (f (octets ++ take i was) ++ x ∷ []) →
+      drop u (f (octets ++ take (i + 1) was)) ≡ drop u (f octets ++ take (i + 1) (set area i x))
+  front_more u f same octets x front answer =
+      ap (λ l. drop u (f l)) (sym (given_more octets)) ∙ answer
+      ∙ front_longer i u f same octets was area (x ∷ []) size front
+      ∙ ap (λ l. drop u (f octets ++ l)) (sym (take_more_set area i x (omega arith)))
 
 -- eight more octets, where `piece` stands for them now
 module _ (i : ℕ) (was area piece : List ℕ) (fits : i < length was / 8) (size : length area ≡ length was) (back : drop (8 * i) area ≡ drop (8 * i) was)
@@ -56,20 +71,23 @@ module _ (i : ℕ) (was area piece : List ℕ) (fits : i < length was / 8) (size
       ∙ sym (drop-drop 8 (8 * i) area) ∙ ap (drop 8) back ∙ drop-drop 8 (8 * i) was
       ∙ (let e : 8 * i + 8 ≡ 8 * (i + 1) = omega arith in ap (λ n. drop n was) e)
 
-  pub front_eight : (f : List ℕ → List ℕ) (octets : List ℕ) → f (octets ++ take (8 * i) was) ≡ f octets ++ take (8 * i) area →
-      f ((octets ++ take (8 * i) was) ++ take (8 * i + 8 - 8 * i) (drop (8 * i) area)) ≡ f (octets ++ take (8 * i) was) ++ piece →
-      f (octets ++ take (8 * (i + 1)) was) ≡ f octets ++ take (8 * (i + 1)) (put_mid (8 * i) (8 * i + 8 - 8 * i) area piece)
-  front_eight f octets front answer =
-      ap f (sym (given_eight octets)) ∙ answer ∙ ap (λ l. l ++ piece) front ∙ append_assoc (f octets) (take (8 * i) area) piece
-      ∙ ap (λ l. f octets ++ l) (sym (take-put_mid (8 * i) (8 * i + 8 - 8 * i) area piece (8 * (i + 1)) (omega (arith, piece_is)) (omega arith)))
-
--- further octets don't make them unknown
-pub still_known : (settled : Bool) (octets more : List ℕ) → IsKnown settled octets → IsKnown settled (octets ++ more)
-still_known settled octets more (inl start) = inl start
-still_known settled octets more (inr enough) = inr (omega (arith, length-append octets more))
+  pub front_eight : (u : ℕ) (f : List ℕ → List ℕ) → ((l : List ℕ) → length (f l) ≡ length l) → (octets : List ℕ) →
+      drop u (f (octets ++ take (8 * i) was)) ≡ drop u (f octets ++ take (8 * i) area) →
+      drop u (f ((octets ++ take (8 * i) was) ++ take (8 * i + 8 - 8 * i) (drop (8 * i) area)))
+      ≡ drop u (f (octets ++ take (8 * i) was) ++ piece) →
+      drop u (f (octets ++ take (8 * (i + 1)) was))
+      ≡ drop u (f octets ++ take (8 * (i + 1)) (put_mid (8 * i) (8 * i + 8 - 8 * i) area piece))
+  front_eight u f same octets front answer =
+      ap (λ l. drop u (f l)) (sym (given_eight octets)) ∙ answer
+      ∙ front_longer (8 * i) u f same octets was area piece size front
+      ∙ ap (λ l. drop u (f octets ++ l)) (sym (take-put_mid (8 * i) (8 * i + 8 - 8 * i) area piece (8 * (i + 1))
+      (omega (arith, piece_is)) (omega arith)))
 
 -- after the last octet
-pub front_all : (f : List ℕ → List ℕ) (octets was area : List ℕ) (n : ℕ) → length was ≤ n → length area ≡ length was →
-    f (octets ++ take n was) ≡ f octets ++ take n area → f (octets ++ was) ≡ f octets ++ area
-front_all f octets was area n long size front =
-    ap (λ l. f (octets ++ l)) (sym (take_all n was long)) ∙ front ∙ ap (λ l. f octets ++ l) (take_all n area (omega arith))
+pub front_all : (u : ℕ) (f : List ℕ → List ℕ) (octets was area : List ℕ) (n : ℕ) → length was ≤ n →
+    length area ≡ length was →
+    drop u (f (octets ++ take n was)) ≡ drop u (f octets ++ take n area) →
+    drop u (f (octets ++ was)) ≡ drop u (f octets ++ area)
+front_all u f octets was area n long size front =
+    ap (λ l. drop u (f (octets ++ l))) (sym (take_all n was long)) ∙ front
+    ∙ ap (λ l. drop u (f octets ++ l)) (take_all n area (omega arith))

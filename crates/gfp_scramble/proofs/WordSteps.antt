@@ -8,9 +8,9 @@ use Rattle.remainder.proofs.OctetLaws.{octet_bits-append, length-octet_bits, oct
 use Rattle.session_model.specs.Scramble.{scrambled, scrambled_octets, descrambled, descrambled_octets}
 use Rattle.session_model.proofs.ScrambleLaws.{scramble_on-append, length-scrambled, length-descrambled}
 use Rattle.gfp_scramble.specs.Scrambler.{Stands}
-use Rattle.gfp_scramble.specs.Descrambler.{Stands as StandsBack, IsKnown}
+use Rattle.gfp_scramble.specs.Descrambler.{Stands as StandsBack}
 use Rattle.gfp_scramble.proofs.RegisterLaws.{window}
-use Rattle.gfp_scramble.proofs.DescramblerSteps.{last-octets, last-known}
+use Rattle.gfp_scramble.proofs.DescramblerSteps.{last-octets, last-settled}
 use Rattle.gfp_scramble.proofs.WordLaws.{word_scrambled, word_descrambled, word_register, more_octets, length-bytes}
 
 abbrev pub result_of : ℕ → ℕ → ℕ
@@ -46,14 +46,18 @@ given-full false n e = omega arith
 abbrev pub back_of : ℕ → ℕ → ℕ
 back_of r w = bit_xor w (r * 2 ^ 21 + w / 2 ^ 43)
 
-module _ (r w given : ℕ) (h : w < 2 ^ 64) (settled : Bool) (octets : List ℕ) (stands : StandsBack (record { last = bits 43 r; given = given }) settled octets) where
-  pub back-answer : IsKnown settled octets →
-      descrambled_octets (octets ++ bytes_high_first 8 w) ≡ descrambled_octets octets ++ bytes_high_first 8 (back_of r w)
-  back-answer known =
-      more_octets 8 octets w (back_of r w) (descrambled (octet_bits (octets ++ bytes_high_first 8 w))) (descrambled (octet_bits octets))
-      (length-descrambled (octet_bits octets) ∙ length-octet_bits octets)
-      (ap descrambled (word_bits octets w) ∙ word_descrambled 21 43 r w (octet_bits octets) h (last-known r given settled octets stands known))
+pub back-answer : (r w given : ℕ) → w < 2 ^ 64 → (octets : List ℕ) →
+    StandsBack (record { last = bits 43 r; given = given }) true octets →
+    descrambled_octets (octets ++ bytes_high_first 8 w) ≡ descrambled_octets octets ++ bytes_high_first 8 (back_of r w)
+back-answer r w given h octets stands =
+    more_octets 8 octets w (back_of r w) (descrambled (octet_bits (octets ++ bytes_high_first 8 w)))
+    (descrambled (octet_bits octets))
+    (length-descrambled (octet_bits octets) ∙ length-octet_bits octets)
+    (ap descrambled (word_bits octets w) ∙ word_descrambled 21 43 r w (octet_bits octets) h
+    (last-settled r given octets stands))
 
+module _ (r w given : ℕ) (h : w < 2 ^ 64) (settled : Bool) (octets : List ℕ)
+    (stands : StandsBack (record { last = bits 43 r; given = given }) settled octets) where
   pub back-stands : StandsBack (record { last = bits 43 (w % 2 ^ 43); given = 6 }) settled (octets ++ bytes_high_first 8 w)
   back-stands =
       let all : List ℕ = octets ++ bytes_high_first 8 w in

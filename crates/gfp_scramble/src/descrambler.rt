@@ -48,7 +48,7 @@ impl Descrambler {
         }
     }
 
-    /// The next octet, descrambled. Where the descrambler isn't settled, the first six octets are not those that were scrambled.
+    /// The next octet, descrambled.
     #[inline]
     pub fn byte(&mut self, o: u8) -> u8
         ensures stands { Continues self.old self.new (o ∷ []) }
@@ -124,7 +124,8 @@ impl Descrambler {
         self.given == SETTLED
     }
 
-    /// Forgets the octets before, and is settled again once six octets were given.
+    /// Forgets the octets before, and is settled again once six octets were given: from the seventh on, in whatever
+    /// calls they come, they are those that were scrambled.
     pub fn forget(&mut self)
         ensures { Stands self.new false [] }
     {

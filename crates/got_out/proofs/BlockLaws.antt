@@ -1,10 +1,10 @@
 -- A text of which a prefix is put and the rest waits.
-use Rattle.std.proofs.Common.{◌≡◌, ℕ, ◌+◌, ◌≤◌, List, [], ◌++◌, length, take, Option, sym, ap, ◌∙◌, append_assoc, append-nil, subst}
+use Rattle.std.proofs.Common.{◌≡◌, ℕ, ◌+◌, ◌≤◌, List, [], ◌++◌, length, take, Option, sym, ap, ◌∙◌, append_assoc, append-nil}
 use Rattle.std.proofs.Math.Seq.{take-append-add}
 use Rattle.std.proofs.lemmas.List.{take-append-le, length-take-le}
 use borrow.Rule.Slice.PartMut.{put_mid, post_of}
-use Rattle.outside_io.specs.Transfer.{Appends, AppendsPart}
-use Rattle.outside_io.proofs.Parts.{Appends-none, Appends-then, AppendsPart-then}
+use Rattle.outside_io.specs.Transfer.{Appends}
+use Rattle.outside_io.proofs.Parts.{Appends-none, Appends-then}
 use Rattle.got_out.specs.Told.{Holds}
 
 -- nothing is put, and all waits
@@ -25,20 +25,6 @@ Holds-then written faults start old new waiting after text next before then =
       appends = Appends-then written faults start old new before.put then.put before.appends then.appends;
       all = append_assoc before.put then.put after ∙ ap (λ (t : List ℕ). before.put ++ t) then.all ∙ text_then before.put waiting text next before.all;
     }
-
--- a fault comes where it is added
-pub Holds-stops : {K : Type 0} (written : K → Option (List ℕ)) (faults : K → ℕ) (start old new : K) (waiting text next : List ℕ)
-    → Holds written faults start old waiting text → AppendsPart written faults old new (waiting ++ next) → AppendsPart written faults start new (text ++ next)
-Holds-stops written faults start old new waiting text next before stops =
-    let P : List ℕ → Type 0 = λ t. AppendsPart written faults start new t in
-    subst P (text_then before.put waiting text next before.all) (AppendsPart-then written faults start old new before.put (waiting ++ next) before.appends stops)
-
--- all is put
-pub Holds-put : {K : Type 0} (written : K → Option (List ℕ)) (faults : K → ℕ) (start old new : K) (waiting text next : List ℕ)
-    → Holds written faults start old waiting text → Appends written faults old new (waiting ++ next) → Appends written faults start new (text ++ next)
-Holds-put written faults start old new waiting text next before put =
-    let P : List ℕ → Type 0 = λ t. Appends written faults start new t in
-    subst P (text_then before.put waiting text next before.all) (Appends-then written faults start old new before.put (waiting ++ next) before.appends put)
 
 -- all that waited is put
 pub Holds-all : {K : Type 0} (written : K → Option (List ℕ)) (faults : K → ℕ) (old new : K) (put text : List ℕ) → put ≡ text

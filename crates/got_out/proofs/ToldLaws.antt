@@ -1,11 +1,10 @@
 -- What is told of a text, as it grows.
-use Rattle.std.proofs.Common.{◌≡◌, ℕ, Bool, true, false, List, [], ◌∷◌, ◌++◌, Option, Some, None, refl, sym, ◌∙◌, ap}
+use Rattle.std.proofs.Common.{◌≡◌, ℕ, Bool, true, false, List, [], ◌∷◌, ◌++◌, Option, sym, ◌∙◌, ap}
 use Rattle.std.proofs.lemmas.Grind.{flat_map-append}
 use Rattle.std.proofs.lemmas.List.{append-nil}
-use Rattle.std.specs.Io.KnownBytes.{append_known}
 use Rattle.outside_io.proofs.Parts.{AppendsPart-longer}
 use Rattle.report_text.specs.Report.{got_text, got_texts}
-use Rattle.got_out.specs.Told.{Holds, GivesUp, Seen, seen, known_of, faults_of, Told, named, told_of}
+use Rattle.got_out.specs.Told.{Holds, Seen, seen, known_of, faults_of, Told}
 use Rattle.got_out.proofs.BlockLaws.{Holds-then}
 
 pub texts-more : (frames : List (List ℕ)) (frame : List ℕ) → got_texts frames ++ got_text frame ≡ got_texts (frames ++ frame ∷ [])
@@ -25,27 +24,3 @@ told-more written faults false first old new waiting after text next is more tol
     Holds-then known_of faults_of first (seen (written old) (faults old)) (seen (written new) (faults new)) waiting after text next told
     (record { put = more.put; appends = record { appended = more.appends.appended; quiet = more.appends.quiet }; all = more.all })
 told-more written faults true first old new waiting after text next is more told = absurd cc
-
--- a start names what a sink tells
-named-told : (known : Option (List ℕ)) → told_of (named known) ≡ known
-named-told None = refl
-named-told (Some octets) = refl
-
--- what is told is given up
-pub told-given_up : {K : Type 0} (written : K → Option (List ℕ)) (faults : K → ℕ) (failed : Bool) (old new : K) (waiting text : List ℕ)
-    → Told failed (seen (told_of (named (written old))) (faults old)) (seen (written new) (faults new)) waiting text → GivesUp failed written faults old new text
-told-given_up written faults true old new waiting text told = record {
-  part = told.part;
-  rest = told.rest;
-  prefix = told.prefix;
-  cut = told.cut;
-  appended = told.appended ∙ ap (λ known. append_known known told.part) (named-told (written old));
-  counted = told.counted;
-}
-told-given_up written faults false old new waiting text told = record {
-  part = told.put;
-  rest = waiting;
-  prefix = told.all;
-  appended = told.appends.appended ∙ ap (λ known. append_known known told.put) (named-told (written old));
-  quiet = told.appends.quiet;
-}

@@ -1,6 +1,6 @@
 -- What is written so far of a text by a `GotOver`, whose block is lent.
 use Rattle.std.specs.Prelude.{◌≡◌, ℕ, List, Option}
-use Rattle.sink_core.specs.Start.{Start}
+use Rattle.outside_io.specs.Start.{Start}
 use Rattle.got_out.specs.Told.{Told, seen, told_of}
 use Rattle.got_out.specs.declared.over.GotOver.{GotOver}
 

@@ -2,7 +2,7 @@
 ghost use Rattle.std.specs.Prelude.{◌≡◌, ◌≤◌, ℕ, Bool, List, [], ◌++◌, length, false, OnOk, OnErr};
 ghost use Rattle.outside_io.specs.Transfer.{Appends, AppendsPart};
 ghost use Rattle.outside_io.specs.Faults.{one_more};
-ghost use Rattle.sink_core.specs.Start.{Start};
+ghost use Rattle.outside_io.specs.Start.{Start};
 ghost use Rattle.got_out.specs.Told.{HasText, GivesUp, name_of, has_failed, start_at};
 
 use crate::block::LineBlock;

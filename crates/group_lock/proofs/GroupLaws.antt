@@ -24,9 +24,10 @@ use Rattle.group_lock.specs.Parts.{setting_in}
 use Rattle.group_lock.specs.Group.{parts_of, Stands, SameScript, SameRings, items_of, frames_of, commands_of, journal_of, slots_of, bytes_of, refusals_of, taken_of, source_of, ticks_of, next_of, refusal_of, is_number, fault_met, fault_in, counted_by, HasCounted, with_landed}
 use Rattle.group_lock.specs.Calls.{Submits}
 use Rattle.group_lock.proofs.AlikeLaws.{met-journal}
+use Rattle.group_lock.proofs.PlaceLaws.{next-due}
 
 pub stands-of : (g : GroupState) → Stands g
-stands-of g = record { legal = g.keeps.legal; made = g.keeps.made; sent = g.keeps.sent; due = g.keeps.due }
+stands-of g = record { legal = g.keeps.legal; made = g.keeps.made; sent = g.keeps.sent; due = g.keeps.due; refused = g.keeps.refused; ahead = g.keeps.ahead; behind = g.keeps.behind }
 
 pub script-same : (g : GroupState) → SameScript g g
 script-same g = record { lines = refl; lag = refl; size = refl; total = refl; lost = refl; items = refl }
@@ -90,6 +91,7 @@ pub submits-none : (g : GroupState) (number : ℕ) (kind : ItemKind) (fault : Su
 submits-none g number kind fault none is = record {
   fault = is;
   unchanged = λ e. refl;
+  when = λ landed. absurd (let e : true ≡ false = sym landed ∙ none in cc);
   landed = subst (HasCounted g g kind) (sym none) (record {
     frames = (let e = counted-none (is_client kind) in omega arith);
     commands = (let e = counted-none (not (is_client kind)) in omega arith);
@@ -112,6 +114,13 @@ pub record Asks (g : GroupState) (number : ℕ) (kind : ItemKind) : Type 0 where
   pub next : next_of g kind ≡ Some number
   pub due : due_at (items_of g) number ≤ ticks_of g
   pub room : refusal_of g kind ≡ None → fits (parts_of g).journal kind ≡ true
+
+-- it is due now
+pub asked-when : (g : GroupState) (number : ℕ) (kind : ItemKind) → Asks g number kind → due_at (items_of g) number ≡ ticks_of g
+asked-when g number kind asks =
+    let low = asks.due in
+    let late = next-due (parts_of g).landed (is_client kind) number (ticks_of g) asks.next g.keeps.ahead in
+    omega arith
 
 abbrev pub met_in : GroupState → ItemKind → Option SubmitFault
 met_in g kind = fault_met (refusal_of g kind) (fits (parts_of g).journal kind) (slots_of g) (bytes_of g)
@@ -167,6 +176,7 @@ pub submits-accepted : (a b : GroupState) (number : ℕ) (kind : ItemKind) → A
 submits-accepted a b number kind asks lands journal slots bytes = record {
   fault = ap (option_map fault_of) lands.is ∙ fault-asked a number kind asks;
   unchanged = λ e. absurd cc;
+  when = λ landed. asked-when a number kind asks;
   landed = counted a b number kind None lands;
   journal = journal;
   room = record { slots = slots; bytes = bytes };
@@ -193,6 +203,7 @@ submits-refused a b number kind why fault is asks lands journal slots bytes =
     record {
       fault = ap Some is ∙ ap (option_map fault_of) lands.is ∙ fault-asked a number kind asks;
       unchanged = λ e. absurd (let f : true ≡ false = sym yes ∙ e in cc);
+      when = λ landed. asked-when a number kind asks;
       landed = subst (HasCounted a b kind) (sym yes) (counted a b number kind (Some why) lands);
       journal = journal ∙ sym (append-nil (journal_of a));
       room = record { slots = omega arith; bytes = omega arith };

@@ -3,7 +3,7 @@ use Rattle.std.specs.Option.{is_some}
 use Rattle.std.proofs.Common.{◌≡◌, Bool, true, false, ℕ, zero, suc, ◌+◌, ◌-◌, ◌<◌, ◌≤◌, List, [], ◌∷◌, ◌++◌, take, drop, length, slice_get, Option, Some, None, refl, sym, ◌∙◌, ap, subst, arith}
 use Rattle.std.proofs.Math.Logic.{∥∥₁_map, ∥∥₁_elim}
 use Rattle.std.proofs.Props.{props}
-use Rattle.std.proofs.lemmas.List.{length-replicate, length-take, length-drop, length-map, take-append-le}
+use Rattle.std.proofs.lemmas.List.{append-nil, length-replicate, length-take, length-drop, length-map, take-append-le}
 use Rattle.std.proofs.lemmas.Option.{slice_get_within}
 use Rattle.vc_cell.specs.declared.Container.{Container}
 use Rattle.vc_cell.specs.declared.BackCell.{BackCell}
@@ -19,14 +19,15 @@ use Rattle.member_ring.specs.declared.ends.RingIn.{RingIn}
 use Rattle.member_ring.specs.Ends.{out_passed, in_passed}
 use Rattle.source_core.specs.Terminal.{Terminal, SameKind, needed_at}
 use Rattle.source_core.specs.Given.{IsFresh, with_cell, Stands as HasMade}
-use Rattle.walk_law.specs.Landed.{Numbered, kind_refusal}
-use Rattle.walk_law.proofs.LandLaws.{Ahead, ahead-next}
+use Rattle.walk_law.specs.Landed.{Numbered, kind_refusal, IsPlaced}
+use Rattle.walk_law.proofs.LandLaws.{ahead-next}
 use Rattle.group_lock.specs.Journal.{Journal, Setting, journal_scenario, items_in, entry_of, IsLegal}
-use Rattle.group_lock.specs.Landed.{Landed, due_at}
+use Rattle.group_lock.specs.Landed.{Landed, due_at, AreAhead, AreBehind}
 use Rattle.group_lock.specs.Lands.{with_kind}
 use Rattle.group_lock.specs.Inbox.{Inbox, empty_inbox, come_from, told_from, told_taken, HasCome}
 use Rattle.group_lock.specs.Rings.{AreUnused, SameOuts, HaveLooked, ArePushed, HasMoved}
-use Rattle.group_lock.specs.Parts.{Parts, setting_in, scenario_in, told_in_parts, AreSent, AreDue, ArePast, Keeps}
+use Rattle.group_lock.specs.Parts.{Parts, setting_in, scenario_in, told_in_parts, AreSent, AreDue, ArePast, AreRefused, Keeps}
+use Rattle.group_lock.proofs.RefusedLaws.{refused-on, none-refused}
 use Rattle.group_lock.proofs.CellLaws.{come-length, taken-more, cell_for, rest_for, Takes, takes}
 use Rattle.group_lock.proofs.AlikeLaws.{journal-push, alike-kind, alike-cells, refusal-alike, legal-alike, push-cases, legal-push, container-in, sent-alike, sent-next}
 
@@ -37,10 +38,10 @@ there-at (x ∷ xs) (suc m) low = there-at xs m (omega arith)
 
 -- ---- nothing has come of a group
 pub keeps-begin : (at : Parts) (size : ℕ) → at.total ≤ 1000000 → at.source.ticks ≡ 0 → at.source.lines ≤ 128 → at.source.lag ≤ 512 → size ≡ at.source.lines → length at.tx ≡ at.source.lines →
-    AreUnused at.tx → in_passed at.back ≡ [] → at.journal.entries ≡ [] → at.inbox ≡ empty_inbox at.inbox.lost at.source.lag →
+    AreUnused at.tx → in_passed at.back ≡ [] → at.landed.frames ≡ 0 → at.landed.commands ≡ 0 → at.landed.refusals ≡ [] → at.journal.entries ≡ [] → at.inbox ≡ empty_inbox at.inbox.lost at.source.lag →
     ((scenario : Scenario) → IsFresh scenario at.source.lines at.source.lag at.source.size → HasMade at.source scenario []) → Keeps at size
 unfolding come_from
-keeps-begin at size total none lines lag places rings unused passed entries inbox make =
+keeps-begin at size total none lines lag places rings unused passed no_frame no_command no_refusal entries inbox make =
     let setting = setting_in at in
     let used : used_in at.source.lag at.source.ticks ≡ 0 = omega arith in
     let told : told_in_parts at ≡ [] = ap (λ n. take n (told_from at.inbox.lost (in_passed at.back))) used in
@@ -69,18 +70,21 @@ keeps-begin at size total none lines lag places rings unused passed entries inbo
       due = λ i entry there. absurd (no_entry i entry there);
       past = λ i entry there. absurd (no_entry i entry there);
       ahead = record { of_frames = λ k due low there. omega arith; of_commands = λ k due low there. omega arith };
+      behind = record { of_frames = λ k due low there. absurd (omega arith); of_commands = λ k due low there. absurd (omega arith) };
+      refused = λ k d inside. let none = ap length no_refusal in absurd (omega arith);
     }
 
 -- ---- an item has landed
-ahead-more : (items other : List Item) (ticks frames commands more most : ℕ) → other ≡ items → frames ≤ more → commands ≤ most → Ahead (dues_of items) ticks frames commands → Ahead (dues_of other) ticks more most
+ahead-more : (items other : List Item) (ticks frames commands more most : ℕ) → other ≡ items → frames ≤ more → commands ≤ most → AreAhead (dues_of items) ticks frames commands → AreAhead (dues_of other) ticks more most
 ahead-more items other ticks frames commands more most same low high ahead = record {
   of_frames = λ k due after there. ahead.of_frames k due (omega arith) (ap (λ (l : List Item). slice_get (frame_dues (dues_of l)) k) (sym same) ∙ there);
   of_commands = λ k due after there. ahead.of_commands k due (omega arith) (ap (λ (l : List Item). slice_get (command_dues (dues_of l)) k) (sym same) ∙ there);
 }
 
 pub keeps-refused : (at : Parts) (size : ℕ) (landed : Landed) → Keeps at size → landed.items ≡ at.landed.items → at.landed.frames ≤ landed.frames → at.landed.commands ≤ landed.commands →
-    Keeps (record at { landed = landed }) size
-keeps-refused at size landed k items frames commands = record {
+    AreBehind (dues_of at.landed.items) at.source.ticks landed.frames landed.commands →
+    AreRefused (scenario_in at) (told_in_parts at) at.source.ticks at.landed.items at.journal.entries landed.refusals → Keeps (record at { landed = landed }) size
+keeps-refused at size landed k items frames commands behind refused = record {
   total = k.total;
   ticks = k.ticks;
   lines = k.lines;
@@ -96,6 +100,8 @@ keeps-refused at size landed k items frames commands = record {
   due = λ i entry there. k.due i entry there ∙ ap (λ (l : List Item). due_at l entry.number) (sym items);
   past = k.past;
   ahead = ahead-more at.landed.items landed.items at.source.ticks at.landed.frames at.landed.commands landed.frames landed.commands items frames commands k.ahead;
+  behind = subst (λ (l : List Item). AreBehind (dues_of l) at.source.ticks landed.frames landed.commands) (sym items) behind;
+  refused = subst (λ (l : List Item). AreRefused (scenario_in at) (told_in_parts at) at.source.ticks l at.journal.entries landed.refusals) (sym items) refused;
 }
 
 same-setting : (one other : Terminal) (total : ℕ) (lost was : List (ℕ × ℕ)) → SameKind other one → lost ≡ was →
@@ -122,8 +128,9 @@ pub keeps-accepted : (at : Parts) (size : ℕ) (source : Terminal) (landed : Lan
     journal.entries ≡ at.journal.entries ++ entry_of number at.source.ticks kind ∷ [] → source.ticks ≡ at.source.ticks → SameKind source at.source →
     ((scenario : Scenario) (cells : List (Option Told)) → HasMade at.source scenario cells → HasMade source (with_kind scenario at.source.ticks kind) cells) →
     kind_refusal (scenario_in at) (told_in_parts at) at.source.ticks (items_in at.journal.entries) kind ≡ None → at.source.ticks ≡ due_at at.landed.items number →
+    AreBehind (dues_of at.landed.items) at.source.ticks landed.frames landed.commands → IsPlaced number [] at.landed.refusals landed.refusals →
     Keeps (record at { source = source; landed = landed; journal = journal }) size
-keeps-accepted at size source landed journal number kind k items frames commands entries ticks same make none due =
+keeps-accepted at size source landed journal number kind k items frames commands entries ticks same make none due behind placed =
     let next : Parts = record at { source = source; landed = landed; journal = journal } in
     let entry : Numbered = entry_of number at.source.ticks kind in
     let one : Scenario = scenario_in at in
@@ -163,8 +170,16 @@ keeps-accepted at size source landed journal number kind k items frames commands
           (λ i e there. k.due i e there ∙ ap (λ (l : List Item). due_at l e.number) (sym items)) (due ∙ ap (λ (l : List Item). due_at l number) (sym items)));
       past = subst (ArePast source.ticks) (sym entries)
           (push-cases (λ i (e : Numbered). e.item.due ≤ source.ticks) at.journal.entries entry (λ i e there. let low = k.past i e there in omega arith) (omega arith));
-      ahead = subst (λ n. Ahead (dues_of landed.items) n landed.frames landed.commands) (sym ticks)
+      ahead = subst (λ n. AreAhead (dues_of landed.items) n landed.frames landed.commands) (sym ticks)
           (ahead-more at.landed.items landed.items at.source.ticks at.landed.frames at.landed.commands landed.frames landed.commands items frames commands k.ahead);
+      behind = subst (λ n. AreBehind (dues_of landed.items) n landed.frames landed.commands) (sym ticks)
+          (subst (λ (l : List Item). AreBehind (dues_of l) at.source.ticks landed.frames landed.commands) (sym items) behind);
+      refused = subst (λ (s : Scenario). AreRefused s (told_in_parts next) source.ticks landed.items journal.entries landed.refusals) (sym scenario)
+          (subst (λ c. AreRefused other c source.ticks landed.items journal.entries landed.refusals) (sym told)
+          (subst (λ l. AreRefused other cells source.ticks landed.items l landed.refusals) (sym entries)
+          (subst (λ (l : List Item). AreRefused other cells source.ticks l (at.journal.entries ++ entry ∷ []) landed.refusals) (sym items)
+          (subst (AreRefused other cells source.ticks at.landed.items (at.journal.entries ++ entry ∷ [])) (sym (none-refused number at.landed.refusals landed.refusals placed))
+          (refused-on one cells other cells at.source.ticks source.ticks at.landed.items at.journal.entries (entry ∷ []) at.landed.refusals alike (omega arith) k.refused)))));
     }
 
 -- ---- return cells were moved
@@ -196,7 +211,27 @@ keeps-moved at size inbox back k moved =
       due = k.due;
       past = k.past;
       ahead = k.ahead;
+      behind = k.behind;
+      refused = subst (λ (s : Scenario). AreRefused s (told_in_parts next) at.source.ticks at.landed.items at.journal.entries at.landed.refusals) (sym scenario)
+          (subst (λ c. AreRefused (scenario_in at) c at.source.ticks at.landed.items at.journal.entries at.landed.refusals) (sym told) k.refused);
     }
+
+-- where the inbox is full, as many have come as the ticks have taken and it has room for
+pub full-come : (at : Parts) (size : ℕ) → Keeps at size → length at.inbox.cells ≡ at.inbox.room → length (in_passed at.back) ≡ used_in at.source.lag at.source.ticks + (at.source.lag + 1)
+full-come at size k full =
+    let left = ap length k.come.cells ∙ length-drop (used_in at.source.lag at.source.ticks) (come_from at.inbox.lost 0 (in_passed at.back)) in
+    let long = come-length at.inbox.lost 0 (in_passed at.back) in
+    let low = k.come.within in
+    let room = k.room in
+    omega arith
+
+-- and as long as nothing is in it, not so many have come
+pub empty-come : (at : Parts) (size : ℕ) → Keeps at size → at.inbox.cells ≡ [] → length (in_passed at.back) ≡ used_in at.source.lag at.source.ticks + (at.source.lag + 1) → ⊥
+empty-come at size k none many =
+    let left = ap length k.come.cells ∙ length-drop (used_in at.source.lag at.source.ticks) (come_from at.inbox.lost 0 (in_passed at.back)) in
+    let long = come-length at.inbox.lost 0 (in_passed at.back) in
+    let size = ap length none in
+    omega arith
 
 -- ---- send rings were looked at
 pub keeps-looked : (at : Parts) (size : ℕ) (tx : List (RingOut Container)) → Keeps at size → HaveLooked at.tx tx → Keeps (record at { tx = tx }) size
@@ -220,6 +255,8 @@ keeps-looked at size tx k looked = record {
   due = k.due;
   past = k.past;
   ahead = k.ahead;
+  behind = k.behind;
+  refused = k.refused;
 }
 
 -- ---- a frame was made
@@ -309,8 +346,16 @@ module _ (at : Parts) (size : ℕ) (source : Terminal) (inbox : Inbox) (tx : Lis
             (subst (λ c. IsLegal one c at.journal.entries) (sym told) (legal-alike one (told_in_parts at) one cells at.source.ticks at.journal.entries alike k.past k.legal));
         due = k.due;
         past = λ i entry there. let low = k.past i entry there in omega arith;
-        ahead = subst (λ n. Ahead (dues_of at.landed.items) n at.landed.frames at.landed.commands) (sym made.ticks)
-            (ahead-next (dues_of at.landed.items) at.source.ticks at.landed.frames at.landed.commands none);
+        ahead = subst (λ n. AreAhead (dues_of at.landed.items) n at.landed.frames at.landed.commands) (sym made.ticks)
+            (let later = ahead-next (dues_of at.landed.items) at.source.ticks at.landed.frames at.landed.commands none in record { of_frames = later.of_frames; of_commands = later.of_commands });
+        behind = record {
+          of_frames = λ i due low there. let past = k.behind.of_frames i due low there in omega arith;
+          of_commands = λ i due low there. let past = k.behind.of_commands i due low there in omega arith;
+        };
+        refused = subst (λ (s : Scenario). AreRefused s (told_in_parts next) source.ticks at.landed.items at.journal.entries at.landed.refusals) (sym scenario)
+            (subst (λ c. AreRefused one c source.ticks at.landed.items at.journal.entries at.landed.refusals) (sym told)
+            (subst (λ l. AreRefused one cells source.ticks at.landed.items l at.landed.refusals) (append-nil at.journal.entries)
+            (refused-on one (told_in_parts at) one cells at.source.ticks source.ticks at.landed.items at.journal.entries [] at.landed.refusals alike (omega arith) k.refused)));
       }
 
 -- the count of return cells stays small

@@ -16,7 +16,7 @@ use Rattle.walk_law.specs.Landed.{landed_items, landed_scenario}
 use Rattle.group_lock.specs.declared.group.GroupState.{GroupState}
 use Rattle.group_lock.specs.Inbox.{told_taken, HasCome}
 use Rattle.group_lock.specs.Journal.{IsLegal}
-use Rattle.group_lock.specs.Parts.{Parts, parts, scenario_in, told_in_parts, Keeps}
+use Rattle.group_lock.specs.Parts.{Parts, parts, scenario_in, told_in_parts, AreRefused, Keeps}
 use Rattle.group_lock.specs.Group.{ticks_of, lag_of, lost_of, source_of, taken_of}
 use Rattle.group_lock.specs.Rings.{SameOuts}
 use Rattle.group_lock.specs.Session.{counts_of, refusals_by, accepted_frames_by, accepted_commands_by, HasLandedOf, IsBound}
@@ -51,6 +51,8 @@ keeps-laid at size tx back k still popped =
       due = k.due;
       past = k.past;
       ahead = k.ahead;
+      behind = k.behind;
+      refused = subst (λ cells. AreRefused (scenario_in at) cells at.source.ticks at.landed.items at.journal.entries at.landed.refusals) (sym told) k.refused;
     }
 
 module _ (script : Script) (g : GroupState) (tx : Vec (RingOut Container)) (back : RingIn BackCell)

@@ -2,6 +2,7 @@ pub mod CellLaws
 pub mod AlikeLaws
 pub mod PlaceLaws
 pub mod RingLaws
+pub mod RefusedLaws
 pub mod EntryLaws
 pub mod KeepLaws
 pub mod GroupLaws

@@ -9,12 +9,11 @@ use Rattle.session_model.specs.declared.script.ItemKind.TheVariants.{Frame, Add,
 use Rattle.session_model.specs.Counts.{due_of, dues_of, frame_dues, command_dues}
 use Rattle.report_text.specs.declared.report.Refusal.{Refusal}
 use Rattle.walk_law.specs.Landed.{is_client, IsPlaced}
-use Rattle.walk_law.proofs.LandLaws.{Ahead}
 use Rattle.walk_parts.specs.Place.{is_frame, is_command, place_of}
 use Rattle.walk_parts.proofs.PlaceLaws.{place-next, due_found, frame-due, command-due}
 use Rattle.group_lock.specs.Item.{bare, bare_kind, bare_items}
 use Rattle.std.specs.List.Sorted.{IsNonDecreasing}
-use Rattle.group_lock.specs.Landed.{Landed, none_landed, next_place, next_number, due_in, due_at, AreBefore, AreAfter, AreInOrder, AreOthers, AreOfLanded, IsLanded}
+use Rattle.group_lock.specs.Landed.{Landed, none_landed, next_place, next_number, due_in, due_at, AreBefore, AreAfter, AreInOrder, AreOthers, AreOfLanded, IsLanded, AreAhead, AreBehind}
 
 -- ---- items without the octets of frames
 bare-due : (due : ℕ) (kind : ItemKind) → due_of due (bare_kind kind) ≡ due_of due kind
@@ -345,7 +344,7 @@ wider landed frame command space more low is = record {
 }
 
 -- ---- an item that hasn't landed isn't due before the ticks made, where what hasn't landed isn't
-pub next-due : (landed : Landed) (client : Bool) (number ticks : ℕ) → next_number landed client ≡ Some number → Ahead (dues_of landed.items) ticks landed.frames landed.commands →
+pub next-due : (landed : Landed) (client : Bool) (number ticks : ℕ) → next_number landed client ≡ Some number → AreAhead (dues_of landed.items) ticks landed.frames landed.commands →
     ticks ≤ due_at landed.items number
 next-due landed client number ticks e ahead =
     let (at, there) = number-there landed client number e in
@@ -359,3 +358,42 @@ next-due landed client number ticks e ahead =
         ahead.of_frames landed.frames item.due (omega arith) (frame-due landed.items landed.frames ∙ ap (due_found landed.items) (sym at) ∙ ap (option_map (λ (item : Item). item.due)) here)
     by_kind false at item here =
         ahead.of_commands landed.commands item.due (omega arith) (command-due landed.items landed.commands ∙ ap (due_found landed.items) (sym at) ∙ ap (option_map (λ (item : Item). item.due)) here)
+
+-- and where it is due by now, all that has landed with it is
+pub behind-next : (landed : Landed) (client : Bool) (number ticks : ℕ) → next_number landed client ≡ Some number → due_at landed.items number ≤ ticks →
+    AreBehind (dues_of landed.items) ticks landed.frames landed.commands →
+    AreBehind (dues_of landed.items) ticks (landed.frames + (if client then 1 else 0)) (landed.commands + (if client then 0 else 1))
+behind-next landed client number ticks e low behind =
+    let (at, there) = number-there landed client number e in
+    let (item, here) = item-there landed.items number there in
+    let same : due_at landed.items number ≡ item.due = ap due_in here in
+    by_kind client at item here (omega arith)
+  where
+    frame-here : number ≡ next_place landed true → (item : Item) → slice_get landed.items number ≡ Some item → slice_get (frame_dues (dues_of landed.items)) landed.frames ≡ Some item.due
+    frame-here at item here = frame-due landed.items landed.frames ∙ ap (due_found landed.items) (sym at) ∙ ap (option_map (λ (item : Item). item.due)) here
+
+    command-here : number ≡ next_place landed false → (item : Item) → slice_get landed.items number ≡ Some item → slice_get (command_dues (dues_of landed.items)) landed.commands ≡ Some item.due
+    command-here at item here = command-due landed.items landed.commands ∙ ap (due_found landed.items) (sym at) ∙ ap (option_map (λ (item : Item). item.due)) here
+
+    one-more : (dues : List ℕ) (count due : ℕ) → slice_get dues count ≡ Some due → due ≤ ticks → ((k due : ℕ) → k < count → slice_get dues k ≡ Some due → due ≤ ticks) →
+        (k other : ℕ) → k < count + 1 → slice_get dues k ≡ Some other → other ≤ ticks
+    one-more dues count due here low before k other inside there =
+        elim (cases_lt k count) [
+          | inl first ↦ before k other first there
+          | inr last ↦
+              let at : k ≡ count = omega arith in
+              let found : Some other ≡ Some due = sym there ∙ ap (slice_get dues) at ∙ here in
+              let same : other ≡ due = cc in
+              omega arith
+        ]
+
+    by_kind : (client : Bool) → number ≡ next_place landed client → (item : Item) → slice_get landed.items number ≡ Some item → item.due ≤ ticks →
+        AreBehind (dues_of landed.items) ticks (landed.frames + (if client then 1 else 0)) (landed.commands + (if client then 0 else 1))
+    by_kind true at item here low = record {
+      of_frames = one-more (frame_dues (dues_of landed.items)) landed.frames item.due (frame-here at item here) low behind.of_frames;
+      of_commands = λ k due inside there. behind.of_commands k due (omega arith) there;
+    }
+    by_kind false at item here low = record {
+      of_frames = λ k due inside there. behind.of_frames k due (omega arith) there;
+      of_commands = one-more (command_dues (dues_of landed.items)) landed.commands item.due (command-here at item here) low behind.of_commands;
+    }

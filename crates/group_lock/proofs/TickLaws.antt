@@ -1,15 +1,17 @@
 -- What came of a tick, by its answer.
-use Rattle.std.proofs.Common.{◌≡◌, ◌≢◌, ℕ, ◌+◌, ◌<◌, ◌≤◌, ◌↔◌, false, if◌then◌else◌, List, [], ◌∷◌, ◌++◌, Some, None, inl, refl, sym, ◌∙◌, ap, subst, arith}
+use Rattle.std.proofs.Common.{◌≡◌, ◌≢◌, ◌⊎◌, ℕ, ◌+◌, ◌<◌, ◌≤◌, ◌↔◌, false, if◌then◌else◌, List, [], ◌∷◌, ◌++◌, length, Some, None, inl, inr, refl, sym, ◌∙◌, ap, subst, arith}
 use mathlib.Core.List.{IsPrefix}
 use Rattle.session_model.specs.Scenario.{Scenario}
 use Rattle.std.specs.Global.{Vec}
 use Rattle.vc_cell.specs.declared.Container.{Container}
+use Rattle.vc_cell.specs.declared.BackCell.{BackCell}
 use Rattle.member_ring.specs.declared.ends.RingOut.{RingOut}
+use Rattle.member_ring.specs.declared.ends.RingIn.{RingIn}
 use Rattle.member_ring.specs.Ends.{out_passed, in_passed, in_misses, SameIn}
 use Rattle.member_ring.proofs.EndLaws.{out-then}
 use Rattle.source_core.specs.Terminal.{Terminal, needed}
 use Rattle.session_model.specs.declared.script.Item.{Item}
-use Rattle.session_model.specs.Counts.{dues_of, held}
+use Rattle.session_model.specs.Counts.{dues_of, used_in, held}
 use Rattle.session_model.specs.Sent.{container_of}
 use Rattle.walk_law.specs.Landed.{Numbered}
 use Rattle.source_core.specs.Given.{Stands as HasMade}
@@ -20,10 +22,10 @@ use Rattle.group_lock.specs.declared.answer.TickAnswer.TheVariants.{Ticked, Held
 use Rattle.group_lock.specs.declared.group.GroupState.{GroupState}
 use Rattle.group_lock.specs.Journal.{journal_scenario}
 use Rattle.group_lock.specs.Inbox.{told_taken}
-use Rattle.group_lock.specs.Rings.{SameOuts, HasLooked, HaveLooked, IsFirstFull}
-use Rattle.group_lock.specs.Group.{lost_of, items_of, frames_of, commands_of, journal_of, lines_of, lag_of, size_of, SameScript, SameLanded, ticks_of, total_of, taken_of, source_of, inbox_of, held_of, replay_of, is_ticked, IsFreeToTick, IsMissing, ArePushedOf}
+use Rattle.group_lock.specs.Rings.{SameOuts, HasLooked, HaveLooked, AreFree, IsFirstFull, IsDrained}
+use Rattle.group_lock.specs.Group.{parts_of, lost_of, items_of, frames_of, commands_of, journal_of, lines_of, lag_of, size_of, SameScript, SameLanded, ticks_of, total_of, taken_of, source_of, inbox_of, held_of, replay_of, is_ticked, IsFreeToTick, AreMoved, IsMissing, ArePushedOf}
 use Rattle.group_lock.specs.Calls.{Ticks, Comes, Looks, Makes}
-use Rattle.group_lock.proofs.KeepLaws.{there-at}
+use Rattle.group_lock.proofs.KeepLaws.{there-at, empty-come}
 use Rattle.group_lock.proofs.GroupLaws.{stands-of}
 
 -- ---- one part of a tick after the other
@@ -41,6 +43,7 @@ pub record Rests (a b : GroupState) : Type 0 where
   pub looked : HaveLooked a.tx.items b.tx.items
   pub returns : SameIn a.back b.back
   pub received : IsPrefix (in_passed a.back) (in_passed b.back)
+  pub moved : AreMoved a b
   pub taken : taken_of b ≡ taken_of a
 
 same-looked : (ends : List (RingOut Container)) → HaveLooked ends ends
@@ -60,8 +63,14 @@ rests-comes a b comes = record {
   looked = subst (λ tx. HaveLooked a.tx.items tx) (sym (ap (λ (v : Vec (RingOut Container)). v.items) comes.tx)) (same-looked a.tx.items);
   returns = comes.returns;
   received = comes.received;
+  moved = comes.moved;
   taken = comes.taken;
 }
+
+-- by the end of the return ring alone
+moved-on : (a b d : GroupState) → d.back ≡ b.back → AreMoved a b → AreMoved a d
+moved-on a b d same moved =
+    subst (λ (end_ : RingIn BackCell). IsDrained a.back end_ ⊎ (length (in_passed end_) ≡ used_in (lag_of a) (ticks_of a) + (lag_of a + 1))) (sym same) moved
 
 pub rests-looks : (a b d : GroupState) → Comes a b → Looks b d → Rests a d
 rests-looks a b d comes looks = record {
@@ -71,6 +80,7 @@ rests-looks a b d comes looks = record {
   looked = subst (λ tx. HaveLooked tx d.tx.items) (ap (λ (v : Vec (RingOut Container)). v.items) comes.tx) looks.looked;
   returns = subst (SameIn a.back) (sym looks.back) comes.returns;
   received = subst (λ end_. IsPrefix (in_passed a.back) (in_passed end_)) (sym looks.back) comes.received;
+  moved = moved-on a b d looks.back comes.moved;
   taken = taken-looks b d looks ∙ comes.taken;
 }
   where
@@ -114,6 +124,7 @@ still a b answer other none rests causes = record {
   sends = record { count = rests.looked.count; each = λ m old new was is. (rests.looked.each m old new was is).same };
   returns = rests.returns;
   received = rests.received;
+  moved = rests.moved;
   made = λ scenario has. subst (λ (t : Terminal). HasMade t scenario (taken_of b)) (sym rests.source) (subst (HasMade (source_of a) scenario) (sym rests.taken) has);
   alike = λ scenario e. absurd (other e);
   stands = stands-of b;
@@ -184,14 +195,21 @@ ticks-full a b d line comes looks free full =
       missing = λ packet e. absurd cc;
     })
 
-pub ticks-missing : (a b d : GroupState) (packet : ℕ) → Comes a b → Looks b d → IsFreeToTick a → (inbox_of b ≡ [] → in_misses b.back ≡ one_more (in_misses a.back)) →
+-- nothing is in the inbox though all were moved: the look missed
+look-missed : (a d : GroupState) → source_of d ≡ source_of a → AreMoved a d → inbox_of d ≡ [] → in_misses d.back ≡ one_more (in_misses a.back)
+look-missed a d same (inl drained) none = drained.missed
+look-missed a d same (inr full) none =
+    absurd (empty-come (parts_of d) _ d.keeps none (full ∙ sym (ap (λ (t : Terminal). used_in t.lag t.ticks + (t.lag + 1)) same)))
+
+pub ticks-missing : (a b d : GroupState) (packet : ℕ) → Comes a b → Looks b d → IsFreeToTick a → AreFree d.tx.items →
     Some packet ≡ needed (source_of d) → inbox_of d ≡ [] → Ticks a d (BackMissing packet)
-ticks-missing a b d packet comes looks free missed needs none =
+ticks-missing a b d packet comes looks free slots needs none =
     let rests = rests-looks a b d comes looks in
     let is : IsMissing packet a d = record {
+      room = slots;
       needs = sym (needs ∙ ap needed rests.source);
       none = none;
-      missed = ap in_misses looks.back ∙ missed (sym looks.inbox ∙ none);
+      missed = look-missed a d rests.source rests.moved none;
     } in
     still a d (BackMissing packet) (λ e. absurd cc) refl rests (record {
       done = (λ e. absurd cc, λ low. absurd (not-done a free low));
@@ -224,6 +242,7 @@ ticks-ticked a b d g comes looks makes free =
       sends = ends rests;
       returns = subst (SameIn a.back) (sym makes.back) rests.returns;
       received = subst (λ end_. IsPrefix (in_passed a.back) (in_passed end_)) (sym makes.back) rests.received;
+      moved = moved-on a d g makes.back rests.moved;
       made = λ scenario made. makes.made scenario (has scenario made);
       alike = λ scenario e made. after scenario rests ticks (makes.pushed scenario (has scenario made));
       stands = stands-of g;

@@ -11,14 +11,16 @@ use Rattle.group_lock.specs.declared.answer.SubmitFault.{SubmitFault}
 use Rattle.group_lock.specs.declared.answer.TickAnswer.{TickAnswer}
 use Rattle.group_lock.specs.declared.answer.TickAnswer.TheVariants.{Ticked, Held, TxFull, BackMissing, Done}
 use Rattle.group_lock.specs.Answer.{has_landed, refusal_told}
+use Rattle.group_lock.specs.Landed.{due_at}
 use Rattle.group_lock.specs.Rings.{SameOuts, IsFirstFull, HaveLooked}
 use Rattle.group_lock.specs.declared.group.GroupState.{GroupState}
-use Rattle.group_lock.specs.Group.{SameScript, inbox_of, ticks_of, total_of, journal_of, refusals_of, taken_of, source_of, replay_of, Stands, fault_in, entries_by, HasCounted, LeavesRoom, with_landed, SameRings, SameLanded, is_ticked, held_of, IsFreeToTick, IsMissing, ArePushedOf, NothingPushed}
+use Rattle.group_lock.specs.Group.{SameScript, inbox_of, ticks_of, total_of, journal_of, refusals_of, items_of, taken_of, source_of, replay_of, Stands, fault_in, entries_by, HasCounted, LeavesRoom, with_landed, SameRings, SameLanded, is_ticked, held_of, IsFreeToTick, AreMoved, IsMissing, ArePushedOf, NothingPushed}
 
 -- an item was handed in, which isn't accepted for this fault, or is accepted. A fault by which it hasn't landed changes nothing
 pub record Submits (a b : GroupState) (number : ℕ) (kind : ItemKind) (answer : Option SubmitFault) : Type 0 where
   pub fault : answer ≡ fault_in a number kind
   pub unchanged : has_landed answer ≡ false → b ≡ a
+  pub when : has_landed answer ≡ true → due_at (items_of a) number ≡ ticks_of a
   pub landed : HasCounted a b kind (has_landed answer)
   pub journal : journal_of b ≡ journal_of a ++ entries_by answer number (ticks_of a) kind
   pub room : LeavesRoom a b kind answer
@@ -45,6 +47,7 @@ pub record Ticks (a b : GroupState) (answer : TickAnswer) : Type 0 where
   pub sends : SameOuts a.tx.items b.tx.items
   pub returns : SameIn a.back b.back
   pub received : IsPrefix (in_passed a.back) (in_passed b.back)
+  pub moved : AreMoved a b
   pub made : (scenario : Scenario) → HasMade (source_of a) scenario (taken_of a) → HasMade (source_of b) scenario (taken_of b)
   pub alike : (scenario : Scenario) → answer ≡ Ticked → HasMade (source_of a) scenario (taken_of a) → ArePushedOf scenario a b
   pub stands : Stands b
@@ -58,6 +61,7 @@ pub record Comes (a b : GroupState) : Type 0 where
   pub tx : b.tx ≡ a.tx
   pub returns : SameIn a.back b.back
   pub received : IsPrefix (in_passed a.back) (in_passed b.back)
+  pub moved : AreMoved a b
   pub taken : taken_of b ≡ taken_of a
 
 -- send rings were looked at

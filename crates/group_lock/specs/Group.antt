@@ -1,5 +1,5 @@
 -- What contracts say of a group.
-use Rattle.std.specs.Prelude.{◌≡◌, ℕ, ◌+◌, ◌<◌, ◌==◌, not, nat_lt, Bool, true, false, if◌then◌else◌, List, [], ◌∷◌, ◌++◌, length, slice_get, Option, Some, None}
+use Rattle.std.specs.Prelude.{◌≡◌, ◌⊎◌, ℕ, ◌+◌, ◌<◌, ◌==◌, not, nat_lt, Bool, true, false, if◌then◌else◌, List, [], ◌∷◌, ◌++◌, length, slice_get, Option, Some, None}
 use Rattle.outside_io.specs.Faults.{one_more}
 use Rattle.vc_cell.specs.declared.Container.{Container}
 use Rattle.vc_cell.specs.declared.BackCell.{BackCell}
@@ -9,11 +9,11 @@ use Rattle.session_model.specs.declared.script.Script.{Script}
 use Rattle.session_model.specs.Scenario.{Scenario, offers_of, orders_of}
 use Rattle.session_model.specs.Table.{Told}
 use Rattle.session_model.specs.Sent.{container_of}
-use Rattle.session_model.specs.Counts.{dues_of, held}
+use Rattle.session_model.specs.Counts.{dues_of, used_in, held}
 use Rattle.report_text.specs.declared.report.Refusal.{Refusal}
 use Rattle.report_text.specs.declared.report.Totals.{Totals}
 use Rattle.member_ring.specs.declared.ends.RingOut.{RingOut}
-use Rattle.member_ring.specs.Ends.{out_passed, in_misses}
+use Rattle.member_ring.specs.Ends.{out_passed, in_passed, in_misses}
 use Rattle.source_core.specs.Terminal.{Terminal, needed}
 use Rattle.source_core.specs.Given.{Stands as HasMade}
 use Rattle.walk_law.specs.Landed.{Numbered, is_client, kind_refusal}
@@ -25,8 +25,9 @@ use Rattle.group_lock.specs.Item.{bare_items, size_of as octet_count}
 use Rattle.group_lock.specs.Lands.{with_kind}
 use Rattle.group_lock.specs.Answer.{fault_of}
 use Rattle.group_lock.specs.Journal.{entry_of, items_in, fits, IsLegal}
-use Rattle.group_lock.specs.Landed.{next_number, due_at}
-use Rattle.group_lock.specs.Parts.{Parts, parts, scenario_in, told_in_parts, AreSent, AreDue}
+use Rattle.group_lock.specs.Landed.{next_number, due_at, AreAhead, AreBehind}
+use Rattle.group_lock.specs.Rings.{IsDrained, AreFree}
+use Rattle.group_lock.specs.Parts.{Parts, parts, scenario_in, told_in_parts, AreSent, AreDue, AreRefused}
 use Rattle.group_lock.specs.declared.group.GroupState.{GroupState}
 
 abbrev pub parts_of : GroupState → Parts
@@ -128,12 +129,16 @@ abbrev pub replay_of : GroupState → Scenario
 replay_of g = scenario_in (parts_of g)
 
 -- the journal is legal, and the source stands where it leads; each send ring has passed the containers of the frames made; and each entry
--- landed when it was due
+-- landed when it was due. Each item that was refused is one that the source refuses when it is due; nothing that is overdue is left, and
+-- nothing has landed before it was due
 pub record Stands (g : GroupState) : Type 0 where
   pub legal : IsLegal (replay_of g) (taken_of g) (journal_of g)
   pub made : ∥ HasMade (source_of g) (replay_of g) (taken_of g) ∥₁
   pub sent : AreSent (replay_of g) (taken_of g) (ticks_of g) g.tx.items
   pub due : AreDue (items_of g) (journal_of g)
+  pub refused : AreRefused (replay_of g) (taken_of g) (ticks_of g) (items_of g) (journal_of g) (refusals_of g)
+  pub ahead : AreAhead (dues_of (items_of g)) (ticks_of g) (frames_of g) (commands_of g)
+  pub behind : AreBehind (dues_of (items_of g)) (ticks_of g) (frames_of g) (commands_of g)
 
 -- ---- an item that is handed in
 abbrev pub is_number : Option ℕ → ℕ → Bool
@@ -221,8 +226,13 @@ pub record IsFreeToTick (g : GroupState) : Type 0 where
   pub left : ticks_of g < total_of g
   pub held : held_of g ≡ None
 
--- the next tick needs this return cell; it isn't in the inbox, and a look at the return ring missed
+-- return cells were moved until a look missed, or until the inbox was full: as many have come as the ticks made have taken and it has room for
+abbrev pub AreMoved : GroupState → GroupState → Type 0
+AreMoved a b = IsDrained a.back b.back ⊎ (length (in_passed b.back) ≡ used_in (lag_of a) (ticks_of a) + (lag_of a + 1))
+
+-- a slot of each send ring is free; the next tick needs this return cell; it isn't in the inbox, and a look at the return ring missed
 pub record IsMissing (packet : ℕ) (a b : GroupState) : Type 0 where
+  pub room : AreFree b.tx.items
   pub needs : needed (source_of a) ≡ Some packet
   pub none : inbox_of b ≡ []
   pub missed : in_misses b.back ≡ one_more (in_misses a.back)

@@ -2,7 +2,7 @@
 use Rattle.std.specs.Prelude.{◌≡◌, ℕ, ◌+◌, ◌<◌, ◌≤◌, nat_lt, Bool, true, false, if◌then◌else◌, List, [], ◌∷◌, length, slice_get, All, Option, Some, None}
 use Rattle.std.specs.List.Sorted.{IsNonDecreasing}
 use Rattle.session_model.specs.declared.script.Item.{Item}
-use Rattle.session_model.specs.Counts.{dues_of, frame_dues, command_dues}
+use Rattle.session_model.specs.Counts.{Due, dues_of, frame_dues, command_dues}
 use Rattle.report_text.specs.declared.report.Refusal.{Refusal}
 use Rattle.walk_law.specs.Landed.{is_client}
 use Rattle.walk_parts.specs.Place.{is_frame, is_command, place_of}
@@ -37,6 +37,17 @@ due_in (Some item) = item.due
 -- after how many ticks an item lands
 abbrev pub due_at : List Item → ℕ → ℕ
 due_at items number = due_in (slice_get items number)
+
+-- ---- of items by their due ticks so many frames and commands have landed
+-- what hasn't landed isn't due before these ticks
+pub record AreAhead (dues : List Due) (ticks frames commands : ℕ) : Type 0 where
+  pub of_frames : (k due : ℕ) → frames ≤ k → slice_get (frame_dues dues) k ≡ Some due → ticks ≤ due
+  pub of_commands : (k due : ℕ) → commands ≤ k → slice_get (command_dues dues) k ≡ Some due → ticks ≤ due
+
+-- what has landed is due after no more ticks than these
+pub record AreBehind (dues : List Due) (ticks frames commands : ℕ) : Type 0 where
+  pub of_frames : (k due : ℕ) → k < frames → slice_get (frame_dues dues) k ≡ Some due → due ≤ ticks
+  pub of_commands : (k due : ℕ) → k < commands → slice_get (command_dues dues) k ≡ Some due → due ≤ ticks
 
 -- ---- refusals by item
 abbrev pub AreBefore : ℕ → List (ℕ × Refusal) → Type 0

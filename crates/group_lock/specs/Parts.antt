@@ -1,8 +1,9 @@
 -- The parts of a group, and what is true of them whenever the lock is free.
-use Rattle.std.specs.Prelude.{◌≡◌, ℕ, ◌+◌, ◌≤◌, List, length, slice_get, Option, Some}
+use Rattle.std.specs.Prelude.{◌≡◌, ℕ, ◌+◌, ◌≤◌, List, length, take, slice_get, All, Option, Some}
 use Rattle.vc_cell.specs.declared.Container.{Container}
 use Rattle.vc_cell.specs.declared.BackCell.{BackCell}
 use Rattle.session_model.specs.declared.script.Item.{Item}
+use Rattle.session_model.specs.declared.script.ItemKind.{ItemKind}
 use Rattle.session_model.specs.Scenario.{Scenario}
 use Rattle.session_model.specs.Table.{Told}
 use Rattle.session_model.specs.Sent.{containers_of}
@@ -12,10 +13,10 @@ use Rattle.member_ring.specs.declared.ends.RingIn.{RingIn}
 use Rattle.member_ring.specs.Ends.{out_passed, in_passed}
 use Rattle.source_core.specs.Terminal.{Terminal}
 use Rattle.source_core.specs.Given.{Stands as HasMade}
-use Rattle.walk_law.specs.Landed.{Numbered}
-use Rattle.walk_law.proofs.LandLaws.{Ahead}
-use Rattle.group_lock.specs.Journal.{Journal, Setting, journal_scenario, IsLegal}
-use Rattle.group_lock.specs.Landed.{Landed, due_at}
+use Rattle.walk_law.specs.Landed.{Numbered, is_client, kind_refusal}
+use Rattle.report_text.specs.declared.report.Refusal.{Refusal}
+use Rattle.group_lock.specs.Journal.{Journal, Setting, journal_scenario, items_in, IsLegal}
+use Rattle.group_lock.specs.Landed.{Landed, due_at, AreAhead, AreBehind}
 use Rattle.group_lock.specs.Inbox.{Inbox, told_taken, HasCome}
 
 -- the source; how many ticks there are; what has landed; the journal; the inbox; the send rings and the return ring
@@ -62,6 +63,19 @@ AreDue items entries = (i : ℕ) (entry : Numbered) → slice_get entries i ≡ 
 abbrev pub ArePast : ℕ → List Numbered → Type 0
 ArePast ticks entries = (i : ℕ) (entry : Numbered) → slice_get entries i ≡ Some entry → entry.item.due ≤ ticks
 
+-- the source refuses an item for this cause when it is due, after so many of these entries: what was handed in is of the item's kind
+pub record IsRefused (scenario : Scenario) (cells : List (Option Told)) (items : List Item) (entries : List Numbered) (number : ℕ) (why : Refusal) : Type 0 where
+  pub handed : ItemKind
+  pub kind : (item : Item) → slice_get items number ≡ Some item → is_client handed ≡ is_client item.kind
+  pub before : ℕ
+  pub within : before ≤ length entries
+  pub refused : kind_refusal scenario cells (due_at items number) (items_in (take before entries)) handed ≡ Some why
+
+-- each item that was refused was due after no more ticks than these, and the source refuses it
+abbrev pub AreRefused : Scenario → List (Option Told) → ℕ → List Item → List Numbered → List (ℕ × Refusal) → Type 0
+AreRefused scenario cells ticks items entries refusals =
+    All (λ (refused : ℕ × Refusal). (due_at items refused.0 ≤ ticks) × ∥ IsRefused scenario cells items entries refused.0 refused.1 ∥₁) refusals
+
 -- the source was given the journal, and its containers were sent; the inbox holds the rest of the return cells. There is a place for a
 -- container of each line
 pub record Keeps (at : Parts) (size : ℕ) : Type 0 where
@@ -79,4 +93,6 @@ pub record Keeps (at : Parts) (size : ℕ) : Type 0 where
   pub legal : IsLegal (scenario_in at) (told_in_parts at) at.journal.entries
   pub due : AreDue at.landed.items at.journal.entries
   pub past : ArePast at.source.ticks at.journal.entries
-  pub ahead : Ahead (dues_of at.landed.items) at.source.ticks at.landed.frames at.landed.commands
+  pub ahead : AreAhead (dues_of at.landed.items) at.source.ticks at.landed.frames at.landed.commands
+  pub behind : AreBehind (dues_of at.landed.items) at.source.ticks at.landed.frames at.landed.commands
+  pub refused : AreRefused (scenario_in at) (told_in_parts at) at.source.ticks at.landed.items at.journal.entries at.landed.refusals

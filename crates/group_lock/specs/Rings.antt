@@ -6,7 +6,7 @@ use Rattle.vc_cell.specs.declared.Container.{Container}
 use Rattle.vc_cell.specs.declared.BackCell.{BackCell}
 use Rattle.member_ring.specs.declared.ends.RingOut.{RingOut}
 use Rattle.member_ring.specs.declared.ends.RingIn.{RingIn}
-use Rattle.member_ring.specs.Ends.{out_passed, out_free, out_misses, in_passed, SameOut, SameIn}
+use Rattle.member_ring.specs.Ends.{out_passed, out_free, out_misses, in_passed, in_items, in_misses, SameOut, SameIn}
 use Rattle.group_lock.specs.Inbox.{Inbox, HasCome}
 
 -- ---- lists of ends, by place
@@ -60,6 +60,11 @@ pub record ArePushed (frame : List Container) (a b : List (RingOut Container)) :
       slice_get a m ≡ Some old → slice_get b m ≡ Some new → IsPushed container old new
 
 -- ---- return cells are moved from the return ring into the inbox
+-- no return cell is known to be there, and a look at the ring missed
+pub record IsDrained (old new : RingIn BackCell) : Type 0 where
+  pub none : in_items new ≡ []
+  pub missed : in_misses new ≡ one_more (in_misses old)
+
 pub record HasMoved (was is : Inbox) (old new : RingIn BackCell) : Type 0 where
   pub lost : is.lost ≡ was.lost
   pub room : is.room ≡ was.room

@@ -47,10 +47,9 @@ pub struct GroupState {
 impl GroupState {
     ghost use Rattle.std.specs.Prelude.{◌≡◌, ◌≢◌, ◌<◌, ◌≤◌, ◌||◌, true, [], length, Some, None, IsSome, IfOk, MatchOption};
     ghost use Rattle.std.specs.Option.{is_some};
-    ghost use Rattle.outside_io.specs.Faults.{one_more};
     ghost use Rattle.session_model.specs.Valid.{IsValid};
     ghost use Rattle.session_model.specs.Accepted.{refusal_in};
-    ghost use Rattle.member_ring.specs.Ends.{in_passed, in_misses};
+    ghost use Rattle.member_ring.specs.Ends.{in_passed};
     ghost use Rattle.source_core.specs.Given.{IsFresh};
     ghost use Rattle.group_lock.specs.Journal.{fits};
     ghost use Rattle.group_lock.specs.Landed.{due_at};
@@ -223,9 +222,7 @@ impl GroupState {
 
     /// Moves return cells into the inbox.
     fn come(&mut self)
-        ensures comes { Comes self.old self.new }
-        ensures missed { inbox_of self.new ≡ [] →
-            in_misses self.new.back ≡ one_more (in_misses self.old.back) }
+        ensures { Comes self.old self.new }
     {
         take_cells(&mut self.inbox, &mut self.back);
     }

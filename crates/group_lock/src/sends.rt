@@ -1,12 +1,9 @@
 //! What a tick does to the ends of the rings of a group.
 
-ghost use Rattle.std.specs.Prelude.{◌≡◌, ◌<◌, ◌≤◌, ◌+◌, [], length, MatchOption, All};
+ghost use Rattle.std.specs.Prelude.{◌≡◌, ◌⊎◌, ◌<◌, ◌≤◌, ◌+◌, length, MatchOption};
 ghost use Rattle.vc_cell.specs.declared.Container.{Container};
-ghost use Rattle.outside_io.specs.Faults.{one_more};
 ghost use Rattle.vc_cell.specs.Held.{held};
-ghost use Rattle.member_ring.specs.Ends.{in_passed, in_misses};
-ghost use Rattle.group_lock.specs.Inbox.{HasCome};
-ghost use Rattle.group_lock.specs.Rings.{AreFree, IsFirstFull, HaveLooked, ArePushed, HasMoved};
+ghost use Rattle.group_lock.specs.Rings.{AreFree, IsFirstFull, HaveLooked, ArePushed, IsDrained, HasMoved};
 
 use crate::inbox::Inbox;
 use member_ring::{RingIn, RingOut};
@@ -17,8 +14,7 @@ pub(crate) fn take_cells(inbox: &mut Inbox, back: &mut RingIn<BackCell>)
     requires room { length inbox.old.cells ≤ inbox.old.room }
     requires few { inbox.old.come + inbox.old.room < 4294967295 }
     ensures moved { HasMoved inbox.old inbox.new back.old back.new }
-    ensures missed { inbox.new.cells ≡ [] → 0 < inbox.old.room →
-        in_misses back.new ≡ one_more (in_misses back.old) }
+    ensures until { IsDrained back.old back.new ⊎ (length inbox.new.cells ≡ inbox.new.room) }
 {
     while !inbox.is_full() {
         if !back.ready() {

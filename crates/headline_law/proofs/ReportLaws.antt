@@ -41,13 +41,15 @@ module _ (script : Script) (rows : ℕ) (low : rows ≤ script.config.ticks) whe
   ends : length octets ≡ place_after script rows
   ends = rows-length (scenario_of script) (session_cells (scenario_of script)) rows script.config.ticks low
 
-  comes : (e : Extent) → e.from < e.to → e.to ≤ place_after script rows → is_frame_lost parts (session_extents script) e ≡ false →
+  comes : (e : Extent) → e.from < e.to → e.to ≤ place_after script rows →
+      is_frame_lost parts (session_extents script) e ≡ false →
       ComesThrough script rows e
   comes e long carried kept =
       let order = (Stands-all (session_rows script rows)).order in
       record {
         carried = carried;
-        kept = λ lost. (let wrong : true ≡ false = sym (lost_of (session_extents script) e parts long order lost) ∙ kept in cc);
+        kept = λ lost. (let wrong : true ≡ false = sym (lost_of (session_extents script) e parts long order lost)
+            ∙ kept in cc);
       }
 
   through : (e : Extent) → e.from < e.to → is_kept e ≡ true → ComesThrough script rows e
@@ -88,13 +90,15 @@ module _ (script : Script) (rows : ℕ) (low : rows ≤ script.config.ticks) whe
   }
 
 -- ---- where each row is whole, no frame is lost that they carry
-whole-kept : (rows : List StreamRow) (all : List Extent) (e : Extent) → All IsWhole rows → e.to ≤ length (octets_of_rows rows) →
+whole-kept : (rows : List StreamRow) (all : List Extent) (e : Extent) → All IsWhole rows →
+    e.to ≤ length (octets_of_rows rows) →
     is_frame_lost (segments rows) all e ≡ false
 whole-kept rows all e whole fits =
     let only : Segment = record { first = true; base = 0; octets = octets_of_rows rows } in
     let lies : lies_in only e ≡ true =
     rw (le-leb 0 e.from (omega arith), le-leb e.to (0 + length (octets_of_rows rows)) (omega (arith, fits))) refl in
-    ap (λ (parts : List Segment). is_frame_lost parts all e) (only_segment rows whole) ∙ ap (λ b. not ((b && true) || false)) lies
+    ap (λ (parts : List Segment). is_frame_lost parts all e) (only_segment rows whole)
+    ∙ ap (λ b. not ((b && true) || false)) lies
 
 module _ (script : Script) (valid : IsValid script) (none : HasNoFailure script) where
   abbrev scenario : Scenario
@@ -113,14 +117,17 @@ module _ (script : Script) (valid : IsValid script) (none : HasNoFailure script)
   none-starts rows = whole-starts script rows (whole rows)
 
   none-lost : (rows : ℕ) → rows ≤ script.config.ticks →
-      All (λ (frame : Extent). frame.to ≤ place_after script rows → ComesThrough script rows frame) (session_extents script)
+      All (λ (frame : Extent). frame.to ≤ place_after script rows → ComesThrough script rows frame)
+      (session_extents script)
   none-lost rows low i d inside carried =
       let e : Extent = slice_index_or (session_extents script) i d in
       comes script rows low e (extents-between 0 (session_pieces script) i d inside).size carried
-      (whole-kept (session_rows script rows) (session_extents script) e (each-whole rows) (omega (arith, carried, ends script rows low)))
+      (whole-kept (session_rows script rows) (session_extents script) e (each-whole rows)
+      (omega (arith, carried, ends script rows low)))
 
 -- ---- the headline
-pub is_headline : (script : Script) (ticks rows : ℕ) (items : List Numbered) → IsValid script → rows ≤ script.config.ticks →
+pub is_headline : (script : Script) (ticks rows : ℕ) (items : List Numbered) → IsValid script →
+    rows ≤ script.config.ticks →
     IsHeadline script ticks rows items (report_among script ticks rows items)
 is_headline script ticks rows items valid low =
     let starts-true : HasNoFailure script ⊎ ConfirmsTrue script rows → ConfirmsTrue script rows = λ premise.

@@ -3,6 +3,8 @@
 #![tactic(auto)]
 
 #[cfg(test)]
+mod alarms;
+#[cfg(test)]
 mod counting;
 #[cfg(test)]
 mod delineation;
@@ -16,6 +18,8 @@ mod interleaving;
 mod line;
 #[cfg(test)]
 mod parts;
+#[cfg(test)]
+mod pointers;
 #[cfg(test)]
 mod reading;
 #[cfg(test)]

@@ -17,7 +17,7 @@ use vc_cell::Ctrl;
 const LINES: usize = 128;
 
 /// What a sink knows of the lines of a group after some rows of control packets (G.7042).
-#[derive(Drop)]
+#[derive(Clone, Copy)]
 pub struct SinkTable {
     lines: u8,
     /// How many rows were taken.
@@ -37,6 +37,8 @@ impl Model for SinkTable {
     ghost view = { λ table. record { lines = table.lines; taken = table.taken; ack = table.ack; states = table.states } };
 
     ghost invariant = { λ table. (table.lines ≤ 128) × ((line : ℕ) → table.lines ≤ line → state_at table.states line ≡ Idle) };
+
+    ghost inverse = { λ sink. record { lines = sink.lines; taken = sink.taken; ack = sink.ack; states = sink.states } };
 }
 
 impl SinkTable {

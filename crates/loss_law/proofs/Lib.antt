@@ -16,3 +16,4 @@ pub mod OutcomeGrowth
 pub mod GrowLaws
 pub mod SessionStreamLaws
 pub mod SessionLossLaws
+pub mod AlignedLaws

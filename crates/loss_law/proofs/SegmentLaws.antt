@@ -18,10 +18,6 @@ next-none longest first octets =
 abbrev pub Adds : ℕ → Bool → List ℕ → List ℕ → Type 0
 Adds longest first octets more = frames_in longest first (octets ++ more) ≡ frames_in longest first octets ++ next_frames longest first octets more
 
-pub adds-none : (longest : ℕ) (first : Bool) (octets : List ℕ) → Adds longest first octets []
-adds-none longest first octets =
-    ap (frames_in longest first) (append-nil octets) ∙ sym (append-nil (frames_in longest first octets)) ∙ ap (λ l. frames_in longest first octets ++ l) (sym (next-none longest first octets))
-
 pub next-more : (longest : ℕ) (first : Bool) (octets a b : List ℕ) → Adds longest first octets a → Adds longest first (octets ++ a) b →
     next_frames longest first octets (a ++ b) ≡ next_frames longest first octets a ++ next_frames longest first (octets ++ a) b
 next-more longest first octets a b one two =
@@ -31,14 +27,6 @@ next-more longest first octets a b one two =
     ap (drop (length before))
     (ap (frames_in longest first) (sym (append_assoc octets a b)) ∙ two ∙ ap (λ l. l ++ further) one ∙ append_assoc before next further)
     ∙ drop_at before (next ++ further) (length before) refl
-
-pub adds-more : (longest : ℕ) (first : Bool) (octets a b : List ℕ) → Adds longest first octets a → Adds longest first (octets ++ a) b → Adds longest first octets (a ++ b)
-adds-more longest first octets a b one two =
-    let before : List (List ℕ) = frames_in longest first octets in
-    let next : List (List ℕ) = next_frames longest first octets a in
-    let further : List (List ℕ) = next_frames longest first (octets ++ a) b in
-    ap (frames_in longest first) (sym (append_assoc octets a b)) ∙ two ∙ ap (λ l. l ++ further) one ∙ append_assoc before next further
-    ∙ ap (λ l. before ++ l) (sym (next-more longest first octets a b one two))
 
 -- ---- one more row
 pub segments_on-append : (come : Segments) (rows more : List StreamRow) → segments_on come (rows ++ more) ≡ segments_on (segments_on come rows) more

@@ -7,7 +7,8 @@ use Rattle.loss_law.proofs.OutcomeGrowth.{FollowsIn, hunt_within-longer}
 abbrev longer_by : List ℕ → Confirmed → Confirmed
 longer_by more found = record { place = found.place; octets = found.octets ++ more; refused = found.refused }
 
-follows-found : (more : List ℕ) (n : ℕ) (found other : Option Confirmed) → FollowsIn more n found other → (confirmed : Confirmed) →
+follows-found : (more : List ℕ) (n : ℕ) (found other : Option Confirmed) → FollowsIn more n found other →
+    (confirmed : Confirmed) →
     found ≡ Some confirmed → other ≡ Some (longer_by more confirmed)
 follows-found more n None other follows confirmed is = absurd cc
 follows-found more n (Some found) other follows confirmed is =
@@ -17,4 +18,5 @@ pub confirmed-stays : (r : Bool) (octets more : List ℕ) (confirmed : Confirmed
     hunt r 0 (octets ++ more) ≡ Some (record confirmed { octets = confirmed.octets ++ more })
 confirmed-stays r octets more confirmed is =
     follows-found more (length octets) (hunt r 0 octets) (hunt r 0 (octets ++ more))
-    (hunt_within-longer more (length octets) (length (octets ++ more)) r 0 octets (omega arith) (omega arith)) confirmed is
+    (hunt_within-longer more (length octets) (length (octets ++ more)) r 0 octets (omega arith)
+    (omega arith)) confirmed is

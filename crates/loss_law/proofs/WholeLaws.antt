@@ -41,5 +41,7 @@ deliver-whole longest pieces rows fits sent carried whole =
     let octets : List ℕ = octets_of_rows rows in
     ap (flat_map (segment_frames longest)) (only_segment rows whole)
     ∙ append-nil (delivered longest octets)
-    ∙ ap (delivered longest) (sym (ap (take (length octets)) carried.stream ∙ take_at octets carried.rest (length octets) refl))
-    ∙ delivered-stream longest (length octets) pieces fits (All-weaker (IsSentPiece longest) (IsSendable longest) (sendable_of longest) pieces sent)
+    ∙ ap (delivered longest)
+    (sym (ap (take (length octets)) carried.stream ∙ take_at octets carried.rest (length octets) refl))
+    ∙ delivered-stream longest (length octets) pieces fits
+    (All-weaker (IsSentPiece longest) (IsSendable longest) (sendable_of longest) pieces sent)

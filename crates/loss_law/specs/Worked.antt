@@ -10,7 +10,8 @@ kept_frame = 7 ∷ 8 ∷ []
 -- two idles of 4 octets, six frames of two octets, which take 10 with their headers, and an idle
 abbrev pub worked_pieces : List Piece
 worked_pieces =
-    idle ∷ idle ∷ client (1 ∷ 2 ∷ []) ∷ client (3 ∷ 4 ∷ []) ∷ client (5 ∷ 6 ∷ []) ∷ client kept_frame ∷ client (9 ∷ 10 ∷ [])
+    idle ∷ idle ∷ client (1 ∷ 2 ∷ []) ∷ client (3 ∷ 4 ∷ []) ∷ client (5 ∷ 6 ∷ []) ∷ client kept_frame ∷ client
+    (9 ∷ 10 ∷ [])
     ∷ client (11 ∷ 12 ∷ []) ∷ idle ∷ []
 
 unfoldable pub worked_stream : List ℕ

@@ -2,7 +2,7 @@
 //! Begin at `loss_law`, which is of any stream and rows; `session_loss_law` and `hitless_law` say it of a session.
 #![tactic(auto)]
 
-ghost use Rattle.std.specs.Prelude.{◌≡◌, ℕ, ◌≤◌, ◌<◌, ◌↔◌, Bool, true, List, [], ◌∷◌, ◌++◌, length, map, take, drop, All, Option, Some};
+ghost use Rattle.std.specs.Prelude.{◌≡◌, ℕ, suc, ◌≤◌, ◌<◌, ◌↔◌, Bool, true, false, List, [], ◌∷◌, ◌++◌, length, map, take, drop, All, Option, Some};
 ghost use Rattle.session_model.specs.Hunt.{Confirmed, hunt};
 ghost use Rattle.session_model.specs.Piece.{Piece, idle, frames_by};
 ghost use Rattle.session_model.specs.Scenario.{Scenario};
@@ -11,7 +11,7 @@ ghost use Rattle.session_model.specs.Client.{place_of, stream_before};
 ghost use Rattle.session_model.specs.Journal.{frames_before};
 ghost use Rattle.session_model.specs.SessionRows.{is_whole_row};
 ghost use Rattle.session_model.specs.Segment.{StreamRow, segments, deliver, octets_of_rows};
-ghost use Rattle.session_model.specs.Loss.{Extent, extents, confirmed_in, Lost, is_frame_lost, TrueStarts, frames_kept};
+ghost use Rattle.session_model.specs.Loss.{Extent, extents, confirmed_in, Lost, is_frame_lost, IsPlaceOfPiece, TrueStarts, frames_kept};
 ghost use Rattle.session_model.specs.SessionStream.{rows_of};
 ghost use Rattle.loss_law.specs.Carried.{Carry, IsSentPiece, AreOctets, IsUndamaged};
 ghost use Rattle.loss_law.specs.Worked.{worked_pieces, worked_rows, kept_frame, places_of, ends_of, worked_places, worked_ends, worked_confirmed, worked_lost};
@@ -55,7 +55,7 @@ pub fn grow_law()
 
 /// In a session, of any number of rows: they carry the first octets of its stream, whose client frames are the accepted ones but those
 /// that wait; and where each place that is confirmed first after a break is that of a piece, the frames delivered are the accepted
-/// frames that the rows carry and that aren't lost.
+/// frames that the rows carry and that aren't lost. That is so where each row that isn't whole ends at the place of a piece.
 pub fn session_loss_law()
     ensures accepted { (scenario : Scenario) (cells : List (Option Told)) (n : ℕ) →
         map (λ (e : Extent). e.frame) (extents 0 (stream_before scenario cells n).pieces)
@@ -69,6 +69,10 @@ pub fn session_loss_law()
         TrueStarts (stream_before scenario cells n).pieces (rows_of scenario cells t) →
         deliver 9600 (rows_of scenario cells t)
         ≡ frames_kept (stream_before scenario cells n).pieces (rows_of scenario cells t) }
+    ensures aligned { (scenario : Scenario) (cells : List (Option Told)) (t n : ℕ) →
+        AreOctets scenario → t ≤ n → ((row : ℕ) → row < t → is_whole_row scenario cells row ≡ false →
+        IsPlaceOfPiece (stream_before scenario cells n).pieces (place_of scenario cells (suc row))) →
+        TrueStarts (stream_before scenario cells n).pieces (rows_of scenario cells t) }
 {}
 
 /// A session in which no line fails loses no frame, whatever lines are added and removed: each row is whole, and the frames delivered

@@ -3,11 +3,13 @@
 //! Begin with `RingOut` and `RingIn`, and then `LineWorker`.
 #![tactic(auto)]
 
+mod alarm;
 mod ends;
 mod gate;
 mod rings;
 mod worker;
 
+pub use alarm::{Alarm, AlarmKind};
 pub use ends::{RingIn, RingOut};
 pub use gate::{Gate, OpenGate, Who};
 pub use rings::{LineEnds, back_ring, line_rings};

@@ -1,3 +1,4 @@
+pub mod Start
 pub mod Faults
 pub mod Transfer
 pub mod Memory

@@ -81,6 +81,7 @@ impl ByteSource for MemSource {
           calls = one_more self.old.calls;
           faults = one_more self.old.faults;
         }) }
+        ensures never_falls { self.old.faults ≤ self.new.faults }
         ensures untouched { OnErr result (buf.new ≡ buf.old) }
     {
         let fails = is_among(&self.fail, self.calls);
@@ -165,6 +166,7 @@ impl ByteSink for MemSink {
           calls = one_more self.old.calls;
           faults = one_more self.old.faults;
         }) }
+        ensures never_falls { self.old.faults ≤ self.new.faults }
     {
         let fails = is_among(&self.fail, self.calls) || (self.room == 0 && !piece.is_empty());
         self.calls = self.calls.saturating_add(1);

@@ -37,6 +37,7 @@ impl<R: Read> ByteSource for StdSource<R> {
         ensures bound { IfOk result (λ n. n ≤ length buf.new) }
         ensures quiet { OnOk result (self.new ≡ self.old) }
         ensures counted { OnErr result (self.new ≡ one_more self.old) }
+        ensures never_falls { self.old ≤ self.new }
     {
         match self.inner.read(buf) {
             Ok(n) => Ok(n),
@@ -81,6 +82,7 @@ impl<W: Write> ByteSink for StdSink<W> {
         ensures moves { IfOk result (λ n. 0 < length piece.now → 0 < n) }
         ensures quiet { OnOk result (self.new ≡ self.old) }
         ensures counted { OnErr result (self.new ≡ one_more self.old) }
+        ensures never_falls { self.old ≤ self.new }
     {
         match self.inner.write(piece) {
             Ok(n) if has_moved(n, piece) => Ok(n),

@@ -16,13 +16,14 @@ pub trait ByteSource {
     ghost faults: { Self → ℕ };
 
     /// Takes octets into the front of `buf`, and answers how many. No octet, where `buf` isn't empty, is the end.
-    /// At `Failed` nothing is taken, and one fault is counted; else none is.
+    /// At `Failed` nothing is taken, and one fault is counted; else none is. The count never falls, whoever keeps it.
     fn take(&mut self, buf: &mut [u8]) -> Result<usize, Failed>
         ensures bound { IfOk result (λ n. n ≤ length buf.new) }
         ensures moved { IfOk result
             (λ n. left self.old ≡ prepend_known (take n buf.new) (left self.new)) }
         ensures end { IfOk result (λ n. n ≡ 0 → 0 < length buf.old → IsAtEnd (left self.new)) }
         ensures stays { OnErr result (left self.new ≡ left self.old) }
+        ensures never_falls { faults self.old ≤ faults self.new }
         ensures quiet { OnOk result (faults self.new ≡ faults self.old) }
         ensures counted { OnErr result (faults self.new ≡ one_more (faults self.old)) };
 }
@@ -36,13 +37,14 @@ pub trait ByteSink {
     ghost faults: { Self → ℕ };
 
     /// Appends a prefix of `piece`, at least one octet if there is one, and answers how many octets it has.
-    /// At `Failed` nothing is appended, and one fault is counted; else none is.
+    /// At `Failed` nothing is appended, and one fault is counted; else none is. The count never falls, whoever keeps it.
     fn put(&mut self, piece: &[u8]) -> Result<usize, Failed>
         ensures bound { IfOk result (λ n. n ≤ length piece.now) }
         ensures moves { IfOk result (λ n. 0 < length piece.now → 0 < n) }
         ensures appended { IfOk result
             (λ n. written self.new ≡ append_known (written self.old) (take n piece.now)) }
         ensures stays { OnErr result (written self.new ≡ written self.old) }
+        ensures never_falls { faults self.old ≤ faults self.new }
         ensures quiet { OnOk result (faults self.new ≡ faults self.old) }
         ensures counted { OnErr result (faults self.new ≡ one_more (faults self.old)) };
 }

@@ -1,5 +1,5 @@
 -- What is kept of all lines of a group.
-use Rattle.std.specs.Prelude.{◌≡◌, ℕ, zero, suc, ◌<◌, if◌then◌else◌, List, [], ◌∷◌, ◌++◌, length, slice_get, Option, Some, None}
+use Rattle.std.specs.Prelude.{◌≡◌, ℕ, zero, suc, ◌<◌, nat_lt, if◌then◌else◌, List, [], ◌∷◌, ◌++◌, length, slice_get, Option, Some, None}
 use Rattle.vc_cell.specs.declared.Container.{Container}
 use Rattle.vc_cell.specs.declared.Cell.{Cell}
 use Rattle.session_model.specs.declared.packet.Packet.{Packet}
@@ -34,6 +34,11 @@ IsOpenAt gather m = (line : Line) → slice_get gather.lines m ≡ Some line →
 abbrev pub decided_lines : List Line → ℕ
 decided_lines [] = 0
 decided_lines (line ∷ lines) = if is_open line.numbers then 0 else suc (decided_lines lines)
+
+-- the first line on which it is not decided, none where it is decided on each
+abbrev pub open_line : Gather → Option ℕ
+open_line gather = if nat_lt (decided_lines gather.lines) (line_count gather) then Some
+    (decided_lines gather.lines) else None
 
 -- it is decided on each line
 abbrev pub AreDecided : Gather → Type 0

@@ -9,7 +9,7 @@ ghost use Rattle.session_model.specs.Rows.{governing, first_open};
 ghost use Rattle.line_reader.specs.Told.{cell_of, cell_with, told_by};
 ghost use Rattle.line_reader.specs.Numbers.{IsOpen};
 ghost use Rattle.realign_core.specs.Line.{Line};
-ghost use Rattle.realign_core.specs.Gather.{Stands, line_count, IsOpenAt, AreDecided, decided_lines, waiting_of, Allows, with_cell};
+ghost use Rattle.realign_core.specs.Gather.{Stands, line_count, IsOpenAt, AreDecided, decided_lines, open_line, waiting_of, Allows, with_cell};
 ghost use Rattle.realign_core.specs.Loops.{AreNew, ArePassed, AreRead};
 
 use crate::RowAnswer;
@@ -65,10 +65,11 @@ impl RowGather {
         })
     }
 
-    /// Whether the next row is decided on each line.
+    /// Whether the next row is decided on each line; else the least line on which it isn't.
     pub fn row(&self) -> RowAnswer
         ensures answer { (cells : List (List Cell)) → Stands self.now cells →
             waiting_of result ≡ first_open cells self.now.rows }
+        ensures least { waiting_of result ≡ open_line self.now }
         ensures allows { Allows self.now result }
     {
         if self.decided < self.lines.len() {

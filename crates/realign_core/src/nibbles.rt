@@ -13,7 +13,7 @@ use std::marker::Model;
 pub(crate) const NIBBLES: usize = 16;
 
 /// The nibbles of the packet that a line has begun.
-#[derive(Drop)]
+#[derive(Clone, Copy)]
 pub(crate) struct PacketNibbles {
     nibbles: [u8; NIBBLES],
     /// Whether its numbers so far are all whole.
@@ -29,6 +29,8 @@ impl Model for PacketNibbles {
     ghost invariant = { λ begun. All (λ nibble. nibble < 16) begun.nibbles };
 
     ghost view = { λ begun. record { nibbles = begun.nibbles; whole = begun.whole } };
+
+    ghost inverse = { λ begun. record { nibbles = begun.nibbles; whole = begun.whole } };
 }
 
 impl PacketNibbles {

@@ -8,7 +8,7 @@ use Rattle.script_read.specs.Script.{script_of}
 use Rattle.report_text.specs.declared.report.Refusal.{Refusal}
 use Rattle.report_text.specs.declared.report.Totals.{Totals}
 use Rattle.report_text.specs.Report.{got_texts, total_text}
-use Rattle.sink_core.specs.Start.{Start}
+use Rattle.outside_io.specs.Start.{Start}
 use Rattle.walk_law.specs.Delivered.{delivered_of}
 use Rattle.walk_law.specs.Landed.{refusals_among, totals_among}
 use Rattle.walk_law.specs.Promise.{numbered}

@@ -1,5 +1,5 @@
 -- What a draft meets, the draft after one more line meets as well.
-use Rattle.std.proofs.Common.{◌≡◌, ℕ, ◌+◌, ◌<◌, ◌≤◌, List, [], ◌∷◌, ◌++◌, length, ap, sym, ◌∙◌, arith, refl, slice_set, subst, All, inr}
+use Rattle.std.proofs.Common.{◌≡◌, ℕ, ◌+◌, ◌<◌, ◌≤◌, List, [], ◌∷◌, ◌++◌, length, ap, sym, ◌∙◌, arith, refl, slice_set, replicate, subst, All, inr}
 use Rattle.std.specs.List.Sorted.{IsNonDecreasing}
 use Rattle.std.proofs.lemmas.List.{length-append, length-set, length-replicate, append-nil}
 use Rattle.std.proofs.lemmas.List.Elements.{All-set, All-get_or, All-replicate}
@@ -80,7 +80,8 @@ config_fail d m window has at next =
       size = has.size;
       none = λ low. absurd (omega (arith, at, low));
       windows = All-set (AreFailures d.config.ticks) d.config.windows m (windows_of d m ++ window ∷ [])
-          (one_window d m window (All-get_or (AreFailures d.config.ticks) d.config.windows m [] within has.windows) next) has.windows;
+          (one_window d m window
+          (All-get_or (AreFailures d.config.ticks) d.config.windows m [] within has.windows) next) has.windows;
       lost = has.lost;
     }
 
@@ -129,7 +130,8 @@ frames-command : (items : List Item) (it : Item) → due_of it.due it.kind ≡ c
     → frame_dues (dues_of (items ++ it ∷ [])) ≡ frame_dues (dues_of items)
 unfolding frame_dues
 frames-command items it kind =
-    frames-one items it ∙ ap (λ (due : Due). frame_dues (dues_of items) ++ frame_dues (due ∷ [])) kind ∙ append-nil (frame_dues (dues_of items))
+    frames-one items it ∙ ap (λ (due : Due). frame_dues (dues_of items) ++ frame_dues (due ∷ [])) kind
+    ∙ append-nil (frame_dues (dues_of items))
 
 commands-command : (items : List Item) (it : Item) → due_of it.due it.kind ≡ command_due it.due
     → command_dues (dues_of (items ++ it ∷ [])) ≡ command_dues (dues_of items) ++ it.due ∷ []
@@ -137,18 +139,23 @@ unfolding command_dues
 commands-command items it kind =
     commands-one items it ∙ ap (λ (due : Due). command_dues (dues_of items) ++ command_dues (due ∷ [])) kind
 
-one_frame : (ticks due : ℕ) (items : List Item) (octets : List ℕ) → AreItems ticks items → All (λ n. n ≤ due) (frame_dues (dues_of items))
-    → IsItem ticks (record { due = due; kind = item.Frame octets }) → AreItems ticks (items ++ record { due = due; kind = item.Frame octets } ∷ [])
+one_frame : (ticks due : ℕ) (items : List Item) (octets : List ℕ) → AreItems ticks items →
+    All (λ n. n ≤ due) (frame_dues (dues_of items))
+    → IsItem ticks (record { due = due; kind = item.Frame octets }) →
+    AreItems ticks (items ++ record { due = due; kind = item.Frame octets } ∷ [])
 unfolding frame_dues command_dues
 one_frame ticks due items octets are most is =
     let it : Item = record { due = due; kind = item.Frame octets } in
     record {
       each = All-one (IsItem ticks) items it are.each is;
-      frames = subst IsNonDecreasing (sym (frames-one items it)) (rising-one (frame_dues (dues_of items)) due are.frames most);
-      commands = subst IsNonDecreasing (sym (commands-one items it ∙ append-nil (command_dues (dues_of items)))) are.commands;
+      frames = subst IsNonDecreasing (sym (frames-one items it))
+          (rising-one (frame_dues (dues_of items)) due are.frames most);
+      commands = subst IsNonDecreasing
+          (sym (commands-one items it ∙ append-nil (command_dues (dues_of items)))) are.commands;
     }
 
-frame_after : (d : Draft) (due : ℕ) (octets : List ℕ) → IsDraft d → Fits d (says.Item (record { due = due; kind = item.Frame octets }))
+frame_after : (d : Draft) (due : ℕ) (octets : List ℕ) → IsDraft d →
+    Fits d (says.Item (record { due = due; kind = item.Frame octets }))
     → IsDraft (after_item d (record { due = due; kind = item.Frame octets }) (item.Frame octets))
 unfolding frame_dues command_dues
 frame_after d due octets is fits =
@@ -156,210 +163,188 @@ frame_after d due octets is fits =
     record {
       config = config_later d.next 7 d.config fits.0 (omega arith) is.config;
       no_items = λ at. absurd (omega (arith, at));
-      items = one_frame d.config.ticks due d.items octets is.items (most-up _ d.frame_due due is.frame_due fits.3) fits.2;
-      frame_due = subst (All (λ n. n ≤ due)) (sym (frames-one d.items it)) (most-one _ d.frame_due due is.frame_due fits.3);
-      command_due = subst (All (λ n. n ≤ d.command_due)) (sym (commands-one d.items it ∙ append-nil (command_dues (dues_of d.items)))) is.command_due;
+      items = one_frame d.config.ticks due d.items octets is.items
+          (most-up _ d.frame_due due is.frame_due fits.3) fits.2;
+      frame_due = subst (All (λ n. n ≤ due)) (sym (frames-one d.items it))
+          (most-one _ d.frame_due due is.frame_due fits.3);
+      command_due = subst (All (λ n. n ≤ d.command_due))
+          (sym (commands-one d.items it ∙ append-nil (command_dues (dues_of d.items)))) is.command_due;
       no_events = λ at. is.no_events fits.1;
       events = is.events;
     }
 
 -- what is said of a command holds of an addition and of a removal
-one_command : (ticks : ℕ) (items : List Item) (it : Item) → due_of it.due it.kind ≡ command_due it.due → AreItems ticks items
+one_command : (ticks : ℕ) (items : List Item) (it : Item) → due_of it.due it.kind ≡ command_due it.due →
+    AreItems ticks items
     → All (λ n. n ≤ it.due) (command_dues (dues_of items)) → IsItem ticks it → AreItems ticks (items ++ it ∷ [])
 one_command ticks items it kind are most is = record {
   each = All-one (IsItem ticks) items it are.each is;
   frames = subst IsNonDecreasing (sym (frames-command items it kind)) are.frames;
-  commands = subst IsNonDecreasing (sym (commands-command items it kind)) (rising-one (command_dues (dues_of items)) it.due are.commands most);
+  commands = subst IsNonDecreasing (sym (commands-command items it kind))
+      (rising-one (command_dues (dues_of items)) it.due are.commands most);
 }
 
-command_after : (d : Draft) (it : Item) → due_of it.due it.kind ≡ command_due it.due → IsDraft d → 6 ≤ d.next → d.next ≤ 7
-    → IsItem d.config.ticks it → d.command_due ≤ it.due → IsDraft (record d { next = 7; items = d.items ++ it ∷ []; command_due = it.due })
+command_after : (d : Draft) (it : Item) → due_of it.due it.kind ≡ command_due it.due → IsDraft d → 6 ≤ d.next →
+    d.next ≤ 7
+    → IsItem d.config.ticks it → d.command_due ≤ it.due →
+    IsDraft (record d { next = 7; items = d.items ++ it ∷ []; command_due = it.due })
 command_after d it kind is low high fits later = record {
   config = config_later d.next 7 d.config low (omega arith) is.config;
   no_items = λ at. absurd (omega (arith, at));
-  items = one_command d.config.ticks d.items it kind is.items (most-up _ d.command_due it.due is.command_due later) fits;
+  items = one_command d.config.ticks d.items it kind is.items
+      (most-up _ d.command_due it.due is.command_due later) fits;
   frame_due = subst (All (λ n. n ≤ d.frame_due)) (sym (frames-command d.items it kind)) is.frame_due;
-  command_due = subst (All (λ n. n ≤ it.due)) (sym (commands-command d.items it kind)) (most-one _ d.command_due it.due is.command_due later);
+  command_due = subst (All (λ n. n ≤ it.due)) (sym (commands-command d.items it kind))
+      (most-one _ d.command_due it.due is.command_due later);
   no_events = λ at. is.no_events high;
   events = is.events;
 }
 
-item_after : (d : Draft) (due : ℕ) (kind : ItemKind) → IsDraft d → Fits d (says.Item (record { due = due; kind = kind }))
+item_after : (d : Draft) (due : ℕ) (kind : ItemKind) → IsDraft d →
+    Fits d (says.Item (record { due = due; kind = kind }))
     → IsDraft (after_item d (record { due = due; kind = kind }) kind)
 item_after d due (item.Frame octets) is fits = frame_after d due octets is fits
-item_after d due (item.Add line) is fits = command_after d (record { due = due; kind = item.Add line }) refl is fits.0 fits.1 fits.2 fits.3
-item_after d due (item.Remove line) is fits = command_after d (record { due = due; kind = item.Remove line }) refl is fits.0 fits.1 fits.2 fits.3
+item_after d due (item.Add line) is fits = command_after d
+    (record { due = due; kind = item.Add line }) refl is fits.0 fits.1 fits.2 fits.3
+item_after d due (item.Remove line) is fits = command_after d
+    (record { due = due; kind = item.Remove line }) refl is fits.0 fits.1 fits.2 fits.3
 
 -- ---- the lines of the configuration
-container_after : (d : Draft) (n : ℕ) → IsDraft d → Fits d (says.Container n) → IsDraft (after d (says.Container n))
-container_after d n is fits = record {
-  config = (let has = is.config in record {
-    few = has.few;
-    lines = λ at. absurd (omega (arith, at));
-    delay_each = λ at. absurd (omega (arith, at));
-    delays = has.delays;
-    ring = λ at. absurd (omega (arith, at));
-    lag = λ at. absurd (omega (arith, at));
-    ticks = λ at. absurd (omega (arith, at));
-    size = fits.1;
-    none = λ at. has.none (omega (arith, fits.0));
-    windows = has.windows;
-    lost = has.lost;
-  });
-  no_items = λ at. is.no_items (omega (arith, fits.0));
-  items = is.items;
-  frame_due = is.frame_due;
-  command_due = is.command_due;
-  no_events = λ at. is.no_events (omega (arith, fits.0));
-  events = is.events;
-}
-
-lines_after : (d : Draft) (n : ℕ) → IsDraft d → Fits d (says.Lines n) → IsDraft (after d (says.Lines n))
-lines_after d n is fits = record {
-  config = (let has = is.config in record {
-    few = fits.1.1;
-    lines = λ at. (fits.1.0, length-replicate n []);
-    delay_each = λ at. absurd (omega (arith, at));
-    delays = has.delays;
-    ring = λ at. absurd (omega (arith, at));
-    lag = λ at. absurd (omega (arith, at));
-    ticks = λ at. absurd (omega (arith, at));
-    size = has.size;
-    none = λ at. All-replicate (λ (windows : List Window). windows ≡ []) n [] refl;
-    windows = All-replicate (AreFailures d.config.ticks) n [] (no_windows d.config.ticks);
-    lost = has.lost;
-  });
-  no_items = λ at. is.no_items (omega (arith, fits.0));
-  items = is.items;
-  frame_due = is.frame_due;
-  command_due = is.command_due;
-  no_events = λ at. is.no_events (omega (arith, fits.0));
-  events = subst (All (IsEvent n)) (sym (is.no_events (omega (arith, fits.0)))) (All-none _);
-}
-
-delays_after : (d : Draft) (ns : List ℕ) → IsDraft d → Fits d (says.Delays ns) → IsDraft (after d (says.Delays ns))
-delays_after d ns is fits = record {
-  config = (let has = is.config in record {
-    few = has.few;
-    lines = λ at. has.lines (omega (arith, fits.0));
-    delay_each = λ at. fits.1;
-    delays = fits.2;
-    ring = λ at. absurd (omega (arith, at));
-    lag = λ at. absurd (omega (arith, at));
-    ticks = λ at. absurd (omega (arith, at));
-    size = has.size;
-    none = λ at. has.none (omega (arith, fits.0));
-    windows = has.windows;
-    lost = has.lost;
-  });
-  no_items = λ at. is.no_items (omega (arith, fits.0));
-  items = is.items;
-  frame_due = is.frame_due;
-  command_due = is.command_due;
-  no_events = λ at. is.no_events (omega (arith, fits.0));
-  events = is.events;
-}
-
-ring_after : (d : Draft) (n : ℕ) → IsDraft d → Fits d (says.Ring n) → IsDraft (after d (says.Ring n))
-ring_after d n is fits = record {
-  config = (let has = is.config in record {
-    few = has.few;
-    lines = λ at. has.lines (omega (arith, fits.0));
-    delay_each = λ at. has.delay_each (omega (arith, fits.0));
-    delays = has.delays;
-    ring = λ at. fits.1;
-    lag = λ at. absurd (omega (arith, at));
-    ticks = λ at. absurd (omega (arith, at));
-    size = has.size;
-    none = λ at. has.none (omega (arith, fits.0));
-    windows = has.windows;
-    lost = has.lost;
-  });
-  no_items = λ at. is.no_items (omega (arith, fits.0));
-  items = is.items;
-  frame_due = is.frame_due;
-  command_due = is.command_due;
-  no_events = λ at. is.no_events (omega (arith, fits.0));
-  events = is.events;
-}
-
-lag_after : (d : Draft) (n : ℕ) → IsDraft d → Fits d (says.Lag n) → IsDraft (after d (says.Lag n))
-lag_after d n is fits = record {
-  config = (let has = is.config in record {
-    few = has.few;
-    lines = λ at. has.lines (omega (arith, fits.0));
-    delay_each = λ at. has.delay_each (omega (arith, fits.0));
-    delays = has.delays;
-    ring = λ at. has.ring (omega (arith, fits.0));
-    lag = λ at. fits.1;
-    ticks = λ at. absurd (omega (arith, at));
-    size = has.size;
-    none = λ at. has.none (omega (arith, fits.0));
-    windows = has.windows;
-    lost = has.lost;
-  });
-  no_items = λ at. is.no_items (omega (arith, fits.0));
-  items = is.items;
-  frame_due = is.frame_due;
-  command_due = is.command_due;
-  no_events = λ at. is.no_events (omega (arith, fits.0));
-  events = is.events;
-}
-
 -- lines without windows have none after any tick
 bare : (ticks : ℕ) (lists : List (List Window)) → All (λ windows. windows ≡ []) lists → All (AreFailures ticks) lists
 bare ticks lists none i d within = subst (AreFailures ticks) (sym (none i d within)) (no_windows ticks)
 
-ticks_after : (d : Draft) (n : ℕ) → IsDraft d → Fits d (says.Ticks n) → IsDraft (after d (says.Ticks n))
-ticks_after d n is fits = record {
-  config = (let has = is.config in record {
-    few = has.few;
-    lines = λ at. has.lines (omega (arith, fits.0));
-    delay_each = λ at. has.delay_each (omega (arith, fits.0));
-    delays = has.delays;
-    ring = λ at. has.ring (omega (arith, fits.0));
-    lag = λ at. has.lag (omega (arith, fits.0));
-    ticks = λ at. fits.1;
-    size = has.size;
-    none = λ at. absurd (omega (arith, at));
-    windows = bare n d.config.windows (has.none (omega (arith, fits.0)));
-    lost = has.lost;
-  });
-  no_items = λ at. is.no_items (omega (arith, fits.0));
-  items = subst (AreItems n) (sym (is.no_items (omega (arith, fits.0)))) (no_items n);
+container_config : (d : Draft) (n : ℕ) → HasConfig d.next d.config → Fits d (says.Container n) →
+    HasConfig 1 (record d.config { size = n })
+container_config d n has fits = record {
+  few = has.few;
+  lines = λ at. absurd (omega (arith, at));
+  delay_each = λ at. absurd (omega (arith, at));
+  delays = has.delays;
+  ring = λ at. absurd (omega (arith, at));
+  lag = λ at. absurd (omega (arith, at));
+  ticks = λ at. absurd (omega (arith, at));
+  size = fits.1;
+  none = λ at. has.none (omega (arith, fits.0));
+  windows = has.windows;
+  lost = has.lost;
+}
+
+lines_config : (d : Draft) (n : ℕ) → HasConfig d.next d.config → Fits d (says.Lines n) →
+    HasConfig 2 (record d.config { lines = n; windows = replicate n [] })
+lines_config d n has fits = record {
+  few = fits.1.1;
+  lines = λ at. (fits.1.0, length-replicate n []);
+  delay_each = λ at. absurd (omega (arith, at));
+  delays = has.delays;
+  ring = λ at. absurd (omega (arith, at));
+  lag = λ at. absurd (omega (arith, at));
+  ticks = λ at. absurd (omega (arith, at));
+  size = has.size;
+  none = λ at. All-replicate (λ (windows : List Window). windows ≡ []) n [] refl;
+  windows = All-replicate (AreFailures d.config.ticks) n [] (no_windows d.config.ticks);
+  lost = has.lost;
+}
+
+delays_config : (d : Draft) (ns : List ℕ) → HasConfig d.next d.config → Fits d (says.Delays ns) →
+    HasConfig 3 (record d.config { delays = ns })
+delays_config d ns has fits = record {
+  few = has.few;
+  lines = λ at. has.lines (omega (arith, fits.0));
+  delay_each = λ at. fits.1;
+  delays = fits.2;
+  ring = λ at. absurd (omega (arith, at));
+  lag = λ at. absurd (omega (arith, at));
+  ticks = λ at. absurd (omega (arith, at));
+  size = has.size;
+  none = λ at. has.none (omega (arith, fits.0));
+  windows = has.windows;
+  lost = has.lost;
+}
+
+ring_config : (d : Draft) (n : ℕ) → HasConfig d.next d.config → Fits d (says.Ring n) →
+    HasConfig 4 (record d.config { ring = n })
+ring_config d n has fits = record {
+  few = has.few;
+  lines = λ at. has.lines (omega (arith, fits.0));
+  delay_each = λ at. has.delay_each (omega (arith, fits.0));
+  delays = has.delays;
+  ring = λ at. fits.1;
+  lag = λ at. absurd (omega (arith, at));
+  ticks = λ at. absurd (omega (arith, at));
+  size = has.size;
+  none = λ at. has.none (omega (arith, fits.0));
+  windows = has.windows;
+  lost = has.lost;
+}
+
+lag_config : (d : Draft) (n : ℕ) → HasConfig d.next d.config → Fits d (says.Lag n) →
+    HasConfig 5 (record d.config { lag = n })
+lag_config d n has fits = record {
+  few = has.few;
+  lines = λ at. has.lines (omega (arith, fits.0));
+  delay_each = λ at. has.delay_each (omega (arith, fits.0));
+  delays = has.delays;
+  ring = λ at. has.ring (omega (arith, fits.0));
+  lag = λ at. fits.1;
+  ticks = λ at. absurd (omega (arith, at));
+  size = has.size;
+  none = λ at. has.none (omega (arith, fits.0));
+  windows = has.windows;
+  lost = has.lost;
+}
+
+ticks_config : (d : Draft) (n : ℕ) → HasConfig d.next d.config → Fits d (says.Ticks n) →
+    HasConfig 6 (record d.config { ticks = n })
+ticks_config d n has fits = record {
+  few = has.few;
+  lines = λ at. has.lines (omega (arith, fits.0));
+  delay_each = λ at. has.delay_each (omega (arith, fits.0));
+  delays = has.delays;
+  ring = λ at. has.ring (omega (arith, fits.0));
+  lag = λ at. has.lag (omega (arith, fits.0));
+  ticks = λ at. fits.1;
+  size = has.size;
+  none = λ at. absurd (omega (arith, at));
+  windows = bare n d.config.windows (has.none (omega (arith, fits.0)));
+  lost = has.lost;
+}
+
+-- another configuration stands for this one as long as no item has come
+configured : (d : Draft) (next : ℕ) (config : Config) → IsDraft d → d.next ≤ 6 → HasConfig next config →
+    IsDraft (record d { next = next; config = config })
+configured d next config is early has = record {
+  config = has;
+  no_items = λ at. is.no_items early;
+  items = subst (AreItems config.ticks) (sym (is.no_items early)) (no_items config.ticks);
   frame_due = is.frame_due;
   command_due = is.command_due;
-  no_events = λ at. is.no_events (omega (arith, fits.0));
-  events = is.events;
+  no_events = λ at. is.no_events (omega (arith, early));
+  events = subst (All (IsEvent config.lines)) (sym (is.no_events (omega (arith, early)))) (All-none _);
 }
 
 -- ---- any line
 pub IsDraft-after : (d : Draft) (said : Statement) → IsDraft d → Fits d said → IsDraft (after d said)
 IsDraft-after d says.Nothing is fits = is
-IsDraft-after d (says.Container n) is fits = container_after d n is fits
-IsDraft-after d (says.Lines n) is fits = lines_after d n is fits
-IsDraft-after d (says.Delays ns) is fits = delays_after d ns is fits
-IsDraft-after d (says.Ring n) is fits = ring_after d n is fits
-IsDraft-after d (says.Lag n) is fits = lag_after d n is fits
-IsDraft-after d (says.Ticks n) is fits = ticks_after d n is fits
-IsDraft-after d (says.Fail m window) is fits = record {
-  config = config_fail d m window is.config fits.0 fits.1;
-  no_items = is.no_items;
-  items = is.items;
-  frame_due = is.frame_due;
-  command_due = is.command_due;
-  no_events = is.no_events;
-  events = is.events;
-}
-IsDraft-after d (says.Lost first end) is fits = record {
-  config = config_lost d first end is.config fits.0 fits.1;
-  no_items = is.no_items;
-  items = is.items;
-  frame_due = is.frame_due;
-  command_due = is.command_due;
-  no_events = is.no_events;
-  events = is.events;
-}
+IsDraft-after d (says.Container n) is fits =
+    configured d 1 (record d.config { size = n }) is (omega (arith, fits.0)) (container_config d n is.config fits)
+IsDraft-after d (says.Lines n) is fits =
+    configured d 2 (record d.config { lines = n; windows = replicate n [] }) is (omega (arith, fits.0))
+    (lines_config d n is.config fits)
+IsDraft-after d (says.Delays ns) is fits =
+    configured d 3 (record d.config { delays = ns }) is (omega (arith, fits.0)) (delays_config d ns is.config fits)
+IsDraft-after d (says.Ring n) is fits =
+    configured d 4 (record d.config { ring = n }) is (omega (arith, fits.0)) (ring_config d n is.config fits)
+IsDraft-after d (says.Lag n) is fits =
+    configured d 5 (record d.config { lag = n }) is (omega (arith, fits.0)) (lag_config d n is.config fits)
+IsDraft-after d (says.Ticks n) is fits =
+    configured d 6 (record d.config { ticks = n }) is (omega (arith, fits.0)) (ticks_config d n is.config fits)
+IsDraft-after d (says.Fail m window) is fits =
+    configured d d.next (record d.config { windows = slice_set d.config.windows m (windows_of d m ++ window ∷ []) }) is
+    (omega (arith, fits.0)) (config_fail d m window is.config fits.0 fits.1)
+IsDraft-after d (says.Lost first end) is fits =
+    configured d d.next (record d.config { lost = d.config.lost ++ (first, end) ∷ [] }) is (omega (arith, fits.0))
+    (config_lost d first end is.config fits.0 fits.1)
 IsDraft-after d (says.Item it) is fits = item_after d it.due it.kind is fits
 IsDraft-after d (says.Event e) is fits = record {
   config = config_later d.next 8 d.config fits.0 (omega arith) is.config;

@@ -47,8 +47,9 @@ pub fn feedback_law()
         WasSaid scenario (cells_before scenario n) j sq ok }
 {}
 
-/// A line that is added is in use fifteen packets and the lag later where each line in ADD can be read meanwhile. Where no other
-/// line in ADD can, it is in use at most as long again later: a line that is seen isn't held up by one that isn't.
+/// A line that is added is in use fifteen packets and the lag later where each line in ADD can be read and no return packet is lost
+/// meanwhile, no further command is carried out before, and the session is as long. Where it can be read and no other line in ADD can,
+/// it is in use at most as long again later: a line that is seen isn't held up by one that isn't.
 pub fn use_law()
     ensures undamaged { (scenario : Scenario) (first line : ℕ) → AddsUndamaged scenario first line →
         IsUsedBy scenario line first (first + 15 + scenario.lag) }

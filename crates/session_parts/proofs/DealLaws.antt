@@ -19,6 +19,12 @@ module _ {A : Type 0} where
     | inr (other, is) ↦ inr ((λ same. other (omega (arith, same))), is)
   ]
 
+  -- setting what is there changes nothing
+  pub set-same : (xs : List A) (i : ℕ) (d : A) → i < length xs → set xs i (get_or xs i d) ≡ xs
+  set-same [] i d within = absurd (omega arith)
+  set-same (x ∷ xs) zero d within = refl
+  set-same (x ∷ xs) (suc i) d within = ap (λ l. x ∷ l) (set-same xs i d (omega arith))
+
   -- ---- a filter of one more
   pub filter-first : (p : A → Bool) (x : A) (xs : List A) → p x ≡ true → filter p (x ∷ xs) ≡ x ∷ filter p xs
   filter-first p x xs e = rw e refl

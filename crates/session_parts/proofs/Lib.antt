@@ -1,4 +1,5 @@
 pub mod DealLaws
+pub mod FlagLaws
 pub mod CollectLaws
 pub mod ZipLaws
 pub mod RunLaws

@@ -1,10 +1,12 @@
 -- Shares of workers in the hands of threads, or kept where no thread could be started.
-use Rattle.std.specs.Prelude.{◌≡◌, List}
+use Rattle.std.specs.Prelude.{◌≡◌, ℕ, List, slice_get, Some}
 use Rattle.std.specs.Global.{Vec}
 use Rattle.std.specs.List.{AllZip}
 use Rattle.member_ring.specs.declared.worker.LineWorker.{LineWorker}
 use Rattle.session_parts.specs.declared.line_thread.Held.{Held}
 use Rattle.session_parts.specs.declared.line_thread.Held.TheVariants.{There, Here}
+use Rattle.session_parts.specs.declared.flag.Flag.{Flag}
+use Rattle.session_parts.specs.Flags.{flag_of}
 use Rattle.session_parts.specs.Lines.{AreLater}
 
 -- a thread was given these workers, and promises to give them back later; or they are here, later
@@ -15,3 +17,12 @@ IsHeldOf workers (Here own) = AreLater workers own.items
 -- so it is with each share
 abbrev pub AreHeldOf : List (Vec LineWorker) → List Held → Type 0
 AreHeldOf shares held = AllZip (λ (share : Vec LineWorker) (one : Held). IsHeldOf share.items one) shares held
+
+-- the thread looks at the flag of this number
+abbrev pub IsToldBy : ℕ → Held → Type 0
+IsToldBy flag (There child) = flag_of child.promise.1.value ≡ flag
+IsToldBy flag (Here own) = Unit {0}
+
+-- each at the flag of its own place
+abbrev pub AreToldBy : List Flag → List Held → Type 0
+AreToldBy flags held = (w : ℕ) (flag : Flag) (one : Held) → slice_get flags w ≡ Some flag → slice_get held w ≡ Some one → IsToldBy (flag_of flag) one

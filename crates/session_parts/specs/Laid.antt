@@ -21,8 +21,10 @@ abbrev pub AreReceiveEnds : List LineWorker → List (RingIn Cell) → Type 0
 AreReceiveEnds workers rx =
     (m : ℕ) (worker : LineWorker) (into : RingIn Cell) → slice_get workers m ≡ Some worker → slice_get rx m ≡ Some into → AreEnds worker.producer into
 
--- ---- a look at two ends that lie beside each other: what has passed stays, and what was pushed is what was popped and what is still there
+-- ---- a look at two ends that lie beside each other: they are ends of one ring, what has passed stays, and what was pushed is what was
+-- popped and what is still there
 pub record IsSendLaid (out : RingOut Container) (worker : LineWorker) (out' : RingOut Container) (worker' : LineWorker) : Type 0 where
+  pub ends : AreEnds out' worker'.consumer
   pub fifo : in_passed worker'.consumer ++ in_items worker'.consumer ≡ out_passed out'
   pub pushed : out_passed out' ≡ out_passed out
   pub popped : in_passed worker'.consumer ≡ in_passed worker.consumer
@@ -32,6 +34,7 @@ pub record IsSendLaid (out : RingOut Container) (worker : LineWorker) (out' : Ri
   pub producer : worker'.producer ≡ worker.producer
 
 pub record IsReceiveLaid (worker : LineWorker) (into : RingIn Cell) (worker' : LineWorker) (into' : RingIn Cell) : Type 0 where
+  pub ends : AreEnds worker'.producer into'
   pub fifo : in_passed into' ++ in_items into' ≡ out_passed worker'.producer
   pub pushed : out_passed worker'.producer ≡ out_passed worker.producer
   pub popped : in_passed into' ≡ in_passed into

@@ -1,4 +1,5 @@
 pub mod Lines
+pub mod Flags
 pub mod Held
 pub mod Duty
 pub mod Laid

@@ -16,11 +16,11 @@ use Rattle.walk_law.specs.Rings.{line_cells, said_packet}
 use Rattle.walk_law.specs.Delivered.{delivered_of}
 use Rattle.member_ring.specs.declared.ends.RingOut.{RingOut}
 use Rattle.member_ring.specs.declared.ends.RingIn.{RingIn}
-use Rattle.member_ring.specs.Ends.{out_passed, in_passed, in_items}
+use Rattle.member_ring.specs.Ends.{out_passed, in_passed, in_items, AreEnds}
 use Rattle.member_ring.specs.declared.worker.LineWorker.{LineWorker}
 use Rattle.sink_worker.specs.declared.worker.SinkWorker.{SinkWorker}
 use Rattle.sink_worker.specs.Worker.{cells_of, taken_of, got_of}
-use Rattle.session_parts.specs.Laid.{AreDone}
+use Rattle.session_parts.specs.Laid.{AreDone, AreSendEnds, AreReceiveEnds}
 use Rattle.session_parts.specs.Opened.{IsLineOf}
 
 -- ---- what the ends of all rings say once they were laid beside each other, where the source was told these return cells
@@ -47,10 +47,13 @@ pub record IsLineEnded (script : Script) (m : ℕ) (worker : LineWorker) : Type 
   pub received : in_passed worker.consumer ≡ sent_on (scenario_of script) m
   pub sent : out_passed worker.producer ≡ line_cells script m
 
--- the send rings passed the containers of the session; so did the workers of the lines, in their order; what the sink received decides all
+-- the two ends of each ring are here; the send rings passed the containers of the session; so did the workers of the lines, in their order; what the sink received decides all
 -- rows, and what it didn't take of the cells is still there; it sent the session's return cells, and took all rows and their frames
 pub record IsEnded (script : Script) (tx : List (RingOut Container)) (back : RingIn BackCell) (workers : List LineWorker) (sink : SinkWorker) : Type 0 where
   pub count : length workers ≡ script.config.lines
+  pub send_ends : AreSendEnds tx workers
+  pub receive_ends : AreReceiveEnds workers sink.rx.items
+  pub return_ends : AreEnds sink.back back
   pub sends : (m : ℕ) (out : RingOut Container) → slice_get tx m ≡ Some out → out_passed out ≡ sent_on (scenario_of script) m
   pub lines : (m : ℕ) (worker : LineWorker) → slice_get workers m ≡ Some worker → IsLineEnded script m worker
   pub cells : (m : ℕ) (into : RingIn Cell) → slice_get sink.rx.items m ≡ Some into → in_passed into ++ in_items into ≡ line_cells script m

@@ -1,9 +1,6 @@
 //! What the calling thread does while others run: a duty of its own. It owns what it writes to for that time, so that what was written is
 //! known once the duty comes back.
-ghost use Rattle.std.specs.Prelude.{◌≡◌, false};
-ghost use Rattle.got_out.specs.Told.{seen};
-ghost use Rattle.sink_worker.specs.Worker.{Stands, taken_of, has_failed};
-ghost use Rattle.session_parts.specs.Duty.{Begun, HasRun};
+ghost use Rattle.std.specs.Prelude.{◌≡◌};
 
 use member_ring::OpenGate;
 use outside_io::ByteSink;
@@ -20,15 +17,20 @@ pub enum Turned {
     Over,
 }
 
-/// A duty is done turn by turn. However often, it stands for the session that began as it did.
+/// A duty is done turn by turn. However often, it stands for the session that began as it did. A turn says exactly where it is over.
 pub trait Duty: Drop {
+    ghost use Rattle.std.specs.Prelude.{◌≡◌, ◌↔◌};
     ghost use Rattle.session_parts.specs.Duty.{Begun};
 
     ghost stands_for: { Self → Begun → Type 0 };
 
+    ghost is_over: { Self → Type 0 };
+
     /// Makes a turn. Whoever calls it passes the gate.
     fn turn(&mut self) -> Turned
-        ensures { (begun : Begun) → stands_for self.old begun → stands_for self.new begun };
+        ensures stands { (begun : Begun) → stands_for self.old begun → stands_for self.new begun }
+        ensures over { (result ≡ Turned.Over) ↔ is_over self.old }
+        ensures stays { is_over self.old → is_over self.new };
 }
 
 /// The duty of a sink: to take rows, and to write the lines of their frames.
@@ -62,10 +64,13 @@ impl<'a, K: ByteSink> SinkDuty<'a, K> {
 impl<'a, K: ByteSink> Duty for SinkDuty<'a, K> {
     ghost use Rattle.std.specs.Prelude.{◌≡◌};
     ghost use Rattle.got_out.specs.Told.{seen};
+    ghost use Rattle.sink_worker.specs.Worker.{taken_of, ticks_of};
     ghost use Rattle.session_parts.specs.Duty.{HasRun};
 
     ghost stands_for = { λ duty begun. (duty.out.ghost_name ≡ begun.name)
         × HasRun begun duty.sink (seen (K.written duty.out.now) (K.faults duty.out.now)) };
+
+    ghost is_over = { λ duty. taken_of duty.sink ≡ ticks_of duty.sink };
 
     fn turn(&mut self) -> Turned {
         match self.sink.burst(self.out, &OpenGate) {

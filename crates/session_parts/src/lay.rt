@@ -1,5 +1,5 @@
 //! The last bursts of lines, and the ends of their rings beside each other.
-ghost use Rattle.std.specs.Prelude.{◌≡◌, length, IsTrue, Contains};
+ghost use Rattle.std.specs.Prelude.{◌≡◌, ◌↔◌, length, IsTrue, Contains};
 ghost use Rattle.member_ring.specs.Ends.{AreEnds, out_passed};
 ghost use Rattle.member_ring.specs.Worker.{IsLater};
 ghost use Rattle.session_parts.specs.Lines.{AreLater};
@@ -11,7 +11,8 @@ use vc_cell::{Cell, Container};
 /// Makes a burst of a worker, and says whether it had come to its end before.
 fn carry_one<G: Gate>(worker: &mut LineWorker, gate: &G) -> bool
     ensures later { IsLater worker.old worker.new }
-    ensures done { IsTrue result → Contains (out_passed worker.new.producer) Cell.End }
+    ensures done { IsTrue result ↔ Contains (out_passed worker.old.producer) Cell.End }
+    ensures stays { IsTrue result → worker.new ≡ worker.old }
 {
     match worker.burst(gate) {
         Burst::Done => true,
@@ -22,7 +23,8 @@ fn carry_one<G: Gate>(worker: &mut LineWorker, gate: &G) -> bool
 /// Makes a burst of each worker, and says whether all of them had come to their end before.
 pub fn carry_all<G: Gate>(workers: &mut Vec<LineWorker>, gate: &G) -> bool
     ensures later { AreLater workers.old.items workers.new.items }
-    ensures done { IsTrue result → AreDone workers.new.items }
+    ensures done { IsTrue result ↔ AreDone workers.old.items }
+    ensures stays { IsTrue result → workers.new.items ≡ workers.old.items }
 {
     let mut done = true;
     for worker in workers.iter_mut() {

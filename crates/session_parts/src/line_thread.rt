@@ -1,22 +1,24 @@
-//! Line threads: each serves the workers of a share burst by burst, until it is told to give them back.
-ghost use Rattle.std.specs.Prelude.{◌≡◌, ◌≤◌, List, [], length, vec_len};
+//! Line threads: each serves the workers of a share burst by burst, until its flag tells it to give them back.
+ghost use Rattle.std.specs.Prelude.{◌≡◌, ℕ, ◌≤◌, List, [], length, vec_len};
 ghost use Rattle.std.specs.Global.{Vec};
 ghost use Rattle.std.specs.Vec.{vec_capacity};
 ghost use Rattle.member_ring.specs.declared.worker.LineWorker.{LineWorker};
 ghost use Rattle.member_ring.specs.Worker.{IsLater};
 ghost use Rattle.session_parts.specs.Lines.{AreLater, SharesLater};
-ghost use Rattle.session_parts.specs.Held.{IsHeldOf, AreHeldOf};
+ghost use Rattle.session_parts.specs.declared.flag.Flag.{Flag as OwnFlag};
+ghost use Rattle.session_parts.specs.Flags.{flag_of, heeded};
+ghost use Rattle.session_parts.specs.Held.{IsHeldOf, AreHeldOf, IsToldBy, AreToldBy};
 
+use crate::flag::{Flag, Heed};
 use member_ring::{Burst, Gate, LineWorker};
 use std::snapshot::Snapshot;
-use std::sync::Wait;
-use std::sync::atomic::{AtomicBool, Ordering};
+use std::sync::{OnceToken, Wait};
 use std::thread;
 use std::thread::{Promise, PromisedHandle, Scope, Threads};
 
-/// What a line thread promises: it gives back the workers that it was given, each later.
+/// What a line thread promises: it gives back the workers that it was given, each later, once this flag was stored.
 #[derive(Drop)]
-pub struct Kept(Snapshot<Vec<LineWorker>>);
+pub struct Kept(Snapshot<Vec<LineWorker>>, Snapshot<Flag>);
 
 impl Promise<Vec<LineWorker>> for Kept {
     ghost use Rattle.session_parts.specs.Lines.{AreLater};
@@ -33,20 +35,20 @@ pub enum Held {
     Here(Vec<LineWorker>),
 }
 
-/// Makes a burst of a worker, but not where a flag is set. Says whether it moved.
-fn serve_one<G: Gate>(worker: &mut LineWorker, gate: &G, stop: Option<&AtomicBool>) -> bool
+/// Makes a burst of a worker, but not where its flag is stored. Says whether it moved.
+fn serve_one<G: Gate>(worker: &mut LineWorker, gate: &G, stop: Option<Heed<'_>>) -> bool
     ensures { IsLater worker.old worker.new }
 {
     if let Some(stop) = stop {
-        if stop.load(Ordering::SeqCst) {
+        if stop.told().is_some() {
             return false;
         }
     }
     worker.burst(gate) == Burst::Moved
 }
 
-/// Makes a burst of each worker, as long as no flag is set, and says whether one of them moved.
-fn serve_once<G: Gate>(workers: &mut Vec<LineWorker>, gate: &G, stop: Option<&AtomicBool>) -> bool
+/// Makes a burst of each worker, as long as no flag is stored, and says whether one of them moved.
+fn serve_once<G: Gate>(workers: &mut Vec<LineWorker>, gate: &G, stop: Option<Heed<'_>>) -> bool
     ensures { AreLater workers.old.items workers.new.items }
 {
     let mut moved = false;
@@ -58,44 +60,61 @@ fn serve_once<G: Gate>(workers: &mut Vec<LineWorker>, gate: &G, stop: Option<&At
     moved
 }
 
-/// Serves workers until the flag is set.
-fn serve<R: Wait, G: Gate>(
+/// Serves workers until the flag is stored, and gives the evidence that it is.
+fn serve<'s, R: Wait, G: Gate>(
     rt: &R,
     gate: &G,
-    stop: &AtomicBool,
-    workers: Vec<LineWorker>,
-) -> Vec<LineWorker>
-    ensures { AreLater workers.items result.items }
+    stop: Heed<'s>,
+    workers: &mut Vec<LineWorker>,
+) -> OnceToken<'s, ()>
+    ensures told { result.of ≡ heeded stop.entry }
+    ensures later { AreLater workers.old.items workers.new.items }
 {
-    let mut own = workers;
     for _ in rt.forever() {
-        if stop.load(Ordering::SeqCst) {
-            return own;
+        if let Some(told) = stop.told() {
+            return told;
         }
-        if !serve_once(&mut own, gate, Some(stop)) {
+        if !serve_once(workers, gate, Some(stop)) {
             thread::yield_now();
         }
     }
     unreachable!()
 }
 
-/// Starts the thread of a share. Where it can't be started its flag is set, and the workers stay here.
+/// Serves workers until the flag is stored, and gives them back.
+fn serve_until<R: Wait, G: Gate>(
+    rt: &R,
+    gate: &G,
+    flag: &Flag,
+    workers: Vec<LineWorker>,
+) -> Vec<LineWorker>
+    ensures { AreLater workers.items result.items }
+{
+    let stop = flag.heed();
+    let mut own = workers;
+    let told = serve(rt, gate, stop, &mut own);
+    stop.comes_back(&told);
+    own
+}
+
+/// Starts the thread of a share. Where it can't be started its flag is stored, and the workers stay here.
 fn start_share<'s, 'e, R: Wait + Sync, G: Gate>(
     scope: &'s Scope<'s, &'e ()>,
     rt: &'s R,
     gate: &'s G,
-    stop: &'s AtomicBool,
+    flag: &'s Flag,
     workers: Vec<LineWorker>,
 ) -> Held
-    ensures { IsHeldOf workers.items result }
+    ensures held { IsHeldOf workers.items result }
+    ensures told { IsToldBy (flag_of flag.now) result }
 {
     match scope.spawn_with(
-        Kept(Snapshot::of(&workers)),
-        move || serve(rt, gate, stop, workers),
+        Kept(Snapshot::of(&workers), Snapshot::of(flag)),
+        move || serve_until(rt, gate, flag, workers),
     ) {
         Ok(child) => Held::There(child),
         Err(refused) => {
-            stop.store(true, Ordering::SeqCst);
+            flag.store(rt);
             Held::Here((refused.value)())
         }
     }
@@ -106,25 +125,28 @@ pub fn start_shares<'s, 'e, R: Wait + Sync, G: Gate>(
     scope: &'s Scope<'s, &'e ()>,
     rt: &'s R,
     gate: &'s G,
-    stops: &'s [AtomicBool],
+    flags: &'s [Flag],
     shares: Vec<Vec<LineWorker>>,
     room: Vec<Held>,
 ) -> Vec<Held>
-    requires stops { vec_len shares ≤ length stops.now }
+    requires flags { vec_len shares ≤ length flags.now }
     requires room { (room.items ≡ []) × (vec_len shares ≤ vec_capacity room) }
-    ensures { AreHeldOf shares.items result.items }
+    ensures held { AreHeldOf shares.items result.items }
+    ensures told { AreToldBy flags.now result.items }
 {
     let mut held = room;
     for workers in shares {
-        let stop = &stops[held.len()];
-        held.push_reserved(start_share(scope, rt, gate, stop, workers));
+        let flag = &flags[held.len()];
+        held.push_reserved(start_share(scope, rt, gate, flag, workers));
     }
     held
 }
 
 /// Makes a burst of each worker of a share that no thread serves.
 fn serve_here<G: Gate>(held: &mut Held, gate: &G)
-    ensures { (workers : List LineWorker) → IsHeldOf workers held.old → IsHeldOf workers held.new }
+    ensures held { (workers : List LineWorker) → IsHeldOf workers held.old →
+        IsHeldOf workers held.new }
+    ensures told { (flag : ℕ) → IsToldBy flag held.old → IsToldBy flag held.new }
 {
     if let Held::Here(workers) = held {
         serve_once(workers, gate, None);
@@ -133,16 +155,19 @@ fn serve_here<G: Gate>(held: &mut Held, gate: &G)
 
 /// Makes a burst of each worker that no thread serves.
 pub fn serve_all_here<G: Gate>(held: &mut Vec<Held>, gate: &G)
-    ensures { (shares : List (Vec LineWorker)) → AreHeldOf shares held.old.items →
+    ensures held { (shares : List (Vec LineWorker)) → AreHeldOf shares held.old.items →
         AreHeldOf shares held.new.items }
+    ensures told { (flags : List OwnFlag) → AreToldBy flags held.old.items →
+        AreToldBy flags held.new.items }
 {
     for share in held.iter_mut() {
         serve_here(share, gate);
     }
 }
 
-/// The workers of a share, once its thread has ended.
-fn take_back<R: Threads>(rt: &R, held: Held) -> Vec<LineWorker>
+/// The workers of a share, once its thread has ended. It is waited for with the evidence that its flag is stored.
+fn take_back<R: Threads>(rt: &R, held: Held, stored: &OnceToken<'_, ()>) -> Vec<LineWorker>
+    requires { IsToldBy stored.now.of held }
     ensures { (workers : List LineWorker) → IsHeldOf workers held → AreLater workers result.items }
 {
     match held {
@@ -151,19 +176,23 @@ fn take_back<R: Threads>(rt: &R, held: Held) -> Vec<LineWorker>
     }
 }
 
-/// The workers of all shares, once their threads have ended.
-pub fn take_all_back<R: Threads>(
+/// The workers of all shares, once their threads have ended. Each flag is stored before its thread is waited for.
+pub fn take_all_back<R: Threads + Wait>(
     rt: &R,
+    flags: &[Flag],
     held: Vec<Held>,
     room: Vec<Vec<LineWorker>>,
 ) -> Vec<Vec<LineWorker>>
-    requires { (room.items ≡ []) × (vec_len held ≤ vec_capacity room) }
+    requires room { (room.items ≡ []) × (vec_len held ≤ vec_capacity room) }
+    requires flags { vec_len held ≤ length flags.now }
+    requires told { AreToldBy flags.now held.items }
     ensures { (shares : List (Vec LineWorker)) → AreHeldOf shares held.items →
         SharesLater shares result.items }
 {
     let mut shares = room;
     for share in held {
-        shares.push_reserved(take_back(rt, share));
+        let stored = flags[shares.len()].store(rt);
+        shares.push_reserved(take_back(rt, share, &stored));
     }
     shares
 }

@@ -139,6 +139,9 @@ module _ (script : Script) (valid : IsValid script) (group : GroupState) (worker
   pub session-ended : IsEnded script group.tx.items group.back workers sink
   session-ended = record {
     count = end.workers_count;
+    send_ends = end.send_ends;
+    receive_ends = end.receive_ends;
+    return_ends = end.return_ends;
     sends = λ m out there. gathered.sent m out there ∙ sent-all m;
     lines = λ m worker there. record {
       line = end.lines m worker there;
@@ -181,7 +184,8 @@ module _ (script : Script) (valid : IsValid script) (group : GroupState) (worker
   ahead : Ahead (dues_of script.items) script.config.ticks (frames_of group) (commands_of group)
   ahead =
       subst (λ (dues : List Due). Ahead dues script.config.ticks (frames_of group) (commands_of group)) (ap dues_of end.of_script.items ∙ bare-dues script.items)
-      (subst (λ ticks. Ahead (dues_of (items_of group)) ticks (frames_of group) (commands_of group)) ticks-all group.keeps.ahead)
+      (subst (λ ticks. Ahead (dues_of (items_of group)) ticks (frames_of group) (commands_of group)) ticks-all
+      (record { of_frames = group.keeps.ahead.of_frames; of_commands = group.keeps.ahead.of_commands }))
 
   all-landed : landed_items script (counts_of group) ≡ numbered 0 script.items
   all-landed = (ended-landed script valid (frames_of group) (commands_of group) ahead).2
@@ -226,6 +230,7 @@ module _ (script : Script) (valid : IsValid script) (group : GroupState) (worker
         ticks = ticks-all;
         frames = omega (arith, landed.0, end.landed.most_frames);
         commands = omega (arith, landed.1, end.landed.most_commands);
+        journal = end.landed.entries;
         refusals = refusals-all;
         totals = totals-all;
       }

@@ -19,7 +19,7 @@ use Rattle.sink_worker.specs.Received.{received, backs}
 use Rattle.sink_worker.specs.Told.{count_of}
 use Rattle.sink_worker.specs.Worker.{Stands, cells_of, size_of, taken_of, got_of}
 use Rattle.group_lock.proofs.LayLaws.{AreStill}
-use Rattle.session_parts.specs.Laid.{IsSendLaid, IsReceiveLaid, AreSendsLaid, AreReceivesLaid, AreReceiveEnds}
+use Rattle.session_parts.specs.Laid.{IsSendLaid, IsReceiveLaid, AreSendsLaid, AreReceivesLaid, AreSendEnds, AreReceiveEnds}
 use Rattle.session_run.specs.Beside.{HasLookedLine}
 
 -- ends that have passed the same, by place
@@ -125,6 +125,24 @@ module _ (tx tx' : List (RingOut Container)) (workers mid workers' : List LineWo
       let same : into ≡ last = (let e : Some into ≡ Some last = sym at ∙ on' in cc) in
       ap (λ (end : RingIn Cell). in_passed end ++ in_items end) same ∙ got.fifo
 
+  send-ends-laid : AreSendEnds tx' workers'
+  send-ends-laid m out worker at there =
+      let inside = slice_get_within workers' m worker there in
+      let (old, was) = old-at m (omega (arith, inside, laid-count)) in
+      let (other, mid_there) = mid-at m (omega (arith, inside, laid-count)) in
+      let (first, last, on, on', sent) = send-at m old other was mid_there in
+      let (into, into', to, to', got) = receive-at m other worker mid_there there in
+      let same : last ≡ out = (let e : Some last ≡ Some out = sym on' ∙ at in cc) in
+      subst (λ (end : RingIn Container). AreEnds out end) (sym got.consumer) (subst (λ (end : RingOut Container). AreEnds end other.consumer) same sent.ends)
+
+  receive-ends-laid : AreReceiveEnds workers' rx'
+  receive-ends-laid m worker into there at =
+      let inside = slice_get_within workers' m worker there in
+      let (other, mid_there) = mid-at m (omega (arith, inside, laid-count)) in
+      let (first, last, on, on', got) = receive-at m other worker mid_there there in
+      let same : into ≡ last = (let e : Some into ≡ Some last = sym at ∙ on' in cc) in
+      subst (λ (end : RingIn Cell). AreEnds worker.producer end) (sym same) got.ends
+
   received-laid : received rx' ≡ received rx
   received-laid =
       same-passed rx rx' receives.second_count (λ m old new was is.
@@ -158,6 +176,8 @@ pub record AreRingsLaid (tx tx' : List (RingOut Container)) (workers workers' : 
       in_passed worker.consumer ++ in_items worker.consumer ≡ out_passed out
   pub receives : (m : ℕ) (worker : LineWorker) (into : RingIn Cell) → slice_get workers' m ≡ Some worker → slice_get rx' m ≡ Some into →
       in_passed into ++ in_items into ≡ out_passed worker.producer
+  pub send_ends : AreSendEnds tx' workers'
+  pub receive_ends : AreReceiveEnds workers' rx'
   pub cells : received rx' ≡ received rx
   pub still : AreStill tx tx'
 
@@ -168,6 +188,8 @@ rings-laid tx tx' workers mid workers' rx rx' sends receives tx_count rx_count =
   lines = looked-line tx tx' workers mid workers' rx rx' sends receives tx_count rx_count;
   sends = sends-laid tx tx' workers mid workers' rx rx' sends receives tx_count rx_count;
   receives = receives-laid tx tx' workers mid workers' rx rx' sends receives tx_count rx_count;
+  send_ends = send-ends-laid tx tx' workers mid workers' rx rx' sends receives tx_count rx_count;
+  receive_ends = receive-ends-laid tx tx' workers mid workers' rx rx' sends receives tx_count rx_count;
   cells = received-laid tx tx' workers mid workers' rx rx' sends receives tx_count rx_count;
   still = sends-still tx tx' workers mid workers' rx rx' sends receives tx_count rx_count;
 }

@@ -143,6 +143,9 @@ module _ (script : Script) (first : GroupState) (begun : List LineWorker) (taker
         rx_count = laid.rx_count ∙ after.1.ends.count ∙ open'.lines.rx_count;
         lines = line-of;
         done = all-done;
+        send_ends = laid.send_ends;
+        receive_ends = laid.receive_ends;
+        return_ends = laid.return_ends;
         sends = laid.sends;
         receives = laid.receives;
         returns = laid.returns;

@@ -6,7 +6,7 @@ use Rattle.vc_cell.specs.declared.BackCell.{BackCell}
 use Rattle.session_model.specs.declared.script.Script.{Script}
 use Rattle.member_ring.specs.declared.ends.RingOut.{RingOut}
 use Rattle.member_ring.specs.declared.ends.RingIn.{RingIn}
-use Rattle.member_ring.specs.Ends.{out_passed, in_passed, in_items}
+use Rattle.member_ring.specs.Ends.{out_passed, in_passed, in_items, AreEnds}
 use Rattle.member_ring.specs.declared.worker.LineWorker.{LineWorker}
 use Rattle.member_ring.specs.Worker.{number_of, delay_of, windows_of, total_of}
 use Rattle.sink_worker.specs.declared.worker.SinkWorker.{SinkWorker}
@@ -14,6 +14,7 @@ use Rattle.sink_worker.specs.Worker.{Stands, cells_of, lines_of, size_of, taken_
 use Rattle.group_lock.specs.declared.group.GroupState.{GroupState}
 use Rattle.group_lock.specs.Group.{ticks_of}
 use Rattle.group_lock.specs.Session.{IsBound}
+use Rattle.session_parts.specs.Laid.{AreSendEnds, AreReceiveEnds}
 
 -- the members of a session are this script, and the ends of this group's rings
 pub record IsSessionOf (of_script : Script) (tx : List (RingOut Container)) (back : List (RingIn BackCell)) (own : Script) (group : GroupState) : Type 0 where
@@ -38,6 +39,9 @@ pub record AreLaid (group : GroupState) (lines : List LineWorker) (sink : SinkWo
   pub count : length lines' ≡ length lines
   pub rx_count : length sink'.rx.items ≡ length sink.rx.items
   pub workers : (m : ℕ) (old new : LineWorker) → slice_get lines m ≡ Some old → slice_get lines' m ≡ Some new → HasLookedLine old new
+  pub send_ends : AreSendEnds group'.tx.items lines'
+  pub receive_ends : AreReceiveEnds lines' sink'.rx.items
+  pub return_ends : AreEnds sink'.back group'.back
   pub sends : (m : ℕ) (out : RingOut Container) (worker : LineWorker) → slice_get group'.tx.items m ≡ Some out → slice_get lines' m ≡ Some worker →
       in_passed worker.consumer ++ in_items worker.consumer ≡ out_passed out
   pub receives : (m : ℕ) (worker : LineWorker) (into : RingIn Cell) → slice_get lines' m ≡ Some worker → slice_get sink'.rx.items m ≡ Some into →

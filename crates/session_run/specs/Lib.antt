@@ -1,3 +1,4 @@
 pub mod Room
+pub mod Turns
 pub mod Beside
 pub mod Session

@@ -14,9 +14,9 @@ use Rattle.sink_worker.specs.Worker.{Stands, lines_of, size_of, taken_of, has_fa
 use Rattle.walk_law.specs.Landed.{refusals_among, totals_among}
 use Rattle.walk_law.specs.Promise.{numbered}
 use Rattle.group_lock.specs.declared.group.GroupState.{GroupState}
-use Rattle.group_lock.specs.Group.{IsOf, ticks_of, total_of, frames_of, commands_of, refusals_of, totals_of}
-use Rattle.group_lock.specs.Session.{IsBound, HasLandedOf}
-use Rattle.session_parts.specs.Laid.{AreDone}
+use Rattle.group_lock.specs.Group.{IsOf, ticks_of, total_of, frames_of, commands_of, journal_of, refusals_of, totals_of}
+use Rattle.group_lock.specs.Session.{AreItemsOf, IsBound, HasLandedOf}
+use Rattle.session_parts.specs.Laid.{AreDone, AreSendEnds, AreReceiveEnds}
 use Rattle.session_parts.specs.Opened.{IsLineOf, AreOpened}
 
 -- ---- the opening
@@ -37,7 +37,13 @@ pub record IsOpen (script : Script) (group : GroupState) (workers : List LineWor
   pub sink : IsSinkOf script worker
 
 -- ---- the end, as far as the workers themselves say
--- all frames are made, all lines have come to their end, all rows are taken; and the ends of each ring say the same
+-- all frames are made, all lines have come to their end, all rows are taken
+pub record IsAllDone (group : GroupState) (workers : List LineWorker) (sink : SinkWorker) : Type 0 where
+  pub made : total_of group ≤ ticks_of group
+  pub carried : AreDone workers
+  pub taken : taken_of sink ≡ rows_of sink
+
+-- the same, and the two ends of each ring say the same
 pub record HasComeToEnd (script : Script) (group : GroupState) (workers : List LineWorker) (sink : SinkWorker) : Type 0 where
   pub of_script : IsOf script group
   pub landed : HasLandedOf script group
@@ -47,6 +53,9 @@ pub record HasComeToEnd (script : Script) (group : GroupState) (workers : List L
   pub rx_count : length sink.rx.items ≡ script.config.lines
   pub lines : (m : ℕ) (worker : LineWorker) → slice_get workers m ≡ Some worker → IsLineOf script.config m worker
   pub done : AreDone workers
+  pub send_ends : AreSendEnds group.tx.items workers
+  pub receive_ends : AreReceiveEnds workers sink.rx.items
+  pub return_ends : AreEnds sink.back group.back
   pub sends : (m : ℕ) (out : RingOut Container) (worker : LineWorker) → slice_get group.tx.items m ≡ Some out → slice_get workers m ≡ Some worker →
       in_passed worker.consumer ++ in_items worker.consumer ≡ out_passed out
   pub receives : (m : ℕ) (worker : LineWorker) (into : RingIn Cell) → slice_get workers m ≡ Some worker → slice_get sink.rx.items m ≡ Some into →
@@ -62,10 +71,12 @@ pub record HasComeToEnd (script : Script) (group : GroupState) (workers : List L
 abbrev pub group_totals : Script → Totals
 group_totals script = record (totals_among script script.config.ticks 0 (numbered 0 script.items)) { got = 0 }
 
--- the group has made all frames and landed all items; those that are refused are the script's
+-- the group has made all frames and landed all items; each that it accepted is an item of the script, and those that it refused are the
+-- script's
 pub record IsGroupEnded (script : Script) (group : GroupState) : Type 0 where
   pub ticks : ticks_of group ≡ script.config.ticks
   pub frames : frames_of group ≡ length (offers_of script.items)
   pub commands : commands_of group ≡ length (orders_of script.items)
+  pub journal : AreItemsOf script (journal_of group)
   pub refusals : refusals_of group ≡ refusals_among script (numbered 0 script.items)
   pub totals : totals_of group ≡ group_totals script

@@ -1,10 +1,12 @@
 //! All threads of a session beside each other.
-ghost use Rattle.std.specs.Prelude.{◌≡◌, ◌<◌, ◌≤◌, List, [], length, vec_len};
+ghost use Rattle.std.specs.Prelude.{◌≡◌, ◌≤◌, List, [], vec_len, IfSome, IsTrue};
 ghost use Rattle.std.specs.Global.{Vec};
 ghost use Rattle.std.specs.Vec.{vec_capacity};
 ghost use Rattle.member_ring.specs.declared.worker.LineWorker.{LineWorker};
 ghost use Rattle.session_parts.specs.Duty.{Begun};
-ghost use Rattle.session_parts.specs.Held.{AreHeldOf};
+ghost use Rattle.session_parts.specs.declared.flag.Flag.{Flag as OwnFlag};
+ghost use Rattle.session_parts.specs.Flags.{flag_of, heeded, comes_by};
+ghost use Rattle.session_parts.specs.Held.{AreHeldOf, AreToldBy};
 ghost use Rattle.session_parts.specs.Lines.{AreLater, SharesLater, AreNumbered};
 ghost use Rattle.session_run.specs.Room.{HasRoomFor};
 
@@ -14,12 +16,14 @@ use group_lock::{BoundGroup, Session};
 use member_ring::{Gate, LineWorker, Who};
 use session_model::Item;
 use session_parts::{
-    Duty, Held, Turned, collect, deal, serve_all_here, start_shares, take_all_back,
+    Comes, Duty, Flag, Held, Turned, collect, deal, serve_all_here, start_shares, take_all_back,
 };
-use std::sync::atomic::{AtomicBool, Ordering};
-use std::sync::{Mutex, Wait};
+use std::sync::{Mutex, OnceToken, Wait};
 use std::thread;
-use std::thread::{JoinHandle, Scope, Threads};
+use std::thread::{PromisedHandle, Scope, Threads};
+
+/// A thread that comes back with evidence that its flag was stored.
+type Child<'s> = PromisedHandle<OnceToken<'s, ()>, Comes>;
 
 /// Starts a thread that lands the items that this one brings; none where it can't be started.
 fn start_landing<'s, 'e, Y: Session, R: Wait + Sync, G: Gate>(
@@ -27,19 +31,19 @@ fn start_landing<'s, 'e, Y: Session, R: Wait + Sync, G: Gate>(
     rt: &'s R,
     gate: &'s G,
     lock: &'s Mutex<BoundGroup<Y>>,
-    stop: &'s AtomicBool,
+    flag: &'s Flag,
     who: Who,
     items: &'s [Item],
-) -> Option<JoinHandle<()>>
+) -> Option<Child<'s>>
     requires { items.now ≡ Y.script.items }
+    ensures { IfSome result (λ child. comes_by child.promise ≡ flag_of flag.now) }
 {
-    scope
-        .spawn(
-            move || -> ()
-                requires { items.now ≡ Y.script.items }
-            { land_all::<Y, R, G>(rt, gate, lock, stop, who, items) },
-        )
-        .ok()
+    let stop = flag.heed();
+    let work = move || -> OnceToken<'_, ()>
+        requires { items.now ≡ Y.script.items }
+        ensures { result.of ≡ heeded stop.entry }
+    { land_all::<Y, R, G>(rt, gate, lock, stop, who, items) };
+    scope.spawn_with(Comes::by(flag), work).ok()
 }
 
 /// Starts the thread of the source; none where it can't be started.
@@ -48,17 +52,23 @@ fn start_source<'s, 'e, Y: Session, R: Wait + Sync, G: Gate>(
     rt: &'s R,
     gate: &'s G,
     lock: &'s Mutex<BoundGroup<Y>>,
-    stop: &'s AtomicBool,
-) -> Option<JoinHandle<()>> {
-    scope
-        .spawn(move || tick_all::<Y, R, G>(rt, gate, lock, stop))
-        .ok()
+    flag: &'s Flag,
+) -> Option<Child<'s>>
+    ensures { IfSome result (λ child. comes_by child.promise ≡ flag_of flag.now) }
+{
+    let stop = flag.heed();
+    let work = move || -> OnceToken<'_, ()>
+        ensures { result.of ≡ heeded stop.entry }
+    { tick_all::<Y, R, G>(rt, gate, lock, stop) };
+    scope.spawn_with(Comes::by(flag), work).ok()
 }
 
-/// Waits until a thread has ended, where it was started.
-fn join_started<R: Threads>(rt: &R, child: Option<JoinHandle<()>>) {
+/// Waits until a thread has ended, where it was started, with the evidence that its flag is stored.
+fn join_started<'s, R: Threads>(rt: &R, child: Option<Child<'s>>, stored: &OnceToken<'s, ()>)
+    requires { IfSome child (λ child. comes_by child.promise ≡ stored.now.of) }
+{
     if let Some(child) = child {
-        child.join(rt);
+        child.join(rt).agrees(stored);
     }
 }
 
@@ -71,6 +81,9 @@ fn attend<R: Wait, G: Gate, D: Duty>(
     held: Vec<Held>,
 ) -> (D, Vec<Held>)
     ensures duty { (begun : Begun) → D.stands_for duty begun → D.stands_for result.0 begun }
+    ensures over { IsTrue wanted → D.is_over result.0 }
+    ensures told { (flags : List OwnFlag) → AreToldBy flags held.items →
+        AreToldBy flags result.1.items }
     ensures held { (shares : List (Vec LineWorker)) → AreHeldOf shares held.items →
         AreHeldOf shares result.1.items }
 {
@@ -142,14 +155,15 @@ fn shares_beside<'x, Y: Session, R: Threads + Wait + Sync, G: Gate, D: Duty>(
                 items,
             );
             let source = start_source::<Y, R, G>(scope, rt, gate, lock, &flags.source);
-            let held = start_shares(scope, rt, gate, flags.lines.as_slice(), shares, held_room);
+            let lines = flags.lines.as_slice();
+            let held = start_shares(scope, rt, gate, lines, shares, held_room);
             let started = client.is_some() && operator.is_some() && source.is_some();
             let (duty, held) = attend(rt, gate, started, duty, held);
-            flags.stop_all();
-            let back = take_all_back(rt, held, back_room);
-            join_started(rt, client);
-            join_started(rt, operator);
-            join_started(rt, source);
+            flags.store_all(rt);
+            let back = take_all_back(rt, lines, held, back_room);
+            join_started(rt, client, &flags.client.store(rt));
+            join_started(rt, operator, &flags.operator.store(rt));
+            join_started(rt, source, &flags.source.store(rt));
             (back, duty)
         },
     )

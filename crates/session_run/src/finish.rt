@@ -1,11 +1,10 @@
 //! What the calling thread goes on with once all others have ended: whatever isn't done, in turn.
-ghost use Rattle.std.specs.Prelude.{◌≡◌, ◌≤◌, true};
+ghost use Rattle.std.specs.Prelude.{◌≡◌, ◌≤◌, ◌↔◌, true};
 ghost use Rattle.got_out.specs.Told.{seen};
-ghost use Rattle.sink_worker.specs.Worker.{taken_of, ticks_of as rows_of};
 ghost use Rattle.group_lock.specs.Group.{ticks_of, total_of};
 ghost use Rattle.session_parts.specs.Duty.{Begun, HasRun};
 ghost use Rattle.session_parts.specs.Lines.{AreLater};
-ghost use Rattle.session_parts.specs.Laid.{AreDone};
+ghost use Rattle.session_run.specs.Session.{IsAllDone};
 
 use crate::turns::{hand_in, who_brings};
 use group_lock::{BoundGroup, Session, TickAnswer};
@@ -19,7 +18,8 @@ use std::sync::Wait;
 /// Makes the next frame where it can be made, or else lands the item that holds it. Says whether all were made before.
 fn tick_or_land<Y: Session, G: Gate>(gate: &G, group: &mut BoundGroup<Y>, items: &[Item]) -> bool
     requires items { items.now ≡ Y.script.items }
-    ensures done { result ≡ true → total_of group.new.state ≤ ticks_of group.new.state }
+    ensures done { result ≡ true ↔ (total_of group.old.state ≤ ticks_of group.old.state) }
+    ensures stays { result ≡ true → total_of group.new.state ≤ ticks_of group.new.state }
 {
     gate.pass(Who::Source);
     match group.tick() {
@@ -44,7 +44,30 @@ fn land_held<Y: Session, G: Gate>(gate: &G, group: &mut BoundGroup<Y>, items: &[
     }
 }
 
-/// Goes on until all frames are made, all lines have come to their end and all rows are taken.
+/// Makes a turn of each: of the source or of who holds it, of the lines and of the sink. Says whether all was done before.
+fn round<Y: Session, K: ByteSink, G: Gate>(
+    gate: &G,
+    items: &[Item],
+    group: &mut BoundGroup<Y>,
+    lines: &mut Vec<LineWorker>,
+    sink: &mut SinkWorker,
+    out: &mut K,
+) -> bool
+    requires { items.now ≡ Y.script.items }
+    ensures done { result ≡ true ↔ IsAllDone group.old.state lines.old.items sink.old }
+    ensures stays { result ≡ true → IsAllDone group.new.state lines.new.items sink.new }
+    ensures lines { AreLater lines.old.items lines.new.items }
+    ensures run { (begun : Begun) →
+        HasRun begun sink.old (seen (K.written out.old) (K.faults out.old)) →
+        HasRun begun sink.new (seen (K.written out.new) (K.faults out.new)) }
+{
+    let made = tick_or_land::<Y, G>(gate, group, items);
+    let carried = carry_all(lines, gate);
+    let taken = sink.burst(out, gate) == SinkBurst::Done;
+    made && carried && taken
+}
+
+/// Makes rounds until all frames are made, all lines have come to their end and all rows are taken.
 pub(crate) fn finish<Y: Session, R: Wait, K: ByteSink, G: Gate>(
     rt: &R,
     gate: &G,
@@ -55,19 +78,14 @@ pub(crate) fn finish<Y: Session, R: Wait, K: ByteSink, G: Gate>(
     out: &mut K,
 )
     requires items { items.now ≡ Y.script.items }
-    ensures ticks { total_of group.new.state ≤ ticks_of group.new.state }
+    ensures done { IsAllDone group.new.state lines.new.items sink.new }
     ensures lines { AreLater lines.old.items lines.new.items }
-    ensures done { AreDone lines.new.items }
-    ensures taken { taken_of sink.new ≡ rows_of sink.new }
     ensures run { (begun : Begun) →
         HasRun begun sink.old (seen (K.written out.old) (K.faults out.old)) →
         HasRun begun sink.new (seen (K.written out.new) (K.faults out.new)) }
 {
     for _ in rt.forever() {
-        let made = tick_or_land::<Y, G>(gate, group, items);
-        let carried = carry_all(lines, gate);
-        let taken = sink.burst(out, gate) == SinkBurst::Done;
-        if made && carried && taken {
+        if round::<Y, K, G>(gate, items, group, lines, sink, out) {
             return;
         }
     }

@@ -5,45 +5,45 @@ ghost use Rattle.session_parts.specs.Lines.{HaveRoom};
 ghost use Rattle.session_run.specs.Room.{HasRoomFor};
 
 use member_ring::LineWorker;
-use session_parts::Held;
+use session_parts::{Flag, Held};
 use std::alloc::{AllocError, Global};
-use std::sync::atomic::{AtomicBool, Ordering};
+use std::sync::Wait;
 
 /// The flags at which threads look before each turn.
 #[derive(Drop)]
 pub(crate) struct Flags {
-    pub(crate) client: AtomicBool,
-    pub(crate) operator: AtomicBool,
-    pub(crate) source: AtomicBool,
-    pub(crate) lines: Vec<AtomicBool>,
+    pub(crate) client: Flag,
+    pub(crate) operator: Flag,
+    pub(crate) source: Flag,
+    pub(crate) lines: Vec<Flag>,
 }
 
 impl Flags {
     ghost use Rattle.std.specs.Prelude.{◌≡◌, IfOk, vec_len};
 
-    /// The flags of a session with this number of line threads. None is set.
+    /// The flags of a session with this number of line threads. None is stored.
     pub(crate) fn new(alloc: Global, workers: u8) -> Result<Flags, AllocError>
         ensures { IfOk result (λ flags. vec_len flags.lines ≡ workers) }
     {
         let mut lines = Vec::with_capacity(alloc, usize::from(workers))?;
         for _ in 0..workers {
-            lines.push(AtomicBool::new(false))?;
+            lines.push(Flag::new())?;
         }
         Ok(Flags {
-            client: AtomicBool::new(false),
-            operator: AtomicBool::new(false),
-            source: AtomicBool::new(false),
+            client: Flag::new(),
+            operator: Flag::new(),
+            source: Flag::new(),
             lines,
         })
     }
 
-    /// Sets all of them.
-    pub(crate) fn stop_all(&self) {
-        self.client.store(true, Ordering::SeqCst);
-        self.operator.store(true, Ordering::SeqCst);
-        self.source.store(true, Ordering::SeqCst);
+    /// Stores all of them, so that no thread goes on while another one is waited for.
+    pub(crate) fn store_all<R: Wait>(&self, rt: &R) {
+        self.client.store(rt);
+        self.operator.store(rt);
+        self.source.store(rt);
         for line in self.lines.iter() {
-            line.store(true, Ordering::SeqCst);
+            line.store(rt);
         }
     }
 }

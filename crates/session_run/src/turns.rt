@@ -1,13 +1,16 @@
 //! The turns at the group: each takes the lock, makes one call of the group and gives the lock back.
-ghost use Rattle.std.specs.Prelude.{◌≡◌, length};
+ghost use Rattle.std.specs.Prelude.{◌≡◌, IfSome};
 ghost use Rattle.group_lock.specs.Item.{kind_of};
+ghost use Rattle.group_lock.specs.Group.{HasCounted};
 ghost use Rattle.group_lock.specs.Session.{IsItemOf};
+ghost use Rattle.session_parts.specs.Flags.{heeded};
+ghost use Rattle.session_run.specs.Turns.{bringer};
 
 use group_lock::{BoundGroup, ItemRef, Session, SubmitFault, TickAnswer};
 use member_ring::{Gate, Who};
 use session_model::{Item, ItemKind};
-use std::sync::atomic::{AtomicBool, Ordering};
-use std::sync::{Mutex, Wait};
+use session_parts::Heed;
+use std::sync::{Mutex, OnceToken, Wait};
 use std::thread;
 
 /// An item as it is handed in.
@@ -22,7 +25,9 @@ fn as_handed(kind: &ItemKind) -> ItemRef<'_>
 }
 
 /// Who brings an item of this kind.
-pub(crate) fn who_brings(kind: &ItemKind) -> Who {
+pub(crate) fn who_brings(kind: &ItemKind) -> Who
+    ensures { result ≡ bringer kind.now }
+{
     match kind {
         ItemKind::Frame(_) => Who::Client,
         ItemKind::Add(_) | ItemKind::Remove(_) => Who::Operator,
@@ -32,6 +37,7 @@ pub(crate) fn who_brings(kind: &ItemKind) -> Who {
 /// Hands in an item, and says whether it has landed.
 pub(crate) fn hand_in<Y: Session>(group: &mut BoundGroup<Y>, number: u32, kind: &ItemKind) -> bool
     requires { IsItemOf Y.script number kind.now }
+    ensures { HasCounted group.old.state group.new.state kind.now result }
 {
     match group.submit(number, as_handed(kind)) {
         Ok(()) | Err(SubmitFault::Frame(_) | SubmitFault::Command(_)) => true,
@@ -46,66 +52,72 @@ pub(crate) fn hand_in<Y: Session>(group: &mut BoundGroup<Y>, number: u32, kind: 
     }
 }
 
-/// Lands an item once it is due, and says whether it has: not where the flag was set first.
-fn land<Y: Session, R: Wait, G: Gate>(
+/// Lands an item once it is due. Where the flag is stored first it doesn't land, and the evidence is given that it is.
+fn land<'s, Y: Session, R: Wait, G: Gate>(
     rt: &R,
     gate: &G,
     lock: &Mutex<BoundGroup<Y>>,
-    stop: &AtomicBool,
+    stop: Heed<'s>,
     number: u32,
     kind: &ItemKind,
-) -> bool
+) -> Option<OnceToken<'s, ()>>
     requires { IsItemOf Y.script number kind.now }
+    ensures { IfSome result (λ told. told.of ≡ heeded stop.entry) }
 {
     let who = who_brings(kind);
     for _ in rt.forever() {
-        if stop.load(Ordering::SeqCst) {
-            return false;
+        if let Some(told) = stop.told() {
+            return Some(told);
         }
         gate.pass(who);
         let landed = hand_in(&mut *lock.lock(rt), number, kind);
         if landed {
             gate.moved(who);
-            return true;
+            return None;
         }
         thread::yield_now();
     }
     unreachable!()
 }
 
-/// Lands the items of a script that this one brings, in their order, until the flag is set.
-pub(crate) fn land_all<Y: Session, R: Wait, G: Gate>(
+/// Lands the items of a script that this one brings, in their order, and comes back once the flag is stored.
+pub(crate) fn land_all<'s, Y: Session, R: Wait, G: Gate>(
     rt: &R,
     gate: &G,
     lock: &Mutex<BoundGroup<Y>>,
-    stop: &AtomicBool,
+    stop: Heed<'s>,
     who: Who,
     items: &[Item],
-)
+) -> OnceToken<'s, ()>
     requires { items.now ≡ Y.script.items }
+    ensures { result.of ≡ heeded stop.entry }
 {
     for number in 0..u32::MAX {
         let Some(item) = items.get(number as usize) else {
-            return;
+            break;
         };
-        if who_brings(&item.kind) == who
-            && !land::<Y, R, G>(rt, gate, lock, stop, number, &item.kind)
-        {
-            return;
+        if who_brings(&item.kind) == who {
+            if let Some(told) = land::<Y, R, G>(rt, gate, lock, stop, number, &item.kind) {
+                return told;
+            }
         }
     }
+    stop.wait(rt)
 }
 
-/// Makes the frames one after another as they can be made, until the flag is set. After the last one return cells are still moved.
-pub(crate) fn tick_all<Y: Session, R: Wait, G: Gate>(
+/// Makes the frames one after another as they can be made, and comes back once the flag is stored. After the last one return cells are
+/// still moved.
+pub(crate) fn tick_all<'s, Y: Session, R: Wait, G: Gate>(
     rt: &R,
     gate: &G,
     lock: &Mutex<BoundGroup<Y>>,
-    stop: &AtomicBool,
-) {
+    stop: Heed<'s>,
+) -> OnceToken<'s, ()>
+    ensures { result.of ≡ heeded stop.entry }
+{
     for _ in rt.forever() {
-        if stop.load(Ordering::SeqCst) {
-            return;
+        if let Some(told) = stop.told() {
+            return told;
         }
         gate.pass(Who::Source);
         let answer = lock.lock(rt).tick();
@@ -115,4 +127,5 @@ pub(crate) fn tick_all<Y: Session, R: Wait, G: Gate>(
             thread::yield_now();
         }
     }
+    unreachable!()
 }

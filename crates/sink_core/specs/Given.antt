@@ -38,6 +38,10 @@ read_rows cells count = map (read_packets cells) (range_with_len 0 count)
 abbrev pub packet_rows : ℕ → ℕ
 packet_rows taken = (taken - 8) / 16
 
+-- a packet ends with row t, which is 16 k + 23
+abbrev pub IsPacketEnd : ℕ → Type 0
+IsPacketEnd t = (22 < t) × (t % 16 ≡ 7)
+
 -- the return packet that row t makes, where a packet ends with it
 abbrev pub back_at : List (List Cell) → ℕ → Option Packet
 back_at cells t = if nat_lt 22 t && t % 16 == 7 then Some (return_at cells ((t - 23) / 16)) else None
@@ -50,6 +54,16 @@ answer_by None cells t = Taken (back_at cells t)
 -- the answer where t rows were taken: it waits for the first line whose cells don't decide row t, or the row is taken
 abbrev pub answer_at : List (List Cell) → ℕ → TakeAnswer
 answer_at cells t = answer_by (first_open cells t) cells t
+
+-- the line that an answer waits for
+abbrev pub waiting_for : TakeAnswer → Option ℕ
+waiting_for (Taken back) = None
+waiting_for (Waiting line) = Some line
+
+-- the return packet that it has
+abbrev pub back_of : TakeAnswer → Option Packet
+back_of (Taken back) = back
+back_of (Waiting line) = None
 
 -- how many rows an answer takes
 abbrev pub rows_taken : TakeAnswer → ℕ

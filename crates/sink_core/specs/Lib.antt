@@ -1,4 +1,4 @@
-pub mod Start
+pub mod Kept
 pub mod Given
 pub mod Receives
 pub mod Active

@@ -1,7 +1,8 @@
 //! Where frames go.
 
 ghost use Rattle.std.specs.Prelude.{◌≡◌, ℕ, ◌≤◌, false, List, [], ◌∷◌, ◌++◌, length, map, IfOk};
-ghost use Rattle.sink_core.specs.Start.{Start, HasKept};
+ghost use Rattle.outside_io.specs.Start.{Start};
+ghost use Rattle.sink_core.specs.Kept.{HasKept};
 
 use std::alloc::{AllocError, Global};
 use std::marker::Model;
@@ -28,7 +29,7 @@ pub struct KeptFrames {
 
 impl Model for KeptFrames {
     ghost use Rattle.std.specs.Prelude.{map};
-    ghost use Rattle.sink_core.specs.Start.{Kept};
+    ghost use Rattle.sink_core.specs.Kept.{Kept};
 
     ghost Value = { Kept };
 
@@ -64,7 +65,7 @@ impl KeptFrames {
 }
 
 impl FrameOut for KeptFrames {
-    ghost use Rattle.sink_core.specs.Start.{HasKept};
+    ghost use Rattle.sink_core.specs.Kept.{HasKept};
 
     ghost stands_for = { λ kept start frames. HasKept kept frames };
 

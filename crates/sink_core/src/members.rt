@@ -9,7 +9,7 @@ ghost use Rattle.gfp_delineate.specs.Repeated.{idles_from};
 ghost use Rattle.session_model.specs.Core.{core_header};
 ghost use Rattle.session_model.specs.Interleave.{octets_from};
 ghost use Rattle.vcat_interleave.specs.Members.{payload_at, payloads_of, AreLines};
-ghost use Rattle.sink_core.specs.Start.{Start};
+ghost use Rattle.outside_io.specs.Start.{Start};
 ghost use Rattle.sink_core.specs.Receives.{IsKnown, Grows, Gives, IsIdle};
 
 use crate::frames::FrameOut;

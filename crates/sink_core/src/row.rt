@@ -9,7 +9,7 @@ ghost use Rattle.loss_law.specs.Added.{added};
 ghost use Rattle.vcat_interleave.specs.Members.{AreLines};
 ghost use Rattle.realign_core.specs.Gather.{Stands, line_count, AreDecided};
 ghost use Rattle.sink_core.specs.Members.{Hold, octets_if};
-ghost use Rattle.sink_core.specs.Start.{Start};
+ghost use Rattle.outside_io.specs.Start.{Start};
 ghost use Rattle.sink_core.specs.Given.{row_in};
 ghost use Rattle.sink_core.specs.Receives.{IsKnown, Receives};
 

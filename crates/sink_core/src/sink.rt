@@ -1,14 +1,14 @@
 //! The sink.
 
-ghost use Rattle.std.specs.Prelude.{◌≡◌, ℕ, ◌+◌, ◌%◌, ◌<◌, ◌≤◌, ◌==◌, ◌&&◌, ◌⊎◌, nat_lt, List, ◌++◌, length, IfOk};
+ghost use Rattle.std.specs.Prelude.{◌≡◌, ℕ, ◌+◌, ◌%◌, ◌<◌, ◌≤◌, ◌==◌, ◌&&◌, ◌⊎◌, ◌↔◌, nat_lt, List, ◌++◌, length, IfOk, IsSome, IsTrue};
 ghost use Rattle.vc_cell.specs.declared.Cell.{Cell};
-ghost use Rattle.realign_core.specs.Gather.{Stands as Gathers, line_count};
-ghost use Rattle.sink_core.specs.Start.{Start};
+ghost use Rattle.realign_core.specs.Gather.{Stands as Gathers, line_count, open_line};
+ghost use Rattle.outside_io.specs.Start.{Start};
 ghost use Rattle.std.specs.Vec.{vec_capacity};
 ghost use Rattle.session_model.specs.Rows.{governing, active_of};
 ghost use Rattle.vcat_interleave.specs.Members.{AreLines};
 ghost use Rattle.lcas_sink.specs.Stands.{Stands as HasTold};
-ghost use Rattle.sink_core.specs.Given.{answer_at, added_frames, back_at, read_rows, packet_rows, rows_taken, IsWaiting, Allows};
+ghost use Rattle.sink_core.specs.Given.{answer_at, added_frames, back_at, read_rows, packet_rows, rows_taken, waiting_for, back_of, IsPacketEnd, IsWaiting, Allows};
 ghost use Rattle.sink_core.specs.Core.{Stands};
 
 use crate::active::find_active;
@@ -124,6 +124,9 @@ impl SinkCore {
             (start : Start) (frames : List (List ℕ)) → F.stands_for out.old start frames →
             F.stands_for out.new start
             (frames ++ added_frames self.old.size cells self.old.taken self.new.taken) }
+        ensures least { waiting_for result ≡ open_line rows.old }
+        ensures back { IsSome (back_of result) ↔
+            ((rows_taken result ≡ 1) × IsPacketEnd self.old.taken) }
         ensures allows { Allows rows.old result }
         ensures waits { IsWaiting result →
             (self.new ≡ self.old) × (rows.new ≡ rows.old) × (out.new ≡ out.old) }
@@ -160,7 +163,8 @@ impl SinkCore {
 
 /// Whether a packet ends with row `t`.
 fn ends_packet(t: u32) -> bool
-    ensures { result ≡ (nat_lt 22 t && t % 16 == 7) }
+    ensures value { result ≡ (nat_lt 22 t && t % 16 == 7) }
+    ensures end { IsTrue result ↔ IsPacketEnd t }
 {
     t >= FIRST_ROW - 1 && t % 16 == 7
 }
@@ -177,6 +181,7 @@ fn pass_row(table: &mut SinkTable, t: u32, packets: &[Option<Packet>]) -> Option
         HasTold table.new (read_rows cells (packet_rows (t + 1))) }
     ensures back { (cells : List (List Cell)) → packets.now ≡ governing cells (t + 1) →
         HasTold table.old (read_rows cells (packet_rows t)) → result ≡ back_at cells t }
+    ensures there { IsSome result ↔ IsPacketEnd t }
 {
     if ends_packet(t) {
         Some(table.packet_row(packets))

@@ -17,7 +17,7 @@ use Rattle.member_ring.specs.declared.ends.RingIn.{RingIn}
 use Rattle.member_ring.specs.declared.ends.RingOut.{RingOut}
 use Rattle.member_ring.specs.Ends.{in_passed, SameIn}
 use Rattle.member_ring.proofs.EndLaws.{in-then, out-then}
-use Rattle.sink_core.specs.Start.{Start}
+use Rattle.outside_io.specs.Start.{Start}
 use Rattle.sink_core.specs.Given.{given_frames, added_frames, back_at}
 use Rattle.sink_core.specs.Core.{Core, Stands}
 use Rattle.sink_core.proofs.LaterLaws.{stands-longer, frames-stay, back-stays, with_cell-longer, frames-grow}

@@ -1,5 +1,5 @@
 -- The parts of a sink over rings, and what a step does to them.
-use Rattle.std.specs.Prelude.{◌≡◌, ℕ, ◌%◌, ◌<◌, ◌≤◌, ◌⊎◌, List, ◌++◌, length, Some}
+use Rattle.std.specs.Prelude.{◌≡◌, ℕ, ◌%◌, ◌<◌, ◌≤◌, ◌⊎◌, List, ◌++◌, length, Some, None}
 use Rattle.outside_io.specs.Faults.{one_more}
 use Rattle.vc_cell.specs.declared.Cell.{Cell}
 use Rattle.vc_cell.specs.declared.BackCell.{BackCell}
@@ -7,7 +7,7 @@ use Rattle.session_model.specs.Rows.{first_open}
 use Rattle.line_law.specs.StableRows.{IsLonger}
 use Rattle.realign_core.specs.Gather.{Gather, line_count}
 use Rattle.realign_core.specs.Gather.{Stands as Gathers}
-use Rattle.sink_core.specs.Start.{Start}
+use Rattle.outside_io.specs.Start.{Start}
 use Rattle.sink_core.specs.Core.{Core, Stands}
 use Rattle.sink_core.specs.Given.{added_frames}
 use Rattle.member_ring.specs.declared.ends.RingIn.{RingIn}
@@ -63,11 +63,11 @@ pub record IsFull (t : ℕ) (old new : RingOut BackCell) : Type 0 where
   pub counted : out_misses new ≡ one_more (out_misses old)
 
 -- what an answer says: a row was taken or a cell popped; or neither was, since the next row isn't decided on a line of which no cell was
--- there, or since there was no slot for the return packet that it makes
+-- there; or since it is decided on each line and there was no slot for the return packet that it makes
 abbrev pub Does : Parts → Parts → SinkBurst → Type 0
 Does a b Moved = Progress a b
 Does a b (Idle (Waiting line)) = Rests a b × (first_open (received a.rx) a.core.taken ≡ Some line) × Missed a.rx b.rx line
-Does a b (Idle BackFull) = Rests a b × IsFull a.core.taken a.back b.back
+Does a b (Idle BackFull) = Rests a b × (first_open (received a.rx) a.core.taken ≡ None) × IsFull a.core.taken a.back b.back
 Does a b Done = Rests a b
 
 -- the frames of the rows taken were given, after whatever had been given before

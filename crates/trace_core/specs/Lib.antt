@@ -2,3 +2,4 @@ pub mod Decoder
 pub mod Wording
 pub mod Worked
 pub mod StepText
+pub mod VcText

@@ -1,4 +1,4 @@
-//! Finds the control packets of a line in its H4 octets, octet by octet, and puts together the lines of a decoding and of a trace.
+//! Finds the control packets of a line in its H4 octets, octet by octet, and puts together the lines of a decoding, of a trace and of a VC-4.
 //! Begin with `H4Decoder` and `trace_line`; `packets_law` says that the decoder's definition is what is worded of packets. How a packet
 //! is read is not said here, and nothing is written to an output.
 #![tactic(auto)]
@@ -11,12 +11,14 @@ ghost use Rattle.trace_core.specs.Wording.{AreWorded, AreOnly, PacketsStay};
 ghost use Rattle.trace_core.specs.Worked.{AreRead, IsRefused};
 
 mod lines;
+mod vc;
 
 use h4_multiframe::{MfiLock, Place};
 use lcas_packet::{Packet, PacketFault, read};
 pub use lines::{FOUND_ROOM, TRACE_ROOM, end_line, found_line, trace_line};
 use std::marker::Model;
 use vc_bits::{nibble_hi, nibble_lo};
+pub use vc::vc_line;
 
 /// Finds the control packets in the H4 octets of a line, all of whose cells are good.
 #[derive(Clone, Copy)]

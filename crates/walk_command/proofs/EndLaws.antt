@@ -6,7 +6,7 @@ use Rattle.outside_io.proofs.Parts.{Appends-none}
 use Rattle.session_model.specs.declared.script.Script.{Script}
 use Rattle.session_model.specs.Counts.{Counts, begin}
 use Rattle.report_text.specs.Report.{got_texts, total_text}
-use Rattle.sink_core.specs.Start.{Start}
+use Rattle.outside_io.specs.Start.{Start}
 use Rattle.got_out.specs.declared.got.GotOut.{GotOut}
 use Rattle.got_out.specs.Told.{GivesUp, HasText, has_failed, name_of, start_at}
 use Rattle.walk_law.specs.Walk.{walk_plan}

@@ -8,7 +8,7 @@ use Rattle.session_model.specs.Counts.{Plan, Counts, begin, step, run, round, dr
 use Rattle.progress_law.proofs.ReachLaws.{run-none}
 use Rattle.std.proofs.lemmas.List.{take_all}
 use Rattle.session_model.specs.Valid.{IsValid}
-use Rattle.sink_core.specs.Start.{Start}
+use Rattle.outside_io.specs.Start.{Start}
 use Rattle.walk_law.specs.Walk.{walk_plan}
 use Rattle.walk_law.proofs.PlanLaws.{has-paths, valid-walks}
 use Rattle.walk_core.specs.Moved.{Walked, GivesRows, delivered_since}

@@ -15,7 +15,7 @@ use Rattle.session_model.specs.Source.{after}
 use Rattle.session_model.specs.Counts.{Plan, Counts, step, run, run_lines, begin, round}
 use Rattle.progress_law.proofs.ReachLaws.{run-append, walked-reached}
 use Rattle.report_text.specs.Report.{got_text, got_texts, total_text}
-use Rattle.sink_core.specs.Start.{Start}
+use Rattle.outside_io.specs.Start.{Start}
 use Rattle.trace_core.proofs.StepTextLaws.{texts-more}
 use Rattle.got_out.specs.Told.{AppendsSome, GivesUp}
 use Rattle.walk_law.specs.Delivered.{delivered_of}

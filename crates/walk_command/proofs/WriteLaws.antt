@@ -5,7 +5,7 @@ use Rattle.outside_io.specs.Transfer.{Appends, AppendsPart}
 use Rattle.session_model.specs.declared.script.Script.{Script}
 use Rattle.session_model.specs.Counts.{Counts, begin}
 use Rattle.report_text.specs.Report.{got_texts, total_text}
-use Rattle.sink_core.specs.Start.{Start}
+use Rattle.outside_io.specs.Start.{Start}
 use Rattle.walk_law.specs.Walk.{walk_plan}
 use Rattle.walk_law.specs.Delivered.{delivered_of}
 use Rattle.walk_law.specs.Landed.{refusals_of, totals_of}

@@ -1,6 +1,6 @@
 -- What some events make of a walk, as private clauses say it.
 use Rattle.std.specs.Prelude.{◌≡◌, ℕ, List}
-use Rattle.sink_core.specs.Start.{Start}
+use Rattle.outside_io.specs.Start.{Start}
 use Rattle.session_model.specs.Counts.{Counts}
 use Rattle.walk_core.specs.Moved.{Walked, GivesRows}
 

@@ -7,7 +7,7 @@ ghost use Rattle.session_model.specs.declared.walk.Event.{Event};
 ghost use Rattle.session_model.specs.Valid.{IsValid, IsEvent};
 ghost use Rattle.session_model.specs.Scenario.{steps_in};
 ghost use Rattle.session_model.specs.Counts.{Plan, Counts, begin, run, run_line, drain, bound};
-ghost use Rattle.sink_core.specs.Start.{Start};
+ghost use Rattle.outside_io.specs.Start.{Start};
 ghost use Rattle.walk_law.specs.Walk.{walk_plan, IsWalked};
 ghost use Rattle.walk_law.specs.Delivered.{delivered_of};
 ghost use Rattle.walk_core.specs.Moved.{GivesRows};

@@ -11,7 +11,7 @@ ghost use Rattle.report_text.specs.Report.{total_text};
 ghost use Rattle.walk_law.specs.Walk.{walk_plan};
 ghost use Rattle.walk_law.specs.Landed.{refusals_of, totals_of};
 ghost use Rattle.walk_law.specs.Report.{refused_texts};
-ghost use Rattle.sink_core.specs.Start.{Start};
+ghost use Rattle.outside_io.specs.Start.{Start};
 ghost use Rattle.got_out.specs.Told.{HasText};
 ghost use Rattle.command_parts.specs.Stop.{HasRun, ReadsScript};
 ghost use Rattle.walk_command.specs.Ended.{WritesWalk, WritesWalkPart, HandsBack};

@@ -15,7 +15,7 @@ use Rattle.progress_law.proofs.MeasureLaws.{round-less, drain-round, drain-stop}
 use Rattle.progress_law.proofs.ReachLaws.{run-append}
 use Rattle.report_text.specs.declared.report.Refusal.{Refusal}
 use Rattle.walk_law.specs.Walk.{walk_plan, IsWalked}
-use Rattle.sink_core.specs.Start.{Start}
+use Rattle.outside_io.specs.Start.{Start}
 use Rattle.walk_law.proofs.PlanLaws.{has-plan, valid-walks}
 use Rattle.walk_law.specs.Delivered.{delivered_of}
 use Rattle.walk_law.proofs.FrameLaws.{frames-grow}

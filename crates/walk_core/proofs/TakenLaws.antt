@@ -21,7 +21,7 @@ use Rattle.line_law.specs.StableRows.{IsLonger}
 use Rattle.realign_core.specs.Gather.{Gather, line_count}
 use Rattle.sink_core.specs.Given.{row_in, added_frames, back_at}
 use Rattle.sink_core.specs.Core.{Core, Stands as HasTaken}
-use Rattle.sink_core.specs.Start.{Start}
+use Rattle.outside_io.specs.Start.{Start}
 use Rattle.sink_core.proofs.GivenLaws.{packet-ends, packet-of}
 use Rattle.sink_core.proofs.LaterLaws.{stands-longer}
 use Rattle.walk_law.specs.Walk.{walk_plan, CanWalk, IsWalked, counts_at, popped_on, popped_cells, path_on}

@@ -1,7 +1,7 @@
 //! Frames that are counted on their way.
 
 ghost use Rattle.std.specs.Prelude.{◌≡◌, ℕ, List};
-ghost use Rattle.sink_core.specs.Start.{Start};
+ghost use Rattle.outside_io.specs.Start.{Start};
 
 use sink_core::FrameOut;
 

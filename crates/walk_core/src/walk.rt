@@ -12,7 +12,7 @@ ghost use Rattle.progress_law.specs.Progress.{HasLine};
 ghost use Rattle.walk_law.specs.Walk.{walk_plan};
 ghost use Rattle.walk_law.specs.Landed.{landed_scenario, told_before, refusals_of, totals_of, IsPlaced};
 ghost use Rattle.walk_law.specs.Step.{last_packet, table_in};
-ghost use Rattle.sink_core.specs.Start.{Start};
+ghost use Rattle.outside_io.specs.Start.{Start};
 ghost use Rattle.source_core.specs.Terminal.{needed, SameKind};
 ghost use Rattle.source_core.specs.Given.{with_cell, Stands, Stands as HasMade};
 ghost use Rattle.walk_core.specs.Moved.{counts_after, moved_of, delivered_since, GivesRows};

@@ -36,7 +36,7 @@ kept (Some why) frame = []
 
 module _ (scenario : Scenario) (cells : List (Option Told)) where
   -- those that are accepted of offers that come after others
-  unfoldable judged : List Offer → List Offer → List (List ℕ)
+  unfoldable pub judged : List Offer → List Offer → List (List ℕ)
   judged before [] = []
   judged before (offer ∷ offers) =
       kept (frame_refusal offer.frame (stream_met scenario cells offer.due before)) offer.frame ++ judged (before ++ offer ∷ []) offers
@@ -100,7 +100,7 @@ module _ (scenario : Scenario) (cells : List (Option Told)) where
       filter-append (comes_at t) (landed comes_at offers n) (filter (comes_at n) offers)
       ∙ ap₂ ◌++◌ (none-yet offers n t (omega arith)) (apart n t offers (omega arith))
 
-  landed-judged : (n : ℕ) → judged [] (landed comes_at scenario.offers n) ≡ frames_before scenario cells n
+  pub landed-judged : (n : ℕ) → judged [] (landed comes_at scenario.offers n) ≡ frames_before scenario cells n
   unfolding judged landed offers_before
   landed-judged zero = refl
   landed-judged (suc n) =
@@ -141,7 +141,7 @@ kind-judged scenario cells due front (Add line) more =
 kind-judged scenario cells due front (Remove line) more =
     ap₂ (λ l (before : List Offer). l ++ judged scenario cells before more) (no-frame-remove (kind_refusal scenario cells due front (Remove line)) line) (append-nil (offers_of front))
 
-items-judged : (script : Script) (rest front : List Item) → script.items ≡ front ++ rest →
+pub items-judged : (script : Script) (rest front : List Item) → script.items ≡ front ++ rest →
     flat_map (λ (item : Numbered). frame_by (refusal_at script item) item.item.kind) (numbered (length front) rest)
     ≡ judged (scenario_of script) (session_cells (scenario_of script)) (offers_of front) (offers_of rest)
 unfolding numbered judged

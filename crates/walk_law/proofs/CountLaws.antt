@@ -204,7 +204,7 @@ width-few scenario cells t =
           rw e (omega arith)
     ]
 
-place-few : (scenario : Scenario) (cells : List (Option Told)) (t : ℕ) → place_of scenario cells t ≤ t * (scenario.size * length scenario.windows)
+pub place-few : (scenario : Scenario) (cells : List (Option Told)) (t : ℕ) → place_of scenario cells t ≤ t * (scenario.size * length scenario.windows)
 unfolding place_of
 place-few scenario cells zero = omega arith
 place-few scenario cells (suc t) =

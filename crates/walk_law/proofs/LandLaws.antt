@@ -176,7 +176,7 @@ command-waits script s k order walked low there =
     ∙ ap (option_map (λ (order : Order). order.due)) there)
 
 -- ---- the session of what has landed
-filter-first : {X : Type 0} (p : X → Bool) (a : ℕ) (xs : List X) → ((k : ℕ) (x : X) → a ≤ k → slice_get xs k ≡ Some x → p x ≡ false) →
+pub filter-first : {X : Type 0} (p : X → Bool) (a : ℕ) (xs : List X) → ((k : ℕ) (x : X) → a ≤ k → slice_get xs k ≡ Some x → p x ≡ false) →
     filter p (take a xs) ≡ filter p xs
 filter-first p zero [] none = refl
 filter-first p (suc a) [] none = refl

@@ -13,3 +13,5 @@ pub mod StepLaws
 pub mod EndLaws
 pub mod WholeLaws
 pub mod CountLaws
+pub mod QuietLaws
+mod MetLaws

@@ -1,7 +1,9 @@
 -- A worked script: what is refused, what is accepted, and what is counted.
-use Rattle.std.specs.Prelude.{ℕ, Bool, true, false, List, [], ◌∷◌, ◌++◌, map, replicate, codes}
+use Rattle.std.specs.Prelude.{ℕ, Bool, true, false, List, [], ◌∷◌, ◌++◌, map, length, replicate, codes}
+use Rattle.std.specs.List.{range_with_len}
 use Rattle.session_model.specs.declared.refusal.AcceptFault.TheVariants.{Length}
 use Rattle.session_model.specs.declared.refusal.CommandFault.TheVariants.{UnknownLine, AlreadyIn, NotIn}
+use Rattle.session_model.specs.declared.window.Window.{Window}
 use Rattle.session_model.specs.declared.script.Config.{Config}
 use Rattle.session_model.specs.declared.script.Item.{Item}
 use Rattle.session_model.specs.declared.script.ItemKind.{ItemKind}
@@ -18,26 +20,27 @@ use Rattle.walk_law.specs.Walk.{session_of}
 abbrev pub item : ℕ → ItemKind → Item
 item due kind = record { due = due; kind = kind }
 
--- one line without delay; 41 ticks; a frame that is too short, a line that there isn't, and a line that is added twice and removed twice
-abbrev pub one_line : Config
-one_line = record {
-  lines = 1;
-  delays = 0 ∷ [];
-  windows = [] ∷ [];
+-- lines with these failures, without delay, whose containers have 756 octets, and whose return packets all come
+abbrev pub plain : List (List Window) → ℕ → ℕ → ℕ → Config
+plain windows ring lag ticks = record {
+  lines = length windows;
+  delays = replicate (length windows) 0;
+  windows = windows;
   lost = [];
-  ring = 1;
-  lag = 2;
-  ticks = 41;
+  ring = ring;
+  lag = lag;
+  ticks = ticks;
   size = 756;
 }
 
+-- one line; 41 ticks; a frame that is too short, a line that there isn't, and a line that is added twice and removed twice
 abbrev pub eight_items : List Item
 eight_items =
     item 0 (Frame (replicate 63 0)) ∷ item 0 (Add 1) ∷ item 0 (Frame (replicate 64 1)) ∷ item 0 (Add 0) ∷ item 5 (Add 0)
     ∷ item 20 (Remove 0) ∷ item 20 (Remove 0) ∷ item 40 (Frame (replicate 64 2)) ∷ []
 
 abbrev pub worked_script : Script
-worked_script = record { config = one_line; items = eight_items; events = [] }
+worked_script = record { config = plain ([] ∷ []) 1 2 41; items = eight_items; events = [] }
 
 -- all have landed and all rows are taken; and one frame and two commands have landed before the first tick
 abbrev pub at_the_end : Counts
@@ -82,48 +85,45 @@ worked_report =
     ++ codes "total ticks 41 taken 41 frames 2 commands 2 refused 4 got 0\n"
 
 -- ---- a frame that is delivered
-abbrev pub delivering_config : Config
-delivering_config = record {
-  lines = 1;
-  delays = 0 ∷ [];
-  windows = [] ∷ [];
-  lost = [];
-  ring = 1;
-  lag = 1;
-  ticks = 41;
-  size = 756;
-}
-
 -- the line is in use in packet 1, so the last row is the first that carries payload
 abbrev pub delivering_script : Script
-delivering_script = record { config = delivering_config; items = item 0 (Add 0) ∷ item 0 (Frame (replicate 64 7)) ∷ []; events = [] }
+delivering_script = record {
+  config = plain ([] ∷ []) 1 1 41;
+  items = item 0 (Add 0) ∷ item 0 (Frame (replicate 64 7)) ∷ [];
+  events = [];
+}
 
 abbrev pub one_frame : List (List ℕ)
 one_frame = replicate 64 7 ∷ []
 
 -- ---- a failure
--- one line, added at once, of which containers 1000 and 1001 fail and 1002 vanishes
-abbrev pub failing_config : Config
-failing_config = record {
-  lines = 1;
-  delays = 0 ∷ [];
-  windows = (record { first = 1000; «end» = 1003; slip = 1 } ∷ []) ∷ [];
-  lost = [];
-  ring = 4;
-  lag = 2;
-  ticks = 1100;
-  size = 756;
-}
+-- one line, added at once, of which containers 1000 and 1001 fail and 1002 vanishes; and three frames after that
+abbrev pub failing_windows : List (List Window)
+failing_windows = (record { first = 1000; «end» = 1003; slip = 1 } ∷ []) ∷ []
+
+abbrev pub failing_items : List Item
+failing_items =
+    item 0 (Add 0) ∷ item 1040 (Frame (replicate 64 1)) ∷ item 1040 (Frame (replicate 64 2))
+    ∷ item 1040 (Frame (replicate 64 3)) ∷ []
 
 abbrev pub failing_script : Script
-failing_script = record { config = failing_config; items = item 0 (Add 0) ∷ []; events = [] }
+failing_script = record { config = plain failing_windows 4 2 1100; items = failing_items; events = [] }
 
--- the rows at each end of the gaps
+-- rows 999 to 1032: of the gaps, the first has 10 rows and the second 16, with 6 whole ones between
 abbrev pub seen_rows : List ℕ
-seen_rows = 999 ∷ 1000 ∷ 1009 ∷ 1010 ∷ 1015 ∷ 1016 ∷ 1031 ∷ 1032 ∷ []
+seen_rows = range_with_len 999 34
 
 abbrev pub seen_whole : List Bool
-seen_whole = true ∷ false ∷ false ∷ true ∷ true ∷ false ∷ false ∷ true ∷ []
+seen_whole = true ∷ replicate 10 false ++ replicate 6 true ++ replicate 16 false ++ true ∷ []
 
 abbrev pub whole_rows : Script → List ℕ → List Bool
 whole_rows script rows = map (λ t. is_whole_row (scenario_of script) (session_of script) t) rows
+
+-- ---- a line that is seen beside one that isn't
+-- two lines, added at once; nothing of line 0 arrives
+abbrev pub silent_windows : List (List Window)
+silent_windows = (record { first = 0; «end» = 600; slip = 0 } ∷ []) ∷ [] ∷ []
+
+abbrev pub silent_script : Script
+silent_script =
+    record { config = plain silent_windows 1 1 600; items = item 0 (Add 0) ∷ item 0 (Add 1) ∷ []; events = [] }

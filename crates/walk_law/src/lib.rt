@@ -1,11 +1,12 @@
 //! The law that a walk of a script is a course of its session: whatever events were tried in whatever order, the cells that the sink
 //! has popped by the counts decide the rows that the counts say were taken, and these rows and the return packets that came to the
 //! source are the session's. There is no code here. Begin at `walk_law`; `ring_law`, `take_law` and `return_law` say what the rings hold
-//! by the counts, and `landing_law`, `source_law` and `report_law` what has landed. `delivery_law`, `failure_law`, `drain_law`,
-//! `member_law` and `answer_law` are what is promised of a script.
+//! by the counts, and `landing_law`, `source_law` and `report_law` what has landed. `delivery_law`, `clear_law`, `failure_law`,
+//! `start_law`, `drain_law`, `member_law` and `answer_law` are what is promised of a script, and `met_law` shows scripts that meet what
+//! they ask.
 #![tactic(auto)]
 
-ghost use Rattle.std.specs.Prelude.{◌≡◌, ◌↔◌, ℕ, Bool, true, ◌+◌, ◌-◌, ◌*◌, ◌/◌, ◌%◌, ◌<◌, ◌≤◌, ◌==◌, ◌&&◌, nat_le, nat_lt, min, if◌then◌else◌, List, [], ◌∷◌, ◌++◌, map, fold, length, take, drop, slice_get, slice_index_or, All, Option, Some, None, is_none, option_map};
+ghost use Rattle.std.specs.Prelude.{◌≡◌, ◌↔◌, ℕ, suc, Bool, true, false, ◌+◌, ◌-◌, ◌*◌, ◌/◌, ◌%◌, ◌<◌, ◌≤◌, ◌==◌, ◌&&◌, nat_le, nat_lt, min, if◌then◌else◌, List, [], ◌∷◌, ◌++◌, map, fold, length, take, drop, slice_get, slice_index_or, All, Option, Some, None, is_none, option_map};
 ghost use Rattle.std.specs.List.{range_with_len};
 ghost use Rattle.vc_cell.specs.declared.Cell.{Cell};
 ghost use Rattle.session_model.specs.declared.window.Window.{Window};
@@ -24,7 +25,7 @@ ghost use Rattle.session_model.specs.Back.{return_cell};
 ghost use Rattle.session_model.specs.Told.{told_in};
 ghost use Rattle.session_model.specs.Piece.{frames_by};
 ghost use Rattle.session_model.specs.Segment.{StreamRow, segments, deliver};
-ghost use Rattle.session_model.specs.Loss.{Extent, Lost, is_frame_lost, frames_kept};
+ghost use Rattle.session_model.specs.Loss.{Extent, Lost, is_frame_lost, IsPlaceOfPiece, frames_kept};
 ghost use Rattle.session_model.specs.Table.{Told, kept_of};
 ghost use Rattle.session_model.specs.declared.walk.Event.{Event};
 ghost use Rattle.session_model.specs.Payload.{payload_of};
@@ -43,7 +44,7 @@ ghost use Rattle.walk_law.specs.Rings.{delay_on, line_cells, AreDecidedBefore, s
 ghost use Rattle.walk_law.specs.Delivered.{session_rows, delivered_of, IsReceived};
 ghost use Rattle.walk_law.specs.Step.{last_packet, table_in};
 ghost use Rattle.walk_law.specs.Report.{report_of, final_report};
-ghost use Rattle.walk_law.specs.Worked.{worked_script, three_landed, at_the_end, first_refusals, all_refusals, first_totals, all_totals, two_frames, worked_report, delivering_script, one_frame, failing_script, seen_rows, seen_whole, whole_rows};
+ghost use Rattle.walk_law.specs.Worked.{worked_script, three_landed, at_the_end, first_refusals, all_refusals, first_totals, all_totals, two_frames, worked_report, delivering_script, one_frame, failing_script, seen_rows, seen_whole, whole_rows, silent_script};
 ghost use Rattle.walk_law.specs.Promise.{numbered, accepted_frames, session_pieces, session_extents, session_waiting, place_after, HasNoFailure, IsClear, row_from, AreWholeBefore, ConfirmsTrue, drained, InUseBy};
 ghost use Rattle.walk_law.specs.Landed.{Numbered, landed_items, landed_scenario, told_before, IsOfferAt, IsOrderAt, refusal_at, refused_by, refusals_of, IsPlaced, totals_of, with_frame_told, with_command_told};
 
@@ -350,6 +351,22 @@ pub fn failure_law()
         (session_extents script) }
 {}
 
+/// When what is confirmed first after each break is sure to be the place of a piece: where each row that isn't whole ends at such a
+/// place; so where no frame has come before the last row that isn't whole has ended, since the stream has only idles there.
+pub fn start_law()
+    ensures aligned { (script : Script) (rows : ℕ) → IsValid script →
+        rows ≤ script.config.ticks → ((t : ℕ) → t < rows →
+        is_whole_row (scenario_of script) (session_of script) t ≡ false →
+        IsPlaceOfPiece (session_pieces script) (place_after script (suc t))) →
+        ConfirmsTrue script rows }
+    ensures quiet { (script : Script) (rows from : ℕ) → IsValid script →
+        rows ≤ script.config.ticks → from ≤ script.config.ticks →
+        All (λ (offer : Offer). from ≤ offer.due) (offers_of script.items) →
+        ((t : ℕ) → from ≤ t → t < rows →
+        is_whole_row (scenario_of script) (session_of script) t ≡ true) →
+        ConfirmsTrue script rows }
+{}
+
 /// A walk is never stuck, and takes no row before its tick: where rows are left, some event moves or a Take pops a cell; the inbox never
 /// holds more return cells than the lag; and rounds end with all rows taken, within a bound. Then all ticks are made and all items have
 /// landed, and the report is one and the same, whatever was tried before.
@@ -372,8 +389,9 @@ pub fn drain_law()
         report_of script (drained script s) ≡ final_report script }
 {}
 
-/// How soon a line that is added carries payload: fifteen packets and the lag later, where each line in ADD can be read meanwhile; and
-/// at most as long again later, where no other line in ADD can.
+/// How soon a line that is added carries payload, where no return packet is lost and no further command carried out in between: fifteen
+/// packets and the lag later, where each line in ADD can be read meanwhile; and at most as long again later, where it can be read and no
+/// other line in ADD can.
 pub fn member_law()
     ensures undamaged { (script : Script) (first line : ℕ) →
         AddsUndamaged (scenario_of script) first line →
@@ -399,6 +417,16 @@ pub fn answer_law()
         WasSaid (scenario_of script) (session_of script) j sq ok }
 {}
 
+/// Scripts that meet what is asked above. In one, whose only line fails, what is confirmed after each break is the place of a piece, and
+/// the line was added undamaged before that; in the other a line is added beside one of which nothing arrives.
+pub fn met_law()
+    ensures failing { IsValid failing_script }
+    ensures starts { ConfirmsTrue failing_script failing_script.config.ticks }
+    ensures undamaged { AddsUndamaged (scenario_of failing_script) 0 0 }
+    ensures silent { IsValid silent_script }
+    ensures others_silent { AddsAmongSilent (scenario_of silent_script) 1 1 }
+{}
+
 /// Worked scripts, computed: what is refused, counted, accepted and reported; a frame that is delivered; and which rows a failure of
 /// three containers spoils.
 pub fn worked_law()
@@ -409,6 +437,5 @@ pub fn worked_law()
     ensures accepted { accepted_frames worked_script ≡ two_frames }
     ensures report { report_of worked_script at_the_end ≡ worked_report }
     ensures delivered { delivered_of delivering_script 41 ≡ one_frame }
-    ensures valid { IsValid failing_script }
     ensures spoiled { whole_rows failing_script seen_rows ≡ seen_whole }
 {}

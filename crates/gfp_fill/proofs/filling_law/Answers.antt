@@ -1,7 +1,7 @@
 -- The laws of streams that users of a filler need.
 use Rattle.session_model.proofs.ReachLaws.{reached-fewest, reached-join, reached-begun}
 use Rattle.gfp_fill.proofs.StreamLaws.{take-stream_of, begun-next_pieces, begun-opening}
-use Rattle.gfp_fill.proofs.StreamSteps.{long}
+use Rattle.gfp_fill.proofs.StreamSteps.{long, one_queue}
 use Rattle.gfp_fill.proofs.filling_law.Goals as goal
 use Rattle.std.proofs.Common.{arith}
 
@@ -16,6 +16,9 @@ returns-clause-begun c = reached-begun
 
 pub returns-clause-next : goal.returns-clause-next
 returns-clause-next c = begun-next_pieces
+
+pub returns-clause-queue : goal.returns-clause-queue
+returns-clause-queue c = one_queue
 
 pub returns-clause-long : goal.returns-clause-long
 returns-clause-long c = long

@@ -4,6 +4,7 @@ use Rattle.session_model.specs.Client.{stream_before}
 use Rattle.session_law.proofs.ClientLaws.{stream_before-frames}
 use Rattle.loss_law.proofs.SessionStreamLaws.{rows-carry, rows-length}
 use Rattle.loss_law.proofs.SessionLossLaws.{frames-extents, session-kept}
+use Rattle.loss_law.proofs.AlignedLaws.{aligned-starts}
 use Rattle.loss_law.proofs.session_loss_law.Goals as goal
 
 pub returns-clause-accepted : goal.returns-clause-accepted
@@ -19,3 +20,6 @@ returns-clause-place c = λ scenario cells t. rows-length scenario cells t t (om
 
 pub returns-clause-kept : goal.returns-clause-kept
 returns-clause-kept c = session-kept
+
+pub returns-clause-aligned : goal.returns-clause-aligned
+returns-clause-aligned c = aligned-starts

@@ -1,6 +1,6 @@
 -- The lines of the refusals so far are written.
 use Rattle.std.proofs.Common.{ℕ, List, ◌++◌, take}
-use Rattle.sink_core.specs.Start.{Start}
+use Rattle.outside_io.specs.Start.{Start}
 use Rattle.walk_law.specs.Report.{refused_texts}
 use Rattle.got_out.specs.Told.{HasText}
 use Rattle.command_parts.proofs.report.write_refusals.Given as goal

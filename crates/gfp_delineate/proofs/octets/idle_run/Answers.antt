@@ -1,5 +1,5 @@
 use Rattle.std.proofs.Common.{◌≡◌, ◌+◌, ◌*◌, ◌++◌, take, sym, ap, ◌∙◌, arith}
-use Rattle.session_model.proofs.IdleLaws.{idle_header, idles, idles-more}
+use Rattle.session_model.proofs.IdleLaws.{idle_header, idles-more}
 use Rattle.gfp_delineate.proofs.Repeating.{repeated-idles}
 use Rattle.gfp_delineate.proofs.octets.idle_run.Goals as goal
 

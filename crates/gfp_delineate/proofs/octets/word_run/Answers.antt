@@ -2,7 +2,6 @@ use Rattle.std.proofs.Common.{◌≡◌, ℕ, List, ◌+◌, ◌-◌, ◌*◌, �
 use Rattle.std.specs.Int.{to_le_bytes, w64}
 use Rattle.std.proofs.Math.Seq.{take-add}
 use Rattle.std.proofs.lemmas.List.{take_all}
-use Rattle.gfp_delineate.specs.Repeated.{repeated}
 use Rattle.gfp_delineate.proofs.Repeating.{repeated-add}
 use Rattle.gfp_delineate.proofs.octets.word_run.Goals as goal
 

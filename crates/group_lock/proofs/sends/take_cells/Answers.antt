@@ -1,6 +1,7 @@
--- One more return cell is moved.
-use Rattle.std.proofs.Common.{◌≡◌, ◌+◌, ◌<◌, [], ◌∷◌, ◌++◌, length, sym, ◌∙◌, ap, subst, arith, append_assoc}
+-- One more return cell is moved, or a look finds none, or there is no more room.
+use Rattle.std.proofs.Common.{◌≡◌, ◌+◌, ◌<◌, List, [], ◌∷◌, ◌++◌, length, inl, inr, refl, sym, ◌∙◌, ap, subst, arith, append_assoc}
 use Rattle.std.proofs.lemmas.List.{length_push}
+use Rattle.outside_io.specs.Faults.{one_more}
 use Rattle.vc_cell.specs.declared.BackCell.{BackCell}
 use Rattle.member_ring.specs.declared.ends.RingIn.{RingIn}
 use Rattle.member_ring.specs.Ends.{in_passed, SameIn}
@@ -43,3 +44,18 @@ loop-back-preserved c =
       few = omega arith;
       quiet = c.pop.ensures.quiet ∙ c.ready.ensures.quiet c.if-not-ready.false ∙ i.invariant.quiet;
     }
+
+nothing : {X : Type 0} (xs : List X) → (0 < length xs → ⊥) → xs ≡ []
+nothing [] none = refl
+nothing (x ∷ xs) none = absurd (none (omega arith))
+
+pub returns-then-not-ready-clause-until : goal.returns-then-not-ready-clause-until
+returns-then-not-ready-clause-until c =
+    let e = c.ready.ensures in
+    inl (record {
+      none = nothing _ (λ some. let yes = e.known.1 some in let no = c.if-not-ready.true in absurd cc);
+      missed = e.counted c.if-not-ready.true ∙ ap one_more c.loop-back.invariant.quiet;
+    })
+
+pub returns-clause-until : goal.returns-clause-until
+returns-clause-until c = inr (sym (c.is_full.ensures.0 c.loop-back-test.false))

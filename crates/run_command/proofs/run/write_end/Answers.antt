@@ -1,7 +1,7 @@
 -- What waits is the rest of the report.
 use Rattle.std.proofs.Common.{rules, sym, ◌∙◌, subst, ℕ, OnOk, OnErr}
 use Rattle.outside_io.specs.Transfer.{Appends, AppendsPart}
-use Rattle.sink_core.specs.Start.{Start}
+use Rattle.outside_io.specs.Start.{Start}
 use Rattle.got_out.specs.Told.{HasText, name_of, start_at}
 use Rattle.run_command.specs.Ended.{end_text}
 use Rattle.run_command.proofs.EndLaws.{end-written}

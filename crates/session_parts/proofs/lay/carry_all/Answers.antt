@@ -1,8 +1,10 @@
 -- A worker that was done before its burst is as it was.
-use Rattle.std.proofs.Common.{◌≡◌, inl, inr, ℕ, ◌+◌, ◌<◌, length, sym, ◌∙◌, subst, ap, arith}
+use Rattle.std.proofs.Common.{◌≡◌, inl, inr, ℕ, ◌+◌, ◌<◌, ◌≤◌, Bool, true, false, Some, get_or, slice_get, length, sym, ◌∙◌, subst, ap, arith}
 use Rattle.std.specs.Prelude.{Contains}
+use Rattle.std.proofs.Math.ListN.{set}
+use Rattle.std.proofs.lemmas.Bool.{cases_Bool}
 use Rattle.std.proofs.lemmas.List.{with_items_is}
-use Rattle.std.proofs.lemmas.Option.{slice_get_within}
+use Rattle.std.proofs.lemmas.Option.{slice_get_within, slice_get-get_or}
 use Rattle.vc_cell.specs.declared.Cell.TheVariants.{End}
 use Rattle.member_ring.specs.declared.worker.LineWorker.{LineWorker}
 use Rattle.member_ring.specs.Ends.{out_passed}
@@ -11,7 +13,7 @@ use Rattle.member_ring.proofs.LaterLaws.{later-refl, later-then}
 use Rattle.session_parts.specs.Lines.{AreLater}
 use Rattle.session_parts.specs.Laid.{AreDone}
 use Rattle.session_parts.proofs.ZipLaws.{zip-refl, zip-set}
-use Rattle.session_parts.proofs.DealLaws.{set-found}
+use Rattle.session_parts.proofs.DealLaws.{set-found, set-same}
 use Rattle.session_parts.proofs.lay.carry_all.Goals as goal
 use Rattle.session_parts.proofs.lay.carry_all.Goals.{then-not-carry_one, else-not-carry_one}
 
@@ -22,6 +24,9 @@ pub loop-worker-init : goal.loop-worker-init
 loop-worker-init g c = record {
   later = subst (AreLater c.args.workers.now.items) (sym c.deref_mut-worker-items.ensures.value) (zip-refl IsLater later-refl c.args.workers.now.items);
   done = λ yes m worker low there. absurd (omega (arith, low));
+  same = λ yes. c.deref_mut-worker-items.ensures.value;
+  left = λ no. absurd cc;
+  rest = λ m worker low there. subst (λ l. slice_get l m ≡ Some worker) c.deref_mut-worker-items.ensures.value there;
 }
 
 pub loop-worker-preserved : goal.loop-worker-preserved
@@ -29,17 +34,39 @@ loop-worker-preserved g c =
     let before = c.loop-worker.invariant in
     let items = c.loop-worker.worker-items in
     let i = c.loop-worker.worker-index in
+    let was : LineWorker = get_or items i c.worker-item.result in
+    let within : i < length items = omega (arith, c.loop-worker-test.true, c.loop-worker.auto.worker-items) in
+    let there : slice_get items i ≡ Some was = slice_get-get_or items i c.worker-item.result within in
     record {
       later = zip-set IsLater c.args.workers.now.items items i c.worker-item.result c.carry_one.new.worker
-          (omega (arith, c.loop-worker-test.true, c.loop-worker.auto.worker-items)) (λ x later. later-then x _ c.carry_one.new.worker later c.carry_one.ensures.later) before.later;
+          within (λ x later. later-then x _ c.carry_one.new.worker later c.carry_one.ensures.later) before.later;
       done = elim c.if-not-carry_one.branch [
         | then-not-carry_one w ↦ λ yes. absurd (let no' = w.done-is in cc)
-        | else-not-carry_one w ↦ λ yes m worker low there.
-            elim (set-found items i m c.carry_one.new.worker worker (omega (arith, c.loop-worker-test.true, c.loop-worker.auto.worker-items)) there) [
-              | inl (at, is) ↦ subst (λ (one : LineWorker). Contains (out_passed one.producer) End) (sym is) (c.carry_one.ensures.done w.if-not-carry_one.false)
+        | else-not-carry_one w ↦ λ yes m worker low found.
+            elim (set-found items i m c.carry_one.new.worker worker within found) [
+              | inl (at, is) ↦ subst (λ (one : LineWorker). Contains (out_passed one.producer) End)
+                  (sym (is ∙ c.carry_one.ensures.stays w.if-not-carry_one.false)) (c.carry_one.ensures.done.0 w.if-not-carry_one.false)
               | inr (other, is) ↦ before.done (sym w.done-is ∙ yes) m worker (below-it m i low other) is
             ]
       ];
+      same = elim c.if-not-carry_one.branch [
+        | then-not-carry_one w ↦ λ yes. absurd (let no' = w.done-is in cc)
+        | else-not-carry_one w ↦ λ yes.
+            ap (set items i) (c.carry_one.ensures.stays w.if-not-carry_one.false) ∙ set-same items i c.worker-item.result within ∙ before.same (sym w.done-is ∙ yes)
+      ];
+      left = elim c.if-not-carry_one.branch [
+        | then-not-carry_one w ↦ λ no all.
+            let has = all i was (before.rest i was (omega arith) there) in
+            let yes = c.carry_one.ensures.done.1 has in
+            let none = w.if-not-carry_one.true in
+            absurd cc
+        | else-not-carry_one w ↦ λ no. before.left (sym w.done-is ∙ no)
+      ];
+      rest = λ m worker low found.
+          elim (set-found items i m c.carry_one.new.worker worker within found) [
+            | inl (at, is) ↦ absurd (omega arith)
+            | inr (other, is) ↦ before.rest m worker (omega arith) is
+          ];
     }
 
 pub returns-clause-later : goal.returns-clause-later
@@ -49,9 +76,18 @@ returns-clause-later g c =
     subst (AreLater v.items) (sym (with_items_is v items (omega (arith, c.loop-worker.auto.worker-items, ap (length {A = LineWorker}) c.deref_mut-worker-items.ensures.value, v.ok.0)))) c.loop-worker.invariant.later
 
 pub returns-clause-done : goal.returns-clause-done
-returns-clause-done g c = λ yes.
+returns-clause-done g c = (
+  λ yes. subst AreDone (c.loop-worker.invariant.same yes)
+      (λ m worker there. c.loop-worker.invariant.done yes m worker
+      (let inside = slice_get_within c.loop-worker.worker-items m worker there in omega (arith, inside, c.loop-worker-test.false, c.loop-worker.auto.worker-items)) there),
+  λ all. by_done c.loop-worker.done (λ no. c.loop-worker.invariant.left no all),
+)
+  where
+    by_done : (done : Bool) → (done ≡ false → ⊥) → done ≡ true
+    by_done done other = elim (cases_Bool done) [ inl is ↦ is | inr isnt ↦ absurd (other isnt) ]
+
+pub returns-clause-stays : goal.returns-clause-stays
+returns-clause-stays g c = λ yes.
     let v = c.args.workers.now in
     let items = c.loop-worker.worker-items in
-    subst AreDone (sym (with_items_is v items (omega (arith, c.loop-worker.auto.worker-items, ap (length {A = LineWorker}) c.deref_mut-worker-items.ensures.value, v.ok.0))))
-    (λ m worker there. c.loop-worker.invariant.done yes m worker
-    (let inside = slice_get_within items m worker there in omega (arith, inside, c.loop-worker-test.false, c.loop-worker.auto.worker-items)) there)
+    with_items_is v items (omega (arith, c.loop-worker.auto.worker-items, ap (length {A = LineWorker}) c.deref_mut-worker-items.ensures.value, v.ok.0)) ∙ c.loop-worker.invariant.same yes

@@ -4,20 +4,35 @@ use Rattle.std.proofs.lemmas.List.{with_items_is}
 use Rattle.std.specs.Global.{Vec}
 use Rattle.member_ring.specs.declared.worker.LineWorker.{LineWorker}
 use Rattle.session_parts.specs.declared.line_thread.Held.{Held}
-use Rattle.session_parts.specs.Held.{IsHeldOf, AreHeldOf}
+use Rattle.session_parts.specs.Held.{IsHeldOf, AreHeldOf, AreToldBy}
 use Rattle.session_parts.proofs.ZipLaws.{zip-set}
+use Rattle.session_parts.proofs.FlagLaws.{told-set}
 use Rattle.session_parts.proofs.line_thread.serve_all_here.Goals as goal
 
 pub loop-share-init : goal.loop-share-init
-loop-share-init g c = λ shares held. subst (AreHeldOf shares) (sym c.deref_mut-share-items.ensures.value) held
+loop-share-init g c = record {
+  held = λ shares held. subst (AreHeldOf shares) (sym c.deref_mut-share-items.ensures.value) held;
+  told = λ flags told. subst (AreToldBy flags) (sym c.deref_mut-share-items.ensures.value) told;
+}
 
 pub loop-share-preserved : goal.loop-share-preserved
-loop-share-preserved g c = λ shares held.
-    zip-set (λ (share : Vec LineWorker) (one : Held). IsHeldOf share.items one) shares c.loop-share.share-items c.loop-share.share-index c.share-item.result c.serve_here.new.held
-    (omega (arith, c.loop-share-test.true, c.loop-share.auto.share-items)) (λ share one. c.serve_here.ensures share.items one) (c.loop-share.invariant shares held)
+loop-share-preserved g c = record {
+  held = λ shares held.
+      zip-set (λ (share : Vec LineWorker) (one : Held). IsHeldOf share.items one) shares c.loop-share.share-items c.loop-share.share-index c.share-item.result c.serve_here.new.held
+      (omega (arith, c.loop-share-test.true, c.loop-share.auto.share-items)) (λ share one. c.serve_here.ensures.held share.items one) (c.loop-share.invariant.held shares held);
+  told = λ flags told.
+      told-set flags c.loop-share.share-items c.loop-share.share-index c.share-item.result c.serve_here.new.held
+      (omega (arith, c.loop-share-test.true, c.loop-share.auto.share-items)) c.serve_here.ensures.told (c.loop-share.invariant.told flags told);
+}
 
-pub returns : goal.returns
-returns g c = λ shares held.
+pub returns-clause-held : goal.returns-clause-held
+returns-clause-held g c = λ shares held.
     let v = c.args.held.now in
     let items = c.loop-share.share-items in
-    subst (AreHeldOf shares) (sym (with_items_is v items (omega (arith, c.loop-share.auto.share-items, ap (length {A = Held}) c.deref_mut-share-items.ensures.value, v.ok.0)))) (c.loop-share.invariant shares held)
+    subst (AreHeldOf shares) (sym (with_items_is v items (omega (arith, c.loop-share.auto.share-items, ap (length {A = Held}) c.deref_mut-share-items.ensures.value, v.ok.0)))) (c.loop-share.invariant.held shares held)
+
+pub returns-clause-told : goal.returns-clause-told
+returns-clause-told g c = λ flags told.
+    let v = c.args.held.now in
+    let items = c.loop-share.share-items in
+    subst (AreToldBy flags) (sym (with_items_is v items (omega (arith, c.loop-share.auto.share-items, ap (length {A = Held}) c.deref_mut-share-items.ensures.value, v.ok.0)))) (c.loop-share.invariant.told flags told)

@@ -6,5 +6,5 @@ use Rattle.session_parts.proofs.ZipLaws.{zip-then}
 use Rattle.session_parts.specs.Held.{IsHeldOf}
 use Rattle.session_parts.proofs.line_thread.serve_here.Goals as goal
 
-pub returns-in-Here : goal.returns-in-Here
-returns-in-Here g c = λ workers held. zip-then IsLater later-then _ _ _ (let h = subst (IsHeldOf workers) c.in-Here.is held in h) c.serve_once.ensures
+pub returns-in-Here-clause-held : goal.returns-in-Here-clause-held
+returns-in-Here-clause-held g c = λ workers held. zip-then IsLater later-then _ _ _ (let h = subst (IsHeldOf workers) c.in-Here.is held in h) c.serve_once.ensures

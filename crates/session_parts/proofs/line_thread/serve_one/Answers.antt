@@ -2,5 +2,5 @@
 use Rattle.member_ring.proofs.LaterLaws.{later-refl}
 use Rattle.session_parts.proofs.line_thread.serve_one.Goals as goal
 
-pub returns-then-load : goal.returns-then-load
-returns-then-load g c = later-refl _
+pub returns-then-is_some : goal.returns-then-is_some
+returns-then-is_some g c = later-refl _

@@ -3,12 +3,13 @@ use Rattle.std.proofs.Common.{◌≡◌, ◌+◌, List, ◌++◌, vec_len}
 use Rattle.std.specs.Vec.{vec_capacity}
 use Rattle.std.specs.Vec.Iter.{into_iter_items, into_iter_len}
 use Rattle.session_parts.specs.declared.line_thread.Held.{Held}
-use Rattle.session_parts.specs.Held.{AreHeldOf}
+use Rattle.session_parts.specs.Held.{AreHeldOf, AreToldBy}
 use Rattle.session_parts.proofs.line_thread.start_shares.Given as goal
 
 abbrev pub invariant-loop-workers : goal.invariant-loop-workers
 invariant-loop-workers g l = record {
   count : vec_len l.held + into_iter_len l.workers-iterator ≡ vec_len l.fn.shares;
   room : vec_capacity l.held ≡ vec_capacity l.fn.room;
+  told : AreToldBy l.flags l.held.items;
   each : (future : List Held) → AreHeldOf (into_iter_items l.workers-iterator) future → AreHeldOf l.fn.shares.items (l.held.items ++ future);
 }

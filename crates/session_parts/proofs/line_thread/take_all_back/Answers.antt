@@ -1,14 +1,27 @@
 -- The first of the shares that are still held is taken back.
-use Rattle.std.proofs.Common.{◌≡◌, List, [], ◌∷◌, ◌++◌, length, sym, ◌∙◌, ap, subst, arith, rules, append_assoc}
+use Rattle.std.proofs.Common.{◌≡◌, ◌+◌, ◌<◌, suc, slice_get, List, [], ◌∷◌, ◌++◌, length, vec_len, Some, refl, sym, ◌∙◌, ap, subst, arith, rules, append_assoc}
 use Rattle.std.proofs.lemmas.List.{append-nil, nil_from_length}
+use Rattle.std.proofs.lemmas.Option.{slice_get_read}
 use Rattle.std.specs.Global.{Vec}
 use Rattle.std.specs.Vec.Iter.{into_iter_items}
 use Rattle.member_ring.specs.declared.worker.LineWorker.{LineWorker}
 use Rattle.session_parts.specs.declared.line_thread.Held.{Held}
 use Rattle.session_parts.specs.Lines.{SharesLater}
-use Rattle.session_parts.specs.Held.{IsHeldOf, AreHeldOf}
+use Rattle.session_parts.specs.Held.{IsHeldOf, IsToldBy, AreHeldOf}
 use Rattle.session_parts.proofs.ZipLaws.{zip-first, zip-none}
 use Rattle.session_parts.proofs.line_thread.take_all_back.Goals as goal
+
+pub take_back-requires : goal.take_back-requires
+take_back-requires g c =
+    let before = c.loop-share.invariant in
+    let steps = c.in-Some.ensures.steps in
+    let flags = c.args.flags.now in
+    let flag = c.index-flags-len.result in
+    let low : c.len.result < length flags = omega (arith, before.count, steps.1, c.len.ensures, c.requires.flags) in
+    let at : slice_get flags c.len.result ≡ Some flag = slice_get_read flags (length flags) c.len.result flag refl low c.index-flags-len.is in
+    let place : vec_len c.loop-share.shares + 0 ≡ c.len.result = omega (arith, c.len.ensures) in
+    subst (λ n. IsToldBy n c.in-Some.share) (sym c.store-stored.ensures)
+    (before.told 0 flag c.in-Some.share (ap (slice_get flags) place ∙ at) (ap (λ l. slice_get l 0) steps.0))
 
 pub loop-share-preserved : goal.loop-share-preserved
 loop-share-preserved g c =
@@ -20,6 +33,8 @@ loop-share-preserved g c =
     record {
       count = omega (arith, before.count, steps.1, c.push_reserved.ensures.len);
       room = c.push_reserved.ensures.capacity ∙ before.room;
+      told = λ k flag one at there.
+          before.told (suc k) flag one (ap (slice_get c.args.flags.now) (omega (arith, c.push_reserved.ensures.len)) ∙ at) (ap (λ l. slice_get l (suc k)) steps.0 ∙ there);
       each = λ given held.
           let (rest, holds, grows) = before.each given held in
           let (share, others, is, one, all) = zip-first (λ (share : Vec LineWorker) (one : Held). IsHeldOf share.items one) rest c.in-Some.share left (subst (AreHeldOf rest) steps.0 holds) in (

@@ -2,7 +2,6 @@
 use Rattle.member_ring.specs.Worker.{IsLater}
 use Rattle.member_ring.proofs.LaterLaws.{later-refl, later-then}
 use Rattle.session_parts.proofs.ZipLaws.{zip-refl, zip-then}
-use Rattle.session_parts.proofs.RunLaws.{run-then}
 use Rattle.session_run.proofs.finish.finish.Goals as goal
 
 pub loop-init : goal.loop-init
@@ -10,18 +9,12 @@ loop-init g c = record { lines = zip-refl IsLater later-refl _; run = λ begun r
 
 pub loop-preserved : goal.loop-preserved
 loop-preserved g c = record {
-  lines = zip-then IsLater later-then _ _ _ c.loop.invariant.lines c.carry_all-carried.ensures.later;
-  run = λ begun first.
-      let run = c.loop.invariant.run begun first in
-      run-then g.K.ByteSink.written g.K.ByteSink.faults begun c.loop.sink c.burst.new.self c.loop.out c.burst.new.out
-      (c.burst.ensures.stands run.stands) c.burst.ensures.later (c.burst.ensures.written run.stands) run;
+  lines = zip-then IsLater later-then _ _ _ c.loop.invariant.lines c.round.ensures.lines;
+  run = λ begun first. c.round.ensures.run begun (c.loop.invariant.run begun first);
 }
 
-pub returns-then-taken-clause-lines : goal.returns-then-taken-clause-lines
-returns-then-taken-clause-lines g c = zip-then IsLater later-then _ _ _ c.loop.invariant.lines c.carry_all-carried.ensures.later
+pub returns-then-round-clause-lines : goal.returns-then-round-clause-lines
+returns-then-round-clause-lines g c = zip-then IsLater later-then _ _ _ c.loop.invariant.lines c.round.ensures.lines
 
-pub returns-then-taken-clause-run : goal.returns-then-taken-clause-run
-returns-then-taken-clause-run g c = λ begun first.
-    let run = c.loop.invariant.run begun first in
-    run-then g.K.ByteSink.written g.K.ByteSink.faults begun c.loop.sink c.burst.new.self c.loop.out c.burst.new.out
-    (c.burst.ensures.stands run.stands) c.burst.ensures.later (c.burst.ensures.written run.stands) run
+pub returns-then-round-clause-run : goal.returns-then-round-clause-run
+returns-then-round-clause-run g c = λ begun first. c.round.ensures.run begun (c.loop.invariant.run begun first)

@@ -90,7 +90,7 @@ returns-clause-end g c =
     c.into_parts-sink.ensures.sink c.into_parts-sink.ensures.now beside.1) in
     let later = zip-then IsLater later-then c.args.opened.lines.items c.lines_beside-lines.result.0.items c.finish.new.lines.items c.lines_beside-lines.ensures.lines c.finish.ensures.lines in
     come-to-end c.args.script.now c.args.opened.group c.args.opened.lines.items c.args.opened.sink c.requires.open c.into_state.result c.finish.new.lines.items c.finish.new.sink own later run.later
-    (subst (λ (group : GroupState). total_of group ≤ ticks_of group) (sym c.into_state.ensures.same) c.finish.ensures.ticks) c.finish.ensures.done c.finish.ensures.taken run.stands
+    (subst (λ (group : GroupState). total_of group ≤ ticks_of group) (sym c.into_state.ensures.same) c.finish.ensures.done.made) c.finish.ensures.done.carried c.finish.ensures.done.taken run.stands
     c.lay_beside.result.group c.lay_beside.result.lines.items c.lay_beside.result.sink c.lay_beside.ensures
 
 pub returns-clause-written : goal.returns-clause-written

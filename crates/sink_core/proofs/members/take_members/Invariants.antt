@@ -2,7 +2,7 @@ use Rattle.std.proofs.Common.{◌≤◌, ◌-◌}
 use Rattle.vc_cell.specs.Held.{held}
 use Rattle.session_model.specs.Interleave.{octets_from}
 use Rattle.vcat_interleave.specs.Members.{payloads_of}
-use Rattle.sink_core.specs.Start.{Start}
+use Rattle.outside_io.specs.Start.{Start}
 use Rattle.sink_core.specs.Receives.{IsKnown, Grows, Gives}
 use Rattle.sink_core.proofs.members.take_members.Given as goal
 

@@ -1,5 +1,5 @@
 use Rattle.std.proofs.Common.{◌≤◌, ◌-◌, length, take}
-use Rattle.sink_core.specs.Start.{Start}
+use Rattle.outside_io.specs.Start.{Start}
 use Rattle.sink_core.specs.Receives.{IsKnown, Grows, Gives}
 use Rattle.sink_core.proofs.members.take_piece.Given as goal
 

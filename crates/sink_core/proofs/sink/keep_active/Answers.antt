@@ -15,4 +15,5 @@ pub returns-then-ends_packet-clause-within : goal.returns-then-ends_packet-claus
 returns-then-ends_packet-clause-within c = found-fits c.args.packets.now c.find_active.new.active.items (length c.args.packets.now) c.find_active.ensures.lines refl c.requires.few
 
 pub returns-else-ends_packet-clause-active : goal.returns-else-ends_packet-clause-active
-returns-else-ends_packet-clause-active c cells governs are = are ∙ ap active_of (sym (governing-between cells c.args.t (sym c.ends_packet.ensures ∙ c.if-ends_packet.false)))
+returns-else-ends_packet-clause-active c cells governs are = are
+    ∙ ap active_of (sym (governing-between cells c.args.t (sym c.ends_packet.ensures.value ∙ c.if-ends_packet.false)))

@@ -2,7 +2,7 @@
 use Rattle.std.proofs.Common.{◌≡◌, ◌-◌}
 use Rattle.session_model.specs.Counts.{drain, bound}
 use Rattle.progress_law.specs.Progress.{made}
-use Rattle.sink_core.specs.Start.{Start}
+use Rattle.outside_io.specs.Start.{Start}
 use Rattle.walk_law.specs.Walk.{walk_plan, IsWalked}
 use Rattle.walk_command.specs.Trace.{IsTold}
 use Rattle.walk_command.proofs.trace.trace_drain.Given as goal

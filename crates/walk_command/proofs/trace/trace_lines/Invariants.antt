@@ -1,7 +1,7 @@
 -- The lines so far are made and told.
 use Rattle.std.proofs.Common.{◌≡◌, false, take}
 use Rattle.session_model.specs.Counts.{begin, run_lines}
-use Rattle.sink_core.specs.Start.{Start}
+use Rattle.outside_io.specs.Start.{Start}
 use Rattle.walk_law.specs.Walk.{walk_plan}
 use Rattle.walk_command.specs.Trace.{IsTold}
 use Rattle.walk_command.proofs.trace.trace_lines.Given as goal

@@ -3,7 +3,7 @@ use Rattle.std.proofs.Common.{◌≡◌, List, replicate}
 use Rattle.std.specs.List.{flat_map}
 use Rattle.session_model.specs.declared.walk.Event.{Event}
 use Rattle.session_model.specs.Counts.{run}
-use Rattle.sink_core.specs.Start.{Start}
+use Rattle.outside_io.specs.Start.{Start}
 use Rattle.walk_law.specs.Walk.{walk_plan}
 use Rattle.walk_command.specs.Trace.{events_of, IsTold}
 use Rattle.walk_command.proofs.trace.trace_turns.Given as goal

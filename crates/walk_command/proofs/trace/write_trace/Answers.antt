@@ -3,7 +3,7 @@ use Rattle.std.proofs.Common.{rules, inl, sym, ◌∙◌, subst, OnOk, OnErr}
 use Rattle.std.proofs.lemmas.Result.{on_err_weaker}
 use Rattle.outside_io.specs.Transfer.{Appends}
 use Rattle.report_text.specs.Report.{got_texts}
-use Rattle.sink_core.specs.Start.{Start}
+use Rattle.outside_io.specs.Start.{Start}
 use Rattle.got_out.specs.Told.{name_of, start_at}
 use Rattle.walk_law.specs.Delivered.{delivered_of}
 use Rattle.walk_command.specs.Ended.{StopsBoth}

@@ -1,7 +1,7 @@
 -- The got lines, and then the rest.
 use Rattle.std.proofs.Common.{rules, [], sym, ◌∙◌, subst, ℕ, OnOk, OnErr}
 use Rattle.outside_io.specs.Transfer.{Appends, AppendsPart}
-use Rattle.sink_core.specs.Start.{Start}
+use Rattle.outside_io.specs.Start.{Start}
 use Rattle.got_out.specs.Told.{HasText, name_of, start_at}
 use Rattle.walk_command.specs.Texts.{walk_text}
 use Rattle.walk_command.proofs.WriteLaws.{walk-written}

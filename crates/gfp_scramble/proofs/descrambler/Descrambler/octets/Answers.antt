@@ -1,8 +1,9 @@
 -- One octet more is descrambled.
 use Rattle.std.proofs.Common.{◌++◌, take, subst, arith}
 use Rattle.session_model.specs.Scramble.{descrambled_octets}
-use Rattle.gfp_scramble.specs.Descrambler.{Stands}
-use Rattle.gfp_scramble.proofs.AreaSteps.{back_more, given_more, front_more, still_known, front_all}
+use Rattle.session_model.proofs.ScrambledOctets.{length-descrambled_octets}
+use Rattle.gfp_scramble.specs.Descrambler.{Stands, unknown}
+use Rattle.gfp_scramble.proofs.AreaSteps.{back_more, given_more, front_more, front_all}
 use Rattle.gfp_scramble.proofs.descrambler.Descrambler.octets.Goals as goal
 
 pub loop-octet-preserved : goal.loop-octet-preserved
@@ -15,10 +16,14 @@ loop-octet-preserved c =
     let so_far = c.loop-octet.invariant in
     record {
       stands = λ settled octets stands. subst (Stands c.byte.new.self settled) (given_more i was area fits size so_far.back octets) (c.byte.ensures.stands settled (octets ++ take i was) (so_far.stands settled octets stands));
-      front = λ settled octets stands known. front_more i was area fits size so_far.back descrambled_octets octets c.byte.result (so_far.front settled octets stands known) (c.byte.ensures.answer settled (octets ++ take i was) (so_far.stands settled octets stands) (still_known settled octets (take i was) known));
+      front = λ settled octets stands. front_more i was area fits size so_far.back
+          (unknown settled) descrambled_octets length-descrambled_octets octets c.byte.result
+          (so_far.front settled octets stands)
+          (c.byte.ensures.answer settled (octets ++ take i was) (so_far.stands settled octets stands));
       back = back_more i was area fits size so_far.back c.byte.result;
     }
 
 pub returns-clause-answer : goal.returns-clause-answer
-returns-clause-answer c settled octets stands known =
-    front_all descrambled_octets octets c.args.area.now c.loop-octet.area c.loop-octet.octet-index (omega (arith, c.requires, c.loop-octet-test.false)) c.loop-octet.auto.area (c.loop-octet.invariant.front settled octets stands known)
+returns-clause-answer c settled octets stands =
+    front_all (unknown settled) descrambled_octets octets c.args.area.now c.loop-octet.area c.loop-octet.octet-index
+    (omega (arith, c.loop-octet-test.false)) c.loop-octet.auto.area (c.loop-octet.invariant.front settled octets stands)

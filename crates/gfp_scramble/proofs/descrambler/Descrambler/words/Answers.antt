@@ -1,8 +1,9 @@
 -- Eight octets more are descrambled.
 use Rattle.std.proofs.Common.{◌++◌, ◌*◌, take, subst, arith}
 use Rattle.session_model.specs.Scramble.{descrambled_octets}
-use Rattle.gfp_scramble.specs.Descrambler.{Stands}
-use Rattle.gfp_scramble.proofs.AreaSteps.{back_eight, given_eight, front_eight, still_known, front_all}
+use Rattle.session_model.proofs.ScrambledOctets.{length-descrambled_octets}
+use Rattle.gfp_scramble.specs.Descrambler.{Stands, unknown}
+use Rattle.gfp_scramble.proofs.AreaSteps.{back_eight, given_eight, front_eight, front_all}
 use Rattle.gfp_scramble.proofs.descrambler.Descrambler.words.Goals as goal
 
 pub loop-i-preserved : goal.loop-i-preserved
@@ -17,10 +18,13 @@ loop-i-preserved c =
     let same = c.eight.auto.area in
     record {
       stands = λ settled octets stands. subst (Stands c.eight.new.self settled) (given_eight i was area piece fits size so_far.back same octets) (c.eight.ensures.stands settled (octets ++ take (8 * i) was) (so_far.stands settled octets stands));
-      front = λ settled octets stands known. front_eight i was area piece fits size so_far.back same descrambled_octets octets (so_far.front settled octets stands known) (c.eight.ensures.answer settled (octets ++ take (8 * i) was) (so_far.stands settled octets stands) (still_known settled octets (take (8 * i) was) known));
+      front = λ settled octets stands. front_eight i was area piece fits size so_far.back same
+          (unknown settled) descrambled_octets length-descrambled_octets octets (so_far.front settled octets stands)
+          (c.eight.ensures.answer settled (octets ++ take (8 * i) was) (so_far.stands settled octets stands));
       back = back_eight i was area piece fits size so_far.back same;
     }
 
 pub returns-clause-answer : goal.returns-clause-answer
-returns-clause-answer c settled octets stands known =
-    front_all descrambled_octets octets c.args.area.now c.loop-i.area (8 * c.loop-i.i) (omega (arith, c.requires, c.loop-i-test.false)) c.loop-i.auto.area (c.loop-i.invariant.front settled octets stands known)
+returns-clause-answer c settled octets stands =
+    front_all (unknown settled) descrambled_octets octets c.args.area.now c.loop-i.area (8 * c.loop-i.i)
+    (omega (arith, c.requires, c.loop-i-test.false)) c.loop-i.auto.area (c.loop-i.invariant.front settled octets stands)

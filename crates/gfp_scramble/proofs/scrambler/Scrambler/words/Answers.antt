@@ -1,6 +1,7 @@
 -- Eight octets more are scrambled.
 use Rattle.std.proofs.Common.{◌++◌, ◌*◌, take, subst}
 use Rattle.session_model.specs.Scramble.{scrambled_octets}
+use Rattle.session_model.proofs.ScrambledOctets.{length-scrambled_octets}
 use Rattle.gfp_scramble.specs.Scrambler.{Stands}
 use Rattle.gfp_scramble.proofs.AreaSteps.{back_eight, given_eight, front_eight}
 use Rattle.gfp_scramble.proofs.scrambler.Scrambler.words.Goals as goal
@@ -17,6 +18,6 @@ loop-i-preserved c =
     let same = c.eight.auto.area in
     record {
       stands = λ octets stands. subst (Stands c.eight.new.self) (given_eight i was area piece fits size so_far.back same octets) (c.eight.ensures.stands (octets ++ take (8 * i) was) (so_far.stands octets stands));
-      front = λ octets stands. front_eight i was area piece fits size so_far.back same scrambled_octets octets (so_far.front octets stands) (c.eight.ensures.answer (octets ++ take (8 * i) was) (so_far.stands octets stands));
+      front = λ octets stands. front_eight i was area piece fits size so_far.back same 0 scrambled_octets length-scrambled_octets octets (so_far.front octets stands) (c.eight.ensures.answer (octets ++ take (8 * i) was) (so_far.stands octets stands));
       back = back_eight i was area piece fits size so_far.back same;
     }

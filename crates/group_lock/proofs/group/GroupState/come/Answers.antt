@@ -1,6 +1,6 @@
 -- Return cells were moved into the inbox.
-use Rattle.std.proofs.Common.{refl, arith}
-use Rattle.group_lock.proofs.KeepLaws.{keeps-moved, told-moved, few-come}
+use Rattle.std.proofs.Common.{inl, inr, refl}
+use Rattle.group_lock.proofs.KeepLaws.{keeps-moved, told-moved, full-come, few-come}
 use Rattle.group_lock.proofs.group.GroupState.come.Goals as goal
 
 pub take_cells-requires-clause-room : goal.take_cells-requires-clause-room
@@ -12,8 +12,8 @@ take_cells-requires-clause-few c = few-come _ _ c.args.self.now.keeps
 pub invariant_of-self : goal.invariant_of-self
 invariant_of-self c = record { keeps = keeps-moved _ _ c.take_cells.new.inbox c.take_cells.new.back c.args.self.now.keeps c.take_cells.ensures.moved }
 
-pub returns-clause-comes : goal.returns-clause-comes
-returns-clause-comes c =
+pub returns : goal.returns
+returns c =
     let m = c.take_cells.ensures.moved in
     record {
       script = record { lines = refl; lag = refl; size = refl; total = refl; lost = m.lost; items = refl };
@@ -22,10 +22,9 @@ returns-clause-comes c =
       tx = refl;
       returns = m.same;
       received = m.received;
+      moved = elim c.take_cells.ensures.until [
+        | inl drained ↦ inl drained
+        | inr full ↦ inr (full-come _ _ (keeps-moved _ _ c.take_cells.new.inbox c.take_cells.new.back c.args.self.now.keeps m) full)
+      ];
       taken = told-moved _ _ c.take_cells.new.inbox c.take_cells.new.back c.args.self.now.keeps m;
     }
-
-pub returns-clause-missed : goal.returns-clause-missed
-returns-clause-missed c =
-    let room = c.args.self.now.keeps.room in
-    λ none. c.take_cells.ensures.missed none (omega arith)

@@ -25,6 +25,7 @@ invariant_of-result c =
     n.inbox ∙ ap (λ l. empty_inbox l config.lag) (sym (ap (λ (i : Inbox). i.lost) n.inbox)) ∙ ap (empty_inbox notes.inbox.lost) (sym m.lag) in
     record {
       keeps = keeps-begin at (length making.frame.items) (omega arith) m.ticks (omega arith) (omega arith) (omega arith) (c.requires.rings ∙ sym m.lines) c.requires.sends c.requires.returns
+          (ap (λ (l : Landed). l.frames) n.landing) (ap (λ (l : Landed). l.commands) n.landing) (ap (λ (l : Landed). l.refusals) n.landing)
           n.journal inbox
           (λ scenario fresh. m.made scenario (record { of_lines = fresh.of_lines ∙ m.lines; of_lag = fresh.of_lag ∙ m.lag; of_size = fresh.of_size ∙ m.size; no_offers = fresh.no_offers; no_orders = fresh.no_orders }));
     }

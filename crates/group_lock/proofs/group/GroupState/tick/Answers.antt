@@ -12,14 +12,14 @@ pub returns-then-ticks-self : goal.returns-then-ticks-self
 returns-then-ticks-self c =
     let ticks = c.ticks-ticks.ensures in
     let past = c.if-ticks-self.true in
-    ticks-done c.args.self.now c.come.new.self c.come.ensures.comes (omega arith)
+    ticks-done c.args.self.now c.come.new.self c.come.ensures (omega arith)
 
 pub returns-in-Some : goal.returns-in-Some
 returns-in-Some c =
     let b = c.come.new.self in
     let ticks = c.ticks-ticks.ensures in
     let left = c.if-ticks-self.false in
-    ticks-held c.args.self.now b c.in-Some.item c.come.ensures.comes (omega arith)
+    ticks-held c.args.self.now b c.in-Some.item c.come.ensures (omega arith)
     (sym c.in-Some.is ∙ c.held.ensures ∙ ap (λ n. held n (frames_of b) (commands_of b) 0 (dues_of (items_of b))) ticks)
 
 pub returns-in-Some-look : goal.returns-in-Some-look
@@ -27,16 +27,16 @@ returns-in-Some-look c =
     let b = c.come.new.self in
     let ticks = c.ticks-ticks.ensures in
     let left = c.if-ticks-self.false in
-    let free = free-before c.args.self.now b c.come.ensures.comes (omega arith) (sym c.in_default.is ∙ c.held.ensures ∙ ap (λ n. held n (frames_of b) (commands_of b) 0 (dues_of (items_of b))) ticks) in
-    ticks-full c.args.self.now b c.look.new.self c.in-Some-look.line c.come.ensures.comes c.look.ensures.looks free c.in-Some-look.ensures.full
+    let free = free-before c.args.self.now b c.come.ensures (omega arith) (sym c.in_default.is ∙ c.held.ensures ∙ ap (λ n. held n (frames_of b) (commands_of b) 0 (dues_of (items_of b))) ticks) in
+    ticks-full c.args.self.now b c.look.new.self c.in-Some-look.line c.come.ensures c.look.ensures.looks free c.in-Some-look.ensures.full
 
 pub returns-then-is_empty : goal.returns-then-is_empty
 returns-then-is_empty c =
     let b = c.come.new.self in
     let ticks = c.ticks-ticks.ensures in
     let left = c.if-ticks-self.false in
-    let free = free-before c.args.self.now b c.come.ensures.comes (omega arith) (sym c.in_default.is ∙ c.held.ensures ∙ ap (λ n. held n (frames_of b) (commands_of b) 0 (dues_of (items_of b))) ticks) in
-    ticks-missing c.args.self.now b c.look.new.self c.in-Some-needs_back.packet c.come.ensures.comes c.look.ensures.looks free c.come.ensures.missed
+    let free = free-before c.args.self.now b c.come.ensures (omega arith) (sym c.in_default.is ∙ c.held.ensures ∙ ap (λ n. held n (frames_of b) (commands_of b) 0 (dues_of (items_of b))) ticks) in
+    ticks-missing c.args.self.now b c.look.new.self c.in-Some-needs_back.packet c.come.ensures c.look.ensures.looks free c.in_default-look.ensures.full
     (sym c.in-Some-needs_back.is ∙ c.needs_back.ensures) (c.is_empty.ensures.0 c.if-is_empty.true)
 
 pub make_frame-requires-clause-left : goal.make_frame-requires-clause-left
@@ -68,5 +68,5 @@ returns c =
     let b = c.come.new.self in
     let ticks = c.ticks-ticks.ensures in
     let left = c.if-ticks-self.false in
-    let free = free-before c.args.self.now b c.come.ensures.comes (omega arith) (sym c.in_default.is ∙ c.held.ensures ∙ ap (λ n. held n (frames_of b) (commands_of b) 0 (dues_of (items_of b))) ticks) in
-    ticks-ticked c.args.self.now b c.look.new.self c.make_frame.new.self c.come.ensures.comes c.look.ensures.looks c.make_frame.ensures free
+    let free = free-before c.args.self.now b c.come.ensures (omega arith) (sym c.in_default.is ∙ c.held.ensures ∙ ap (λ n. held n (frames_of b) (commands_of b) 0 (dues_of (items_of b))) ticks) in
+    ticks-ticked c.args.self.now b c.look.new.self c.make_frame.new.self c.come.ensures c.look.ensures.looks c.make_frame.ensures free

@@ -2,15 +2,15 @@
 use Rattle.session_parts.proofs.RunLaws.{run-then}
 use Rattle.session_parts.proofs.duty.SinkDutyDuty.turn.Goals as goal
 
-pub returns-in-Moved : goal.returns-in-Moved
-returns-in-Moved g c = λ begun run. (
+pub returns-in-Moved-clause-stands : goal.returns-in-Moved-clause-stands
+returns-in-Moved-clause-stands g c = λ begun run. (
   run.0,
   run-then g.K.ByteSink.written g.K.ByteSink.faults begun c.args.self.now.sink c.burst.new.self c.args.self.now.out.now c.burst.new.out
       (c.burst.ensures.stands run.1.stands) c.burst.ensures.later (c.burst.ensures.written run.1.stands) run.1,
 )
 
-pub returns-in-Idle : goal.returns-in-Idle
-returns-in-Idle g c = λ begun run. (
+pub returns-in-Idle-clause-stands : goal.returns-in-Idle-clause-stands
+returns-in-Idle-clause-stands g c = λ begun run. (
   run.0,
   run-then g.K.ByteSink.written g.K.ByteSink.faults begun c.args.self.now.sink c.burst.new.self c.args.self.now.out.now c.burst.new.out
       (c.burst.ensures.stands run.1.stands) c.burst.ensures.later (c.burst.ensures.written run.1.stands) run.1,

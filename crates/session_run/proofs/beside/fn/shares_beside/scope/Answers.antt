@@ -1,4 +1,4 @@
--- As many shares are held as were given.
+-- As many shares are held as were given, and each looks at the flag of its place.
 use Rattle.std.proofs.Common.{arith}
 use Rattle.std.specs.Global.{Vec}
 use Rattle.member_ring.specs.declared.worker.LineWorker.{LineWorker}
@@ -11,6 +11,10 @@ pub take_all_back-back-requires : goal.take_all_back-back-requires
 take_all_back-back-requires g c =
     let shares = c.captures.shares in
     let held = c.attend-duty.result.1 in
-    let are : AreHeldOf shares.items held.items = c.attend-duty.ensures.held shares.items c.start_shares-held.ensures in
+    let are : AreHeldOf shares.items held.items = c.attend-duty.ensures.held shares.items c.start_shares-held.ensures.held in
     let long = zip-length (λ (share : Vec LineWorker) (one : Held). IsHeldOf share.items one) shares.items held.items are in
-    (c.requires.back.0, omega (arith, long, c.requires.back.1, held.ok.0, shares.ok.0))
+    record {
+      room = (c.requires.back.0, omega (arith, long, c.requires.back.1, held.ok.0, shares.ok.0));
+      flags = omega (arith, long, c.as_slice-lines.ensures.len, c.requires.flags, held.ok.0, shares.ok.0);
+      told = c.attend-duty.ensures.told _ c.start_shares-held.ensures.told;
+    }

@@ -1,0 +1,9 @@
+-- It is the same log.
+use Rattle.alarm_log.proofs.LogLaws.{same-log, same-then}
+use Rattle.layer_tests.proofs.alarms.turn_five.Goals as goal
+
+pub loop-init : goal.loop-init
+loop-init g c = same-log c.args.log
+
+pub loop-preserved : goal.loop-preserved
+loop-preserved g c = same-then _ _ _ c.loop.invariant c.turn.ensures.same

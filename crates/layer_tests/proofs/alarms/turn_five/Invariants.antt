@@ -1,0 +1,6 @@
+-- It is the same log.
+use Rattle.alarm_log.specs.Logs.{SameLog}
+use Rattle.layer_tests.proofs.alarms.turn_five.Given as goal
+
+abbrev pub invariant-loop : goal.invariant-loop
+invariant-loop g l = SameLog l.fn.log l.log

@@ -1,0 +1,167 @@
+//! An alarm log whose queue has room for one alarm, on one thread and on two.
+ghost use Rattle.std.specs.Prelude.{◌≡◌, ◌≤◌, ℕ, List, [], ◌∷◌, IfOk, IfSome};
+ghost use Rattle.alarm_log.specs.Logs.{alarms_in, posts_of, IsPostOf, SameLog};
+ghost use Rattle.alarm_log.specs.Alarms.{of_line};
+ghost use Rattle.member_ring.specs.Alarms.{alarm_at};
+ghost use Rattle.alarm_log.specs.Posts.{posted_by, most_by, SamePost};
+
+use alarm_log::{AlarmList, AlarmLog, AlarmPost, Posted, Turn, make_log};
+use member_ring::{Alarm, AlarmKind};
+use std::alloc::{AllocError, Global};
+use std::sync::Wait;
+use std::test::*;
+use std::thread;
+use std::thread::Threads;
+
+/// An alarm of line 3.
+fn fails(place: u32) -> Alarm
+    ensures { result ≡ alarm_at 3 place AlarmKind.Fails }
+{
+    Alarm {
+        line: 3,
+        place,
+        kind: AlarmKind::Fails,
+    }
+}
+
+/// A log with one post and a queue with room for one alarm.
+fn open_one(alloc: Global, most: u32) -> Result<Option<(AlarmLog, AlarmPost)>, AllocError>
+    requires { most ≤ 100000 }
+    ensures { IfOk result (λ found. IfSome found (λ r. IsPostOf r.0 r.1
+        × (posts_of r.0 ≡ 1) × (posted_by r.1 ≡ []) × (most_by r.1 ≡ most))) }
+{
+    let (log, mut posts) = make_log(alloc, 1, 1, most)?;
+    match posts.pop() {
+        Some(post) => Ok(Some((log, post))),
+        None => Ok(None),
+    }
+}
+
+/// Ends a log with one post.
+fn end_one<R: Wait>(
+    rt: &R,
+    alloc: Global,
+    log: AlarmLog,
+    post: AlarmPost,
+) -> Result<AlarmList, AllocError>
+    requires one_log { IsPostOf log post }
+    requires count { posts_of log ≡ 1 }
+    ensures { IfOk result (λ list.
+        (m : ℕ) → of_line m (alarms_in list) ≡ of_line m (posted_by post)) }
+{
+    let mut posts = Vec::new(alloc);
+    posts.push(post)?;
+    Ok(log.finish(rt, posts))
+}
+
+/// What three posts answer, of which the first two are before a turn; what the turn answers; and the places in the list.
+fn one_slot<R: Wait>(
+    rt: &R,
+    alloc: Global,
+) -> Result<Option<([Posted; 3], Turn, [u32; 3])>, AllocError> {
+    let Some((log, post)) = open_one(alloc, 3)? else {
+        return Ok(None);
+    };
+    let mut log = log;
+    let mut post = post;
+    let first = post.post(rt, fails(100));
+    let second = post.post(rt, fails(101));
+    let turn = log.turn(rt);
+    let third = post.post(rt, fails(161));
+    let list = end_one(rt, alloc, log, post)?;
+    let alarms = list.alarms();
+    if alarms.len() != 3 {
+        return Ok(None);
+    }
+    Ok(Some((
+        [first, second, third],
+        turn,
+        [alarms[0].place, alarms[1].place, alarms[2].place],
+    )))
+}
+
+/// Posts two alarms of line 3.
+fn post_two<R: Wait>(rt: &R, post: AlarmPost) -> AlarmPost
+    requires fresh { posted_by post ≡ [] }
+    requires most { 2 ≤ most_by post }
+    ensures same { SamePost post result }
+    ensures posted { posted_by result ≡ alarm_at 3 100 AlarmKind.Fails ∷ alarm_at 3 101 AlarmKind.Fails ∷ [] }
+{
+    let mut post = post;
+    post.post(rt, fails(100));
+    post.post(rt, fails(101));
+    post
+}
+
+/// Turns the log five times.
+fn turn_five<R: Wait>(rt: &R, log: AlarmLog) -> AlarmLog
+    ensures { SameLog log result }
+{
+    let mut log = log;
+    for _ in 0..5u32 {
+        log.turn(rt);
+    }
+    log
+}
+
+/// Posts on one thread what a log on another one collects.
+fn beside<R: Threads + Wait + Sync>(rt: &R, log: AlarmLog, post: AlarmPost) -> (AlarmLog, AlarmPost)
+    requires fresh { posted_by post ≡ [] }
+    requires most { 2 ≤ most_by post }
+    ensures log { SameLog log result.0 }
+    ensures post { SamePost post result.1 }
+    ensures posted { posted_by result.1 ≡ alarm_at 3 100 AlarmKind.Fails ∷ alarm_at 3 101 AlarmKind.Fails ∷ [] }
+{
+    thread::join(
+        rt,
+        move || -> AlarmLog
+            ensures { SameLog log result }
+        { turn_five(rt, log) },
+        move || -> AlarmPost
+            requires fresh { posted_by post ≡ [] }
+            requires most { 2 ≤ most_by post }
+            ensures same { SamePost post result }
+            ensures posted { posted_by result ≡ alarm_at 3 100 AlarmKind.Fails ∷ alarm_at 3 101 AlarmKind.Fails ∷ [] }
+        { post_two(rt, post) },
+    )
+}
+
+/// The alarms that one thread posted and another one collected.
+fn collected<R: Threads + Wait + Sync>(
+    rt: &R,
+    alloc: Global,
+) -> Result<Option<AlarmList>, AllocError>
+    ensures { IfOk result (λ found. IfSome found (λ list. of_line 3 (alarms_in list)
+        ≡ alarm_at 3 100 AlarmKind.Fails ∷ alarm_at 3 101 AlarmKind.Fails ∷ [])) }
+{
+    let Some((log, post)) = open_one(alloc, 2)? else {
+        return Ok(None);
+    };
+    let (log, post) = beside(rt, log, post);
+    let list = end_one(rt, alloc, log, post)?;
+    Ok(Some(list))
+}
+
+#[test]
+fn a_queue_with_one_slot(rt: HostRuntime) -> Result<(), Fail> {
+    let found = one_slot(&rt, rt.alloc())?;
+    let wanted = (
+        [Posted::Queued, Posted::Kept, Posted::Kept],
+        Turn::Taken,
+        [100, 101, 161],
+    );
+    assert!(rt; found == Some(wanted));
+    Ok(())
+}
+
+#[test]
+fn two_threads(rt: HostRuntime) -> Result<(), Fail> {
+    let found = collected(&rt, rt.alloc())?;
+    assert!(rt; found.is_some());
+    if let Some(list) = found {
+        let alarms = list.alarms();
+        assert!(rt; alarms.len() == 2);
+        assert!(rt; alarms[0] == fails(100) && alarms[1] == fails(101));
+    }
+    Ok(())
+}
