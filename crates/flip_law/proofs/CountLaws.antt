@@ -41,8 +41,13 @@ count_one (true ∷ bs) h = record {
 }
 count_one (false ∷ bs) h =
     let one = count_one bs h in
-    record { before = suc one.before; after = one.after; bits = ap (λ l. false ∷ l) one.bits; size = omega
-    (arith, one.size) }
+    record {
+      before = suc one.before;
+      after = one.after;
+      bits = ap (λ l. false ∷ l) one.bits;
+      size = omega
+          (arith, one.size);
+    }
 
 pub none_or_one : (bs : List Bool) → count bs ≤ 1 → (count bs ≡ 0) ⊎ (count bs ≡ 1)
 none_or_one bs h = grind arith

@@ -7,11 +7,10 @@ use Rattle.std.proofs.lemmas.List.Elements.{All-nil, All-cons, All-append}
 use Rattle.std.proofs.lemmas.Bool.{le-ltb, cases_lt}
 use Rattle.std.proofs.lemmas.Slice.Eq.{bytes_eq-Decides}
 use Rattle.remainder.specs.Bits.{octet_bits, xors}
-use Rattle.remainder.specs.Remainder.{add_front, divide, remainder}
-use Rattle.remainder.proofs.XorLaws.{length_xors, xors_assoc, xors-self, xors_twice}
-use Rattle.remainder.proofs.DivisionLaws.{length-add_front, add_front-xors}
+use Rattle.remainder.specs.Remainder.{divide, remainder}
+use Rattle.remainder.proofs.XorLaws.{xors-self, xors_twice}
 use Rattle.remainder.proofs.RemainderLaws.{length-remainder, divide_behind}
-use Rattle.remainder.proofs.OctetLaws.{length-octet_bits, length-octets_of, octets_of_below, octet_bits-octets_of}
+use Rattle.remainder.proofs.OctetLaws.{length-octet_bits, octets_of_below}
 use Rattle.fcs_model.specs.Flips.{count, flipped}
 use Rattle.crc32.specs.Crc32.{crc32, check_bits, fcs}
 use Rattle.crc32.proofs.CheckLaws.{length-crc32, length-check_bits, check_bits-xors, octet_bits-fcs, length-fcs}
@@ -164,9 +163,9 @@ first_or_behind k flips (one a b e) = elim (cases_lt a k) [
 ]
 first_or_behind k flips (two a b e) = elim (cases_lt a k) [
   | inl first ↦ inl (subst (λ l. 0 < count (take k l)) (sym e)
-  (take_some k a (replicate 42 false ++ (true ∷ replicate b false)) first))
+      (take_some k a (replicate 42 false ++ (true ∷ replicate b false)) first))
   | inr past ↦ inr (two (a - k) b
-  (ap (drop k) e ∙ drop_zeros k a (true ∷ (replicate 42 false ++ (true ∷ replicate b false))) past))
+      (ap (drop k) e ∙ drop_zeros k a (true ∷ (replicate 42 false ++ (true ∷ replicate b false))) past))
 ]
 
 -- ---- it is dropped with one bit, or two, turned over
@@ -219,7 +218,7 @@ module _ (frame : List ℕ) (flips : List Bool) (is : IsFrame frame) (size : len
 
   -- with the type header as it was or not
   by_header : (fault : Option TypeFault) (info said : List ℕ) → bytes_eq said (fcs info) ≡ false
-    → frame_in (parts_by fault info said) ≡ []
+      → frame_in (parts_by fault info said) ≡ []
   by_header None info said e = rw e refl
   by_header (Some fault) info said e = refl
 

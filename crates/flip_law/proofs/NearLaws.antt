@@ -51,8 +51,11 @@ unfolding all_below
 all_below_at zero f k e h = absurd (omega arith)
 all_below_at (suc n) f k e h =
     let t = both (f n) (all_below n f) e in
-    elim (last_or_before n k h) [ inl same ↦ subst (λ m. f m ≡ true)
-    (sym same) t.0 | inr before ↦ all_below_at n f k t.1 before ]
+    elim (last_or_before n k h) [
+      | inl same ↦ subst (λ m. f m ≡ true)
+          (sym same) t.0
+      | inr before ↦ all_below_at n f k t.1 before
+    ]
   where
     last_or_before : (n k : ℕ) → k < suc n → (k ≡ n) ⊎ (k < n)
     last_or_before n k h = grind arith
@@ -99,14 +102,22 @@ at_most_one flips size few = elim (none_or_one flips few) [
   | inr one ↦ (
       let at : OneAt flips = count_one flips one in
       let behind : at.after ≡ 31 - at.before = omega (arith, at.size, size) in
-      inr (at.before, omega (arith, at.size, size), at.bits ∙ ap
-      (λ n. replicate at.before false ++ true ∷ replicate n false) behind))
+      inr (
+        at.before,
+        omega (arith, at.size, size),
+        at.bits ∙ ap
+            (λ n. replicate at.before false ++ true ∷ replicate n false) behind,
+      ))
 ]
 
 length-bit_at : (k : ℕ) → k < 32 → length (bit_at k) ≡ 32
 length-bit_at k h =
-    omega (arith, length-append (replicate k false) (true ∷ replicate (31 - k) false), length-replicate k false,
-    length-replicate (31 - k) false)
+    omega (
+      arith,
+      length-append (replicate k false) (true ∷ replicate (31 - k) false),
+      length-replicate k false,
+      length-replicate (31 - k) false,
+    )
 
 -- ---- the word of a header leaves nothing
 word : ℕ → List Bool
@@ -235,10 +246,10 @@ module _ (pli : ℕ) (flips : List Bool) (fits : IsPli pli) (size : length flips
       let below : q < 2 ^ 16 = (IsPli-head (flipped (bit_at k) octets) q found).0 in
       elim (at_most_one flips size few) [
         | inl none ↦ absurd (one_differs pli q k h
-        (differ ∙ ap (xors (word pli)) (ap (λ l. xors l (bit_at k)) none ∙ xors-zeros 32 (bit_at k)
-        (le_of_eq (length-bit_at k h)))))
+            (differ ∙ ap (xors (word pli)) (ap (λ l. xors l (bit_at k)) none ∙ xors-zeros 32 (bit_at k)
+            (le_of_eq (length-bit_at k h)))))
         | inr one ↦ two_differ pli q one.0 k fits.0 below one.1 h
-        (differ ∙ ap (λ l. xors (word pli) (xors l (bit_at k))) one.2)
+            (differ ∙ ap (λ l. xors (word pli) (xors l (bit_at k))) one.2)
       ]
 
   -- a reading is right
@@ -283,9 +294,9 @@ module _ (pli : ℕ) (flips : List Bool) (fits : IsPli pli) (size : length flips
   below_found (suc n) k h e =
       elim (last_or_before n k h) [
         | inl same ↦ found_first (head (flipped (bit_at n) octets)) (turned_below n octets) pli
-        (ap (λ m. head (flipped (bit_at m) octets)) (sym same) ∙ e)
+            (ap (λ m. head (flipped (bit_at m) octets)) (sym same) ∙ e)
         | inr before ↦ found_second (head (flipped (bit_at n) octets)) (turned_below n octets)
-        (below_found n k before e)
+            (below_found n k before e)
       ]
     where
       last_or_before : (n k : ℕ) → k < suc n → (k ≡ n) ⊎ (k < n)
@@ -332,8 +343,14 @@ either (Some q) second pli e = inl e
 
 count-bit_at : (k : ℕ) → count (bit_at k) ≡ 1
 count-bit_at k =
-    omega (arith, count-append (replicate k false) (true ∷ replicate (31 - k) false), count-true
-    (replicate (31 - k) false), count-zeros k, count-zeros (31 - k))
+    omega (
+      arith,
+      count-append (replicate k false) (true ∷ replicate (31 - k) false),
+      count-true
+          (replicate (31 - k) false),
+      count-zeros k,
+      count-zeros (31 - k),
+    )
 
 module _ (octets : List ℕ) (pli : ℕ) (four : length octets ≡ 4) (below : All (λ o. o < 256) octets) where
   size_of_flips : 32 ≡ 8 * length octets
@@ -410,7 +427,7 @@ within_two p q first second hp hq a b few also e = elim (at_most_one first a few
       ])
   | inr one ↦ elim (at_most_one second b also) [
     | inl none ↦ absurd (one_differs p q one.0 one.1
-    (e ∙ ap (xors (word p)) (ap (xors first) none ∙ xors-zeros_right 32 first (le_of_eq a) ∙ one.2)))
+        (e ∙ ap (xors (word p)) (ap (xors first) none ∙ xors-zeros_right 32 first (le_of_eq a) ∙ one.2)))
     | inr other ↦ two_differ p q one.0 other.0 hp hq one.1 other.1 (e ∙ ap (xors (word p)) (ap₂ xors one.2 other.2))
   ]
 ]
@@ -437,7 +454,7 @@ module _ (octets : List ℕ) (four : length octets ≡ 4) (below : All (λ o. o 
   size_of_all = omega (arith, length-octet_bits octets, four)
 
   half : (m n : ℕ) (part : List ℕ) → length part ≡ 2 → n ≡ number (xors (bits 16 m) (octet_bits part))
-    → bits 16 n ≡ xors (bits 16 m) (octet_bits part)
+      → bits 16 n ≡ xors (bits 16 m) (octet_bits part)
   half m n part two e =
       let bs : List Bool = xors (bits 16 m) (octet_bits part) in
       let long : length (octet_bits part) ≡ 16 = omega (arith, length-octet_bits part, two) in

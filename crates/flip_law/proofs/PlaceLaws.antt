@@ -44,8 +44,12 @@ small (suc (suc (suc (suc (suc (suc (suc (suc bit)))))))) h = absurd (omega arit
 length-octet_flips : (bit : ℕ) → bit < 8 → length (octet_flips bit) ≡ 8
 unfolding octet_flips
 length-octet_flips bit h =
-    omega (arith, length-append (replicate bit false) (true ∷ replicate (7 - bit) false), length-replicate bit false,
-    length-replicate (7 - bit) false)
+    omega (
+      arith,
+      length-append (replicate bit false) (true ∷ replicate (7 - bit) false),
+      length-replicate bit false,
+      length-replicate (7 - bit) false,
+    )
 
 one_octet : (o bit : ℕ) → o < 256 → bit < 8 → flipped (octet_flips bit) (o ∷ []) ≡ bit_xor o (2 ^ (7 - bit)) ∷ []
 one_octet o bit below h =
@@ -96,8 +100,14 @@ turned_at (o ∷ octets) (suc place) bit h b all =
 
 length-one_of : (octets : ℕ) (flip : Flip) → LiesIn octets flip → length (one_of octets flip) ≡ 8 * octets
 length-one_of octets flip lies =
-    omega (arith, length-append (replicate (at flip) false) (true ∷ replicate (8 * octets - (at flip + 1)) false),
-    length-replicate (at flip) false, length-replicate (8 * octets - (at flip + 1)) false, lies.place, lies.bit)
+    omega (
+      arith,
+      length-append (replicate (at flip) false) (true ∷ replicate (8 * octets - (at flip + 1)) false),
+      length-replicate (at flip) false,
+      length-replicate (8 * octets - (at flip + 1)) false,
+      lies.place,
+      lies.bit,
+    )
 
 pub length-flips_of : (octets : ℕ) (flips : List Flip) → All (LiesIn octets) flips
     → length (flips_of octets flips) ≡ 8 * octets

@@ -1,13 +1,12 @@
 -- Remainders by the generator of the FCS: a register that isn't zero stays so where zeros follow, and one bit, or two
 -- that are 43 places apart, leave something.
-use Rattle.std.proofs.Common.{◌≡◌, ℕ, zero, suc, ◌+◌, ◌-◌, ◌/◌, ◌<◌, ◌≤◌, Bool, true, false, List, [], ◌∷◌, ◌++◌, length, replicate, refl, sym, ◌∙◌, ap, ap₂, subst, inl, inr, arith, append_assoc, le_of_eq}
+use Rattle.std.proofs.Common.{◌≡◌, ℕ, zero, suc, ◌+◌, ◌-◌, ◌/◌, ◌<◌, ◌≤◌, Bool, true, false, List, [], ◌∷◌, ◌++◌, length, replicate, refl, sym, ◌∙◌, ap, subst, inl, inr, arith, append_assoc, le_of_eq}
 use Rattle.std.proofs.lemmas.List.{append-nil, length-append, length-replicate, replicate-append-replicate}
 use Rattle.std.proofs.lemmas.Bool.{cases_lt}
 use Rattle.remainder.specs.Bits.{bits, xor, xors}
-use Rattle.remainder.specs.Remainder.{add_front, divide, remainder}
-use Rattle.remainder.proofs.XorLaws.{length_xors, xors-zeros, xors-append}
-use Rattle.remainder.proofs.BitLaws.{length-bits}
-use Rattle.remainder.proofs.DivisionLaws.{length-add_front, add_front-append, divide-xors, divide-zeros, divide-add, divide-append, length-divide}
+use Rattle.remainder.specs.Remainder.{add_front, divide}
+use Rattle.remainder.proofs.XorLaws.{xors-append}
+use Rattle.remainder.proofs.DivisionLaws.{length-add_front, add_front-append, divide-zeros, divide-add, divide-append, length-divide}
 use Rattle.fcs_model.specs.Flips.{count}
 use Rattle.crc32.specs.Crc32.{crc32}
 use Rattle.crc32.proofs.CheckLaws.{length-crc32}
@@ -42,7 +41,7 @@ module _ (front : List Bool) where
   behind p m = sym (append_assoc p (false ∷ []) (replicate m false))
 
   stays : (m : ℕ) (p : List Bool) → length p ≡ length lower → 0 < count p
-    → 0 < count (divide m lower (p ++ replicate m false))
+      → 0 < count (divide m lower (p ++ replicate m false))
   unfolding divide count
   stays zero p size some = subst (λ l. 0 < count l) (sym (append-nil p)) some
   stays (suc m) [] size some = absurd (omega arith)
@@ -143,13 +142,29 @@ pub something_left : (n : ℕ) (flips : List Bool) → length flips ≡ n + 32 �
     → 0 < count (divide n crc32 flips)
 something_left n flips size (one a b e) =
     let long : a + (1 + b) ≡ n + 32 =
-    omega (arith, ap length e, length-append (replicate a false)
-    (true ∷ replicate b false), length-replicate a false, length-replicate b false, size) in
+    omega (
+      arith,
+      ap length e,
+      length-append (replicate a false)
+          (true ∷ replicate b false),
+      length-replicate a false,
+      length-replicate b false,
+      size,
+    ) in
     subst (λ l. 0 < count (divide n crc32 l)) (sym e)
     (elim (cases_lt a n) [ inl first ↦ early n a b first long | inr past ↦ late n a b past ])
 something_left n flips size (two a b e) =
     let long : a + (44 + b) ≡ n + 32 =
-    omega (arith, ap length e, length-append (replicate a false)
-    (true ∷ (replicate 42 false ++ (true ∷ replicate b false))), length-append (replicate 42 false)
-    (true ∷ replicate b false), length-replicate a false, length-replicate 42 false, length-replicate b false, size) in
+    omega (
+      arith,
+      ap length e,
+      length-append (replicate a false)
+          (true ∷ (replicate 42 false ++ (true ∷ replicate b false))),
+      length-append (replicate 42 false)
+          (true ∷ replicate b false),
+      length-replicate a false,
+      length-replicate 42 false,
+      length-replicate b false,
+      size,
+    ) in
     subst (λ l. 0 < count (divide n crc32 l)) (sym e) (both n a b long)

@@ -83,31 +83,31 @@ come before flips (frame ∷ frames) =
     (flips_after flips frame) frames
 
 module _ (frame : List ℕ) (flips : List Bool) (left : ℕ) (size : length flips ≡ 8 * (4 + (length frame + 8 + left)))
-    where
-  length-first : length (take 32 flips) ≡ 32
-  length-first = omega (arith, length-take 32 flips, size)
+  where
+    length-first : length (take 32 flips) ≡ 32
+    length-first = omega (arith, length-take 32 flips, size)
 
-  pub length-area_flips : length (area_flips flips frame) ≡ 8 * (length frame + 8)
-  length-area_flips = omega (arith, length-take (area_size frame) (drop 32 flips), length-drop 32 flips, size)
+    pub length-area_flips : length (area_flips flips frame) ≡ 8 * (length frame + 8)
+    length-area_flips = omega (arith, length-take (area_size frame) (drop 32 flips), length-drop 32 flips, size)
 
-  pub length-flips_after : length (flips_after flips frame) ≡ 8 * left
-  length-flips_after = omega (arith, length-drop (area_size frame) (drop 32 flips), length-drop 32 flips, size)
+    pub length-flips_after : length (flips_after flips frame) ≡ 8 * left
+    length-flips_after = omega (arith, length-drop (area_size frame) (drop 32 flips), length-drop 32 flips, size)
 
-  flips_in_parts : flips ≡ take 32 flips ++ (area_flips flips frame ++ flips_after flips frame)
-  flips_in_parts =
-      sym (ap (λ l. take 32 flips ++ l) (take-append-drop (area_size frame) (drop 32 flips)) ∙ take-append-drop 32
-      flips)
+    flips_in_parts : flips ≡ take 32 flips ++ (area_flips flips frame ++ flips_after flips frame)
+    flips_in_parts =
+        sym (ap (λ l. take 32 flips ++ l) (take-append-drop (area_size frame) (drop 32 flips)) ∙ take-append-drop 32
+        flips)
 
-  flipped_in_parts : (header area more : List ℕ) → length header ≡ 4 → length area ≡ length frame + 8 →
-      flipped flips (header ++ (area ++ more)) ≡ flipped (take 32 flips) header ++
-      (flipped (area_flips flips frame) area ++ flipped (flips_after flips frame) more)
-  flipped_in_parts header area more four long =
-      ap (λ l. flipped l (header ++ (area ++ more))) flips_in_parts
-      ∙ flipped-append (take 32 flips) (area_flips flips frame ++ flips_after flips frame) header (area ++ more)
-      (length-first ∙ sym (ap (λ n. 8 * n) four))
-      ∙ ap (λ l. flipped (take 32 flips) header ++ l)
-      (flipped-append (area_flips flips frame) (flips_after flips frame) area more
-      (length-area_flips ∙ sym (ap (λ n. 8 * n) long)))
+    flipped_in_parts : (header area more : List ℕ) → length header ≡ 4 → length area ≡ length frame + 8 →
+        flipped flips (header ++ (area ++ more)) ≡ flipped (take 32 flips) header ++
+        (flipped (area_flips flips frame) area ++ flipped (flips_after flips frame) more)
+    flipped_in_parts header area more four long =
+        ap (λ l. flipped l (header ++ (area ++ more))) flips_in_parts
+        ∙ flipped-append (take 32 flips) (area_flips flips frame ++ flips_after flips frame) header (area ++ more)
+        (length-first ∙ sym (ap (λ n. 8 * n) four))
+        ∙ ap (λ l. flipped (take 32 flips) header ++ l)
+        (flipped-append (area_flips flips frame) (flips_after flips frame) area more
+        (length-area_flips ∙ sym (ap (λ n. 8 * n) long)))
 
 length-stream_from : (before frame : List ℕ) (frames : List (List ℕ))
     → length (stream_from before (frame ∷ frames)) ≡ 4 +
@@ -118,9 +118,16 @@ length-stream_from before frame frames =
     ap length (stream_from-cons before frame frames)
     ∙ (let e : length (core_header (length frame + 8) ++ (sent before area ++ more)) ≡ 4 +
     (length frame + 8 + length more) =
-    omega (arith, length-append (core_header (length frame + 8)) (sent before area ++ more), length-core_header
-    (length frame + 8), length-append (sent before area) more, length-scrambled_single before area, length-fcs_area
-    frame) in e)
+    omega (
+      arith,
+      length-append (core_header (length frame + 8)) (sent before area ++ more),
+      length-core_header
+          (length frame + 8),
+      length-append (sent before area) more,
+      length-scrambled_single before area,
+      length-fcs_area
+          frame,
+    ) in e)
 
 -- one area in front
 follow-area : (header area more : List ℕ) (pli : ℕ) → length header ≡ 4 → length area ≡ pli → near header ≡ Some pli →
@@ -202,8 +209,14 @@ frame_by-window : (frame : List ℕ) (turned flips : List Bool) → IsFrame fram
 frame_by-window frame turned flips is size few =
     let left : List Bool = drop (length turned) (descrambled (turned ++ flips)) in
     let long : length left ≡ 8 * (length frame + 8) =
-    omega (arith, length-drop (length turned) (descrambled (turned ++ flips)), length-descrambled
-    (turned ++ flips), length-append turned flips, size) in
+    omega (
+      arith,
+      length-drop (length turned) (descrambled (turned ++ flips)),
+      length-descrambled
+          (turned ++ flips),
+      length-append turned flips,
+      size,
+    ) in
     elim (none_or_one (window turned flips) few) [
       | inl none ↦ rw none
           (ap (λ l. frame_in (fcs_outcome true (flipped l (fcs_area frame)))) (left_in-area_none turned flips none)
@@ -212,7 +225,7 @@ frame_by-window frame turned flips is size few =
           (fcs_area_below frame is))
           ∙ ap frame_in (fcs_area-delivered frame is))
       | inr single ↦ rw single (fcs_area-dropped frame left is long
-      (left_in-area_one turned flips (omega (arith, size)) single))
+          (left_in-area_one turned flips (omega (arith, size)) single))
     ]
 
 outcomes-come : (count_before : ℕ) (before : List ℕ) (turned flips : List Bool) (frames : List (List ℕ))
@@ -340,9 +353,13 @@ pub length-fcs_stream : (frames : List (List ℕ)) → length (fcs_stream frames
 length-fcs_stream frames =
     let idle : List ℕ = core_header 0 in
     ap length (fcs_stream-idles frames)
-    ∙ (let e : length ((idle ++ idle) ++ stream_from [] frames) ≡ 8 + sizes frames = omega
-    (arith, length-append (idle ++ idle) (stream_from [] frames), length-append idle idle, length-core_header 0,
-    length-stream_from-all [] frames) in e)
+    ∙ (let e : length ((idle ++ idle) ++ stream_from [] frames) ≡ 8 + sizes frames = omega (
+      arith,
+      length-append (idle ++ idle) (stream_from [] frames),
+      length-append idle idle,
+      length-core_header 0,
+      length-stream_from-all [] frames,
+    ) in e)
 
 -- each is an octet
 stream_from_below : (before : List ℕ) (frames : List (List ℕ)) → All (λ o. o < 256) (stream_from before frames)

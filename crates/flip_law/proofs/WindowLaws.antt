@@ -55,8 +55,12 @@ before_area : (k m n : ℕ) → k < 43 → k < n → k + (1 + m) ≡ 43 + n →
 before_area k m n h first size =
     let front : List Bool = replicate k false ++ true ∷ replicate (n - (k + 1)) false in
     let long : length front ≡ n =
-    omega (arith, length-append (replicate k false) (true ∷ replicate (n - (k + 1)) false), length-replicate k false,
-    length-replicate (n - (k + 1)) false) in
+    omega (
+      arith,
+      length-append (replicate k false) (true ∷ replicate (n - (k + 1)) false),
+      length-replicate k false,
+      length-replicate (n - (k + 1)) false,
+    ) in
     let left : m - (43 - (k + 1)) ≡ n = omega arith in
     let parts : replicate k false ++ true ∷ replicate m false ≡ front ++ replicate 43 false =
     ap (λ l. replicate k false ++ true ∷ l) (zeros_in_parts (n - (k + 1)) 43 m (omega arith))
@@ -96,8 +100,12 @@ many_behind : (m : ℕ) → 43 ≤ m → xors (replicate m false) (replicate 42 
 many_behind m h =
     let front : List Bool = replicate 42 false ++ true ∷ replicate (m - 43) false in
     let long : length front ≡ m =
-    omega (arith, length-append (replicate 42 false) (true ∷ replicate (m - 43) false), length-replicate 42 false,
-    length-replicate (m - 43) false) in
+    omega (
+      arith,
+      length-append (replicate 42 false) (true ∷ replicate (m - 43) false),
+      length-replicate 42 false,
+      length-replicate (m - 43) false,
+    ) in
     let parts : replicate 42 false ++ true ∷ replicate m false ≡ front ++ replicate 43 false =
     ap (λ l. replicate 42 false ++ true ∷ l) (zeros_in_parts (m - 43) 43 m (omega arith))
     ∙ sym (append_assoc (replicate 42 false) (true ∷ replicate (m - 43) false) (replicate 43 false)) in
@@ -121,7 +129,7 @@ in_area-left : (j m : ℕ) (flips : List Bool) → flips ≡ replicate (43 + j) 
 in_area-left j m flips e = elim (cases_lt m 43) [
   | inl few ↦ one j m (ap left_in e ∙ in_area j m ∙ ap (λ l. replicate j false ++ true ∷ l) (few_behind m few))
   | inr many ↦ two j (m - 43) (ap left_in e ∙ in_area j m ∙ ap (λ l. replicate j false ++ true ∷ l)
-  (many_behind m many))
+      (many_behind m many))
 ]
 
 pub left_in-one : (flips : List Bool) → count flips ≡ 1 → 86 ≤ length flips → IsOneOrTwo (left_in flips)
@@ -139,8 +147,13 @@ left_in-one flips single long =
 -- ---- the window of an area
 length-last : (before : List Bool) → length (drop (length before) (replicate 43 false ++ before)) ≡ 43
 length-last before =
-    omega (arith, length-drop (length before) (replicate 43 false ++ before), length-append
-    (replicate 43 false) before, length-replicate 43 false)
+    omega (
+      arith,
+      length-drop (length before) (replicate 43 false ++ before),
+      length-append
+          (replicate 43 false) before,
+      length-replicate 43 false,
+    )
 
 pub length-window : (before area : List Bool) → length (window before area) ≡ 43 + length area
 length-window before area =

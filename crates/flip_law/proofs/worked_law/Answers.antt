@@ -29,9 +29,12 @@ unfolding are_few AreFew
 AreFew-tested before flips [] e = tt
 AreFew-tested before flips (frame ∷ frames) e =
     let one = both (nat_le (count (take 32 flips)) 1) _ e in
-    let more = both (nat_le (count (window before (area_flips flips frame))) 1) _ one.1 in
-    (at_most _ 1 one.0, at_most _ 1 more.0, AreFew-tested (before ++ area_flips flips frame)
-    (flips_after flips frame) frames more.1)
+    let more = both (nat_le (count (window before (area_flips flips frame))) 1) _ one.1 in (
+      at_most _ 1 one.0,
+      at_most _ 1 more.0,
+      AreFew-tested (before ++ area_flips flips frame)
+          (flips_after flips frame) frames more.1,
+    )
 
 frames_fit : All IsFrame worked_frames
 frames_fit = All-replicate IsFrame 3 (replicate 64 0) (record {
@@ -46,9 +49,16 @@ worked_size = refl
 
 size : (place bit : ℕ) → 8 * place + bit ≤ 1887 → length (one_flip place bit) ≡ 8 * length (fcs_stream worked_frames)
 size place bit h =
-    omega (arith, length-append (replicate (8 * place + bit) false)
-    (true ∷ replicate (1887 - (8 * place + bit)) false), length-replicate (8 * place + bit) false, length-replicate
-    (1887 - (8 * place + bit)) false, length-fcs_stream worked_frames, worked_size)
+    omega (
+      arith,
+      length-append (replicate (8 * place + bit) false)
+          (true ∷ replicate (1887 - (8 * place + bit)) false),
+      length-replicate (8 * place + bit) false,
+      length-replicate
+          (1887 - (8 * place + bit)) false,
+      length-fcs_stream worked_frames,
+      worked_size,
+    )
 
 pub returns-clause-in_header : goal.returns-clause-in_header
 unfolding are_few count clear
