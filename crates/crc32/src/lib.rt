@@ -1,0 +1,27 @@
+//! The check of 32 bits over octets (CRC-32), in either order of bits, as a definition with its laws. There is no
+//! code here. Begin with `specs/Crc32.antt`.
+#![tactic(auto)]
+
+ghost use Rattle.std.specs.Prelude.{◌≡◌, ◌<◌, ℕ, Bool, List, [], ◌∷◌, length, All};
+ghost use Rattle.remainder.specs.Bits.{xors};
+ghost use Rattle.remainder.specs.Remainder.{remainder};
+ghost use Rattle.crc32.specs.Crc32.{crc32, check_bits, most_first, least_first, fcs, fcs_in};
+
+/// A check has four octets. Where bits of what it is over are turned over, it differs by the remainder of a list with
+/// a 1 at each place where one is.
+pub fn check_law()
+    ensures size { (octets : List ℕ) → length (fcs octets) ≡ 4 }
+    ensures octets { (octets : List ℕ) → All (λ octet. octet < 256) (fcs octets) }
+    ensures differs { (bits flips : List Bool) → length bits ≡ length flips →
+        check_bits (xors bits flips) ≡ xors (check_bits bits) (remainder crc32 flips) }
+{}
+
+/// Worked: the checks of the digits 1 to 9, in ASCII. That of Ethernet is cbf43926, its least significant octet first.
+pub fn worked_law()
+    ensures most { fcs_in most_first
+        (0x31 ∷ 0x32 ∷ 0x33 ∷ 0x34 ∷ 0x35 ∷ 0x36 ∷ 0x37 ∷ 0x38 ∷ 0x39 ∷ [])
+        ≡ 0xfc ∷ 0x89 ∷ 0x19 ∷ 0x18 ∷ [] }
+    ensures least { fcs_in least_first
+        (0x31 ∷ 0x32 ∷ 0x33 ∷ 0x34 ∷ 0x35 ∷ 0x36 ∷ 0x37 ∷ 0x38 ∷ 0x39 ∷ [])
+        ≡ 0x26 ∷ 0x39 ∷ 0xf4 ∷ 0xcb ∷ [] }
+{}

@@ -1,0 +1,19 @@
+//! Definitions of client frames with a frame check sequence behind them: their areas, what comes of one, bits that
+//! are turned over on the way, and core headers that are read in spite of one such bit. Nothing is read or written
+//! here. Begin with `specs/Fcs.antt`.
+#![tactic(auto)]
+
+use session_model::TypeFault;
+
+/// Why a frame that was followed is not delivered: the descrambler was not settled when its area began; its area is
+/// longer than one may be, and has `pli` octets; its type header has a fault; its area is too short for a type
+/// header, a frame of four octets and a check, and has `pli` octets; or its check says one word and was found to be
+/// another.
+#[derive(Clone, Copy, Debug, PartialEq, Eq)]
+pub enum FcsWhy {
+    Unsettled,
+    TooLong { pli: u16 },
+    Header(TypeFault),
+    Short { pli: u16 },
+    Fcs { said: u32, found: u32 },
+}
