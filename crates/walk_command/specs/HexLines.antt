@@ -1,4 +1,4 @@
--- A text of lines of hexadecimal digits: each line that isn't skipped has one word, two digits of either case for each octet.
+-- A text of lines of hexadecimal digits: a line that isn't skipped has one word, two digits for each octet.
 use Rattle.std.specs.Prelude.{◌≡◌, ℕ, List, [], ◌∷◌, ◌++◌, Option, Some, None, is_none, unwrap_or, Result, Ok, Err, if◌then◌else◌}
 use Rattle.std.specs.Result.{result_ok}
 use Rattle.hex.specs.Hex.{decode_of}

@@ -1,5 +1,6 @@
 -- One line on, a faulty one, and after the last.
-use Rattle.std.proofs.Common.{◌∙◌, arith}
+use Rattle.std.proofs.Common.{◌≡◌, ◌∙◌, ℕ, Err, subst, arith}
+use Rattle.walk_command.specs.HexLines.{hex_text_of}
 use Rattle.walk_command.proofs.HexLineLaws.{one_part, one_fault, all_parts}
 use Rattle.walk_command.proofs.hex_lines.read_octets.Goals as goal
 
@@ -12,3 +13,12 @@ loop-line-preserved c =
       size = omega (arith, c.in-Some.ensures.size, c.in-Ok-take_line.ensures.short);
       small = omega (arith, c.in-Some.ensures.moves);
     }
+
+pub returns-in-Err-clause-line : goal.returns-in-Err-clause-line
+returns-in-Err-clause-line c number same =
+    let is : c.loop-line.number ≡ number = cc in
+    subst (λ (n : ℕ). hex_text_of c.args.text.now ≡ Err n) is
+    (one_fault c.args.text.now _ _ _ _ _ c.loop-line.invariant.value c.in-Some.ensures.some c.in-Err.ensures.err)
+
+pub returns-clause-octets : goal.returns-clause-octets
+returns-clause-octets c = all_parts c.args.text.now _ _ _ c.loop-line.invariant.value c.in_default-next_line.ensures.none
