@@ -1,2 +1,2 @@
-mod NumberLaws
-mod ParserLaws
+pub mod NumberLaws
+pub mod ParserLaws

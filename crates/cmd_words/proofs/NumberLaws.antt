@@ -4,7 +4,7 @@ use Rattle.std.specs.Prelude.{Some, None}
 use Rattle.std.proofs.lemmas.List.{at_drop_more}
 use Rattle.std.proofs.lemmas.Bool.Decides.{nat_tests}
 use Rattle.text_lines.specs.Words.{number_after, number_of}
-use Rattle.cmd_words.specs.Commands.{is_number, number_in}
+use Rattle.cmd_words.specs.Words.{is_number, number_in}
 
 -- more digits make no number less
 grows : (n : ℕ) (w : List ℕ) → n ≤ number_after n w

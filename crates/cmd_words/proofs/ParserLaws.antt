@@ -1,137 +1,128 @@
--- The parsers take each command, and their matches say it.
-use Rattle.std.proofs.Common.{◌≡◌, ◌==◌, ◌≤◌, ◌<◌, ◌∙◌, ℕ, List, [], ◌∷◌, Bool, true, false, refl, sym, arith, if◌then◌else◌, codes, Some, None, Option, is_some, length, inl, inr}
-use Rattle.std.specs.Str.{bytes_eq}
-use Rattle.std.proofs.lemmas.Bool.{and_parts, cases_Bool, false≢true, leb-true, ne_eqb}
-use Rattle.std.proofs.lemmas.Slice.Eq.{bytes_eq-Decides}
-use Rattle.clap.specs.Words.{Text, is_simple, subcommand_of, takes}
+-- The parser takes plain words, and its matches say them.
+use Rattle.std.proofs.Common.{◌≡◌, ◌==◌, ◌&&◌, ◌≤◌, ◌<◌, ◌∙◌, ℕ, List, [], ◌∷◌, Bool, true, false, not, refl, sym, arith, length, nat_le}
+use Rattle.std.proofs.lemmas.Bool.{and_parts, false≢true, leb-true, not-true}
+use Rattle.std.proofs.lemmas.Bool.Decides.{nat_tests}
+use Rattle.std.specs.List.{list_all}
+use Rattle.clap.specs.Words.{Text, is_simple, matches_of, takes}
 use Rattle.clap.proofs.OnLiterals.{clap_on_literals}
-use Rattle.cmd_words.specs.declared.command.Program.{Program}
-use Rattle.cmd_words.specs.declared.command.Program.TheVariants as program
-use Rattle.cmd_words.specs.Commands.{command_of, make_of, number_in, run_of, single}
-use Rattle.cmd_words.specs.Parsers.{app_for, command_in}
+use Rattle.cmd_words.specs.Words.{is_plain, are_plain}
+use Rattle.cmd_words.specs.Parser.{words_app, words_in}
 
-pub is_parser : (program : Program) → is_simple (app_for program) ≡ true
+pub is_parser : is_simple words_app ≡ true
 unfolding clap_on_literals
-is_parser program.Walk = refl
-is_parser program.Run = refl
+is_parser = refl
 
--- the parser takes the words, and its matches say their command
-pub record Reads (program : Program) (words : List Text) : Type 0 where
-  pub taken : takes (app_for program) words ≡ true
-  pub told : command_in (subcommand_of (app_for program) words) ≡ command_of program words
+-- the parser takes the words, and its matches say them
+pub record Reads (words : List Text) : Type 0 where
+  pub taken : takes words_app words ≡ true
+  pub told : words_in (matches_of words_app words) ≡ words
 
-says-walk : Reads program.Walk (codes "walk" ∷ [])
+-- ---- by their number
+one : (a : ℕ) (u : Text) → (a == 45) ≡ false → Reads ((a ∷ u) ∷ [])
 unfolding clap_on_literals
-says-walk = record { taken = refl; told = refl }
+one a u g = record { taken = simp g refl; told = simp g refl }
 
-says-trace : Reads program.Walk (codes "trace" ∷ [])
+two : (a b : ℕ) (u v : Text) → (a == 45) ≡ false → (b == 45) ≡ false → Reads ((a ∷ u) ∷ (b ∷ v) ∷ [])
 unfolding clap_on_literals
-says-trace = record { taken = refl; told = refl }
+two a b u v g h = record { taken = simp (g, h) refl; told = simp (g, h) refl }
 
-says-decode : Reads program.Walk (codes "decode" ∷ [])
+three : (a b c : ℕ) (u v w : Text) → (a == 45) ≡ false → (b == 45) ≡ false → (c == 45) ≡ false → Reads ((a ∷ u) ∷ (b ∷ v) ∷ (c ∷ w) ∷ [])
 unfolding clap_on_literals
-says-decode = record { taken = refl; told = refl }
+three a b c u v w g h i = record { taken = simp (g, h, i) refl; told = simp (g, h, i) refl }
 
-says-make : (a b c : ℕ) (number lines ticks : Text) → (a == 45) ≡ false → (b == 45) ≡ false → (c == 45) ≡ false
-    → Reads program.Walk (codes "make" ∷ (a ∷ number) ∷ (b ∷ lines) ∷ (c ∷ ticks) ∷ [])
+four : (a b c d : ℕ) (u v w x : Text) → (a == 45) ≡ false → (b == 45) ≡ false → (c == 45) ≡ false → (d == 45) ≡ false → Reads ((a ∷ u) ∷ (b ∷ v) ∷ (c ∷ w) ∷ (d ∷ x) ∷ [])
 unfolding clap_on_literals
-says-make a b c number lines ticks x y z = record { taken = simp (x, y, z) refl; told = simp (x, y, z) refl }
+four a b c d u v w x g h i j = record { taken = simp (g, h, i, j) refl; told = simp (g, h, i, j) refl }
 
-says-run : (a : ℕ) (workers : Text) → (a == 45) ≡ false → Reads program.Run (codes "run" ∷ (a ∷ workers) ∷ [])
+five : (a b c d e : ℕ) (u v w x y : Text) → (a == 45) ≡ false → (b == 45) ≡ false → (c == 45) ≡ false → (d == 45) ≡ false → (e == 45) ≡ false → Reads ((a ∷ u) ∷ (b ∷ v) ∷ (c ∷ w) ∷ (d ∷ x) ∷ (e ∷ y) ∷ [])
 unfolding clap_on_literals
-says-run a workers x = record { taken = simp x refl; told = simp x refl }
+five a b c d e u v w x y g h i j k = record { taken = simp (g, h, i, j, k) refl; told = simp (g, h, i, j, k) refl }
 
--- ---- words that are a command
+six : (a b c d e f : ℕ) (u v w x y z : Text) → (a == 45) ≡ false → (b == 45) ≡ false → (c == 45) ≡ false → (d == 45) ≡ false → (e == 45) ≡ false → (f == 45) ≡ false → Reads ((a ∷ u) ∷ (b ∷ v) ∷ (c ∷ w) ∷ (d ∷ x) ∷ (e ∷ y) ∷ (f ∷ z) ∷ [])
+unfolding clap_on_literals
+six a b c d e f u v w x y z g h i j k l = record { taken = simp (g, h) (simp (i, j) (simp (k, l) refl)); told = simp (g, h, i, j, k, l) refl }
 
-same : (a b : Text) → bytes_eq a b ≡ true → a ≡ b
-same a b = (bytes_eq-Decides a b).0
-
--- a number begins with a digit, so with no dash
-pub record Begins (word : Text) : Type 0 where
-  pub digit : ℕ
+-- ---- plain words
+record Begins (word : Text) : Type 0 where
+  pub first : ℕ
   pub rest : Text
-  pub word_is : word ≡ digit ∷ rest
-  pub no_dash : (digit == 45) ≡ false
+  pub word_is : word ≡ first ∷ rest
+  pub no_dash : (first == 45) ≡ false
 
-is_some-if : {X : Type 0} (b : Bool) (x : X) → is_some (if b then Some x else None) ≡ true → b ≡ true
-is_some-if true x h = refl
-is_some-if false x h = h
+begins : (word : Text) → is_plain word ≡ true → Begins word
+begins [] h = absurd (false≢true h)
+begins (first ∷ rest) h = record { first = first; rest = rest; word_is = refl; no_dash = not-true (first == 45) h }
 
-begins : (least most : ℕ) (word : Text) → is_some (number_in least most word) ≡ true → Begins word
-begins least most [] h = absurd (false≢true h)
-begins least most (d ∷ rest) h =
-    let digits = (and_parts _ _ (and_parts _ _ (is_some-if _ _ h)).0).1 in
-    let low : 48 ≤ d = leb-true 48 d (and_parts _ _ (and_parts _ _ digits).0).0 in
-    record { digit = d; rest = rest; word_is = refl; no_dash = ne_eqb d 45 (λ e. absurd (omega arith)) }
+plain-words : (words : List Text) → are_plain words ≡ true → list_all is_plain words ≡ true
+plain-words words h = (and_parts _ _ (and_parts _ _ h).1).1
 
-make_parts : (a b c : Option ℕ) → is_some (make_of a b c) ≡ true → (is_some a ≡ true) × (is_some b ≡ true) × (is_some c ≡ true)
-make_parts (Some a) (Some b) (Some c) h = (refl, refl, refl)
-make_parts (Some a) (Some b) None h = absurd (false≢true h)
-make_parts (Some a) None c h = absurd (false≢true h)
-make_parts None b c h = absurd (false≢true h)
+no-middle : (a b c : Bool) → b ≡ false → (a && (b && c)) ≡ false
+no-middle true b c is = rw is refl
+no-middle false b c is = refl
 
-run_part : (a : Option ℕ) → is_some (run_of a) ≡ true → is_some a ≡ true
-run_part (Some a) h = refl
-run_part None h = h
+above : (most n : ℕ) → most < n → nat_le n most ≡ false
+above most n less = grind (arith, nat_tests)
 
-reads_single : (word : Text) → is_some (single word) ≡ true → Reads program.Walk (word ∷ [])
-reads_single word h = elim (cases_Bool (bytes_eq word (codes "walk"))) [
-  | inl e ↦ rw (same word _ e) says-walk
-  | inr not_walk ↦ elim (cases_Bool (bytes_eq word (codes "trace"))) [
-    | inl e ↦ rw (same word _ e) says-trace
-    | inr not_trace ↦ elim (cases_Bool (bytes_eq word (codes "decode"))) [
-      | inl e ↦ rw (same word _ e) says-decode
-      | inr not_decode ↦ absurd (false≢true (rw (not_walk, not_trace, not_decode) at h))
-    ]
-  ]
-]
+too-many : (words : List Text) → 6 < length words → are_plain words ≡ false
+too-many words many = no-middle (nat_le 1 (length words)) (nat_le (length words) 6) (list_all is_plain words) (above 6 (length words) many)
 
-reads_numbers : (number lines ticks : Text) → Begins number → Begins lines → Begins ticks → Reads program.Walk (codes "make" ∷ number ∷ lines ∷ ticks ∷ [])
-reads_numbers number lines ticks a b c =
-    rw (a.word_is, b.word_is, c.word_is) (says-make a.digit b.digit c.digit a.rest b.rest c.rest a.no_dash b.no_dash c.no_dash)
+read-one : (w0 : Text) → Begins w0 → Reads (w0 ∷ [])
+read-one w0 b0 =
+    rw b0.word_is (one b0.first b0.rest b0.no_dash)
 
-reads_load : (number lines ticks : Text)
-    → is_some (make_of (number_in 0 18446744073709551615 number) (number_in 1 64 lines) (number_in 1 1000000 ticks)) ≡ true
-    → Reads program.Walk (codes "make" ∷ number ∷ lines ∷ ticks ∷ [])
-reads_load number lines ticks h =
-    let parts = make_parts _ _ _ h in
-    reads_numbers number lines ticks (begins _ _ number parts.0) (begins _ _ lines parts.1) (begins _ _ ticks parts.2)
+read-two : (w0 w1 : Text) → Begins w0 → Begins w1 → Reads (w0 ∷ w1 ∷ [])
+read-two w0 w1 b0 b1 =
+    rw (b0.word_is, b1.word_is) (two b0.first b1.first b0.rest b1.rest b0.no_dash b1.no_dash)
 
-reads_make : (word number lines ticks : Text) → is_some (command_of program.Walk (word ∷ number ∷ lines ∷ ticks ∷ [])) ≡ true
-    → Reads program.Walk (word ∷ number ∷ lines ∷ ticks ∷ [])
-reads_make word number lines ticks h = elim (cases_Bool (bytes_eq word (codes "make"))) [
-  | inl e ↦ rw (same word _ e) (reads_load number lines ticks (rw e at h))
-  | inr other ↦ absurd (false≢true (rw other at h))
-]
+read-three : (w0 w1 w2 : Text) → Begins w0 → Begins w1 → Begins w2 → Reads (w0 ∷ w1 ∷ w2 ∷ [])
+read-three w0 w1 w2 b0 b1 b2 =
+    rw (b0.word_is, b1.word_is, b2.word_is) (three b0.first b1.first b2.first b0.rest b1.rest b2.rest b0.no_dash b1.no_dash b2.no_dash)
 
-reads_run : (word workers : Text) → is_some (command_of program.Run (word ∷ workers ∷ [])) ≡ true → Reads program.Run (word ∷ workers ∷ [])
-reads_run word workers h = elim (cases_Bool (bytes_eq word (codes "run"))) [
-  | inl e ↦
-      let a = begins 1 64 workers (run_part _ (rw e at h)) in
-      rw (same word _ e, a.word_is) (says-run a.digit a.rest a.no_dash)
-  | inr other ↦ absurd (false≢true (rw other at h))
-]
+read-four : (w0 w1 w2 w3 : Text) → Begins w0 → Begins w1 → Begins w2 → Begins w3 → Reads (w0 ∷ w1 ∷ w2 ∷ w3 ∷ [])
+read-four w0 w1 w2 w3 b0 b1 b2 b3 =
+    rw (b0.word_is, b1.word_is, b2.word_is, b3.word_is) (four b0.first b1.first b2.first b3.first b0.rest b1.rest b2.rest b3.rest b0.no_dash b1.no_dash b2.no_dash b3.no_dash)
 
--- more words than a command has
-too_many-walk : (words : List Text) → 4 < length words → is_some (command_of program.Walk words) ≡ false
-too_many-walk words many =
-    let one : (length words == 1) ≡ false = ne_eqb _ 1 (λ e. absurd (omega arith)) in
-    let four : (length words == 4) ≡ false = ne_eqb _ 4 (λ e. absurd (omega arith)) in
-    rw (one, four) refl
+read-five : (w0 w1 w2 w3 w4 : Text) → Begins w0 → Begins w1 → Begins w2 → Begins w3 → Begins w4 → Reads (w0 ∷ w1 ∷ w2 ∷ w3 ∷ w4 ∷ [])
+read-five w0 w1 w2 w3 w4 b0 b1 b2 b3 b4 =
+    rw (b0.word_is, b1.word_is, b2.word_is, b3.word_is, b4.word_is) (five b0.first b1.first b2.first b3.first b4.first b0.rest b1.rest b2.rest b3.rest b4.rest b0.no_dash b1.no_dash b2.no_dash b3.no_dash b4.no_dash)
 
-too_many-run : (words : List Text) → 2 < length words → is_some (command_of program.Run words) ≡ false
-too_many-run words many =
-    let two : (length words == 2) ≡ false = ne_eqb _ 2 (λ e. absurd (omega arith)) in
-    rw two refl
+read-six : (w0 w1 w2 w3 w4 w5 : Text) → Begins w0 → Begins w1 → Begins w2 → Begins w3 → Begins w4 → Begins w5 → Reads (w0 ∷ w1 ∷ w2 ∷ w3 ∷ w4 ∷ w5 ∷ [])
+read-six w0 w1 w2 w3 w4 w5 b0 b1 b2 b3 b4 b5 =
+    rw (b0.word_is, b1.word_is, b2.word_is, b3.word_is, b4.word_is, b5.word_is) (six b0.first b1.first b2.first b3.first b4.first b5.first b0.rest b1.rest b2.rest b3.rest b4.rest b5.rest b0.no_dash b1.no_dash b2.no_dash b3.no_dash b4.no_dash b5.no_dash)
 
-pub reads : (program : Program) (words : List Text) → is_some (command_of program words) ≡ true → Reads program words
-reads program.Walk [] h = absurd (false≢true h)
-reads program.Walk (word ∷ []) h = reads_single word h
-reads program.Walk (word ∷ a ∷ []) h = absurd (false≢true h)
-reads program.Walk (word ∷ a ∷ b ∷ []) h = absurd (false≢true h)
-reads program.Walk (word ∷ a ∷ b ∷ c ∷ []) h = reads_make word a b c h
-reads program.Walk (word ∷ a ∷ b ∷ c ∷ d ∷ more) h = absurd (false≢true (sym (too_many-walk (word ∷ a ∷ b ∷ c ∷ d ∷ more) (omega arith)) ∙ h))
-reads program.Run [] h = absurd (false≢true h)
-reads program.Run (word ∷ []) h = absurd (false≢true h)
-reads program.Run (word ∷ workers ∷ []) h = reads_run word workers h
-reads program.Run (word ∷ workers ∷ a ∷ more) h = absurd (false≢true (sym (too_many-run (word ∷ workers ∷ a ∷ more) (omega arith)) ∙ h))
+pub reads : (words : List Text) → are_plain words ≡ true → Reads words
+reads [] h = absurd (false≢true h)
+reads (w0 ∷ []) h =
+    let p0 = and_parts _ _ (plain-words (w0 ∷ []) h) in
+    read-one w0 (begins w0 p0.0)
+reads (w0 ∷ w1 ∷ []) h =
+    let p0 = and_parts _ _ (plain-words (w0 ∷ w1 ∷ []) h) in
+    let p1 = and_parts _ _ p0.1 in
+    read-two w0 w1 (begins w0 p0.0) (begins w1 p1.0)
+reads (w0 ∷ w1 ∷ w2 ∷ []) h =
+    let p0 = and_parts _ _ (plain-words (w0 ∷ w1 ∷ w2 ∷ []) h) in
+    let p1 = and_parts _ _ p0.1 in
+    let p2 = and_parts _ _ p1.1 in
+    read-three w0 w1 w2 (begins w0 p0.0) (begins w1 p1.0) (begins w2 p2.0)
+reads (w0 ∷ w1 ∷ w2 ∷ w3 ∷ []) h =
+    let p0 = and_parts _ _ (plain-words (w0 ∷ w1 ∷ w2 ∷ w3 ∷ []) h) in
+    let p1 = and_parts _ _ p0.1 in
+    let p2 = and_parts _ _ p1.1 in
+    let p3 = and_parts _ _ p2.1 in
+    read-four w0 w1 w2 w3 (begins w0 p0.0) (begins w1 p1.0) (begins w2 p2.0) (begins w3 p3.0)
+reads (w0 ∷ w1 ∷ w2 ∷ w3 ∷ w4 ∷ []) h =
+    let p0 = and_parts _ _ (plain-words (w0 ∷ w1 ∷ w2 ∷ w3 ∷ w4 ∷ []) h) in
+    let p1 = and_parts _ _ p0.1 in
+    let p2 = and_parts _ _ p1.1 in
+    let p3 = and_parts _ _ p2.1 in
+    let p4 = and_parts _ _ p3.1 in
+    read-five w0 w1 w2 w3 w4 (begins w0 p0.0) (begins w1 p1.0) (begins w2 p2.0) (begins w3 p3.0) (begins w4 p4.0)
+reads (w0 ∷ w1 ∷ w2 ∷ w3 ∷ w4 ∷ w5 ∷ []) h =
+    let p0 = and_parts _ _ (plain-words (w0 ∷ w1 ∷ w2 ∷ w3 ∷ w4 ∷ w5 ∷ []) h) in
+    let p1 = and_parts _ _ p0.1 in
+    let p2 = and_parts _ _ p1.1 in
+    let p3 = and_parts _ _ p2.1 in
+    let p4 = and_parts _ _ p3.1 in
+    let p5 = and_parts _ _ p4.1 in
+    read-six w0 w1 w2 w3 w4 w5 (begins w0 p0.0) (begins w1 p1.0) (begins w2 p2.0) (begins w3 p3.0) (begins w4 p4.0) (begins w5 p5.0)
+reads (w0 ∷ w1 ∷ w2 ∷ w3 ∷ w4 ∷ w5 ∷ w6 ∷ more) h = absurd (false≢true (sym (too-many (w0 ∷ w1 ∷ w2 ∷ w3 ∷ w4 ∷ w5 ∷ w6 ∷ more) (omega arith)) ∙ h))

@@ -1,2 +1,2 @@
-pub mod Commands
-pub mod Parsers
+pub mod Words
+pub mod Parser

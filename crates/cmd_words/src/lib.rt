@@ -1,15 +1,11 @@
-//! Reads the words of the command line: which lists of words are a command of a program, and which command. Options, `--help` and
-//! `--version` among them, are none. Nothing is run here. Begin with `read_words`.
+//! Reads the words of a command line: whether they may be a command at all, their numbers, and which command of a program they are. No
+//! command is known here by its name: a program brings its own, by `FromWords`. Nothing is run here. Begin with `read_words`.
 #![tactic(auto)]
 
-mod command;
-mod form;
 mod number;
 mod parser;
-mod parts;
+mod plain;
 mod reading;
-#[cfg(test)]
-mod tests;
 
-pub use command::{Command, Program, WordFault};
-pub use reading::read_words;
+pub use number::number_within;
+pub use reading::{FromWords, WordFault, read_words};

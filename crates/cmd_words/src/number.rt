@@ -1,9 +1,9 @@
 //! Numbers on the command line.
 ghost use Rattle.std.specs.Prelude.{◌≡◌, ◌≤◌, IfSome};
-ghost use Rattle.cmd_words.specs.Commands.{number_in};
+ghost use Rattle.cmd_words.specs.Words.{number_in};
 
-/// The value of decimal digits, where it is within two bounds.
-pub(crate) fn number_within(word: &[u8], least: u64, most: u64) -> Option<u64>
+/// The value of decimal digits, where it is within two bounds. Leading zeros may stand.
+pub fn number_within(word: &[u8], least: u64, most: u64) -> Option<u64>
     ensures value { result ≡ number_in least most word.now }
     ensures fits { IfSome result (λ n. n ≤ most) }
 {

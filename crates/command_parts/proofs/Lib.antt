@@ -1,3 +1,2 @@
+pub mod EndLaws
 pub mod StopLaws
-pub mod StatusLaws
-pub mod CauseLaws

@@ -1,4 +1,6 @@
-pub mod Words
-pub mod Notes
+pub mod Task
+pub mod Ends
+pub mod Stops
+pub mod Faults
+pub mod Scripts
 pub mod Status
-pub mod Stop

@@ -3,6 +3,9 @@
 use std::alloc::AllocError;
 use std::env::{Env, FillError};
 
+/// The exit status where memory is short.
+pub const NO_MEMORY: u8 = 7;
+
 /// The words after the program's name. One that isn't UTF-8 is given as `-`.
 pub fn given_words<R: Env + AllocGlobal>(rt: &R) -> Result<Vec<String>, AllocError> {
     let mut words = Vec::new(rt.alloc());

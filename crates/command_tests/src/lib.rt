@@ -14,3 +14,5 @@ mod running;
 mod scripts;
 #[cfg(test)]
 mod walking;
+#[cfg(test)]
+mod words;

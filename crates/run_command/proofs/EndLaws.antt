@@ -1,6 +1,7 @@
 -- What a session that has ended writes, and what is handed back.
-use Rattle.std.proofs.Common.{◌≡◌, ℕ, List, [], ◌++◌, Option, Some, IfSome, Ok, sym, subst, append_assoc}
-use Rattle.std.proofs.lemmas.Option.{IfSome_then}
+use Rattle.std.proofs.Common.{◌≡◌, ◌≤◌, ℕ, List, [], ◌++◌, length, Option, Some, None, IfSome, Result, Ok, Err, refl, sym, ap, subst, append_assoc}
+use Rattle.std.specs.Prelude.{String}
+use Rattle.std.specs.declared.alloc.Global.{Global}
 use Rattle.outside_io.specs.Transfer.{Appends, AppendsPart}
 use Rattle.outside_io.proofs.Parts.{Appends-then, AppendsPart-then, AppendsPart-longer}
 use Rattle.session_model.specs.declared.script.Script.{Script}
@@ -15,8 +16,18 @@ use Rattle.walk_law.specs.Promise.{numbered}
 use Rattle.walk_law.specs.Report.{refused_texts, final_report}
 use Rattle.got_out.specs.declared.got.GotOut.{GotOut}
 use Rattle.got_out.specs.Told.{HasText}
-use Rattle.session_run.specs.declared.session.Ended.{Ended}
-use Rattle.run_command.specs.Ended.{HasEnded, HandsBack, WritesRun, WritesRunPart, end_text}
+use Rattle.script_read.specs.declared.fault.ScriptFault.{ScriptFault}
+use Rattle.headline_law.specs.Headline.{IsRunHeadline}
+use Rattle.headline_law.proofs.HeadlineLaws.{run_headline}
+use Rattle.command_parts.specs.Task.{IsCommand, reads, writes}
+use Rattle.command_parts.specs.Ends.{Lent, Takes, WritesAll, Ends}
+use Rattle.command_parts.specs.Scripts.{answer_of}
+use Rattle.command_parts.proofs.EndLaws.{is-done, known-text}
+use Rattle.run_command.specs.declared.command.RunCommand.{RunCommand}
+use Rattle.run_command.specs.declared.command.RunCommand.TheVariants.{Run}
+use Rattle.run_command.specs.Run.{run_answer}
+use Rattle.run_command.specs.Commands.{command_in, task_for, task_of}
+use Rattle.run_command.specs.Ended.{end_text}
 
 -- what follows the got lines, of the session's own numbers
 pub end-written : {K : Type 0} (written : K → Option (List ℕ)) (faults : K → ℕ) (first last : GotOut K) (start : Start) (refusals : List (ℕ × Refusal)) (totals : Totals) (script : Script)
@@ -37,35 +48,49 @@ whole-report script =
     sym (append_assoc (got_texts (delivered_of script script.config.ticks)) (refused_texts (refusals_among script (numbered 0 script.items)))
     (total_text (totals_among script script.config.ticks script.config.ticks (numbered 0 script.items))))
 
--- ---- what is known of an input's octets
-module _ {K : Type 0} (written : K → Option (List ℕ)) (faults : K → ℕ) (known : Option (List ℕ)) (script : Script) (is : IfSome known (λ text. script_of text ≡ Ok script)) where
+module _ {K : Type 0} (written : K → Option (List ℕ)) (faults : K → ℕ) (script : Script) where
   abbrev got : List ℕ
   got = got_texts (delivered_of script script.config.ticks)
 
   -- the got lines, and then the rest
-  pub writes-run : (old middle new : K) → Appends written faults old middle (got_texts (delivered_of script script.config.ticks)) → Appends written faults middle new (end_text script)
-      → IfSome known (WritesRun written faults old new)
-  writes-run old middle new before then =
+  pub run-all : (old middle new : K) → Appends written faults old middle (got_texts (delivered_of script script.config.ticks)) → Appends written faults middle new (end_text script)
+      → Appends written faults old new (final_report script)
+  run-all old middle new before then =
       let P : List ℕ → Type 0 = λ text. Appends written faults old new text in
-      let all : Appends written faults old new (final_report script) = subst P (whole-report script) (Appends-then written faults old middle new got (end_text script) before then) in
-      IfSome_then known is (λ text e. (script, e, all))
+      subst P (whole-report script) (Appends-then written faults old middle new got (end_text script) before then)
 
-  -- a prefix of the whole report
-  part-known : (old new : K) → AppendsPart written faults old new (got ++ end_text script) → IfSome known (WritesRunPart written faults old new)
-  part-known old new stops =
-      let P : List ℕ → Type 0 = λ text. AppendsPart written faults old new text in
-      let part : AppendsPart written faults old new (final_report script) = subst P (whole-report script) stops in
-      IfSome_then known is (λ text e. (script, e, part))
+  run-part : (old new : K) → AppendsPart written faults old new (got ++ end_text script) → AppendsPart written faults old new (final_report script)
+  run-part old new stops = let P : List ℕ → Type 0 = λ text. AppendsPart written faults old new text in subst P (whole-report script) stops
 
   -- a fault comes in the rest
-  pub writes-got : (old middle new : K) → Appends written faults old middle (got_texts (delivered_of script script.config.ticks)) → AppendsPart written faults middle new (end_text script)
-      → IfSome known (WritesRunPart written faults old new)
-  writes-got old middle new before stops = part-known old new (AppendsPart-then written faults old middle new got (end_text script) before stops)
+  pub run-got : (old middle new : K) → Appends written faults old middle (got_texts (delivered_of script script.config.ticks)) → AppendsPart written faults middle new (end_text script)
+      → AppendsPart written faults old new (final_report script)
+  run-got old middle new before stops = run-part old new (AppendsPart-then written faults old middle new got (end_text script) before stops)
 
   -- a fault comes in the got lines
-  pub writes-part : (old new : K) → AppendsPart written faults old new (got_texts (delivered_of script script.config.ticks)) → IfSome known (WritesRunPart written faults old new)
-  writes-part old new stops = part-known old new (AppendsPart-longer written faults old new got (end_text script) stops)
+  pub run-cut : (old new : K) → AppendsPart written faults old new (got_texts (delivered_of script script.config.ticks)) → AppendsPart written faults old new (final_report script)
+  run-cut old new stops = run-part old new (AppendsPart-longer written faults old new got (end_text script) stops)
 
--- the session is handed back
-pub hands-back : (known : Option (List ℕ)) (script : Script) (ended : Ended) → IfSome known (λ text. script_of text ≡ Ok script) → HasEnded script ended → IfSome known (HandsBack (Some ended))
-hands-back known script ended is has = IfSome_then known is (λ text e. (script, e, has))
+-- ---- the headline
+module _ {S K E : Type 0} (source : Lent S) (out : Lent K) (notes : Lent E) (status : ℕ) where
+  abbrev IsHead : List ℕ → Type 0
+  IsHead text = (written : List ℕ) × Takes out written × IsRunHeadline text written
+
+  told-by : (text : List ℕ) (of : Result Script ScriptFault) → script_of text ≡ of → length text ≤ 67108864 → WritesAll out notes (answer_of (λ script. writes (final_report script)) of)
+      → IsHead text
+  told-by text (Ok script) is few all = (final_report script, all.0, run_headline text script few is)
+  told-by text (Err fault) is few all = absurd all
+
+  pub tells-headline : Ends source out notes (reads run_answer) status → status ≡ 0 → IfSome (source.octets source.old) IsHead
+  tells-headline ends at =
+      let it = is-done source out notes (reads run_answer) status ends at in
+      let text = it.meets.0 in
+      known-text source IsHead text it.meets.1 (told-by text (script_of text) refl it.meets.1.fits (subst (WritesAll out notes) (sym it.meets.2) it.written))
+
+-- ---- words
+pub is-task : (words : List (String Global)) (o : Option RunCommand) → command_in words ≡ o → task_of words ≡ task_for o
+is-task words o is = ap task_for is
+
+pub has-command : (o : Option RunCommand) → ¬ (o ≡ None) → IsCommand (task_for o)
+has-command None some = absurd (some refl)
+has-command (Some (Run workers)) some = tt

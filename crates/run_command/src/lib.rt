@@ -2,7 +2,11 @@
 //! hands them over. Begin with `run_top`.
 #![tactic(auto)]
 
+mod command;
+mod end;
 mod run;
 mod top;
 
-pub use top::{RunEnd, run_top};
+pub use command::RunCommand;
+pub use end::RunEnd;
+pub use top::run_top;

@@ -1,13 +1,19 @@
-//! A script's session is run, and what came of it is written.
-ghost use Rattle.std.specs.Prelude.{◌≡◌, ◌≢◌, ◌≤◌, ℕ, true, false, Some, None, IfSome, OnOk, OnErr};
-ghost use Rattle.outside_io.specs.Faults.{one_more};
+//! `run`: a script's session is run, and what came of it is written.
+ghost use Rattle.std.specs.Prelude.{◌≡◌, ◌≢◌, ◌≤◌, None, OnOk, OnErr, map, string_bytes};
 ghost use Rattle.outside_io.specs.Transfer.{Appends, AppendsPart};
 ghost use Rattle.session_model.specs.declared.script.Script.{Script};
 ghost use Rattle.walk_law.specs.Landed.{totals_among};
 ghost use Rattle.walk_law.specs.Promise.{numbered};
-ghost use Rattle.command_parts.specs.Stop.{HasRun, ReadsScript};
-ghost use Rattle.run_command.specs.Ended.{HasEnded, HandsBack, WritesRun, WritesRunPart, end_text};
+ghost use Rattle.cmd_words.specs.Words.{number_in};
+ghost use Rattle.command_parts.specs.Status.{HasRunAt};
+ghost use Rattle.command_parts.specs.Task.{reads};
+ghost use Rattle.command_parts.specs.Ends.{Ends, lent};
+ghost use Rattle.run_command.specs.Run.{run_of, run_words, run_answer};
+ghost use Rattle.run_command.specs.Ended.{HasEnded, HandsSession, end_text};
 
+use crate::command::RunCommand;
+use crate::end::{RunEnd, cut, done, stopped};
+use cmd_words::number_within;
 use command_parts::{Stop, read_whole_script, take_back, write_rest};
 use got_out::GotOut;
 use member_ring::Gate;
@@ -18,12 +24,22 @@ use std::alloc::Global;
 use std::sync::Wait;
 use std::thread::Threads;
 
-/// How a command ended, and the session that it ran, if it came to one.
-pub struct Ran {
-    /// Why it stopped, where it wasn't done.
-    pub stop: Option<Stop>,
-    /// The session.
-    pub ended: Option<Ended>,
+/// The run of a number of workers.
+fn run_of(workers: &[u8]) -> Option<RunCommand>
+    ensures { result ≡ run_of (number_in 1 64 workers.now) }
+{
+    let workers = number_within(workers, 1, 64)? as u8;
+    Some(RunCommand::Run { workers })
+}
+
+/// The words `run WORKERS`.
+pub fn words(words: &[String]) -> Option<RunCommand>
+    ensures { result ≡ run_words (map string_bytes words.now) }
+{
+    match words {
+        [word, workers] if word.as_str() == "run" => run_of(workers.as_bytes()),
+        _ => None,
+    }
 }
 
 /// The numbers of a session.
@@ -53,62 +69,36 @@ fn write_end<K: ByteSink>(ended: &Ended, out: &mut K) -> Result<(), Failed>
 }
 
 /// Reads a script, runs its session with so many threads for its lines, and writes what comes of it.
-pub fn run<R: Threads + Wait + Sync, S: ByteSource, K: ByteSink, G: Gate>(
+pub fn run<R: Threads + Wait + Sync, S: ByteSource, K: ByteSink, E: ByteSink, G: Gate>(
     rt: &R,
     alloc: Global,
     workers: u8,
     script: &mut S,
     out: &mut K,
+    notes: &mut E,
     gate: &G,
-) -> Ran
+) -> RunEnd
     requires least { 1 ≤ workers }
     requires most { workers ≤ 64 }
-    ensures reads { ReadsScript S.left S.faults script.old script.new result.stop }
-    ensures command { result.stop ≢ Some Stop.Usage }
-    ensures hex { (number : ℕ) → result.stop ≢ Some (Stop.NotHex number) }
-    ensures written { result.stop ≡ None →
-        IfSome (S.left script.old) (WritesRun K.written K.faults out.old out.new) }
-    ensures part { result.stop ≡ Some Stop.Write →
-        IfSome (S.left script.old) (WritesRunPart K.written K.faults out.old out.new) }
-    ensures handed { HasRun result.stop → IfSome (S.left script.old) (HandsBack result.ended) }
-    ensures kept { (¬ HasRun result.stop) → result.ended ≡ None }
-    ensures nothing { (¬ HasRun result.stop) → out.new ≡ out.old }
-    ensures write_failed { result.stop ≡ Some Stop.Write →
-        K.faults out.new ≡ one_more (K.faults out.old) }
-    ensures write_quiet { result.stop ≢ Some Stop.Write → K.faults out.new ≡ K.faults out.old }
+    ensures ends { Ends (lent S.left S.faults script.old script.new)
+        (lent K.written K.faults out.old out.new) (lent E.written E.faults notes.old notes.new)
+        (reads run_answer) result.status }
+    ensures handed { HasRunAt result.status →
+        HandsSession (lent S.left S.faults script.old script.new) result.ended }
+    ensures kept { result.status ≢ 0 → result.status ≢ 4 → result.ended ≡ None }
 {
     let script = match read_whole_script(alloc, script) {
         Ok(script) => script,
-        Err(stop) => return stopped(stop),
+        Err(stop) => return stopped(stop, notes),
     };
     let Ok(ended) = run_session(rt, alloc, script, workers, out, gate) else {
-        return stopped(Stop::Memory);
+        return stopped(Stop::Memory, notes);
     };
     if ended.sink.failed() {
-        return Ran {
-            stop: Some(Stop::Write),
-            ended: Some(ended),
-        };
+        return cut(ended, notes);
     }
     match write_end(&ended, out) {
-        Ok(()) => Ran {
-            stop: None,
-            ended: Some(ended),
-        },
-        Err(Failed) => Ran {
-            stop: Some(Stop::Write),
-            ended: Some(ended),
-        },
-    }
-}
-
-/// A command that stopped before it came to a session.
-pub fn stopped(stop: Stop) -> Ran
-    ensures stop { result.stop ≡ Some stop }
-    ensures ended { result.ended ≡ None }
-{
-    Ran {
-        stop: Some(stop),
-        ended: None,
+        Ok(()) => done(ended),
+        Err(Failed) => cut(ended, notes),
     }
 }

@@ -1,37 +1,22 @@
 //! The program as a call: words, an input and two outputs in, a status and a session out.
-ghost use Rattle.std.specs.Prelude.{◌≡◌, ◌≢◌, ◌⊎◌, ℕ, ◌<◌, ◌≤◌, ◌↔◌, length, IsTrue, IfSome, Some, None, Err, codes};
-ghost use Rattle.std.specs.Io.KnownBytes.{IsAtEnd};
-ghost use Rattle.outside_io.specs.Faults.{one_more};
-ghost use Rattle.outside_io.specs.Transfer.{Tells};
-ghost use Rattle.script_read.specs.Script.{script_of};
-ghost use Rattle.text_lines.specs.declared.fault.LineKind.{LineKind};
-ghost use Rattle.script_read.specs.declared.fault.ScriptFault.{ScriptFault};
-ghost use Rattle.script_read.specs.declared.fault.ScriptFault.TheVariants.{Line};
-ghost use Rattle.command_parts.specs.Words.{command_in};
-ghost use Rattle.command_parts.specs.Notes.{usage_text, line_text, fault_text, note_of};
-ghost use Rattle.command_parts.specs.Status.{most_octets, is_status, HasRead, HasRunAt, Rises, IsGoodScript, IsLimit};
-ghost use Rattle.command_parts.specs.Stop.{status_at};
-ghost use Rattle.run_command.specs.Words.{IsRun};
-ghost use Rattle.run_command.specs.Ended.{HandsBack, WritesRun, WritesRunPart};
+ghost use Rattle.std.specs.Prelude.{◌≡◌, ◌≢◌, ℕ, List, IfSome, None};
+ghost use Rattle.outside_io.specs.Transfer.{Appends, Tells};
+ghost use Rattle.headline_law.specs.Headline.{IsRunHeadline};
+ghost use Rattle.command_parts.specs.Status.{HasRunAt};
+ghost use Rattle.command_parts.specs.Ends.{Ends, lent};
+ghost use Rattle.run_command.specs.Commands.{task_of, usage};
+ghost use Rattle.run_command.specs.Ended.{HandsSession};
 
-use crate::run::{Ran, run, stopped};
-use cmd_words::{Command, Program};
-use command_parts::{Stop, read_command, status_of, tell};
+use crate::command::RunCommand;
+use crate::end::{RunEnd, stopped};
+use crate::run::run;
+use cmd_words::{WordFault, read_words};
+use command_parts::{Stop, tell_usage};
 use member_ring::Gate;
 use outside_io::{ByteSink, ByteSource};
-use session_run::Ended;
 use std::alloc::Global;
 use std::sync::Wait;
 use std::thread::Threads;
-
-/// How a call of the program ended.
-#[derive(Drop)]
-pub struct RunEnd {
-    /// The exit status.
-    pub status: u8,
-    /// The session that was run, at the statuses 0 and 4.
-    pub ended: Option<Ended>,
-}
 
 /// Runs the command that the words say. `run WORKERS` reads a script and runs its session, the client, the operator, the source and the
 /// lines on threads, of which 1 to 64 are for the lines, and the sink here. It writes on `out` the got lines of the frames that are
@@ -51,87 +36,39 @@ pub fn run_top<R: Threads + Wait + Sync, S: ByteSource, K: ByteSink, E: ByteSink
     notes: &mut E,
     gate: &G,
 ) -> RunEnd
-    // The headline, for every order of the threads: what is written of a script that was read, where all is written. `WritesRun` says that
-    // it is the got lines of the delivered frames, the lines of refused items, and the line of totals.
-    ensures written { result.status ≡ 0 →
-        IfSome (S.left script.old) (WritesRun K.written K.faults out.old out.new) }
+    // For every order of the threads, by the status: what was read, what of it is answered, what is written of that and where, and which
+    // call failed. What `run` answers is one definition. What an end says stands fact by fact in `end_law`.
+    ensures ends { Ends (lent S.left S.faults script.old script.new)
+        (lent K.written K.faults out.old out.new) (lent E.written E.faults notes.old notes.new)
+        (task_of words.now) result.status }
 
-    // Which status comes. What is said of the input's octets presumes that the source tells them.
-    ensures known { IsTrue (is_status result.status) }
-    ensures usage { (result.status ≡ 2) ↔ (command_in Program.Run words.now ≡ None) }
-    ensures long { result.status ≡ 8 → IfSome (S.left script.old)
-        (λ text. most_octets < length text) }
-    ensures fits { HasRead result.status →
-        IfSome (S.left script.old) (λ text. length text ≤ most_octets) }
-
-    // A good script is answered with all that is to be written, or with want of memory, where no fault comes.
-    ensures complete { IsRun words.now → IfSome (S.left script.old) (λ text. IsGoodScript text →
-        (result.status ≡ 0) ⊎ ((result.status ≡ 7)
-        ⊎ (Rises (S.faults script.old) (S.faults script.new)
-        ⊎ Rises (K.faults out.old) (K.faults out.new)))) }
-
-    // Faults: at status 3 one call of the source failed, and at 4 one of the output.
-    ensures read_failed { result.status ≡ 3 → S.faults script.new ≡ one_more (S.faults script.old) }
-    ensures read_quiet { result.status ≢ 3 → S.faults script.new ≡ S.faults script.old }
-    ensures write_failed { result.status ≡ 4 → K.faults out.new ≡ one_more (K.faults out.old) }
-    ensures write_quiet { result.status ≢ 4 → K.faults out.new ≡ K.faults out.old }
-
-    // What is read, and what else is written on `out`.
-    ensures unread { (¬ IsRun words.now) → script.new ≡ script.old }
-    ensures end { HasRead result.status → IsAtEnd (S.left script.new) }
-    ensures part { result.status ≡ 4 →
-        IfSome (S.left script.old) (WritesRunPart K.written K.faults out.old out.new) }
-    ensures nothing { result.status ≢ 0 → result.status ≢ 4 → out.new ≡ out.old }
+    // The headline, of a source that tells its octets: what is written of a script is, in order and each once, exactly those accepted
+    // frames that its rows carry and that aren't lost, as got lines; then the refused items and the totals.
+    ensures headline { result.status ≡ 0 → IfSome (S.left script.old) (λ text. (written : List ℕ)
+        × Appends K.written K.faults out.old out.new written × IsRunHeadline text written) }
 
     // The session that is handed back has come to its end, also where a write failed: its ticks, what has landed, and the lists of all
     // its rings are those of the script.
     ensures handed { HasRunAt result.status →
-        IfSome (S.left script.old) (HandsBack result.ended) }
+        HandsSession (lent S.left S.faults script.old script.new) result.ended }
     ensures kept { result.status ≢ 0 → result.status ≢ 4 → result.ended ≡ None }
-
-    // What is said on `notes`.
-    ensures quiet { result.status ≡ 0 → notes.new ≡ notes.old }
-    ensures told_usage { result.status ≡ 2 → Tells
-        E.written E.faults notes.old notes.new (usage_text Program.Run) }
-    ensures told_read { result.status ≡ 3 →
-        Tells E.written E.faults notes.old notes.new (codes "fault: read failed\n") }
-    ensures told_write { result.status ≡ 4 →
-        Tells E.written E.faults notes.old notes.new (codes "fault: write failed\n") }
-    ensures told_line { result.status ≡ 5 → (number : ℕ) × (kind : LineKind)
-        × IfSome (S.left script.old) (λ text. script_of text ≡ Err (Line number kind))
-        × Tells E.written E.faults notes.old notes.new (line_text number kind) }
-    ensures told_limit { result.status ≡ 6 → (fault : ScriptFault) × IsLimit fault
-        × IfSome (S.left script.old) (λ text. script_of text ≡ Err fault)
-        × Tells E.written E.faults notes.old notes.new (fault_text fault) }
-    ensures told_memory { result.status ≡ 7 →
-        Tells E.written E.faults notes.old notes.new (codes "fault: no memory\n") }
-    ensures told_long { result.status ≡ 8 →
-        Tells E.written E.faults notes.old notes.new (codes "fault: too long\n") }
 {
-    let Ok(command) = read_command(alloc, words, Program::Run) else {
-        return finish(stopped(Stop::Memory), notes);
-    };
-    match command {
-        Some(Command::Run { workers }) => {
-            finish(run(rt, alloc, workers, script, out, gate), notes)
-        }
-        Some(Command::Walk { .. } | Command::Decode | Command::Make { .. }) => unreachable!(),
-        None => finish(stopped(Stop::Usage), notes),
+    match read_words(alloc, words) {
+        Ok(RunCommand::Run { workers }) => run(rt, alloc, workers, script, out, notes, gate),
+        Err(WordFault::Usage) => no_command(notes),
+        Err(WordFault::Memory) => stopped(Stop::Memory, notes),
     }
 }
 
-/// Says on `notes` why the command stopped, where it did, and gives the status.
-fn finish<E: ByteSink>(ran: Ran, notes: &mut E) -> RunEnd
-    ensures status { result.status ≡ status_at ran.stop }
-    ensures ended { result.ended ≡ ran.ended }
-    ensures quiet { ran.stop ≡ None → notes.new ≡ notes.old }
-    ensures told { IfSome ran.stop (λ cause.
-        Tells E.written E.faults notes.old notes.new (note_of Program.Run cause)) }
+/// Says on `notes` which commands the program has.
+fn no_command<E: ByteSink>(notes: &mut E) -> RunEnd
+    ensures status { result.status ≡ 2 }
+    ensures ended { result.ended ≡ None }
+    ensures told { Tells E.written E.faults notes.old notes.new usage }
 {
-    let Ran { stop, ended } = ran;
-    tell(stop, Program::Run, notes);
+    let status = tell_usage(b"usage: vcat_run run WORKERS\n", notes);
     RunEnd {
-        status: status_of(stop),
-        ended,
+        status,
+        ended: None,
     }
 }

@@ -1,7 +1,7 @@
 //! The program `vcat_run`: it runs the script of a group on threads.
 #![tactic(auto)]
 
-use command_parts::{Stop, given_words, status_of};
+use command_parts::{NO_MEMORY, given_words};
 use member_ring::OpenGate;
 use outside_io::{StdSink, StdSource};
 use run_command::run_top;
@@ -9,7 +9,7 @@ use std::process::ExitCode;
 
 fn main(rt: HostRuntime) -> ExitCode {
     let Ok(words) = given_words(&rt) else {
-        return ExitCode::from(status_of(Some(Stop::Memory)));
+        return ExitCode::from(NO_MEMORY);
     };
     let mut script = StdSource::new(rt.stdin());
     let mut out = StdSink::new(rt.stdout());

@@ -1,14 +1,14 @@
 //! The program `vcat_walk`: it runs the scripts and loads of a group on one thread, and decodes the control packets of a line.
 #![tactic(auto)]
 
-use command_parts::{Stop, given_words, status_of};
+use command_parts::{NO_MEMORY, given_words};
 use outside_io::{StdSink, StdSource};
 use std::process::ExitCode;
 use walk_command::walk_top;
 
 fn main(rt: HostRuntime) -> ExitCode {
     let Ok(words) = given_words(&rt) else {
-        return ExitCode::from(status_of(Some(Stop::Memory)));
+        return ExitCode::from(NO_MEMORY);
     };
     let mut script = StdSource::new(rt.stdin());
     let mut out = StdSink::new(rt.stdout());

@@ -1,5 +1,5 @@
 -- How far an event, a round and the event lines of a script move the counts of a walk.
-use Rattle.std.proofs.Common.{◌≡◌, ℕ, zero, suc, ◌+◌, ◌<◌, ◌≤◌, ◌&&◌, nat_le, nat_lt, inl, inr, List, [], ◌∷◌, ◌++◌, length, replicate, take, slice_get, Option, Some, None, refl, ◌∙◌, ap, arith}
+use Rattle.std.proofs.Common.{◌≡◌, ℕ, zero, suc, ◌+◌, ◌<◌, ◌≤◌, ◌&&◌, nat_le, nat_lt, inl, inr, List, [], ◌∷◌, ◌++◌, length, replicate, take, slice_get, get_or, Option, Some, None, refl, ◌∙◌, ap, arith}
 use Rattle.std.specs.List.{flat_map}
 use Rattle.std.proofs.lemmas.Bool.{cases_Bool}
 use Rattle.std.proofs.lemmas.Grind.{flat_map-append}
@@ -235,3 +235,9 @@ round-moves plan s =
     let all : run plan s (round plan) ≡ run plan t cs_ = run-append plan s as_ (bs_ ++ Tick ∷ cs_) ∙ run-append plan a bs_ (Tick ∷ cs_) in
     let end : (run plan s (round plan)).ticks ≡ t.ticks = ap (λ (x : Counts). x.ticks) all ∙ last in
     record { rises = run-rises plan s (round plan); most = omega (arith, end, is_a, is_b, is_t) }
+
+-- the item at a place within a list
+pub there : {X : Type 0} (xs : List X) (k : ℕ) (d : X) → k < length xs → slice_get xs k ≡ Some (get_or xs k d)
+there [] k d low = absurd (omega arith)
+there (x ∷ xs) zero d low = refl
+there (x ∷ xs) (suc k) d low = there xs k d (omega arith)

@@ -15,9 +15,10 @@ use Rattle.walk_law.specs.Landed.{refusals_of, totals_of}
 use Rattle.walk_law.specs.Report.{refused_texts, report_of}
 use Rattle.walk_core.specs.Moved.{Walked}
 use Rattle.script_read.specs.Script.{script_of}
-use Rattle.walk_command.specs.Ended.{WritesTrace, StopsBoth, StopsInTrace, FailsOnce}
-use Rattle.walk_command.specs.Texts.{counts_in, decisions_text, walk_text, trace_text}
-use Rattle.walk_command.specs.Trace.{TellsAll, TellsPart}
+use Rattle.walk_command.specs.Ended.{StopsBoth}
+use Rattle.headline_law.specs.Texts.{counts_in, walk_text}
+use Rattle.walk_command.specs.Trace.{decisions_text, trace_text}
+use Rattle.walk_command.specs.Told.{TellsAll, TellsPart}
 use Rattle.walk_command.proofs.MakeLaws.{none-delivered}
 use Rattle.walk_command.proofs.TraceLaws.{stops-both, walk-given_up}
 
@@ -79,24 +80,3 @@ module _ {K E : Type 0} (k_written : K → Option (List ℕ)) (k_faults : K → 
         let trace : decisions_text walk.script walk.counts.ticks ≡ trace_text script =
         ap (λ s. decisions_text s walk.counts.ticks) same ∙ ap (λ (s : Counts). decisions_text script s.ticks) counts in
         subst Q trace told.lines
-
--- ---- what is known of an input's octets
-pub writes-trace : {E : Type 0} (written : E → Option (List ℕ)) (faults : E → ℕ) (known : Option (List ℕ)) (script other : Script) (old new : E) → other ≡ script
-    → IfSome known (λ text. script_of text ≡ Ok script) → Appends written faults old new (trace_text other) → IfSome known (WritesTrace written faults old new)
-writes-trace written faults known script other old new same is appends =
-    let P : Script → Type 0 = λ script. Appends written faults old new (trace_text script) in
-    IfSome_then known is (λ text e. (script, e, subst P same appends))
-
-module _ {K E : Type 0} (k_written : K → Option (List ℕ)) (k_faults : K → ℕ) (k_old k_new : K) (e_written : E → Option (List ℕ)) (e_faults : E → ℕ) (e_old e_new : E) where
-  pub stops-in-trace : (known : Option (List ℕ)) (script other : Script) → other ≡ script → IfSome known (λ text. script_of text ≡ Ok script)
-      → StopsBoth k_written k_faults k_old k_new (walk_text other) e_written e_faults e_old e_new (trace_text other)
-      → IfSome known (StopsInTrace k_written k_faults k_old k_new e_written e_faults e_old e_new)
-  stops-in-trace known script other same is stops =
-      let P : Script → Type 0 = λ script. StopsBoth k_written k_faults k_old k_new (walk_text script) e_written e_faults e_old e_new (trace_text script) in
-      IfSome_then known is (λ text e. (script, e, subst P same stops))
-
-  -- one fault is counted, on one of the two
-  pub fails-once : (text trace : List ℕ) → StopsBoth k_written k_faults k_old k_new text e_written e_faults e_old e_new trace
-      → FailsOnce (k_faults k_old) (k_faults k_new) (e_faults e_old) (e_faults e_new)
-  fails-once text trace (inl (part, some)) = inl (part.counted, some.quiet)
-  fails-once text trace (inr (some, part)) = inr (some.quiet, part.counted)

@@ -4,6 +4,4 @@ pub mod EndLaws
 pub mod HexLineLaws
 pub mod DecodedLaws
 pub mod CountLaws
-pub mod RunLaws
-pub mod WriteLaws
-pub mod TopLaws
+pub mod RoomLaws

@@ -18,7 +18,7 @@ use Rattle.walk_law.specs.Delivered.{delivered_of}
 use Rattle.walk_law.proofs.CountLaws.{delivered-few}
 use Rattle.walk_core.specs.Moved.{Walked, delivered_since}
 use Rattle.walk_command.specs.Make.{octet_count, octet_sum, lines_text, make_text, HasSummed}
-use Rattle.walk_command.specs.Texts.{counts_in}
+use Rattle.headline_law.specs.Texts.{counts_in}
 
 pub summed-none : HasSummed 0 0 []
 summed-none = record { octets = refl; total = refl; few = omega arith; small = omega arith }

@@ -31,8 +31,9 @@ use Rattle.walk_core.specs.Parts.{note_of}
 use Rattle.walk_core.specs.declared.moved.StepNote.{StepNote}
 use Rattle.trace_core.specs.StepText.{step_text}
 use Rattle.walk_command.specs.Ended.{StopsBoth}
-use Rattle.walk_command.specs.Texts.{counts_in, decision_text, decisions_text, walk_text}
-use Rattle.walk_command.specs.Trace.{TellsPart, IsTold}
+use Rattle.headline_law.specs.Texts.{counts_in, walk_text}
+use Rattle.walk_command.specs.Trace.{decision_text, decisions_text}
+use Rattle.walk_command.specs.Told.{TellsPart, IsTold}
 use Rattle.walk_command.proofs.CountLaws.{Moves, step-moves, round-moves, replicate-last}
 
 -- ---- the lines of decision steps

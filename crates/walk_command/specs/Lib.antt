@@ -1,9 +1,10 @@
-pub mod Words
 pub mod HexLines
-pub mod Texts
-pub mod Make
-pub mod Ended
-pub mod Run
-pub mod Written
+pub mod Walk
 pub mod Trace
+pub mod Decode
+pub mod Make
+pub mod Commands
+pub mod Ended
+pub mod Written
+pub mod Told
 pub mod Begun

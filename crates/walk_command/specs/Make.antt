@@ -1,14 +1,32 @@
--- What is written of a load from a number.
-use Rattle.std.specs.Prelude.{◌≡◌, ℕ, ◌*◌, ◌≤◌, min, List, ◌++◌, sum, length, codes, decimal}
+-- `make`: the walk of a load from a number, and what is written of it.
+use Rattle.std.specs.Prelude.{◌≡◌, ℕ, ◌*◌, ◌≤◌, ◌==◌, ◌&&◌, min, List, ◌++◌, sum, length, codes, decimal, bytes_eq, Option, Some, None, if◌then◌else◌}
 use Rattle.std.specs.List.{sum_by}
 use Rattle.session_model.specs.declared.script.Script.{Script}
 use Rattle.session_model.specs.Counts.{Counts}
 use Rattle.report_text.specs.declared.report.Totals.{Totals}
 use Rattle.report_text.specs.Report.{total_text}
 use Rattle.make_load.specs.Load.{load}
+use Rattle.cmd_words.specs.Words.{number_in}
+use Rattle.command_parts.specs.Task.{Answer, writes}
+use Rattle.walk_command.specs.declared.command.WalkCommand.{WalkCommand}
+use Rattle.walk_command.specs.declared.command.WalkCommand.TheVariants.{Make}
+use Rattle.walk_command.specs.Walk.{word_at}
 use Rattle.walk_law.specs.Delivered.{delivered_of}
 use Rattle.walk_law.specs.Landed.{totals_of}
-use Rattle.walk_command.specs.Texts.{counts_in}
+use Rattle.headline_law.specs.Texts.{counts_in}
+
+-- the load of three numbers: below 2^64, 1 to 64, and 1 to 1,000,000
+abbrev pub load_of : Option ℕ → Option ℕ → Option ℕ → Option WalkCommand
+load_of (Some number) (Some lines) (Some ticks) = Some (Make number lines ticks)
+load_of (Some number) (Some lines) None = None
+load_of (Some number) None ticks = None
+load_of None lines ticks = None
+
+abbrev pub make_words : List (List ℕ) → Option WalkCommand
+make_words words =
+    if length words == 4 && bytes_eq (word_at 0 words) (codes "make") then
+    load_of (number_in 0 18446744073709551615 (word_at 1 words)) (number_in 1 64 (word_at 2 words)) (number_in 1 1000000 (word_at 3 words))
+    else None
 
 -- how many octets some frames have, and the sum of these
 abbrev pub octet_count : List (List ℕ) → ℕ
@@ -36,6 +54,9 @@ sums_text script s =
 -- those of the load of a number, whose walk drains
 abbrev pub make_text : ℕ → ℕ → ℕ → List ℕ
 make_text number lines ticks = sums_text (load number lines ticks) (counts_in (load number lines ticks))
+
+abbrev pub make_answer : ℕ → ℕ → ℕ → Answer
+make_answer number lines ticks = writes (make_text number lines ticks)
 
 -- ---- as private clauses say it
 -- the octets of some frames of at most 9,600 octets are counted and added up, up to 2^64 - 1

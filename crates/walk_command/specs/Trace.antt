@@ -1,44 +1,30 @@
--- A walk that is traced: its turns, and what is told of it so far, as private clauses say it.
-use Rattle.std.specs.Prelude.{◌≡◌, ℕ, ◌≤◌, Bool, true, false, not, List, [], ◌∷◌, Option}
-use Rattle.outside_io.specs.Transfer.{Appends}
-use Rattle.session_model.specs.declared.walk.Event.{Event}
-use Rattle.session_model.specs.Counts.{Plan, round}
-use Rattle.progress_law.specs.Progress.{HasLine}
-use Rattle.outside_io.specs.Start.{Start}
-use Rattle.got_out.specs.Told.{GivesUp}
-use Rattle.walk_law.specs.Delivered.{delivered_of}
-use Rattle.walk_core.specs.Moved.{Walked}
-use Rattle.walk_command.specs.Texts.{decisions_text}
-use Rattle.walk_command.specs.declared.trace.Turn.{Turn}
-use Rattle.walk_command.specs.declared.trace.Turn.TheVariants.{Try, Round}
+-- `trace`: a walk, and a line for each of its decision steps.
+use Rattle.std.specs.Prelude.{ℕ, ◌+◌, ◌*◌, List, codes, Option, Some, None, if◌then◌else◌}
+use Rattle.std.specs.List.{flat_map, range_with_len}
+use Rattle.session_model.specs.declared.script.Script.{Script}
+use Rattle.session_model.specs.Scenario.{steps_in}
+use Rattle.walk_law.specs.Step.{cell_taken, table_in}
+use Rattle.headline_law.specs.Texts.{counts_in, walk_text}
+use Rattle.trace_core.specs.StepText.{step_text}
+use Rattle.command_parts.specs.Task.{Answer, writes_both}
+use Rattle.command_parts.specs.Scripts.{script_answer}
+use Rattle.walk_command.specs.declared.command.WalkCommand.{WalkCommand}
+use Rattle.walk_command.specs.declared.command.WalkCommand.TheVariants.{Trace}
+use Rattle.walk_command.specs.Walk.{is_word}
 
--- the events of a turn
-abbrev pub events_of : Plan → Turn → List Event
-events_of plan (Try event) = event ∷ []
-events_of plan Round = round plan
+abbrev pub trace_words : List (List ℕ) → Option WalkCommand
+trace_words words = if is_word (codes "trace") words then Some Trace else None
 
--- a line that it names is one of the plan's
-abbrev pub IsTurn : Plan → Turn → Type 0
-IsTurn plan (Try event) = HasLine plan event
-IsTurn plan Round = Unit {0}
+-- the line of decision step j
+abbrev pub decision_text : Script → ℕ → List ℕ
+decision_text script j = step_text j (cell_taken script j) (table_in script (16 * j + 9)) script.config.lines
 
--- ---- what is told: `out` stands for frames behind a start, and tells whether a write failed; `first` are the notes before the first line
--- no write failed: `out` has the frames of all rows, and the notes have the lines of all decision steps
-pub record TellsAll {Out E : Type 0} (stands_for : Out → Start → List (List ℕ) → Type 0) (has_failed : Out → Bool) (written : E → Option (List ℕ))
-    (faults : E → ℕ) (start : Start) (first : E) (out : Out) (notes : E) (walk : Walked) : Type 0 where
-  pub whole : has_failed out ≡ false
-  pub gives : stands_for out start (delivered_of walk.script walk.counts.rows)
-  pub lines : Appends written faults first notes (decisions_text walk.script walk.counts.ticks)
+-- the lines of the decision steps that some ticks make
+abbrev pub decisions_text : Script → ℕ → List ℕ
+decisions_text script ticks = flat_map (decision_text script) (range_with_len 0 (steps_in ticks))
 
--- a write failed, on `out` or on the notes: `out` has the frames of some first rows, and the notes have a prefix of the lines
-pub record TellsPart {Out E : Type 0} (stands_for : Out → Start → List (List ℕ) → Type 0) (has_failed : Out → Bool) (written : E → Option (List ℕ))
-    (faults : E → ℕ) (start : Start) (first : E) (out : Out) (notes : E) (walk : Walked) : Type 0 where
-  pub rows : ℕ
-  pub low : rows ≤ walk.counts.rows
-  pub gives : stands_for out start (delivered_of walk.script rows)
-  pub lines : GivesUp (not (has_failed out)) written faults first notes (decisions_text walk.script walk.counts.ticks)
+abbrev pub trace_text : Script → List ℕ
+trace_text script = decisions_text script (counts_in script).ticks
 
--- by whether a write has failed
-abbrev pub IsTold : {Out E : Type 0} → (Out → Start → List (List ℕ) → Type 0) → (Out → Bool) → (E → Option (List ℕ)) → (E → ℕ) → Bool → Start → E → Out → E → Walked → Type 0
-IsTold stands_for has_failed written faults false start first out notes walk = TellsAll stands_for has_failed written faults start first out notes walk
-IsTold stands_for has_failed written faults true start first out notes walk = TellsPart stands_for has_failed written faults start first out notes walk
+abbrev pub trace_answer : List ℕ → Answer
+trace_answer = script_answer (λ script. writes_both (walk_text script) (trace_text script))

@@ -1,11 +1,11 @@
 //! A script as a command reads it, and its walk before any event.
-ghost use Rattle.std.specs.Prelude.{◌≡◌, ◌≢◌, ℕ, IfSome, IfOk, IfErr, OnOk, None, Some, Ok};
-ghost use Rattle.session_model.specs.Valid.{IsValid};
-ghost use Rattle.session_model.specs.Counts.{begin};
+ghost use Rattle.std.specs.Prelude.{IfOk, IfErr};
 ghost use Rattle.session_model.specs.declared.script.Script.{Script};
-ghost use Rattle.script_read.specs.Script.{script_of};
-ghost use Rattle.walk_law.specs.Walk.{walk_plan};
-ghost use Rattle.command_parts.specs.Stop.{ReadsScript};
+ghost use Rattle.session_model.specs.Valid.{IsValid};
+ghost use Rattle.command_parts.specs.Task.{Answer};
+ghost use Rattle.command_parts.specs.Ends.{lent};
+ghost use Rattle.command_parts.specs.Scripts.{HasScript, script_answer};
+ghost use Rattle.command_parts.specs.Stops.{StopsReading};
 ghost use Rattle.walk_command.specs.Begun.{IsBegun};
 
 use command_parts::{Stop, read_whole_script};
@@ -45,14 +45,11 @@ fn begin_script(alloc: Global, script: Script) -> Result<Begun, AllocError>
 
 /// Reads a script, and takes the memory for its walk.
 pub fn read_walk<S: ByteSource>(alloc: Global, source: &mut S) -> Result<Begun, Stop>
-    ensures script { IfOk result (λ begun. IfSome (S.left source.old)
-        (λ text. script_of text ≡ Ok begun.walk.script)) }
+    ensures script { IfOk result (λ begun.
+        HasScript (lent S.left S.faults source.old source.new) begun.walk.script) }
     ensures begun { IfOk result (λ begun. IsBegun begun.walk.script begun) }
-    ensures done { OnOk result (ReadsScript S.left S.faults source.old source.new None) }
-    ensures stopped { IfErr result (λ stop.
-        ReadsScript S.left S.faults source.old source.new (Some stop)) }
-    ensures causes { IfErr result (λ stop.
-        (stop ≢ Stop.Usage) × (stop ≢ Stop.Write) × ((number : ℕ) → stop ≢ Stop.NotHex number)) }
+    ensures stopped { (writes : Script → Answer) → IfErr result
+        (StopsReading (lent S.left S.faults source.old source.new) (script_answer writes)) }
 {
     match read_whole_script(alloc, source) {
         Ok(script) => match begin_script(alloc, script) {

@@ -1,20 +1,31 @@
-//! The packets in the H4 octets of a line are found, and a line is written of each.
-ghost use Rattle.std.specs.Prelude.{◌≡◌, ◌≢◌, ℕ, ◌+◌, ◌<◌, ◌≤◌, List, [], ◌∷◌, ◌++◌, length, Some, None, IfSome, IfOk, OnOk, OnErr};
-ghost use Rattle.outside_io.specs.Faults.{one_more};
+//! `decode`: the packets in the H4 octets of a line are found, and a line is written of each.
+ghost use Rattle.std.specs.Prelude.{◌≡◌, ℕ, ◌+◌, ◌<◌, ◌≤◌, List, [], ◌∷◌, ◌++◌, length, None, IfOk, OnOk, OnErr, map, string_bytes};
 ghost use Rattle.outside_io.specs.Transfer.{Appends, AppendsPart};
 ghost use Rattle.session_model.specs.DecodeText.{decoded_text};
 ghost use Rattle.trace_core.specs.Decoder.{Stands};
-ghost use Rattle.script_read.specs.declared.fault.ScriptFault.{ScriptFault};
-ghost use Rattle.command_parts.specs.Stop.{HasRun, ReadsInput};
-ghost use Rattle.walk_command.specs.Ended.{WritesPackets, WritesPacketsPart};
-ghost use Rattle.walk_command.specs.HexLines.{IsFirstFault};
+ghost use Rattle.command_parts.specs.Task.{reads};
+ghost use Rattle.command_parts.specs.Ends.{Ends, lent};
+ghost use Rattle.walk_command.specs.Decode.{decode_words, decode_answer};
 ghost use Rattle.walk_command.specs.Written.{HasLines, HasLinesPart};
 
+use crate::command::WalkCommand;
+use crate::end::{WalkEnd, cut, done, stopped};
 use crate::hex_lines::{HexLinesFault, read_octets};
-use command_parts::{Stop, read_input};
+use command_parts::{Stop, line_fault, read_input};
 use outside_io::{ByteSink, ByteSource, Failed, put_all};
 use std::alloc::Global;
+use text_lines::LineKind;
 use trace_core::{FOUND_ROOM, H4Decoder, end_line, found_line};
+
+/// The words `decode`.
+pub fn words(words: &[String]) -> Option<WalkCommand>
+    ensures { result ≡ decode_words (map string_bytes words.now) }
+{
+    match words {
+        [word] if word.as_str() == "decode" => Some(WalkCommand::Decode),
+        _ => None,
+    }
+}
 
 /// Gives an H4 octet to the decoder, and writes the line of what it finds. The answer is the number of lines.
 fn take_h4<K: ByteSink>(
@@ -65,37 +76,31 @@ fn write_packets<K: ByteSink>(octets: &[u8], out: &mut K) -> Result<(), Failed>
     put_all(out, &line[..end])
 }
 
-/// Reads the H4 octets of a line and writes the control packets in them. Answers why it stopped, where it wasn't done.
-pub fn decode<S: ByteSource, K: ByteSink>(
+/// Reads the H4 octets of a line and writes the control packets in them.
+pub fn decode<S: ByteSource, K: ByteSink, E: ByteSink>(
     alloc: Global,
     script: &mut S,
     out: &mut K,
-) -> Option<Stop>
-    ensures reads { ReadsInput S.left S.faults script.old script.new result }
-    ensures command { result ≢ Some Stop.Usage }
-    ensures fault { (fault : ScriptFault) → result ≢ Some (Stop.Fault fault) }
-    ensures hex { (number : ℕ) → result ≡ Some (Stop.NotHex number) →
-        IfSome (S.left script.old) (λ text. IsFirstFault text number) }
-    ensures decoded { result ≡ None →
-        IfSome (S.left script.old) (WritesPackets K.written K.faults out.old out.new) }
-    ensures part { result ≡ Some Stop.Write →
-        IfSome (S.left script.old) (WritesPacketsPart K.written K.faults out.old out.new) }
-    ensures nothing { (¬ HasRun result) → out.new ≡ out.old }
-    ensures write_failed { result ≡ Some Stop.Write →
-        K.faults out.new ≡ one_more (K.faults out.old) }
-    ensures write_quiet { result ≢ Some Stop.Write → K.faults out.new ≡ K.faults out.old }
+    notes: &mut E,
+) -> WalkEnd
+    ensures ends { Ends (lent S.left S.faults script.old script.new)
+        (lent K.written K.faults out.old out.new) (lent E.written E.faults notes.old notes.new)
+        (reads decode_answer) result.status }
+    ensures kept { result.walk ≡ None }
 {
     let text = match read_input(alloc, script) {
         Ok(text) => text,
-        Err(stop) => return Some(stop),
+        Err(stop) => return stopped(stop, notes),
     };
     let octets = match read_octets(alloc, text.as_slice()) {
         Ok(octets) => octets,
-        Err(HexLinesFault::Memory) => return Some(Stop::Memory),
-        Err(HexLinesFault::Line { number }) => return Some(Stop::NotHex { number }),
+        Err(HexLinesFault::Memory) => return stopped(Stop::Memory, notes),
+        Err(HexLinesFault::Line { number }) => {
+            return stopped(Stop::Refused(line_fault(number, LineKind::Hex)), notes);
+        }
     };
     match write_packets(octets.as_slice(), out) {
-        Ok(()) => None,
-        Err(Failed) => Some(Stop::Write),
+        Ok(()) => done(None),
+        Err(Failed) => cut(None, notes),
     }
 }

@@ -1,22 +1,54 @@
-//! A load from a number is run, and what came of it is written in three lines.
-ghost use Rattle.std.specs.Prelude.{◌≡◌, ◌≢◌, ◌≤◌, ◌*◌, length, take, sum, Some, None, OnOk, OnErr};
+//! `make`: a load from a number is run, and what came of it is written in three lines.
+ghost use Rattle.std.specs.Prelude.{◌≡◌, ◌≢◌, ◌≤◌, ◌*◌, length, take, sum, None, OnOk, OnErr, map, string_bytes};
 ghost use Rattle.outside_io.specs.Transfer.{Appends, AppendsPart};
 ghost use Rattle.session_model.specs.Valid.{IsValid, IsWithin};
 ghost use Rattle.session_model.specs.Counts.{begin, drain, bound};
 ghost use Rattle.make_load.specs.Load.{load};
 ghost use Rattle.walk_law.specs.Walk.{walk_plan};
 ghost use Rattle.walk_law.specs.Delivered.{delivered_of};
-ghost use Rattle.command_parts.specs.Stop.{HasRun, IsLate};
+ghost use Rattle.command_parts.specs.Status.{HasRunAt};
+ghost use Rattle.command_parts.specs.Task.{makes};
+ghost use Rattle.command_parts.specs.Ends.{Ends, lent, no_source};
 ghost use Rattle.walk_command.specs.Ended.{IsWalkOf};
-ghost use Rattle.walk_command.specs.Make.{octet_count, octet_sum, made_text, sum_text, lines_text, make_text};
+ghost use Rattle.walk_command.specs.Make.{octet_count, octet_sum, made_text, sum_text, lines_text, load_of, make_words, make_answer};
+ghost use Rattle.cmd_words.specs.Words.{number_in};
 
-use crate::walk::{Ended, stopped};
+use crate::command::WalkCommand;
+use crate::end::{WalkEnd, cut, done, stopped};
+use cmd_words::number_within;
 use command_parts::Stop;
 use outside_io::{ByteSink, Failed, put_all};
 use report_text::{LineCursor, Totals, total_line};
 use sink_core::FrameOut;
 use std::alloc::Global;
 use walk_core::Walk;
+
+/// The load of three numbers.
+fn load_of(number: &[u8], lines: &[u8], ticks: &[u8]) -> Option<WalkCommand>
+    ensures { result ≡ load_of (number_in 0 18446744073709551615 number.now)
+        (number_in 1 64 lines.now) (number_in 1 1000000 ticks.now) }
+{
+    let number = number_within(number, 0, u64::MAX)?;
+    let lines = number_within(lines, 1, 64)? as u8;
+    let ticks = number_within(ticks, 1, 1_000_000)? as u32;
+    Some(WalkCommand::Make {
+        number,
+        lines,
+        ticks,
+    })
+}
+
+/// The words `make NUMBER LINES TICKS`.
+pub fn words(words: &[String]) -> Option<WalkCommand>
+    ensures { result ≡ make_words (map string_bytes words.now) }
+{
+    match words {
+        [word, number, lines, ticks] if word.as_str() == "make" => {
+            load_of(number.as_bytes(), lines.as_bytes(), ticks.as_bytes())
+        }
+        _ => None,
+    }
+}
 
 /// Room for the three lines.
 const MADE_ROOM: usize = 256;
@@ -122,31 +154,31 @@ fn drain_sums(walk: &mut Walk) -> SumOut
 }
 
 /// Makes the load of a number, of 1 to 64 lines and 1 to 1,000,000 ticks, runs it and writes three lines.
-pub fn make<K: ByteSink>(alloc: Global, number: u64, lines: u8, ticks: u32, out: &mut K) -> Ended
+pub fn make<K: ByteSink, E: ByteSink>(
+    alloc: Global,
+    number: u64,
+    lines: u8,
+    ticks: u32,
+    out: &mut K,
+    notes: &mut E,
+) -> WalkEnd
     requires lines { IsWithin 1 64 lines }
     requires ticks { IsWithin 1 1000000 ticks }
-    ensures stops { IsLate result.stop }
-    ensures made { result.stop ≡ None →
-        Appends K.written K.faults out.old out.new (make_text number lines ticks) }
-    ensures part { result.stop ≡ Some Stop.Write →
-        AppendsPart K.written K.faults out.old out.new (make_text number lines ticks) }
-    ensures handed { HasRun result.stop → IsWalkOf (load number lines ticks) result.walk }
-    ensures kept { (¬ HasRun result.stop) → result.walk ≡ None }
-    ensures nothing { (¬ HasRun result.stop) → out.new ≡ out.old }
+    ensures ends { Ends no_source
+        (lent K.written K.faults out.old out.new) (lent E.written E.faults notes.old notes.new)
+        (makes (make_answer number lines ticks)) result.status }
+    ensures handed { HasRunAt result.status → IsWalkOf (load number lines ticks) result.walk }
+    ensures kept { result.status ≢ 0 → result.status ≢ 4 → result.walk ≡ None }
 {
     let Ok(script) = make_load::make(alloc, number, lines, ticks) else {
-        return stopped(Stop::Memory);
+        return stopped(Stop::Memory, notes);
     };
     let Ok(mut walk) = Walk::new(alloc, script) else {
-        return stopped(Stop::Memory);
+        return stopped(Stop::Memory, notes);
     };
     let sums = drain_sums(&mut walk);
-    let stop = match write_made(lines, ticks, &walk.totals(), &sums, out) {
-        Ok(()) => None,
-        Err(Failed) => Some(Stop::Write),
-    };
-    Ended {
-        stop,
-        walk: Some(walk),
+    match write_made(lines, ticks, &walk.totals(), &sums, out) {
+        Ok(()) => done(Some(walk)),
+        Err(Failed) => cut(Some(walk), notes),
     }
 }

@@ -1,0 +1,29 @@
+-- Why a command stopped, as private clauses say it.
+use Rattle.std.specs.Prelude.{◌≡◌, ℕ, List, Option, codes}
+use Rattle.command_parts.specs.declared.stop.Stop.{Stop}
+use Rattle.command_parts.specs.declared.stop.Stop.TheVariants.{Read, TooLong, Refused, Write, Memory}
+use Rattle.command_parts.specs.Task.{Answer, refuses, reads, refused_status}
+use Rattle.command_parts.specs.Ends.{Lent, FailedOnce, IsLong, Quiet, Meets}
+
+-- the status of a cause, and the note on it
+abbrev pub status_at : Stop → ℕ
+status_at Read = 3
+status_at TooLong = 8
+status_at (Refused fault) = refused_status fault.why
+status_at Write = 4
+status_at Memory = 7
+
+abbrev pub note_of : Stop → List ℕ
+note_of Read = codes "fault: read failed\n"
+note_of TooLong = codes "fault: too long\n"
+note_of (Refused fault) = fault.note.items
+note_of Write = codes "fault: write failed\n"
+note_of Memory = codes "fault: no memory\n"
+
+-- a command that answers its input stopped before it wrote anything
+abbrev pub StopsReading : {S : Type 0} → Lent S → (List ℕ → Answer) → Stop → Type 0
+StopsReading source answer Read = FailedOnce source
+StopsReading source answer TooLong = IsLong source
+StopsReading source answer (Refused fault) = Meets source (reads answer) (refuses fault.why fault.note.items)
+StopsReading source answer Write = ⊥
+StopsReading source answer Memory = Quiet source

@@ -1,0 +1,168 @@
+//! The script that an input says, and the notes on what is wrong with one, put together in a slice with room for one.
+ghost use Rattle.std.specs.Prelude.{◌≡◌, ◌≢◌, ◌+◌, ◌≤◌, length, take, IfOk, IfErr};
+ghost use Rattle.session_model.specs.declared.script.Script.{Script};
+ghost use Rattle.session_model.specs.Valid.{IsValid};
+ghost use Rattle.script_read.specs.declared.fault.ScriptFault.{ScriptFault};
+ghost use Rattle.command_parts.specs.Task.{Answer};
+ghost use Rattle.command_parts.specs.Ends.{lent};
+ghost use Rattle.command_parts.specs.Stops.{StopsReading};
+ghost use Rattle.command_parts.specs.Faults.{kind_text, line_text, fault_text, IsRefusedFor};
+ghost use Rattle.command_parts.specs.Scripts.{HasScript, script_answer};
+
+use crate::input::read_input;
+use crate::stop::{Fault, Refusal, Stop};
+use outside_io::ByteSource;
+use report_text::LineCursor;
+use script_read::{ScriptFault, read_script};
+use session_model::Script;
+use std::alloc::Global;
+use text_lines::LineKind;
+
+/// Room for a note.
+const NOTE_ROOM: usize = 128;
+
+/// The word of a kind of fault.
+fn kind_word(kind: LineKind) -> &'static [u8]
+    ensures word { result.now ≡ kind_text kind }
+    ensures short { length result.now ≤ 7 }
+{
+    match kind {
+        LineKind::Word => b"word",
+        LineKind::Number => b"number",
+        LineKind::Hex => b"hex",
+        LineKind::Range => b"range",
+        LineKind::Order => b"order",
+        LineKind::Missing => b"missing",
+    }
+}
+
+/// Writes that a line of the input is faulty.
+fn line_note(number: u64, kind: LineKind, out: &mut [u8]) -> usize
+    requires { 128 ≤ length out.old }
+    ensures within { result ≤ 128 }
+    ensures line { take result out.new ≡ line_text number kind }
+{
+    let mut line = LineCursor::new(out);
+    line.text(b"fault: line ");
+    line.decimal(number);
+    line.text(b": ");
+    line.text(kind_word(kind));
+    line.text(b"\n");
+    line.end()
+}
+
+/// Writes that a window lets too many containers vanish.
+fn slip_note(member: u8, window: u16, out: &mut [u8]) -> usize
+    requires { 128 ≤ length out.old }
+    ensures within { result ≤ 128 }
+    ensures line { take result out.new ≡ fault_text (ScriptFault.Slip member window) }
+{
+    let mut line = LineCursor::new(out);
+    line.text(b"fault: slip line ");
+    line.decimal(member);
+    line.text(b" window ");
+    line.decimal(window);
+    line.text(b"\n");
+    line.end()
+}
+
+/// Writes that a ring can't hold the spread of the lines.
+fn spread_note(slow: u16, fast: u16, slip: u32, ring: u16, out: &mut [u8]) -> usize
+    requires { 128 ≤ length out.old }
+    ensures within { result ≤ 128 }
+    ensures line { take result out.new ≡ fault_text (ScriptFault.Spread slow fast slip ring) }
+{
+    let mut line = LineCursor::new(out);
+    line.text(b"fault: spread ");
+    line.decimal(slow);
+    line.text(b" ");
+    line.decimal(fast);
+    line.text(b" ");
+    line.decimal(slip);
+    line.text(b" ");
+    line.decimal(ring);
+    line.text(b"\n");
+    line.end()
+}
+
+/// Writes that the lag is too short.
+fn lag_note(lag: u16, least: u32, out: &mut [u8]) -> usize
+    requires { 128 ≤ length out.old }
+    ensures within { result ≤ 128 }
+    ensures line { take result out.new ≡ fault_text (ScriptFault.Lag lag least) }
+{
+    let mut line = LineCursor::new(out);
+    line.text(b"fault: lag ");
+    line.decimal(lag);
+    line.text(b" least ");
+    line.decimal(least);
+    line.text(b"\n");
+    line.end()
+}
+
+/// A line of an input is faulty.
+pub fn line_fault(number: u64, kind: LineKind) -> Fault
+    ensures why { result.why ≡ Refusal.Line }
+    ensures note { result.note.items ≡ line_text number kind }
+{
+    let mut note = [0u8; NOTE_ROOM];
+    let end = line_note(number, kind, &mut note);
+    Fault::new(Refusal::Line, &note[..end])
+}
+
+/// What is wrong with a script as a whole is beyond a limit.
+fn limit_fault(note: &[u8]) -> Fault
+    requires { length note.now ≤ 128 }
+    ensures why { result.why ≡ Refusal.Limit }
+    ensures note { result.note.items ≡ note.now }
+{
+    Fault::new(Refusal::Limit, note)
+}
+
+/// Why a text that says no script stops a command.
+fn stop_of(fault: ScriptFault) -> Stop
+    ensures refused { fault ≢ ScriptFault.Memory → IsRefusedFor fault result }
+    ensures short { fault ≡ ScriptFault.Memory → result ≡ Stop.Memory }
+{
+    let mut note = [0u8; NOTE_ROOM];
+    match fault {
+        ScriptFault::Line { number, kind } => {
+            Stop::Refused(line_fault(u64::from(number), kind))
+        }
+        ScriptFault::Slip { line, window } => {
+            let end = slip_note(line, window, &mut note);
+            Stop::Refused(limit_fault(&note[..end]))
+        }
+        ScriptFault::Spread {
+            slow,
+            fast,
+            slip,
+            ring,
+        } => {
+            let end = spread_note(slow, fast, slip, ring, &mut note);
+            Stop::Refused(limit_fault(&note[..end]))
+        }
+        ScriptFault::Lag { lag, least } => {
+            let end = lag_note(lag, least, &mut note);
+            Stop::Refused(limit_fault(&note[..end]))
+        }
+        ScriptFault::Memory => Stop::Memory,
+    }
+}
+
+/// Reads the script that an input says.
+pub fn read_whole_script<S: ByteSource>(alloc: Global, source: &mut S) -> Result<Script, Stop>
+    ensures script { IfOk result (HasScript (lent S.left S.faults source.old source.new)) }
+    ensures valid { IfOk result IsValid }
+    ensures stopped { (writes : Script → Answer) → IfErr result
+        (StopsReading (lent S.left S.faults source.old source.new) (script_answer writes)) }
+{
+    let text = match read_input(alloc, source) {
+        Ok(text) => text,
+        Err(stop) => return Err(stop),
+    };
+    match read_script(alloc, text.as_slice()) {
+        Ok(script) => Ok(script),
+        Err(fault) => Err(stop_of(fault)),
+    }
+}

@@ -1,0 +1,114 @@
+//! Words, one by one, and the commands that they are.
+
+use cmd_words::read_words;
+use run_command::RunCommand;
+use std::alloc::{AllocError, Global};
+use std::test::Fail;
+use walk_command::WalkCommand;
+
+// Words with one space between them, and the command of the program of walks that they are.
+const WALKS: &str = "\
+    walk=> Walk\n\
+    trace=> Trace\n\
+    decode=> Decode\n\
+    make 1 1 1=> Make { number: 1, lines: 1, ticks: 1 }\n\
+    make 0 64 1000000=> Make { number: 0, lines: 64, ticks: 1000000 }\n\
+    make 18446744073709551615 1 1=> Make { number: 18446744073709551615, lines: 1, ticks: 1 }\n\
+    make 000000000000000000000000007 0008 0004000=> Make { number: 7, lines: 8, ticks: 4000 }\n\
+    make 18446744073709551616 1 1=> usage\n\
+    make 36893488147419103233 1 1=> usage\n\
+    make 1 0 1=> usage\n\
+    make 1 65 1=> usage\n\
+    make 1 257 1=> usage\n\
+    make 1 1 0=> usage\n\
+    make 1 1 1000001=> usage\n\
+    make 1 1 4294967297=> usage\n\
+    make +1 1 1=> usage\n\
+    make -1 1 1=> usage\n\
+    make 1 -1 1=> usage\n\
+    make 1 1 -1=> usage\n\
+    make -- 1 1 1=> usage\n\
+    make 1 1 1 --=> usage\n\
+    make --help=> usage\n\
+    make 1x 1 1=> usage\n\
+    make  1 1=> usage\n\
+    make 1 1=> usage\n\
+    make 1 1 1 1=> usage\n\
+    make=> usage\n\
+    Walk=> usage\n\
+    walk x=> usage\n\
+    walk walk=> usage\n\
+    walk --trace=> usage\n\
+    walk -h=> usage\n\
+    -- walk=> usage\n\
+    run 2=> usage\n\
+    -=> usage\n\
+    --=> usage\n\
+    -h=> usage\n\
+    --help=> usage\n\
+    --version=> usage\n\
+    -V=> usage\n\
+    help=> usage\n\
+    help walk=> usage\n\
+    => usage";
+
+// And the command of the program of runs.
+const RUNS: &str = "\
+    run 1=> Run { workers: 1 }\n\
+    run 0064=> Run { workers: 64 }\n\
+    run 0=> usage\n\
+    run 65=> usage\n\
+    run 257=> usage\n\
+    run=> usage\n\
+    run 1 1=> usage\n\
+    run -1=> usage\n\
+    run +1=> usage\n\
+    run -- 1=> usage\n\
+    run --workers=1=> usage\n\
+    help run=> usage\n\
+    Run 1=> usage\n\
+    walk=> usage\n\
+    --help=> usage\n\
+    => usage";
+
+/// Words with one space between them, each by itself.
+fn split(alloc: Global, text: &str) -> Result<Vec<String>, AllocError> {
+    let mut words = Vec::new(alloc);
+    for word in text.split(' ') {
+        words.push(String::from_str(alloc, word)?)?;
+    }
+    Ok(words)
+}
+
+/// What the program of walks is told by words.
+fn walk_told(alloc: Global, words: &[String]) -> Result<String, AllocError> {
+    match read_words::<WalkCommand>(alloc, words) {
+        Ok(command) => format!(in alloc; "{command:?}"),
+        Err(fault) => format!(in alloc; "{fault}"),
+    }
+}
+
+/// And the program of runs.
+fn run_told(alloc: Global, words: &[String]) -> Result<String, AllocError> {
+    match read_words::<RunCommand>(alloc, words) {
+        Ok(command) => format!(in alloc; "{command:?}"),
+        Err(fault) => format!(in alloc; "{fault}"),
+    }
+}
+
+#[test]
+fn words_are_commands(rt: HostRuntime) -> Result<(), Fail> {
+    let alloc = rt.alloc();
+    for row in WALKS.lines() {
+        let (text, want) = row.split_once("=> ").unwrap_or((row, "a row"));
+        let words = split(alloc, text)?;
+        assert_eq!(rt; walk_told(alloc, words.as_slice())?.as_str(), want, "{row}");
+    }
+    for row in RUNS.lines() {
+        let (text, want) = row.split_once("=> ").unwrap_or((row, "a row"));
+        let words = split(alloc, text)?;
+        assert_eq!(rt; run_told(alloc, words.as_slice())?.as_str(), want, "{row}");
+    }
+    assert_eq!(rt; walk_told(alloc, &[])?.as_str(), "usage");
+    Ok(())
+}
