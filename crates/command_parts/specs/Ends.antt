@@ -2,7 +2,7 @@
 use Rattle.std.specs.Prelude.{◌≡◌, ◌⊎◌, ℕ, ◌<◌, ◌≤◌, List, length, Option, None, IfSome, codes}
 use Rattle.outside_io.specs.Faults.{one_more}
 use Rattle.outside_io.specs.Transfer.{GivesAll, Appends, AppendsPart, Tells}
-use Rattle.got_out.specs.Told.{AppendsSome}
+use Rattle.got_lines.specs.Told.{AppendsSome}
 use Rattle.command_parts.specs.declared.stop.Refusal.{Refusal}
 use Rattle.command_parts.specs.Task.{Answer, Task, writes, writes_both, refuses, none, reads, makes, IsCommand, Reads, refused_status}
 

@@ -70,7 +70,7 @@ pub fn input_law<S, K, E>()
         (answer : List ℕ → Answer) (s : ℕ) →
         Ends source out notes (reads answer) s → s ≡ 4 → (middle : E)
         × IfSome (source.octets source.old)
-            (λ text. WritesPart out (until middle notes) (answer text))
+        (λ text. WritesPart out (until middle notes) (answer text))
         × IsTold (since middle notes) (codes "fault: write failed\n") }
     ensures refused { (source : Lent S) (out : Lent K) (notes : Lent E)
         (answer : List ℕ → Answer) (s : ℕ) →

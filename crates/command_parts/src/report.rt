@@ -3,14 +3,14 @@ ghost use Rattle.std.specs.Prelude.{◌≡◌, ℕ, List, ◌++◌};
 ghost use Rattle.report_text.specs.Report.{total_text};
 ghost use Rattle.walk_law.specs.Report.{refused_texts};
 ghost use Rattle.outside_io.specs.Start.{Start};
-ghost use Rattle.got_out.specs.Told.{HasText};
+ghost use Rattle.got_lines.specs.Told.{HasText};
 
-use got_out::GotOut;
+use got_lines::GotLines;
 use outside_io::ByteSink;
 use report_text::{REFUSED_ROOM, Refusal, TOTAL_ROOM, Totals, refused_line, total_line};
 
 /// Writes the lines of refused items.
-fn write_refusals<K: ByteSink>(refusals: &[(u32, Refusal)], got: &mut GotOut<K>)
+fn write_refusals<K: ByteSink>(refusals: &[(u32, Refusal)], got: &mut GotLines<K>)
     ensures { (start : Start) (before : List ℕ) →
         HasText K.written K.faults got.old start before →
         HasText K.written K.faults got.new start (before ++ refused_texts refusals.now) }
@@ -23,7 +23,7 @@ fn write_refusals<K: ByteSink>(refusals: &[(u32, Refusal)], got: &mut GotOut<K>)
 }
 
 /// Writes what follows the lines of delivered frames: those of refused items, each with its number, and that of totals.
-pub fn write_rest<K: ByteSink>(refusals: &[(u32, Refusal)], totals: &Totals, got: &mut GotOut<K>)
+pub fn write_rest<K: ByteSink>(refusals: &[(u32, Refusal)], totals: &Totals, got: &mut GotLines<K>)
     ensures { (start : Start) (before : List ℕ) →
         HasText K.written K.faults got.old start before →
         HasText K.written K.faults got.new start

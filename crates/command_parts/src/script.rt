@@ -126,9 +126,7 @@ fn stop_of(fault: ScriptFault) -> Stop
 {
     let mut note = [0u8; NOTE_ROOM];
     match fault {
-        ScriptFault::Line { number, kind } => {
-            Stop::Refused(line_fault(u64::from(number), kind))
-        }
+        ScriptFault::Line { number, kind } => { Stop::Refused(line_fault(u64::from(number), kind)) }
         ScriptFault::Slip { line, window } => {
             let end = slip_note(line, window, &mut note);
             Stop::Refused(limit_fault(&note[..end]))

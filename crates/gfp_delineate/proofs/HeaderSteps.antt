@@ -11,7 +11,7 @@ use Rattle.session_model.specs.Run.{Run}
 use Rattle.session_model.specs.Outcome.{client_outcome, outcomes}
 use Rattle.session_model.proofs.CoreLaws.{head-core_header}
 use Rattle.gfp_delineate.specs.declared.Phase.TheVariants.{Hunt, PresyncHeader, SyncHeader, SyncArea, SyncPassing}
-use Rattle.gfp_delineate.specs.Standing.{searching, running, Leaves}
+use Rattle.gfp_delineate.specs.LeftOpen.{searching, running, Leaves}
 use Rattle.gfp_delineate.specs.Receiver.{Progress, InPresyncHeader, InSyncHeader}
 use Rattle.gfp_delineate.proofs.StandingLaws.{Becomes-refused, Becomes-confirmed, Becomes-lost, Leaves-longer, Leaves-becomes, Leaves-goes_on}
 use Rattle.gfp_delineate.proofs.OutcomeLaws.{run_outcomes-none, outcomes_of-push}

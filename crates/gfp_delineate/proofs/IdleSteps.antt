@@ -6,7 +6,7 @@ use Rattle.session_model.specs.Outcome.{outcomes}
 use Rattle.session_model.proofs.CoreLaws.{head-core_header}
 use Rattle.session_model.proofs.IdleLaws.{idle_header, core_header-idle}
 use Rattle.gfp_delineate.specs.declared.Phase.TheVariants.{SyncHeader}
-use Rattle.gfp_delineate.specs.Standing.{running, Leaves}
+use Rattle.gfp_delineate.specs.LeftOpen.{running, Leaves}
 use Rattle.gfp_delineate.specs.Receiver.{Progress}
 use Rattle.gfp_delineate.specs.Repeated.{repeated, idles_from}
 use Rattle.gfp_delineate.proofs.StandingLaws.{Leaves-longer}

@@ -8,7 +8,7 @@ use Rattle.session_model.specs.Run.{Run, is_sync}
 use Rattle.session_model.specs.Outcome.{Outcome, client_outcome, run_outcomes, outcomes}
 use Rattle.gfp_delineate.specs.declared.Phase.{Phase}
 use Rattle.gfp_delineate.specs.declared.Phase.TheVariants.{Hunt, PresyncArea, PresyncHeader, SyncHeader, SyncArea, SyncPassing}
-use Rattle.gfp_delineate.specs.Standing.{Standing, searching, running, Leaves}
+use Rattle.gfp_delineate.specs.LeftOpen.{LeftOpen, searching, running, Leaves}
 use Rattle.gfp_delineate.specs.Receiver.{Progress, Searches, Headed, InHunt, IsIn, IsAt}
 use Rattle.gfp_delineate.proofs.StandingLaws.{Rests, Rests-few, Rests-unconfirmed, Rests-header, Rests-area, Leaves-none, runs-Leaves, sync-Leaves}
 use Rattle.gfp_delineate.proofs.OutcomeLaws.{outcomes_of-push}
@@ -22,7 +22,7 @@ outcomes_of longest ended = flat_map (run_outcomes longest) ended
 abbrev pub outcomes_with : ℕ → List Run → Bool → List (List ℕ) → List Outcome
 outcomes_with longest ended settled before = outcomes_of longest ended ++ run_outcomes longest (record { settled = settled; areas = before })
 
-module _ (longest : ℕ) (first : Bool) (octets : List ℕ) (ended : List Run) (standing : Standing) (leaves : Leaves head head first octets ended standing) where
+module _ (longest : ℕ) (first : Bool) (octets : List ℕ) (ended : List Run) (standing : LeftOpen) (leaves : Leaves head head first octets ended standing) where
   outcomes-search : Rests head head standing [] false → outcomes longest first octets ≡ outcomes_of longest ended
   outcomes-search rests =
       ap (outcomes_of longest) (runs-Leaves head head first octets ended standing [] false leaves rests ∙ append-nil ended)
@@ -96,10 +96,10 @@ in_sync (SyncHeader have) = true
 in_sync (SyncArea left) = true
 in_sync (SyncPassing left why) = true
 
-is_sync-search : (first : Bool) (octets : List ℕ) (ended : List Run) (standing : Standing) → Leaves head head first octets ended standing → Rests head head standing [] false → is_sync octets ≡ false
+is_sync-search : (first : Bool) (octets : List ℕ) (ended : List Run) (standing : LeftOpen) → Leaves head head first octets ended standing → Rests head head standing [] false → is_sync octets ≡ false
 is_sync-search first octets ended standing leaves rests = sync-Leaves head head first octets ended standing [] false leaves rests false
 
-is_sync-run : (first : Bool) (octets : List ℕ) (ended : List Run) (standing : Standing) (run : Run) → Leaves head head first octets ended standing → Rests head head standing (run ∷ []) true → is_sync octets ≡ true
+is_sync-run : (first : Bool) (octets : List ℕ) (ended : List Run) (standing : LeftOpen) (run : Run) → Leaves head head first octets ended standing → Rests head head standing (run ∷ []) true → is_sync octets ≡ true
 is_sync-run first octets ended standing run leaves rests = sync-Leaves head head first octets ended standing (run ∷ []) true leaves rests false
 
 is_sync-IsIn : (phase : Phase) (progress : Progress) (first : Bool) (octets : List ℕ) → IsIn phase progress first octets → is_sync octets ≡ in_sync phase

@@ -18,7 +18,7 @@ use Rattle.session_model.proofs.CutLaws.{joined-append}
 use Rattle.session_model.proofs.AreaLaws.{length-descrambled_single}
 use Rattle.gfp_delineate.specs.declared.Phase.{Phase}
 use Rattle.gfp_delineate.specs.declared.Phase.TheVariants.{SyncHeader, SyncArea, SyncPassing}
-use Rattle.gfp_delineate.specs.Standing.{running, Leaves}
+use Rattle.gfp_delineate.specs.LeftOpen.{running, Leaves}
 use Rattle.gfp_delineate.specs.Receiver.{Progress, Follows, Headed, InSyncHeader}
 use Rattle.gfp_delineate.proofs.StandingLaws.{Becomes-area, Leaves-longer, Leaves-goes_on}
 use Rattle.gfp_delineate.proofs.OutcomeLaws.{run_outcomes-push}

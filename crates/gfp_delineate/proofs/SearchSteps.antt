@@ -6,7 +6,7 @@ use Rattle.session_model.specs.Run.{Run}
 use Rattle.session_model.specs.Outcome.{outcomes}
 use Rattle.gfp_delineate.specs.declared.Phase.{Phase}
 use Rattle.gfp_delineate.specs.declared.Phase.TheVariants.{Hunt, PresyncArea, PresyncHeader}
-use Rattle.gfp_delineate.specs.Standing.{searching, Leaves}
+use Rattle.gfp_delineate.specs.LeftOpen.{searching, Leaves}
 use Rattle.gfp_delineate.specs.Receiver.{Progress, Searches, Headed, InHunt, InPresyncArea, InPresyncHeader}
 use Rattle.gfp_delineate.proofs.StandingLaws.{Becomes-on, Leaves-longer, Leaves-goes_on}
 use Rattle.gfp_delineate.proofs.Known.{outcomes_of, outcomes-hunt, outcomes-presync, nothing, length-shifted, window-more, window-whole, window-none}

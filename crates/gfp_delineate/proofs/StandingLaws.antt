@@ -3,7 +3,7 @@ use Rattle.std.proofs.Common.{◌≡◌, ℕ, ◌+◌, ◌<◌, ◌≤◌, Bool,
 use Rattle.std.proofs.lemmas.List.{take_at, drop_at, append-nil, drop-append-le}
 use Rattle.session_model.specs.Hunt.{header_with}
 use Rattle.session_model.specs.Run.{Followed, area_then, no_area, follow_with, Run, Delineated, run_then, runs_then, delineate_with}
-use Rattle.gfp_delineate.specs.Standing.{Standing, searching, running, found_with, Leaves}
+use Rattle.gfp_delineate.specs.LeftOpen.{LeftOpen, searching, running, found_with, Leaves}
 use Rattle.gfp_delineate.proofs.HuntLaws.{header-window, search, search-on, search-few, search-short, search-refused, search-confirmed}
 use Rattle.gfp_delineate.proofs.RunLaws.{not-not, follow-few, follow-lost, follow-part, follow-whole, delineate_from, delineate-open, sync-same}
 
@@ -14,7 +14,7 @@ runs_then-twice runs more found = ap (λ all. record { runs = all; sync = found.
 module _ (seek follow : List ℕ → Option ℕ) where
   -- ---- one search
   -- what is open becomes something else without a further octet, and these runs end
-  pub record Becomes (old : Standing) (ended : List Run) (new : Standing) : Type 0 where
+  pub record Becomes (old : LeftOpen) (ended : List Run) (new : LeftOpen) : Type 0 where
     pub same : (more : List ℕ) → found_with seek follow old more ≡ runs_then ended (found_with seek follow new more)
 
   -- a search in octets finds what a later search finds
@@ -112,7 +112,7 @@ module _ (seek follow : List ℕ → Option ℕ) where
   }
 
   -- ---- what is open where no more octets come
-  pub record Rests (standing : Standing) (open_runs : List Run) (sync : Bool) : Type 0 where
+  pub record Rests (standing : LeftOpen) (open_runs : List Run) (sync : Bool) : Type 0 where
     pub now : found_with seek follow standing [] ≡ record { runs = open_runs; sync = sync }
 
   rests-search : (settled : Bool) (last : List ℕ) → search seek (not settled) last ≡ None → Rests (searching settled last) [] false
@@ -150,26 +150,26 @@ module _ (seek follow : List ℕ → Option ℕ) where
 
   -- ---- more octets
   -- what is open with more octets after the last ones
-  abbrev pub longer : Standing → List ℕ → Standing
+  abbrev pub longer : LeftOpen → List ℕ → LeftOpen
   longer (searching settled last) octets = searching settled (last ++ octets)
   longer (running settled before last) octets = running settled before (last ++ octets)
 
-  found-longer : (standing : Standing) (octets more : List ℕ) → found_with seek follow standing (octets ++ more) ≡ found_with seek follow (longer standing octets) more
+  found-longer : (standing : LeftOpen) (octets more : List ℕ) → found_with seek follow standing (octets ++ more) ≡ found_with seek follow (longer standing octets) more
   found-longer (searching settled last) octets more = ap (delineate_with seek follow settled) (sym (append_assoc last octets more))
   found-longer (running settled before last) octets more = ap (λ octets. run_by settled before (follow_with follow octets)) (sym (append_assoc last octets more))
 
-  pub Leaves-longer : (first : Bool) (octets : List ℕ) (ended : List Run) (standing : Standing) (more : List ℕ) → Leaves seek follow first octets ended standing → Leaves seek follow first (octets ++ more) ended (longer standing more)
+  pub Leaves-longer : (first : Bool) (octets : List ℕ) (ended : List Run) (standing : LeftOpen) (more : List ℕ) → Leaves seek follow first octets ended standing → Leaves seek follow first (octets ++ more) ended (longer standing more)
   Leaves-longer first octets ended standing more leaves = record {
     finds = λ further. ap (delineate_with seek follow first) (append_assoc octets more further) ∙ leaves.finds (more ++ further) ∙ ap (runs_then ended) (found-longer standing more further);
   }
 
-  pub Leaves-becomes : (first : Bool) (octets : List ℕ) (ended more : List Run) (old new : Standing) → Leaves seek follow first octets ended old → Becomes old more new → Leaves seek follow first octets (ended ++ more) new
+  pub Leaves-becomes : (first : Bool) (octets : List ℕ) (ended more : List Run) (old new : LeftOpen) → Leaves seek follow first octets ended old → Becomes old more new → Leaves seek follow first octets (ended ++ more) new
   Leaves-becomes first octets ended more old new leaves becomes = record {
     finds = λ further. leaves.finds further ∙ ap (runs_then ended) (becomes.same further) ∙ runs_then-twice ended more (found_with seek follow new further);
   }
 
   -- the same where no run ends
-  pub Leaves-goes_on : (first : Bool) (octets : List ℕ) (ended : List Run) (old new : Standing) → Leaves seek follow first octets ended old → Becomes old [] new → Leaves seek follow first octets ended new
+  pub Leaves-goes_on : (first : Bool) (octets : List ℕ) (ended : List Run) (old new : LeftOpen) → Leaves seek follow first octets ended old → Becomes old [] new → Leaves seek follow first octets ended new
   Leaves-goes_on first octets ended old new leaves becomes = record {
     finds = λ further. leaves.finds further ∙ ap (runs_then ended) (becomes.same further);
   }
@@ -179,7 +179,7 @@ module _ (seek follow : List ℕ → Option ℕ) where
   Leaves-none first = record { finds = λ more. refl }
 
   -- ---- the octets that have come
-  module _ (first : Bool) (octets : List ℕ) (ended : List Run) (standing : Standing) (open_runs : List Run) (sync : Bool) (leaves : Leaves seek follow first octets ended standing) (rests : Rests standing open_runs sync) where
+  module _ (first : Bool) (octets : List ℕ) (ended : List Run) (standing : LeftOpen) (open_runs : List Run) (sync : Bool) (leaves : Leaves seek follow first octets ended standing) (rests : Rests standing open_runs sync) where
     delineate-Leaves : delineate_with seek follow first octets ≡ record { runs = ended ++ open_runs; sync = sync }
     delineate-Leaves = ap (delineate_with seek follow first) (sym (append-nil octets)) ∙ leaves.finds [] ∙ ap (runs_then ended) rests.now
 

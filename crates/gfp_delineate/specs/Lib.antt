@@ -1,3 +1,3 @@
-pub mod Standing
+pub mod LeftOpen
 pub mod Repeated
 pub mod Receiver

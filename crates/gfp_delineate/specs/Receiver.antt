@@ -13,7 +13,7 @@ use Rattle.gfp_delineate.specs.declared.Phase.{Phase}
 use Rattle.gfp_delineate.specs.declared.Phase.TheVariants.{Hunt, PresyncArea, PresyncHeader, SyncHeader, SyncArea, SyncPassing}
 use Rattle.gfp_delineate.specs.declared.Step.{Step}
 use Rattle.gfp_delineate.specs.declared.Step.TheVariants.{Nothing, Frame, Dropped}
-use Rattle.gfp_delineate.specs.Standing.{searching, running, Leaves}
+use Rattle.gfp_delineate.specs.LeftOpen.{searching, running, Leaves}
 
 -- the most octets that a frame may have beside its type header in an area, whose length is told in sixteen bits
 abbrev pub most : ℕ

@@ -13,7 +13,7 @@ use Rattle.session_model.specs.declared.script.Item.{Item}
 use Rattle.session_model.specs.declared.script.ItemKind.{ItemKind}
 use Rattle.session_model.specs.declared.script.ItemKind.TheVariants.{Frame, Add, Remove}
 use Rattle.session_model.specs.declared.table.Command.TheVariants.{Add as add, Remove as remove}
-use Rattle.session_model.specs.Scenario.{Scenario, Order, Offer, order_of, offer_of, orders_of, offers_of, steps_in, lands_at, comes_at}
+use Rattle.session_model.specs.Scenario.{Scenario, DueCommand, DueFrame, order_of, offer_of, orders_of, offers_of, steps_in, lands_at, comes_at}
 use Rattle.session_model.specs.Table.{Told}
 use Rattle.session_model.specs.Source.{Source, asked_all, refusal, after}
 use Rattle.session_model.specs.Client.{Stream, frame_refusal, refusal_while, offered}
@@ -38,7 +38,7 @@ pub orders-push : (items : List Item) (item : Item) → orders_of (items ++ item
 orders-push items item =
     flat_map-append (λ (item : Item). order_of item.due item.kind) items (item ∷ []) ∙ ap (λ l. orders_of items ++ l) (append-nil (order_of item.due item.kind))
 
-abbrev scenario_with : Setting → List Order → List Offer → Scenario
+abbrev scenario_with : Setting → List DueCommand → List DueFrame → Scenario
 scenario_with setting orders offers = record {
   lag = setting.lag;
   ticks = setting.ticks;
@@ -49,7 +49,7 @@ scenario_with setting orders offers = record {
   offers = offers;
 }
 
-kind-told : (setting : Setting) (orders : List Order) (offers : List Offer) (ticks : ℕ) (kind : ItemKind) →
+kind-told : (setting : Setting) (orders : List DueCommand) (offers : List DueFrame) (ticks : ℕ) (kind : ItemKind) →
     with_kind (scenario_with setting orders offers) ticks kind ≡ scenario_with setting (orders ++ order_of ticks kind) (offers ++ offer_of ticks kind)
 kind-told setting orders offers ticks (Frame octets) = ap (λ l. scenario_with setting l (offers ++ offer_of ticks (Frame octets))) (sym (append-nil orders))
 kind-told setting orders offers ticks (Add line) = ap (scenario_with setting (orders ++ order_of ticks (Add line))) (sym (append-nil offers))
@@ -77,7 +77,7 @@ comes-kind scenario ticks (Frame octets) = record {
   lines = refl;
   lag = refl;
   size = refl;
-  offers = not-yet (λ (offer : Offer). has_come ticks offer.due) scenario.offers (record { due = ticks; frame = octets }) (late-test ticks ticks (omega arith));
+  offers = not-yet (λ (offer : DueFrame). has_come ticks offer.due) scenario.offers (record { due = ticks; frame = octets }) (late-test ticks ticks (omega arith));
   orders = refl;
 }
 comes-kind scenario ticks (Add line) = record {
@@ -85,14 +85,14 @@ comes-kind scenario ticks (Add line) = record {
   lag = refl;
   size = refl;
   offers = refl;
-  orders = not-yet (λ (order : Order). has_come ticks order.due) scenario.orders (record { due = ticks; command = add line }) (late-test ticks ticks (omega arith));
+  orders = not-yet (λ (order : DueCommand). has_come ticks order.due) scenario.orders (record { due = ticks; command = add line }) (late-test ticks ticks (omega arith));
 }
 comes-kind scenario ticks (Remove line) = record {
   lines = refl;
   lag = refl;
   size = refl;
   offers = refl;
-  orders = not-yet (λ (order : Order). has_come ticks order.due) scenario.orders (record { due = ticks; command = remove line }) (late-test ticks ticks (omega arith));
+  orders = not-yet (λ (order : DueCommand). has_come ticks order.due) scenario.orders (record { due = ticks; command = remove line }) (late-test ticks ticks (omega arith));
 }
 
 pub alike-kind : (scenario : Scenario) (cells : List (Option Told)) (ticks : ℕ) (kind : ItemKind) → Alike scenario cells (with_kind scenario ticks kind) cells ticks
@@ -107,15 +107,15 @@ alike-cells scenario a b ticks agree =
 pub refusal-alike : (one : Scenario) (a : List (Option Told)) (other : Scenario) (b : List (Option Told)) (t due : ℕ) (earlier : List Item) (kind : ItemKind) →
     Alike one a other b t → due ≤ t → kind_refusal one a due earlier kind ≡ kind_refusal other b due earlier kind
 refusal-alike one a other b t due earlier (Frame octets) alike low =
-    ap (λ (stream : Stream). option_map frame_refused (frame_refusal octets (fold offered stream (map (λ (offer : Offer). offer.frame) (filter (comes_at due) (offers_of earlier))))))
+    ap (λ (stream : Stream). option_map frame_refused (frame_refusal octets (fold offered stream (map (λ (offer : DueFrame). offer.frame) (filter (comes_at due) (offers_of earlier))))))
     (alike-stream one a other b due (Alike-sooner one a other b due t low alike))
 refusal-alike one a other b t due earlier (Add line) alike low =
-    ap (λ n. option_map command_refused (refusal n (add line) (asked_all n (map (λ (order : Order). order.command) (filter (lands_at (steps_in due)) (orders_of earlier))) (after one a (steps_in due))))) alike.lines
-    ∙ ap (λ (source : Source). option_map command_refused (refusal (length other.windows) (add line) (asked_all (length other.windows) (map (λ (order : Order). order.command) (filter (lands_at (steps_in due)) (orders_of earlier))) source)))
+    ap (λ n. option_map command_refused (refusal n (add line) (asked_all n (map (λ (order : DueCommand). order.command) (filter (lands_at (steps_in due)) (orders_of earlier))) (after one a (steps_in due))))) alike.lines
+    ∙ ap (λ (source : Source). option_map command_refused (refusal (length other.windows) (add line) (asked_all (length other.windows) (map (λ (order : DueCommand). order.command) (filter (lands_at (steps_in due)) (orders_of earlier))) source)))
     (alike-after one a other b t (steps_in due) alike (omega arith))
 refusal-alike one a other b t due earlier (Remove line) alike low =
-    ap (λ n. option_map command_refused (refusal n (remove line) (asked_all n (map (λ (order : Order). order.command) (filter (lands_at (steps_in due)) (orders_of earlier))) (after one a (steps_in due))))) alike.lines
-    ∙ ap (λ (source : Source). option_map command_refused (refusal (length other.windows) (remove line) (asked_all (length other.windows) (map (λ (order : Order). order.command) (filter (lands_at (steps_in due)) (orders_of earlier))) source)))
+    ap (λ n. option_map command_refused (refusal n (remove line) (asked_all n (map (λ (order : DueCommand). order.command) (filter (lands_at (steps_in due)) (orders_of earlier))) (after one a (steps_in due))))) alike.lines
+    ∙ ap (λ (source : Source). option_map command_refused (refusal (length other.windows) (remove line) (asked_all (length other.windows) (map (λ (order : DueCommand). order.command) (filter (lands_at (steps_in due)) (orders_of earlier))) source)))
     (alike-after one a other b t (steps_in due) alike (omega arith))
 
 -- what the source says is what the session of the journal says

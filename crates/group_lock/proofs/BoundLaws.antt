@@ -10,7 +10,7 @@ use Rattle.vc_cell.specs.declared.Container.{Container}
 use Rattle.vc_cell.specs.declared.BackCell.{BackCell}
 use Rattle.session_model.specs.declared.script.Script.{Script}
 use Rattle.session_model.specs.declared.script.Item.{Item}
-use Rattle.session_model.specs.Scenario.{Scenario, Order, Offer, scenario_of, orders_of, offers_of, steps_in}
+use Rattle.session_model.specs.Scenario.{Scenario, DueCommand, DueFrame, scenario_of, orders_of, offers_of, steps_in}
 use Rattle.session_model.specs.Journal.{with_items}
 use Rattle.session_model.specs.Sent.{container_of, containers_of}
 use Rattle.session_model.specs.Counts.{dues_of, frame_dues, command_dues, used_in}
@@ -123,29 +123,29 @@ module _ (script : Script) (a b : GroupState) (answer : TickAnswer) (of_script :
   windows = ∥∥₁_elim has.made (hlevel props) (λ made. made.lines)
 
   -- the session of what has landed is the script's, up to the ticks made
-  offers-late : All (λ (offer : Offer). ticks_of b ≤ offer.due) (drop (frames_of a) (offers_of script.items))
+  offers-late : All (λ (offer : DueFrame). ticks_of b ≤ offer.due) (drop (frames_of a) (offers_of script.items))
   offers-late k d inside =
       let n : ℕ = frames_of a + k in
       let size = length-drop (frames_of a) (offers_of script.items) in
       let frames = call.landed.frames in
       let here : slice_get (frame_dues (dues_of (items_of b))) n ≡ Some (get_or (offers_of script.items) n d).due =
       ap (λ (l : List Item). slice_get (frame_dues (dues_of l)) n) (call.script.items ∙ of_script.items) ∙ ap (λ l. slice_get (frame_dues l) n) (bare-dues script.items)
-      ∙ ap (λ l. slice_get l n) (frame-dues script.items) ∙ slice_get-map (λ (offer : Offer). offer.due) (offers_of script.items) n
-      ∙ ap (option_map (λ (offer : Offer). offer.due)) (slice_get-get_or (offers_of script.items) n d (omega arith)) in
+      ∙ ap (λ l. slice_get l n) (frame-dues script.items) ∙ slice_get-map (λ (offer : DueFrame). offer.due) (offers_of script.items) n
+      ∙ ap (option_map (λ (offer : DueFrame). offer.due)) (slice_get-get_or (offers_of script.items) n d (omega arith)) in
       let late = b.keeps.ahead.of_frames n (get_or (offers_of script.items) n d).due (omega arith) here in
-      subst (λ (offer : Offer). ticks_of b ≤ offer.due) (sym (get_or-drop (frames_of a) (offers_of script.items) k d)) late
+      subst (λ (offer : DueFrame). ticks_of b ≤ offer.due) (sym (get_or-drop (frames_of a) (offers_of script.items) k d)) late
 
-  orders-late : All (λ (order : Order). ticks_of b ≤ order.due) (drop (commands_of a) (orders_of script.items))
+  orders-late : All (λ (order : DueCommand). ticks_of b ≤ order.due) (drop (commands_of a) (orders_of script.items))
   orders-late k d inside =
       let n : ℕ = commands_of a + k in
       let size = length-drop (commands_of a) (orders_of script.items) in
       let commands = call.landed.commands in
       let here : slice_get (command_dues (dues_of (items_of b))) n ≡ Some (get_or (orders_of script.items) n d).due =
       ap (λ (l : List Item). slice_get (command_dues (dues_of l)) n) (call.script.items ∙ of_script.items) ∙ ap (λ l. slice_get (command_dues l) n) (bare-dues script.items)
-      ∙ ap (λ l. slice_get l n) (command-dues script.items) ∙ slice_get-map (λ (order : Order). order.due) (orders_of script.items) n
-      ∙ ap (option_map (λ (order : Order). order.due)) (slice_get-get_or (orders_of script.items) n d (omega arith)) in
+      ∙ ap (λ l. slice_get l n) (command-dues script.items) ∙ slice_get-map (λ (order : DueCommand). order.due) (orders_of script.items) n
+      ∙ ap (option_map (λ (order : DueCommand). order.due)) (slice_get-get_or (orders_of script.items) n d (omega arith)) in
       let late = b.keeps.ahead.of_commands n (get_or (orders_of script.items) n d).due (omega arith) here in
-      subst (λ (order : Order). ticks_of b ≤ order.due) (sym (get_or-drop (commands_of a) (orders_of script.items) k d)) late
+      subst (λ (order : DueCommand). ticks_of b ≤ order.due) (sym (get_or-drop (commands_of a) (orders_of script.items) k d)) late
 
   comes : ComesAlike (landed_scenario script (counts_of a)) session (ticks_of b)
   comes = first-alike session (commands_of a) (frames_of a) (ticks_of b) orders-late offers-late

@@ -25,7 +25,7 @@ use Rattle.session_model.specs.declared.script.ItemKind.{ItemKind}
 use Rattle.session_model.specs.declared.script.ItemKind.TheVariants.{Frame, Add, Remove}
 use Rattle.session_model.specs.declared.table.Command.{Command}
 use Rattle.session_model.specs.declared.table.Command.TheVariants.{Add as add, Remove as remove}
-use Rattle.session_model.specs.Scenario.{Scenario, Order, Offer, order_of, offer_of, orders_of, offers_of, scenario_of, steps_in, lands_at, comes_at}
+use Rattle.session_model.specs.Scenario.{Scenario, DueCommand, DueFrame, order_of, offer_of, orders_of, offers_of, scenario_of, steps_in, lands_at, comes_at}
 use Rattle.session_model.specs.Source.{Source, asked_all, refusal}
 use Rattle.session_model.specs.Client.{Stream, stream_before, frame_refusal, refusal_while, offered}
 use Rattle.session_model.specs.Course.{Course}
@@ -175,7 +175,7 @@ offer-next script g number octets of_script next here =
     let found = place-found is_frame script.items (frames_of g) (record { due = ticks_of g; kind = Frame octets }) (sym (ap (slice_get script.items) at) ∙ here) in
     record { there = here; is = refl; before = offers-total (take number script.items) ∙ ap (λ n. count_of is_frame (take n script.items)) at ∙ found.1 }
 
-pub order-next : (script : Script) (g : GroupState) (number : ℕ) (kind : ItemKind) (order : Order) → IsOf script g → next_number g.landing false ≡ Some number →
+pub order-next : (script : Script) (g : GroupState) (number : ℕ) (kind : ItemKind) (order : DueCommand) → IsOf script g → next_number g.landing false ≡ Some number →
     order_of (ticks_of g) kind ≡ order ∷ [] → slice_get script.items number ≡ Some (record { due = ticks_of g; kind = kind }) →
     IsOrderAt script.items (commands_of g) (entry_of number (ticks_of g) kind) order
 order-next script g number kind order of_script next is here =
@@ -185,27 +185,27 @@ order-next script g number kind order of_script next is here =
 
 -- ---- what has landed is the script's, up to the ticks made
 module _ (script : Script) (g : GroupState) (of_script : IsOf script g) where
-  offers-after : All (λ (offer : Offer). ticks_of g ≤ offer.due) (drop (frames_of g) (offers_of script.items))
+  offers-after : All (λ (offer : DueFrame). ticks_of g ≤ offer.due) (drop (frames_of g) (offers_of script.items))
   offers-after k d inside =
       let n : ℕ = frames_of g + k in
       let size = length-drop (frames_of g) (offers_of script.items) in
       let here : slice_get (frame_dues (dues_of (items_of g))) n ≡ Some (get_or (offers_of script.items) n d).due =
       ap (λ (l : List Item). slice_get (frame_dues (dues_of l)) n) of_script.items ∙ ap (λ l. slice_get (frame_dues l) n) (bare-dues script.items)
-      ∙ ap (λ l. slice_get l n) (frame-dues script.items) ∙ slice_get-map (λ (offer : Offer). offer.due) (offers_of script.items) n
-      ∙ ap (option_map (λ (offer : Offer). offer.due)) (slice_get-get_or (offers_of script.items) n d (omega arith)) in
+      ∙ ap (λ l. slice_get l n) (frame-dues script.items) ∙ slice_get-map (λ (offer : DueFrame). offer.due) (offers_of script.items) n
+      ∙ ap (option_map (λ (offer : DueFrame). offer.due)) (slice_get-get_or (offers_of script.items) n d (omega arith)) in
       let late = g.keeps.ahead.of_frames n (get_or (offers_of script.items) n d).due (omega arith) here in
-      subst (λ (offer : Offer). ticks_of g ≤ offer.due) (sym (get_or-drop (frames_of g) (offers_of script.items) k d)) late
+      subst (λ (offer : DueFrame). ticks_of g ≤ offer.due) (sym (get_or-drop (frames_of g) (offers_of script.items) k d)) late
 
-  orders-after : All (λ (order : Order). ticks_of g ≤ order.due) (drop (commands_of g) (orders_of script.items))
+  orders-after : All (λ (order : DueCommand). ticks_of g ≤ order.due) (drop (commands_of g) (orders_of script.items))
   orders-after k d inside =
       let n : ℕ = commands_of g + k in
       let size = length-drop (commands_of g) (orders_of script.items) in
       let here : slice_get (command_dues (dues_of (items_of g))) n ≡ Some (get_or (orders_of script.items) n d).due =
       ap (λ (l : List Item). slice_get (command_dues (dues_of l)) n) of_script.items ∙ ap (λ l. slice_get (command_dues l) n) (bare-dues script.items)
-      ∙ ap (λ l. slice_get l n) (command-dues script.items) ∙ slice_get-map (λ (order : Order). order.due) (orders_of script.items) n
-      ∙ ap (option_map (λ (order : Order). order.due)) (slice_get-get_or (orders_of script.items) n d (omega arith)) in
+      ∙ ap (λ l. slice_get l n) (command-dues script.items) ∙ slice_get-map (λ (order : DueCommand). order.due) (orders_of script.items) n
+      ∙ ap (option_map (λ (order : DueCommand). order.due)) (slice_get-get_or (orders_of script.items) n d (omega arith)) in
       let late = g.keeps.ahead.of_commands n (get_or (orders_of script.items) n d).due (omega arith) here in
-      subst (λ (order : Order). ticks_of g ≤ order.due) (sym (get_or-drop (commands_of g) (orders_of script.items) k d)) late
+      subst (λ (order : DueCommand). ticks_of g ≤ order.due) (sym (get_or-drop (commands_of g) (orders_of script.items) k d)) late
 
   pub landed-alike : Alike (landed_scenario script (counts_of g)) (taken_of g) (scenario_of script) (taken_of g) (ticks_of g)
   landed-alike =
@@ -218,12 +218,12 @@ met-frame : (core : Terminal) (script : Script) (s : Counts) (cells : List (Opti
     met_by core (Frame octets) ≡ kind_refusal (scenario_of script) cells core.ticks (take number script.items) (Frame octets)
 met-frame core script s cells number octets made alike earlier =
     ap (λ (waiting : List (List ℕ)). option_map frame_refused (refusal_while waiting octets)) made.stream.waits
-    ∙ ap (λ (stream : Stream). option_map frame_refused (frame_refusal octets (fold offered stream (map (λ (offer : Offer). offer.frame) (filter (comes_at core.ticks) (take s.frames (offers_of script.items)))))))
+    ∙ ap (λ (stream : Stream). option_map frame_refused (frame_refusal octets (fold offered stream (map (λ (offer : DueFrame). offer.frame) (filter (comes_at core.ticks) (take s.frames (offers_of script.items)))))))
     (alike-stream (landed_scenario script s) cells (scenario_of script) cells core.ticks alike)
-    ∙ ap (λ (offers : List Offer). kind_met offers) (sym earlier)
+    ∙ ap (λ (offers : List DueFrame). kind_met offers) (sym earlier)
   where
-    kind_met : List Offer → Option Refusal
-    kind_met offers = option_map frame_refused (frame_refusal octets (fold offered (stream_before (scenario_of script) cells core.ticks) (map (λ (offer : Offer). offer.frame) (filter (comes_at core.ticks) offers))))
+    kind_met : List DueFrame → Option Refusal
+    kind_met offers = option_map frame_refused (frame_refusal octets (fold offered (stream_before (scenario_of script) cells core.ticks) (map (λ (offer : DueFrame). offer.frame) (filter (comes_at core.ticks) offers))))
 
 met-command : (core : Terminal) (script : Script) (s : Counts) (cells : List (Option Told)) (number : ℕ) (command : Command) → HasMade core (landed_scenario script s) cells →
     Alike (landed_scenario script s) cells (scenario_of script) cells core.ticks → orders_of (take number script.items) ≡ take s.commands (orders_of script.items) →
@@ -232,9 +232,9 @@ met-command : (core : Terminal) (script : Script) (s : Counts) (cells : List (Op
 met-command core script s cells number command made alike earlier =
     ap (λ n. option_map command_refused (refusal n command core.table.source)) made.lines
     ∙ ap (λ (course : Course). option_map command_refused (refusal (length script.config.windows) command course.source)) made.table
-    ∙ ap (λ (source : Source). option_map command_refused (refusal (length script.config.windows) command (asked_all (length script.config.windows) (map (λ (order : Order). order.command) (filter (lands_at (steps_in core.ticks)) (take s.commands (orders_of script.items)))) source)))
+    ∙ ap (λ (source : Source). option_map command_refused (refusal (length script.config.windows) command (asked_all (length script.config.windows) (map (λ (order : DueCommand). order.command) (filter (lands_at (steps_in core.ticks)) (take s.commands (orders_of script.items)))) source)))
     (alike-after (landed_scenario script s) cells (scenario_of script) cells core.ticks (steps_in core.ticks) alike (omega arith))
-    ∙ ap (λ (orders : List Order). option_map command_refused (refusal (length script.config.windows) command (source_met (scenario_of script) cells core.ticks orders))) (sym earlier)
+    ∙ ap (λ (orders : List DueCommand). option_map command_refused (refusal (length script.config.windows) command (source_met (scenario_of script) cells core.ticks orders))) (sym earlier)
 
 -- ---- why it is refused
 pub refusal-item : (script : Script) (g : GroupState) (number : ℕ) (kind : ItemKind) → IsOf script g → HasLandedOf script g → next_of g kind ≡ Some number →
@@ -243,11 +243,11 @@ refusal-item script g number (Frame octets) of_script has next here =
     let at = offer-at script.items (frames_of g) (entry_of number (ticks_of g) (Frame octets)) (record { due = ticks_of g; frame = octets }) (offer-next script g number octets of_script next here) in
     sym (refused-is g (Frame octets)) ∙ ∥∥₁_elim has.made (hlevel props) (λ made. met-frame (source_of g) script (counts_of g) (taken_of g) number octets made (landed-alike script g of_script) at.1)
 refusal-item script g number (Add line) of_script has next here =
-    let order : Order = record { due = ticks_of g; command = add line } in
+    let order : DueCommand = record { due = ticks_of g; command = add line } in
     let at = order-at script.items (commands_of g) (entry_of number (ticks_of g) (Add line)) order (order-next script g number (Add line) order of_script next refl here) in
     sym (refused-is g (Add line)) ∙ ∥∥₁_elim has.made (hlevel props) (λ made. met-command (source_of g) script (counts_of g) (taken_of g) number (add line) made (landed-alike script g of_script) at.1)
 refusal-item script g number (Remove line) of_script has next here =
-    let order : Order = record { due = ticks_of g; command = remove line } in
+    let order : DueCommand = record { due = ticks_of g; command = remove line } in
     let at = order-at script.items (commands_of g) (entry_of number (ticks_of g) (Remove line)) order (order-next script g number (Remove line) order of_script next refl here) in
     sym (refused-is g (Remove line)) ∙ ∥∥₁_elim has.made (hlevel props) (λ made. met-command (source_of g) script (counts_of g) (taken_of g) number (remove line) made (landed-alike script g of_script) at.1)
 
@@ -259,7 +259,7 @@ pub record Next (script : Script) (a b : GroupState) (number : ℕ) (kind : Item
   pub entries : length (drop (frames_of a) (offers_of script.items)) + length (drop (commands_of a) (orders_of script.items))
       ≡ length (drop (frames_of b) (offers_of script.items)) + length (drop (commands_of b) (orders_of script.items)) + 1
 
-command-next : (script : Script) (a b : GroupState) (number : ℕ) (kind : ItemKind) (order : Order) → IsOf script a → next_number a.landing false ≡ Some number → order_of (ticks_of a) kind ≡ order ∷ [] →
+command-next : (script : Script) (a b : GroupState) (number : ℕ) (kind : ItemKind) (order : DueCommand) → IsOf script a → next_number a.landing false ≡ Some number → order_of (ticks_of a) kind ≡ order ∷ [] →
     slice_get script.items number ≡ Some (record { due = ticks_of a; kind = kind }) → frames_of b ≡ frames_of a → commands_of b ≡ commands_of a + 1 →
     IsInserted (entry_of number (ticks_of a) kind) (landed_items script (counts_of a)) (landed_items script (counts_of b))
     × (with_items (scenario_of script) (take (commands_of a) (orders_of script.items) ++ order ∷ []) (take (frames_of a) (offers_of script.items)) ≡ landed_scenario script (counts_of b))
@@ -271,7 +271,7 @@ command-next script a b number kind order of_script next is here frames commands
     let items : landed_items script (record (counts_of a) { commands = commands_of a + 1 }) ≡ landed_items script (counts_of b) =
     ap (λ n. landed_from (frames_of a) n 0 script.items) (sym commands) ∙ ap (λ n. landed_from n (commands_of b) 0 script.items) (sym frames) in (
       subst (IsInserted (entry_of number (ticks_of a) kind) (landed_items script (counts_of a))) items (landed-command script (counts_of a) (entry_of number (ticks_of a) kind) order at),
-      ap (λ (l : List Order). with_items (scenario_of script) l (take (frames_of a) (offers_of script.items))) (sym (take-next (orders_of script.items) (commands_of a) order there))
+      ap (λ (l : List DueCommand). with_items (scenario_of script) l (take (frames_of a) (offers_of script.items))) (sym (take-next (orders_of script.items) (commands_of a) order there))
           ∙ ap (λ n. with_items (scenario_of script) (take n (orders_of script.items)) (take (frames_of a) (offers_of script.items))) up
           ∙ ap (λ n. with_items (scenario_of script) (take (commands_of b) (orders_of script.items)) (take n (offers_of script.items))) (sym frames),
       slice_get_within (orders_of script.items) (commands_of a) order there,
@@ -280,7 +280,7 @@ command-next script a b number kind order of_script next is here frames commands
 less-by : (n m size : ℕ) → n < size → m ≡ n + 1 → size - n ≡ size - m + 1
 less-by n m size low e = omega arith
 
-next-command : (script : Script) (a b : GroupState) (number : ℕ) (kind : ItemKind) (order : Order) → IsOf script a → next_number a.landing false ≡ Some number → order_of (ticks_of a) kind ≡ order ∷ [] →
+next-command : (script : Script) (a b : GroupState) (number : ℕ) (kind : ItemKind) (order : DueCommand) → IsOf script a → next_number a.landing false ≡ Some number → order_of (ticks_of a) kind ≡ order ∷ [] →
     slice_get script.items number ≡ Some (record { due = ticks_of a; kind = kind }) → frames_of b ≡ frames_of a → commands_of b ≡ commands_of a + 1 → octet_count kind ≡ 0 →
     with_kind (landed_scenario script (counts_of a)) (ticks_of a) kind ≡ with_items (scenario_of script) (take (commands_of a) (orders_of script.items) ++ order ∷ []) (take (frames_of a) (offers_of script.items)) →
     Next script a b number kind
@@ -301,7 +301,7 @@ next-command script a b number kind order of_script next is here frames commands
 pub next-of : (script : Script) (a b : GroupState) (number : ℕ) (kind : ItemKind) → IsOf script a → next_of a kind ≡ Some number → slice_get script.items number ≡ Some (record { due = ticks_of a; kind = kind }) →
     HasCounted a b kind true → Next script a b number kind
 next-of script a b number (Frame octets) of_script next here counted =
-    let offer : Offer = record { due = ticks_of a; frame = octets } in
+    let offer : DueFrame = record { due = ticks_of a; frame = octets } in
     let at = offer-next script a number octets of_script next here in
     let there = (offer-at script.items (frames_of a) (entry_of number (ticks_of a) (Frame octets)) offer at).0 in
     let inside = slice_get_within (offers_of script.items) (frames_of a) offer there in
@@ -316,11 +316,11 @@ next-of script a b number (Frame octets) of_script next here counted =
     let same : length (drop (commands_of a) (orders_of script.items)) ≡ length (drop (commands_of b) (orders_of script.items)) = ap (λ n. length (drop n (orders_of script.items))) (sym commands) in
     record {
       inserted = subst (IsInserted (entry_of number (ticks_of a) (Frame octets)) (landed_items script (counts_of a))) items (landed-frame script (counts_of a) (entry_of number (ticks_of a) (Frame octets)) offer at);
-      scenario = ap (λ (l : List Offer). with_items (scenario_of script) (take (commands_of a) (orders_of script.items)) l) (sym (take-next (offers_of script.items) (frames_of a) offer there))
+      scenario = ap (λ (l : List DueFrame). with_items (scenario_of script) (take (commands_of a) (orders_of script.items)) l) (sym (take-next (offers_of script.items) (frames_of a) offer there))
           ∙ ap (λ n. with_items (scenario_of script) (take (commands_of a) (orders_of script.items)) (take n (offers_of script.items))) up
           ∙ ap (λ n. with_items (scenario_of script) (take n (orders_of script.items)) (take (frames_of b) (offers_of script.items))) (sym commands);
-      octets = sum_by-drop_more (λ (o : Offer). length o.frame) (offers_of script.items) (frames_of a) offer inside
-          ∙ ap (λ (o : Offer). length o.frame + octets_in (drop (frames_of a + 1) (offers_of script.items))) (get_or_from_slice_get (offers_of script.items) (frames_of a) offer offer there)
+      octets = sum_by-drop_more (λ (o : DueFrame). length o.frame) (offers_of script.items) (frames_of a) offer inside
+          ∙ ap (λ (o : DueFrame). length o.frame + octets_in (drop (frames_of a + 1) (offers_of script.items))) (get_or_from_slice_get (offers_of script.items) (frames_of a) offer offer there)
           ∙ ap (λ n. length octets + octets_in (drop n (offers_of script.items))) (sym frames);
       entries = omega arith;
     }
@@ -377,24 +377,24 @@ told-rest (Some (command_refused fault)) = refl
 room-first : (script : Script) (g : GroupState) (number : ℕ) (kind : ItemKind) → IsOf script g → next_of g kind ≡ Some number → slice_get script.items number ≡ Some (record { due = ticks_of g; kind = kind }) → HasRoom script g →
     (0 < slots_of g) × (octet_count kind ≤ bytes_of g)
 room-first script g number (Frame octets) of_script next here room =
-    let offer : Offer = record { due = ticks_of g; frame = octets } in
+    let offer : DueFrame = record { due = ticks_of g; frame = octets } in
     let there = (offer-at script.items (frames_of g) (entry_of number (ticks_of g) (Frame octets)) offer (offer-next script g number octets of_script next here)).0 in
     let inside = slice_get_within (offers_of script.items) (frames_of g) offer there in
     let long = length-drop (frames_of g) (offers_of script.items) in
     let entries = room.entries in
     let bytes = room.octets in
-    let first = sum_by-drop_more (λ (o : Offer). length o.frame) (offers_of script.items) (frames_of g) offer inside
-    ∙ ap (λ (o : Offer). length o.frame + octets_in (drop (frames_of g + 1) (offers_of script.items))) (get_or_from_slice_get (offers_of script.items) (frames_of g) offer offer there) in
+    let first = sum_by-drop_more (λ (o : DueFrame). length o.frame) (offers_of script.items) (frames_of g) offer inside
+    ∙ ap (λ (o : DueFrame). length o.frame + octets_in (drop (frames_of g + 1) (offers_of script.items))) (get_or_from_slice_get (offers_of script.items) (frames_of g) offer offer there) in
     (omega arith, omega arith)
 room-first script g number (Add line) of_script next here room =
-    let order : Order = record { due = ticks_of g; command = add line } in
+    let order : DueCommand = record { due = ticks_of g; command = add line } in
     let there = (order-at script.items (commands_of g) (entry_of number (ticks_of g) (Add line)) order (order-next script g number (Add line) order of_script next refl here)).0 in
     let inside = slice_get_within (orders_of script.items) (commands_of g) order there in
     let long = length-drop (commands_of g) (orders_of script.items) in
     let entries = room.entries in
     (omega arith, omega arith)
 room-first script g number (Remove line) of_script next here room =
-    let order : Order = record { due = ticks_of g; command = remove line } in
+    let order : DueCommand = record { due = ticks_of g; command = remove line } in
     let there = (order-at script.items (commands_of g) (entry_of number (ticks_of g) (Remove line)) order (order-next script g number (Remove line) order of_script next refl here)).0 in
     let inside = slice_get_within (orders_of script.items) (commands_of g) order there in
     let long = length-drop (commands_of g) (orders_of script.items) in

@@ -6,7 +6,7 @@ use Rattle.vc_cell.specs.declared.BackCell.{BackCell}
 use Rattle.session_model.specs.declared.script.Script.{Script}
 use Rattle.session_model.specs.declared.script.Item.{Item}
 use Rattle.session_model.specs.declared.script.ItemKind.{ItemKind}
-use Rattle.session_model.specs.Scenario.{Offer, scenario_of, offers_of, orders_of}
+use Rattle.session_model.specs.Scenario.{DueFrame, scenario_of, offers_of, orders_of}
 use Rattle.session_model.specs.Table.{Told}
 use Rattle.session_model.specs.Counts.{Counts}
 use Rattle.report_text.specs.declared.report.Refusal.{Refusal}
@@ -49,8 +49,8 @@ abbrev pub accepted_commands_by : Script → List (Option Told) → List Numbere
 accepted_commands_by script cells items = filter (λ item. not (is_client item.item.kind) && is_none (refusal_by script cells item)) items
 
 -- how many octets some frames have
-abbrev pub octets_in : List Offer → ℕ
-octets_in offers = sum_by (λ (offer : Offer). length offer.frame) offers
+abbrev pub octets_in : List DueFrame → ℕ
+octets_in offers = sum_by (λ (offer : DueFrame). length offer.frame) offers
 
 -- ---- the group
 -- an item that is handed in is the one of its number in the script, where there is one

@@ -2,7 +2,7 @@
 ghost use Rattle.std.specs.Prelude.{◌≤◌, length};
 
 use failure_window::Window;
-use line_core::{Carry, LineCore, Out, Windows};
+use line_core::{CarrySign, LineCore, Out, Windows};
 use std::alloc::Global;
 use vc_cell::{Cell, Container, PAYLOAD};
 
@@ -82,7 +82,7 @@ fn a_window_fails_and_slips(rt: HostRuntime) {
 }
 
 // The same where the container goes by a place of the caller's.
-fn carry_by(line: &mut LineCore, place: &mut Container) -> Option<Carry> {
+fn carry_by(line: &mut LineCore, place: &mut Container) -> Option<CarrySign> {
     if !line.all_pushed() {
         Some(line.push_from(&container(b'7'), place))
     } else if !line.ended() {
@@ -93,7 +93,7 @@ fn carry_by(line: &mut LineCore, place: &mut Container) -> Option<Carry> {
 }
 
 // Six carries by a place, and the digits that lie there after each.
-fn carries_by(line: &mut LineCore) -> ([Option<Carry>; 6], [u8; 6]) {
+fn carries_by(line: &mut LineCore) -> ([Option<CarrySign>; 6], [u8; 6]) {
     let mut place = container(b'9');
     let mut carries = [None; 6];
     let mut digits = [0; 6];
@@ -110,13 +110,13 @@ fn a_delay_may_be_longer_than_the_line(rt: HostRuntime) {
         Some(mut line) => carries_by(&mut line),
         None => ([None; 6], [0; 6]),
     };
-    let nothing = Some(Carry::Nothing);
+    let nothing = Some(CarrySign::Nothing);
     let carries = [
         nothing,
         nothing,
         nothing,
-        Some(Carry::Good),
-        Some(Carry::End),
+        Some(CarrySign::Good),
+        Some(CarrySign::End),
         None,
     ];
     assert_eq!(rt; seen, (carries, *b"999777"));

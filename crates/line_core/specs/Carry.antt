@@ -5,8 +5,8 @@ use Rattle.vc_cell.specs.declared.Cell.{Cell}
 use Rattle.vc_cell.specs.declared.Cell.TheVariants.{Good as GoodCell, Fail as FailCell, End as EndCell}
 use Rattle.session_model.specs.declared.window.Carried.{Carried}
 use Rattle.session_model.specs.declared.window.Carried.TheVariants.{Whole, Fails, Vanishes}
-use Rattle.line_core.specs.declared.carry.Carry.{Carry}
-use Rattle.line_core.specs.declared.carry.Carry.TheVariants.{Nothing, Good, Fail, End}
+use Rattle.line_core.specs.declared.carry.CarrySign.{CarrySign}
+use Rattle.line_core.specs.declared.carry.CarrySign.TheVariants.{Nothing, Good, Fail, End}
 use Rattle.line_core.specs.declared.carry.Out.{Out}
 use Rattle.line_core.specs.declared.carry.Out.TheVariants.{Nothing as NothingOut, One}
 
@@ -15,14 +15,14 @@ out_cells NothingOut = []
 out_cells (One cell) = cell ∷ []
 
 -- where the container of a good cell lies in this place
-abbrev pub carry_cells : Carry → Container → List Cell
+abbrev pub carry_cells : CarrySign → Container → List Cell
 carry_cells Nothing place = []
 carry_cells Good place = GoodCell place ∷ []
 carry_cells Fail place = FailCell ∷ []
 carry_cells End place = EndCell ∷ []
 
 -- by what comes of a container
-abbrev pub carry_for : Carried → Carry
+abbrev pub carry_for : Carried → CarrySign
 carry_for Whole = Good
 carry_for Fails = Fail
 carry_for Vanishes = Nothing

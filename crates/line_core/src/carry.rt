@@ -15,7 +15,7 @@ pub enum Out {
 
 /// What a carry gives, where a good cell's container lies in a place of its own.
 #[derive(Clone, Copy, Debug, PartialEq, Eq)]
-pub enum Carry {
+pub enum CarrySign {
     /// The delay isn't filled yet, or the container vanishes.
     Nothing,
     /// The cell of the container in that place.
@@ -26,16 +26,16 @@ pub enum Carry {
     End,
 }
 
-impl Carry {
+impl CarrySign {
     /// The cell itself, with the container that lies in its place.
     pub fn out(self, place: &Container) -> Out
         ensures { out_cells result ≡ carry_cells self place.now }
     {
         match self {
-            Carry::Nothing => Out::Nothing,
-            Carry::Good => Out::One(Cell::Good(*place)),
-            Carry::Fail => Out::One(Cell::Fail),
-            Carry::End => Out::One(Cell::End),
+            CarrySign::Nothing => Out::Nothing,
+            CarrySign::Good => Out::One(Cell::Good(*place)),
+            CarrySign::Fail => Out::One(Cell::Fail),
+            CarrySign::End => Out::One(Cell::End),
         }
     }
 }

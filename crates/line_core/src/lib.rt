@@ -8,7 +8,7 @@ mod laws;
 mod line;
 mod store;
 
-pub use carry::{Carry, Out};
+pub use carry::{CarrySign, Out};
 pub use failure_window::Windows;
 pub use laws::carry_law;
 pub use line::LineCore;

@@ -4,7 +4,7 @@ ghost use Rattle.session_model.specs.Damage.{carried};
 ghost use Rattle.line_core.specs.Carry.{carry_cells, out_cells};
 ghost use Rattle.line_core.specs.Line.{Line, IsLine, Calls, opened, and_push, and_flush, path_cells, Stands, Counts, IsEnded};
 
-use crate::carry::{Carry, Out};
+use crate::carry::{CarrySign, Out};
 use crate::store::Store;
 use failure_window::Windows;
 use session_model::Carried;
@@ -74,14 +74,14 @@ impl LineCore {
     }
 
     /// Carries a container on as `push` does, and writes the container of a good cell to `out`, which else stays as it was.
-    pub fn push_from(&mut self, container: &Container, out: &mut Container) -> Carry
+    pub fn push_from(&mut self, container: &Container, out: &mut Container) -> CarrySign
         requires { self.old.pushed < self.old.total }
         ensures stands { (calls : Calls) → Stands self.old calls →
             Stands self.new (and_push calls container.now) }
         ensures cells { (calls : Calls) → Stands self.old calls →
             path_cells (and_push calls container.now)
             ≡ path_cells calls ++ carry_cells result out.new }
-        ensures kept { result ≢ Carry.Good → out.new ≡ out.old }
+        ensures kept { result ≢ CarrySign.Good → out.new ≡ out.old }
         ensures counts { Counts self.old self.new 1 0 }
     {
         let fate = self.next_fate();
@@ -90,7 +90,7 @@ impl LineCore {
             Some(fate) => self.store.pass(fate, container, out),
             None => {
                 self.store.keep(container);
-                Carry::Nothing
+                CarrySign::Nothing
             }
         }
     }
@@ -101,14 +101,14 @@ impl LineCore {
         &mut self,
         container: &mut Box<HeldContainer>,
         out: &mut Box<HeldContainer>,
-    ) -> Carry
+    ) -> CarrySign
         requires { self.old.pushed < self.old.total }
         ensures stands { (calls : Calls) → Stands self.old calls →
             Stands self.new (and_push calls container.old.value) }
         ensures cells { (calls : Calls) → Stands self.old calls →
             path_cells (and_push calls container.old.value)
             ≡ path_cells calls ++ carry_cells result out.new.value }
-        ensures kept { result ≢ Carry.Good → out.new.value ≡ out.old.value }
+        ensures kept { result ≢ CarrySign.Good → out.new.value ≡ out.old.value }
         ensures counts { Counts self.old self.new 1 0 }
     {
         let fate = self.next_fate();
@@ -117,7 +117,7 @@ impl LineCore {
             Some(fate) => self.store.pass_box(fate, container, out),
             None => {
                 self.store.keep_box(container);
-                Carry::Nothing
+                CarrySign::Nothing
             }
         }
     }
@@ -138,22 +138,22 @@ impl LineCore {
     }
 
     /// Makes a carry as `flush` does, and writes the container of a good cell to `out`, which else stays as it was.
-    pub fn flush_to(&mut self, out: &mut Container) -> Carry
+    pub fn flush_to(&mut self, out: &mut Container) -> CarrySign
         requires pushed { self.old.pushed ≡ self.old.total }
         requires runs { self.old.flushed ≤ self.old.delay }
         ensures stands { (calls : Calls) → Stands self.old calls →
             Stands self.new (and_flush calls) }
         ensures cells { (calls : Calls) → Stands self.old calls →
             path_cells (and_flush calls) ≡ path_cells calls ++ carry_cells result out.new }
-        ensures kept { result ≢ Carry.Good → out.new ≡ out.old }
+        ensures kept { result ≢ CarrySign.Good → out.new ≡ out.old }
         ensures counts { Counts self.old self.new 0 1 }
     {
         let left = u32::from(self.delay) - self.flushed;
         self.flushed += 1;
         if left > self.total {
-            Carry::Nothing
+            CarrySign::Nothing
         } else if left == 0 {
-            Carry::End
+            CarrySign::End
         } else {
             let fate = self.windows.at(self.total - left);
             self.store.let_go(fate, out)

@@ -5,7 +5,7 @@ ghost use Rattle.session_model.specs.Path.{cells_of};
 ghost use Rattle.line_core.specs.Carry.{carry_cells, carry_for};
 ghost use Rattle.line_core.specs.Line.{stored};
 
-use crate::carry::Carry;
+use crate::carry::CarrySign;
 use circular_buffer::HeapCircularBuffer;
 use session_model::Carried;
 use std::alloc::{AllocError, Global};
@@ -119,12 +119,12 @@ impl Store {
     }
 
     /// Takes the oldest container out of the store, and copies it to `out` where it comes whole.
-    pub(crate) fn let_go(&mut self, fate: Carried, out: &mut Container) -> Carry
+    pub(crate) fn let_go(&mut self, fate: Carried, out: &mut Container) -> CarrySign
         requires { 0 < length self.old.items }
         ensures store { self.new ≡ stored (drop 1 self.old.items) self.old.capacity self.old.spare }
         ensures cells { (x : Container) → slice_get self.old.items 0 ≡ Some x →
             carry_cells result out.new ≡ cells_of fate x }
-        ensures kept { result ≢ Carry.Good → out.new ≡ out.old }
+        ensures kept { result ≢ CarrySign.Good → out.new ≡ out.old }
     {
         let oldest = self.take_oldest();
         go_by(fate, oldest.container(), out)
@@ -136,13 +136,13 @@ impl Store {
         fate: Carried,
         container: &Container,
         out: &mut Container,
-    ) -> Carry
+    ) -> CarrySign
         requires { length self.old.items ≡ self.old.capacity }
         ensures store { self.new ≡ stored (drop 1 (self.old.items ++ container.now ∷ []))
             self.old.capacity self.old.spare }
         ensures cells { (x : Container) → slice_get (self.old.items ++ container.now ∷ []) 0 ≡ Some x →
             carry_cells result out.new ≡ cells_of fate x }
-        ensures kept { result ≢ Carry.Good → out.new ≡ out.old }
+        ensures kept { result ≢ CarrySign.Good → out.new ≡ out.old }
     {
         if self.is_empty() {
             return go_by(fate, container, out);
@@ -160,14 +160,14 @@ impl Store {
         fate: Carried,
         container: &mut Box<HeldContainer>,
         out: &mut Box<HeldContainer>,
-    ) -> Carry
+    ) -> CarrySign
         requires { length self.old.items ≡ self.old.capacity }
         ensures store { self.new ≡ stored (drop 1 (self.old.items ++ container.old.value ∷ []))
             self.old.capacity self.old.spare }
         ensures cells { (x : Container) →
             slice_get (self.old.items ++ container.old.value ∷ []) 0 ≡ Some x →
             carry_cells result out.new.value ≡ cells_of fate x }
-        ensures kept { result ≢ Carry.Good → out.new.value ≡ out.old.value }
+        ensures kept { result ≢ CarrySign.Good → out.new.value ≡ out.old.value }
     {
         if self.is_empty() {
             return change(fate, container, out);
@@ -192,9 +192,9 @@ fn blank_boxes(alloc: Global, count: u32) -> Result<Vec<Box<HeldContainer>>, All
 }
 
 /// What comes of a container, which is copied where it comes whole.
-fn go_by(fate: Carried, container: &Container, out: &mut Container) -> Carry
+fn go_by(fate: Carried, container: &Container, out: &mut Container) -> CarrySign
     ensures cells { carry_cells result out.new ≡ cells_of fate container.now }
-    ensures kept { result ≢ Carry.Good → out.new ≡ out.old }
+    ensures kept { result ≢ CarrySign.Good → out.new ≡ out.old }
 {
     if let Carried::Whole = fate {
         *out = *container;
@@ -203,9 +203,9 @@ fn go_by(fate: Carried, container: &Container, out: &mut Container) -> Carry
 }
 
 /// What comes of a container in a box, which changes places with the other where it comes whole.
-fn change(fate: Carried, place: &mut Box<HeldContainer>, out: &mut Box<HeldContainer>) -> Carry
+fn change(fate: Carried, place: &mut Box<HeldContainer>, out: &mut Box<HeldContainer>) -> CarrySign
     ensures cells { carry_cells result out.new.value ≡ cells_of fate place.old.value }
-    ensures kept { result ≢ Carry.Good → out.new.value ≡ out.old.value }
+    ensures kept { result ≢ CarrySign.Good → out.new.value ≡ out.old.value }
 {
     if let Carried::Whole = fate {
         mem::swap(place, out);
@@ -214,12 +214,12 @@ fn change(fate: Carried, place: &mut Box<HeldContainer>, out: &mut Box<HeldConta
 }
 
 /// What a carry gives, by what comes of its container.
-fn carry_of(fate: Carried) -> Carry
+fn carry_of(fate: Carried) -> CarrySign
     ensures { result ≡ carry_for fate }
 {
     match fate {
-        Carried::Whole => Carry::Good,
-        Carried::Fails => Carry::Fail,
-        Carried::Vanishes => Carry::Nothing,
+        Carried::Whole => CarrySign::Good,
+        Carried::Fails => CarrySign::Fail,
+        Carried::Vanishes => CarrySign::Nothing,
     }
 }

@@ -9,7 +9,7 @@ use Rattle.vc_cell.specs.declared.Cell.{Cell}
 use Rattle.vc_cell.specs.declared.Cell.TheVariants.{Good, Fail, End}
 use Rattle.vc_bits.specs.Lock.{IsFirstStep, IsOutOfStep, HasMfi2, Locks, IsAt}
 use Rattle.vc_bits.proofs.LockLaws.{slice_get-append, slice_get-append_seam, HasMfi2-append, HasMfi2_only, Locks-append, IsAt-append, IsOutOfStep-append, IsFirstStep_only, IsInStep-inside, IsInStep_before, IsInStep-append}
-use Rattle.session_model.specs.Number.{Lock, unlocked, begun, locked, over, Sight, unknown, locks, at, sight_of, ahead, verdicts_by, Reading, read_at, read_on, reading_of}
+use Rattle.session_model.specs.Number.{LineLock, unlocked, begun, locked, over, Sight, unknown, locks, at, sight_of, ahead, verdicts_by, Reading, read_at, read_on, reading_of}
 use Rattle.session_model.specs.Sign.{sign_of, signs_of, HasNoEnd}
 use Rattle.session_model.specs.Line.{IsLine}
 use Rattle.line_law.specs.Wording.{IsLeast, IsCount, IsWholeAt, dec_of}
@@ -25,7 +25,7 @@ use Rattle.line_law.proofs.StableLaws.{extends}
 
 -- a cell and those before it
 -- what is known of a line after any cells none of which is End
-next-stands : (lock : Lock) (verdicts : List (Option Container)) (signs : List (Option ℕ)) (cell : Cell) → (cell ≡ End → ⊥) → Stands lock signs → Stands (read_at lock verdicts cell).lock (signs ++ sign_of cell ∷ [])
+next-stands : (lock : LineLock) (verdicts : List (Option Container)) (signs : List (Option ℕ)) (cell : Cell) → (cell ≡ End → ⊥) → Stands lock signs → Stands (read_at lock verdicts cell).lock (signs ++ sign_of cell ∷ [])
 next-stands unlocked verdicts signs (Good c) more stands = stands-after (sight_of unlocked c.h4) signs c.h4 (sight-is unlocked signs c.h4 stands)
 next-stands (begun octet) verdicts signs (Good c) more stands = stands-after (sight_of (begun octet) c.h4) signs c.h4 (sight-is (begun octet) signs c.h4 stands)
 next-stands (locked mfi1) verdicts signs (Good c) more stands = stands-after (sight_of (locked mfi1) c.h4) signs c.h4 (sight-is (locked mfi1) signs c.h4 stands)
@@ -117,14 +117,14 @@ module _ (cells : List Cell) (more : HasNoEnd cells) where
   size-by (locks number) d c = length-replicate (suc (ahead d number)) None
   size-by at d c = refl
 
-  read-good : (lock : Lock) (verdicts : List (Option Container)) (signs : List (Option ℕ)) (c : Container) → Stands lock signs →
+  read-good : (lock : LineLock) (verdicts : List (Option Container)) (signs : List (Option ℕ)) (c : Container) → Stands lock signs →
       length (read_at lock verdicts (Good c)).verdicts ≡ length verdicts + size_by (sight_of lock c.h4) (length verdicts)
   read-good unlocked verdicts signs c stands = length-append verdicts (verdicts_by (sight_of unlocked c.h4) (length verdicts) c) ∙ ap (λ n. length verdicts + n) (size-by (sight_of unlocked c.h4) (length verdicts) c)
   read-good (begun octet) verdicts signs c stands = length-append verdicts (verdicts_by (sight_of (begun octet) c.h4) (length verdicts) c) ∙ ap (λ n. length verdicts + n) (size-by (sight_of (begun octet) c.h4) (length verdicts) c)
   read-good (locked mfi1) verdicts signs c stands = length-append verdicts (verdicts_by (sight_of (locked mfi1) c.h4) (length verdicts) c) ∙ ap (λ n. length verdicts + n) (size-by (sight_of (locked mfi1) c.h4) (length verdicts) c)
   read-good over verdicts signs c stands = absurd stands
 
-  read-fail : (lock : Lock) (verdicts : List (Option Container)) (signs : List (Option ℕ)) → Stands lock signs → length (read_at lock verdicts Fail).verdicts ≡ length verdicts + 1
+  read-fail : (lock : LineLock) (verdicts : List (Option Container)) (signs : List (Option ℕ)) → Stands lock signs → length (read_at lock verdicts Fail).verdicts ≡ length verdicts + 1
   read-fail unlocked verdicts signs stands = length-append verdicts (None ∷ [])
   read-fail (begun octet) verdicts signs stands = length-append verdicts (None ∷ [])
   read-fail (locked mfi1) verdicts signs stands = length-append verdicts (None ∷ [])
@@ -220,14 +220,14 @@ module _ (cells : List Cell) (more : HasNoEnd cells) where
     whole : (k : ℕ) (c : Container) → slice_get new k ≡ Some (Some c) → IsAt (signs_of cells) i × (k ≡ 0) × (slice_get cells i ≡ Some (Good c))
     comes : (c : Container) → IsAt (signs_of cells) i → slice_get cells i ≡ Some (Good c) → slice_get new 0 ≡ Some (Some c)
 
-  pub good-verdicts : (lock : Lock) (verdicts : List (Option Container)) (signs : List (Option ℕ)) (c : Container) → Stands lock signs →
+  pub good-verdicts : (lock : LineLock) (verdicts : List (Option Container)) (signs : List (Option ℕ)) (c : Container) → Stands lock signs →
       (read_at lock verdicts (Good c)).verdicts ≡ verdicts ++ verdicts_by (sight_of lock c.h4) (length verdicts) c
   good-verdicts unlocked verdicts signs c stands = refl
   good-verdicts (begun octet) verdicts signs c stands = refl
   good-verdicts (locked mfi1) verdicts signs c stands = refl
   good-verdicts over verdicts signs c stands = absurd stands
 
-  pub fail-verdicts : (lock : Lock) (verdicts : List (Option Container)) (signs : List (Option ℕ)) → Stands lock signs → (read_at lock verdicts Fail).verdicts ≡ verdicts ++ None ∷ []
+  pub fail-verdicts : (lock : LineLock) (verdicts : List (Option Container)) (signs : List (Option ℕ)) → Stands lock signs → (read_at lock verdicts Fail).verdicts ≡ verdicts ++ None ∷ []
   fail-verdicts unlocked verdicts signs stands = refl
   fail-verdicts (begun octet) verdicts signs stands = refl
   fail-verdicts (locked mfi1) verdicts signs stands = refl
@@ -304,7 +304,7 @@ module _ (cells : List Cell) (more : HasNoEnd cells) where
 locked-at : (cells : List Cell) (more : HasNoEnd cells) (i : ℕ) (c : Container) → slice_get cells i ≡ Some (Good c) → IsAt (signs_of cells) i → (mfi1 : ℕ) × ((reading_of (take i cells)).lock ≡ locked mfi1)
 locked-at cells more i c here is = by-lock (reading_of (take i cells)).lock refl (sight-here cells more i c here)
   where
-    by-lock : (lock : Lock) → (reading_of (take i cells)).lock ≡ lock → IsSight (signs_of cells) i (sight_of lock c.h4) → (mfi1 : ℕ) × ((reading_of (take i cells)).lock ≡ locked mfi1)
+    by-lock : (lock : LineLock) → (reading_of (take i cells)).lock ≡ lock → IsSight (signs_of cells) i (sight_of lock c.h4) → (mfi1 : ℕ) × ((reading_of (take i cells)).lock ≡ locked mfi1)
     by-lock unlocked e sight = absurd (sight is.0 is.1.in_step)
     by-lock (begun octet) e sight =
         elim (cases_Bool (c.h4 % 16 == 1)) [

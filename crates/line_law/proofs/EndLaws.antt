@@ -6,7 +6,7 @@ use Rattle.std.proofs.lemmas.Option.{slice_get_past}
 use Rattle.vc_cell.specs.declared.Container.{Container}
 use Rattle.vc_cell.specs.declared.Cell.{Cell}
 use Rattle.vc_cell.specs.declared.Cell.TheVariants.{End}
-use Rattle.session_model.specs.Number.{Lock, unlocked, begun, locked, over, Reading, read_at, read_on, reading_of, verdict_over, verdict_or, verdict}
+use Rattle.session_model.specs.Number.{LineLock, unlocked, begun, locked, over, Reading, read_at, read_on, reading_of, verdict_over, verdict_or, verdict}
 use Rattle.session_model.specs.Sign.{signs_of, HasNoEnd}
 use Rattle.line_law.specs.Wording.{dec_of, AreWhole, AreDecided, EndDecides}
 use Rattle.line_law.proofs.SightLaws.{Stands}
@@ -15,7 +15,7 @@ use Rattle.line_law.proofs.StableLaws.{over-stays}
 use Rattle.line_law.proofs.CountLaws.{stands-of, is_whole_at, whole_at_is}
 
 -- a line that has not ended decides no more than its verdicts
-pub open-lock : (lock : Lock) (signs : List (Option ℕ)) → Stands lock signs → verdict_over lock ≡ None
+pub open-lock : (lock : LineLock) (signs : List (Option ℕ)) → Stands lock signs → verdict_over lock ≡ None
 open-lock unlocked signs is = refl
 open-lock (begun octet) signs is = refl
 open-lock (locked mfi1) signs is = refl
@@ -42,7 +42,7 @@ are_decided cells t more =
       λ beyond. verdict-open cells t more ∙ slice_get_past (reading_of cells).verdicts t (omega arith),
     )
 
-end-lock : (lock : Lock) (verdicts : List (Option Container)) → read_at lock verdicts End ≡ record { lock = over; verdicts = verdicts }
+end-lock : (lock : LineLock) (verdicts : List (Option Container)) → read_at lock verdicts End ≡ record { lock = over; verdicts = verdicts }
 end-lock unlocked verdicts = refl
 end-lock (begun octet) verdicts = refl
 end-lock (locked mfi1) verdicts = refl

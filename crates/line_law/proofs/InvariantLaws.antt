@@ -8,7 +8,7 @@ use Rattle.session_model.specs.declared.window.Carried.{Carried}
 use Rattle.session_model.specs.declared.window.Carried.TheVariants.{Whole, Fails, Vanishes}
 use Rattle.session_model.specs.Damage.{is_whole}
 use Rattle.session_model.specs.Line.{HasPlace, expected}
-use Rattle.session_model.specs.Number.{Lock, unlocked, begun, locked, over, unknown, locks, at, ahead, Reading, read_good, read_at}
+use Rattle.session_model.specs.Number.{LineLock, unlocked, begun, locked, over, unknown, locks, at, ahead, Reading, read_good, read_at}
 use Rattle.line_law.proofs.GoodLaws.{IsLocked, IsGood, IsGood-is_good, not_good, IsGood-locked, IsLocked-last, IsLocked-before, IsLocked-earlier, IsLocked-two, IsLocked-steady, steady, lost, vanished}
 
 -- ---- the verdicts that are expected
@@ -40,7 +40,7 @@ pub record Carries (carries : ℕ → Carried) : Type 0 where
   pub near : (n : ℕ) → lost carries n < 4096
 
 -- ---- the invariant
-abbrev pub Fits : (ℕ → Carried) → ℕ → ℕ → Lock → Type 0
+abbrev pub Fits : (ℕ → Carried) → ℕ → ℕ → LineLock → Type 0
 Fits carries n decided unlocked = (IsLocked carries n → ⊥) × ((k : ℕ) → n ≡ suc k → k % 16 ≡ 0 → is_whole (carries k) ≡ true → ⊥)
 Fits carries n decided (begun octet) = (IsLocked carries n → ⊥) × (k : ℕ) × (n ≡ suc k) × (k % 16 ≡ 0) × (is_whole (carries k) ≡ true) × HasPlace k octet
 Fits carries n decided (locked mfi1) = IsLocked carries n × (decided ≡ n) × ((mfi1 + 1) % 16 ≡ n % 16)
@@ -88,7 +88,7 @@ module _ (carries : ℕ → Carried) (containers : List Container) where
       elim (cases_eq t n) [ inl last ↦ λ good. never (subst (IsGood carries) last good) | inr other ↦ reads.later t low (omega arith) ]
 
   -- one number more is decided as bad, and the line isn't locked
-  one_bad : (n : ℕ) (reading : Reading) (lock : Lock) (reads : HasRead carries containers n reading) →
+  one_bad : (n : ℕ) (reading : Reading) (lock : LineLock) (reads : HasRead carries containers n reading) →
       vanished (carries n) ≡ 0 → (IsLocked carries (suc n) → ⊥) → (IsGood carries n → ⊥) → Fits carries (suc n) (suc reads.decided) lock →
       HasRead carries containers (suc n) (record { lock = lock; verdicts = reading.verdicts ++ None ∷ [] })
   unfolding upto
@@ -111,7 +111,7 @@ module _ (carries : ℕ → Carried) (containers : List Container) where
   not_whole : (n : ℕ) → is_whole (carries n) ≡ false → is_whole (carries n) ≡ true → ⊥
   not_whole n broken whole = absurd (let e : false ≡ true = sym broken ∙ whole in cc)
 
-  pub step-fails : (n : ℕ) (lock : Lock) (verdicts : List (Option Container)) → carries n ≡ Fails →
+  pub step-fails : (n : ℕ) (lock : LineLock) (verdicts : List (Option Container)) → carries n ≡ Fails →
       HasRead carries containers n (record { lock = lock; verdicts = verdicts }) → HasRead carries containers (suc n) (read_at lock verdicts Fail)
   step-fails n lock verdicts fate reads =
       let broken : is_whole (carries n) ≡ false = rw fate refl in
@@ -123,7 +123,7 @@ module _ (carries : ℕ → Carried) (containers : List Container) where
       ) in
       by-lock lock reads.fits next
     where
-      by-lock : (lock : Lock) → Fits carries n reads.decided lock → HasRead carries containers (suc n) (record { lock = unlocked; verdicts = verdicts ++ None ∷ [] }) →
+      by-lock : (lock : LineLock) → Fits carries n reads.decided lock → HasRead carries containers (suc n) (record { lock = unlocked; verdicts = verdicts ++ None ∷ [] }) →
           HasRead carries containers (suc n) (read_at lock verdicts Fail)
       by-lock unlocked fits next = next
       by-lock (begun octet) fits next = next
@@ -131,7 +131,7 @@ module _ (carries : ℕ → Carried) (containers : List Container) where
       by-lock over fits next = absurd fits
 
   -- a container that vanishes
-  pub step-vanishes : (n : ℕ) (lock : Lock) (verdicts : List (Option Container)) → Carries carries → carries n ≡ Vanishes →
+  pub step-vanishes : (n : ℕ) (lock : LineLock) (verdicts : List (Option Container)) → Carries carries → carries n ≡ Vanishes →
       HasRead carries containers n (record { lock = lock; verdicts = verdicts }) → HasRead carries containers (suc n) (record { lock = lock; verdicts = verdicts })
   step-vanishes n lock verdicts line fate reads =
       let broken : is_whole (carries n) ≡ false = rw fate refl in
@@ -152,7 +152,7 @@ module _ (carries : ℕ → Carried) (containers : List Container) where
         fits = by-lock lock reads.fits sign never loose broken;
       }
     where
-      by-lock : (lock : Lock) → Fits carries n reads.decided lock → ((k : ℕ) × (n ≡ suc k) × (is_whole (carries k) ≡ false)) → (IsLocked carries n → ⊥) → (IsLocked carries (suc n) → ⊥) → is_whole (carries n) ≡ false →
+      by-lock : (lock : LineLock) → Fits carries n reads.decided lock → ((k : ℕ) × (n ≡ suc k) × (is_whole (carries k) ≡ false)) → (IsLocked carries n → ⊥) → (IsLocked carries (suc n) → ⊥) → is_whole (carries n) ≡ false →
           Fits carries (suc n) reads.decided lock
       by-lock unlocked fits sign never loose broken =
           (loose, λ k e first whole. not_whole n broken (subst (λ k. is_whole (carries k) ≡ true) (let e : k ≡ n = omega arith in e) whole))
@@ -244,7 +244,7 @@ module _ (carries : ℕ → Carried) (containers : List Container) where
         fits = (IsGood-locked carries n good, refl, (let m = place.mfi1 in omega arith));
       }
 
-  pub step-whole : (n : ℕ) (lock : Lock) (verdicts : List (Option Container)) (container : Container) → Carries carries → slice_get containers n ≡ Some container → HasPlace n container.h4 → carries n ≡ Whole →
+  pub step-whole : (n : ℕ) (lock : LineLock) (verdicts : List (Option Container)) (container : Container) → Carries carries → slice_get containers n ≡ Some container → HasPlace n container.h4 → carries n ≡ Whole →
       HasRead carries containers n (record { lock = lock; verdicts = verdicts }) → HasRead carries containers (suc n) (read_at lock verdicts (Good container))
   step-whole n unlocked verdicts container line here place fate reads = after_unknown n verdicts container place fate reads
   step-whole n (begun octet) verdicts container line here place fate reads =

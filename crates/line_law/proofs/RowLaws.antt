@@ -8,7 +8,7 @@ use Rattle.std.proofs.lemmas.Option.{slice_get_past}
 use Rattle.vc_cell.specs.declared.Container.{Container}
 use Rattle.vc_cell.specs.declared.Cell.{Cell}
 use Rattle.session_model.specs.declared.packet.Packet.{Packet}
-use Rattle.session_model.specs.Number.{Lock, reading_of, verdict_over, verdict_or, verdict}
+use Rattle.session_model.specs.Number.{LineLock, reading_of, verdict_over, verdict_or, verdict}
 use Rattle.session_model.specs.Rows.{packet_in, read_packet, read_packets, governing, active_of, container_in, container_on, with_first, containers_at, carried_row, row_by, row_under}
 use Rattle.session_model.specs.ReturnPacket.{leader, return_of}
 use Rattle.session_model.specs.Damage.{carried, is_readable}
@@ -22,7 +22,7 @@ use Rattle.line_law.proofs.StableLaws.{verdict-stays}
 use Rattle.line_law.proofs.OctetLaws.{octets_stay, are_readable}
 
 -- ---- a number below one that is decided is decided
-earlier-by : (verdicts : List (Option Container)) (lock : Lock) (s t : ℕ) (here there : Option (Option Container)) → slice_get verdicts s ≡ here → slice_get verdicts t ≡ there → s ≤ t →
+earlier-by : (verdicts : List (Option Container)) (lock : LineLock) (s t : ℕ) (here there : Option (Option Container)) → slice_get verdicts s ≡ here → slice_get verdicts t ≡ there → s ≤ t →
     IsSome (verdict_or there (verdict_over lock)) → IsSome (verdict_or here (verdict_over lock))
 earlier-by verdicts lock s t (Some told) there is at_t below decided = refl
 earlier-by verdicts lock s t None (Some told) is at_t below decided =

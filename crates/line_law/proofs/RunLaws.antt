@@ -13,7 +13,7 @@ use Rattle.session_model.specs.declared.window.Carried.{Carried}
 use Rattle.session_model.specs.declared.window.Carried.TheVariants.{Whole, Fails, Vanishes}
 use Rattle.session_model.specs.Damage.{carried}
 use Rattle.session_model.specs.Path.{cells_of, path}
-use Rattle.session_model.specs.Number.{Lock, unlocked, begun, locked, over, Reading, read_at, read_on, reading_of, verdict_over, verdict_in, verdict}
+use Rattle.session_model.specs.Number.{LineLock, unlocked, begun, locked, over, Reading, read_at, read_on, reading_of, verdict_over, verdict_in, verdict}
 use Rattle.session_model.specs.Line.{AreSent, IsLine, expected}
 use Rattle.line_law.specs.Numbering.{AreNumbered, AreInStep, AreExpected}
 use Rattle.line_law.proofs.InvariantLaws.{upto, length-upto, Carries, Fits, HasRead, reads-none, expected-bad, step-fails, step-vanishes, step-whole}
@@ -37,7 +37,7 @@ abbrev IsPart : List Container → ℕ → List Container → Type 0
 IsPart containers n part = (k : ℕ) (container : Container) → slice_get part k ≡ Some container → slice_get containers (n + k) ≡ Some container
 
 module _ (carries : ℕ → Carried) (containers : List Container) (line : Carries carries) (sent : AreSent containers) where
-  step : (n : ℕ) (lock : Lock) (verdicts : List (Option Container)) (container : Container) → slice_get containers n ≡ Some container →
+  step : (n : ℕ) (lock : LineLock) (verdicts : List (Option Container)) (container : Container) → slice_get containers n ≡ Some container →
       HasRead carries containers n (record { lock = lock; verdicts = verdicts }) →
       HasRead carries containers (suc n) (read_on (record { lock = lock; verdicts = verdicts }) (cells_of (carries n) container))
   unfolding read_on
@@ -81,7 +81,7 @@ module _ (windows : List Window) (containers : List Container) (line : IsLine wi
       (reads-none (carried windows) containers))
 
   -- a number that is decided before End
-  told-open : (n t : ℕ) (lock : Lock) (verdicts : List (Option Container)) (told : Option Container) → HasRead (carried windows) containers n (record { lock = lock; verdicts = verdicts }) →
+  told-open : (n t : ℕ) (lock : LineLock) (verdicts : List (Option Container)) (told : Option Container) → HasRead (carried windows) containers n (record { lock = lock; verdicts = verdicts }) →
       verdict_in (record { lock = lock; verdicts = verdicts }) t ≡ Some told → told ≡ expected (carried windows) containers t
   told-open n t lock verdicts told reads is =
       let e = expected (carried windows) containers in
@@ -95,14 +95,14 @@ module _ (windows : List Window) (containers : List Container) (line : IsLine wi
             not_over lock reads.fits (rw none at is)
       ]
     where
-      not_over : (lock : Lock) → Fits (carried windows) n reads.decided lock → verdict_over lock ≡ Some told → told ≡ expected (carried windows) containers t
+      not_over : (lock : LineLock) → Fits (carried windows) n reads.decided lock → verdict_over lock ≡ Some told → told ≡ expected (carried windows) containers t
       not_over unlocked fits is = absurd cc
       not_over (begun octet) fits is = absurd cc
       not_over (locked mfi1) fits is = absurd cc
       not_over over fits is = absurd fits
 
   -- a number that is decided by End or before it
-  told-over : (n t : ℕ) (lock : Lock) (verdicts : List (Option Container)) (told : Option Container) → HasRead (carried windows) containers n (record { lock = lock; verdicts = verdicts }) →
+  told-over : (n t : ℕ) (lock : LineLock) (verdicts : List (Option Container)) (told : Option Container) → HasRead (carried windows) containers n (record { lock = lock; verdicts = verdicts }) →
       verdict_in (record { lock = over; verdicts = verdicts }) t ≡ Some told → (t < n → told ≡ expected (carried windows) containers t)
   told-over n t lock verdicts told reads is before =
       let e = expected (carried windows) containers in
@@ -122,7 +122,7 @@ end-reading : (reading : Reading) → (reading.lock ≡ over → ⊥) → read_o
 unfolding read_on
 end-reading reading never = by-lock reading.lock reading.verdicts never
   where
-    by-lock : (lock : Lock) (verdicts : List (Option Container)) → (lock ≡ over → ⊥) → read_at lock verdicts End ≡ record { lock = over; verdicts = verdicts }
+    by-lock : (lock : LineLock) (verdicts : List (Option Container)) → (lock ≡ over → ⊥) → read_at lock verdicts End ≡ record { lock = over; verdicts = verdicts }
     by-lock unlocked verdicts never = refl
     by-lock (begun octet) verdicts never = refl
     by-lock (locked mfi1) verdicts never = refl

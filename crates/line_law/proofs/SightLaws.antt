@@ -3,13 +3,13 @@ use Rattle.std.proofs.Common.{◌≡◌, ◌≢◌, ℕ, ◌+◌, ◌-◌, ◌*�
 use Rattle.std.proofs.lemmas.Bool.{eqb-true, eqb-false, cases_Bool}
 use Rattle.vc_bits.specs.Lock.{HasMfi1, IsInStep, IsFirstStep, IsOutOfStep, HasMfi2, Locks, IsAt}
 use Rattle.vc_bits.proofs.LockLaws.{slice_get-append, slice_get-append_seam, IsFirstStep-append, IsFirstStep_longer, IsOutOfStep-append, HasMfi1-append, HasMfi1_before, HasMfi1_only, IsInStep_two, IsInStep_shorter, IsOutOfStep_next, IsOutOfStep_goes_on}
-use Rattle.session_model.specs.Number.{Lock, unlocked, begun, locked, over, Sight, unknown, locks, at, sight_of, lock_after}
+use Rattle.session_model.specs.Number.{LineLock, unlocked, begun, locked, over, Sight, unknown, locks, at, sight_of, lock_after}
 
 abbrev pub IsLast : List (Option ℕ) → ℕ → Type 0
 IsLast signs place = place + 1 ≡ length signs
 
 -- what is known of a line after these signs
-abbrev pub Stands : Lock → List (Option ℕ) → Type 0
+abbrev pub Stands : LineLock → List (Option ℕ) → Type 0
 Stands unlocked signs = (place : ℕ) → IsLast signs place → IsOutOfStep signs place × (HasMfi1 signs place 0 → ⊥)
 Stands (begun octet) signs = (place : ℕ) × IsLast signs place × IsOutOfStep signs place × (slice_get signs place ≡ Some (Some octet)) × (octet % 16 ≡ 0)
 Stands (locked mfi1) signs = (place : ℕ) × (from : ℕ) × IsLast signs place × IsFirstStep signs from place × HasMfi1 signs place mfi1
@@ -82,7 +82,7 @@ sight-at signs mfi1 h4 next (place, from, last, first, has) =
     (h4, entry_after signs (Some h4) place last, due from place mfi1 h4 later before next) in
     subst (IsAt all) last (from, longer, omega arith)
 
-pub sight-is : (lock : Lock) (signs : List (Option ℕ)) (h4 : ℕ) → Stands lock signs → IsSight (signs ++ Some h4 ∷ []) (length signs) (sight_of lock h4)
+pub sight-is : (lock : LineLock) (signs : List (Option ℕ)) (h4 : ℕ) → Stands lock signs → IsSight (signs ++ Some h4 ∷ []) (length signs) (sight_of lock h4)
 sight-is unlocked signs h4 stands = sight-unlocked signs h4 stands
 sight-is (begun octet) signs h4 stands =
     elim (cases_Bool (h4 % 16 == 1)) [

@@ -3,7 +3,7 @@ use Rattle.std.proofs.Common.{◌≡◌, ℕ, zero, suc, ◌+◌, ◌*◌, ◌<�
 use Rattle.vc_bits.specs.Lock.{IsOutOfStep, HasMfi2, Locks, IsAt}
 use Rattle.vc_bits.proofs.LockLaws.{slice_get-append_seam, IsFirstStep_only, IsInStep-inside, HasMfi2_only}
 use Rattle.std.proofs.lemmas.Option.{slice_get_within}
-use Rattle.session_model.specs.Number.{Lock, unlocked, Sight, unknown, locks, at, sight_of}
+use Rattle.session_model.specs.Number.{LineLock, unlocked, Sight, unknown, locks, at, sight_of}
 use Rattle.session_model.specs.Sight.{sight_by, lock_by, sights_on, sights}
 use Rattle.line_law.specs.Sights.{LocksAs, AreAtSights, AreLockingSights, AreUnknownSights}
 use Rattle.line_law.proofs.ListLaws.{slice_get-inside, append_one}
@@ -11,22 +11,22 @@ use Rattle.line_law.proofs.SightLaws.{Stands, IsSight, sight-is, stands-after, s
 use Rattle.line_law.proofs.CountLaws.{IsSight-append, out-here}
 
 -- ---- one cell more
-sign-is : (lock : Lock) (signs : List (Option ℕ)) (sign : Option ℕ) → Stands lock signs → IsSight (signs ++ sign ∷ []) (length signs) (sight_by lock sign)
+sign-is : (lock : LineLock) (signs : List (Option ℕ)) (sign : Option ℕ) → Stands lock signs → IsSight (signs ++ sign ∷ []) (length signs) (sight_by lock sign)
 sign-is lock signs None stands = out-here (signs ++ None ∷ []) (length signs) (slice_get-append_seam signs None [])
 sign-is lock signs (Some h4) stands = sight-is lock signs h4 stands
 
-pub stands-next : (lock : Lock) (signs : List (Option ℕ)) (sign : Option ℕ) → Stands lock signs → Stands (lock_by lock sign) (signs ++ sign ∷ [])
+pub stands-next : (lock : LineLock) (signs : List (Option ℕ)) (sign : Option ℕ) → Stands lock signs → Stands (lock_by lock sign) (signs ++ sign ∷ [])
 stands-next lock signs None stands = stands-fail signs
 stands-next lock signs (Some h4) stands = stands-after (sight_of lock h4) signs h4 (sight-is lock signs h4 stands)
 
 -- ---- each cell
-pub length-sights_on : (signs : List (Option ℕ)) (lock : Lock) → length (sights_on lock signs) ≡ length signs
+pub length-sights_on : (signs : List (Option ℕ)) (lock : LineLock) → length (sights_on lock signs) ≡ length signs
 unfolding sights_on
 length-sights_on [] lock = refl
 length-sights_on (sign ∷ signs) lock = ap suc (length-sights_on signs (lock_by lock sign))
 
 -- what is computed of a cell is worded of it
-pub sights-each : (rest : List (Option ℕ)) (lock : Lock) (before : List (Option ℕ)) (k : ℕ) (sight : Sight) → Stands lock before →
+pub sights-each : (rest : List (Option ℕ)) (lock : LineLock) (before : List (Option ℕ)) (k : ℕ) (sight : Sight) → Stands lock before →
     slice_get (sights_on lock rest) k ≡ Some sight → IsSight (before ++ rest) (length before + k) sight
 unfolding sights_on
 sights-each [] lock before k sight stands e = absurd cc

@@ -10,7 +10,7 @@ use Rattle.vc_cell.specs.declared.Cell.TheVariants.{Good, Fail, End}
 use Rattle.vc_bits.proofs.LockLaws.{slice_get-append}
 use Rattle.session_model.specs.declared.window.Carried.{Carried}
 use Rattle.session_model.specs.Path.{cells_of, path, end_of, cells}
-use Rattle.session_model.specs.Number.{Lock, unlocked, begun, locked, over, sight_of, verdicts_by, Reading, read_at, read_on, reading_of, verdict_over, verdict_or, verdict_in, verdict}
+use Rattle.session_model.specs.Number.{LineLock, unlocked, begun, locked, over, sight_of, verdicts_by, Reading, read_at, read_on, reading_of, verdict_over, verdict_or, verdict_in, verdict}
 use Rattle.session_model.proofs.PathLaws.{path-append}
 use Rattle.line_law.proofs.RunLaws.{read_on-append}
 
@@ -18,7 +18,7 @@ use Rattle.line_law.proofs.RunLaws.{read_on-append}
 abbrev Extends : List (Option Container) → List (Option Container) → Type 0
 Extends old new = (more : List (Option Container)) × (new ≡ old ++ more)
 
-one-extends : (lock : Lock) (verdicts : List (Option Container)) (cell : Cell) → Extends verdicts (read_at lock verdicts cell).verdicts
+one-extends : (lock : LineLock) (verdicts : List (Option Container)) (cell : Cell) → Extends verdicts (read_at lock verdicts cell).verdicts
 one-extends unlocked verdicts (Good c) = (verdicts_by (sight_of unlocked c.h4) (length verdicts) c, refl)
 one-extends (begun octet) verdicts (Good c) = (verdicts_by (sight_of (begun octet) c.h4) (length verdicts) c, refl)
 one-extends (locked mfi1) verdicts (Good c) = (verdicts_by (sight_of (locked mfi1) c.h4) (length verdicts) c, refl)
@@ -43,7 +43,7 @@ unfolding read_on
 over-stays [] verdicts = refl
 over-stays (cell ∷ more) verdicts = over-stays more verdicts
 
-none-over : (lock : Lock) (told : Option Container) → verdict_over lock ≡ Some told → lock ≡ over
+none-over : (lock : LineLock) (told : Option Container) → verdict_over lock ≡ Some told → lock ≡ over
 none-over unlocked told e = absurd cc
 none-over (begun octet) told e = absurd cc
 none-over (locked mfi1) told e = absurd cc

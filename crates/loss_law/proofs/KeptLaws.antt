@@ -14,7 +14,7 @@ use Rattle.gfp_delineate.proofs.Delivery.{IsSendable, delivered-stream}
 use Rattle.session_model.specs.Segment.{StreamRow, Segment, segments_of, segments, segment_frames, deliver}
 use Rattle.session_model.specs.Loss.{Extent, extents, is_carried, lies_in, confirmed_in, is_given, is_frame_lost, IsPlaceOfPiece, StartsTrue, TrueStarts, frames_kept}
 use Rattle.session_model.specs.Segment.{octets_of_rows}
-use Rattle.loss_law.specs.Carried.{Carry, IsSentPiece}
+use Rattle.loss_law.specs.Carried.{CarriesStream, IsSentPiece}
 use Rattle.loss_law.proofs.FilterLaws.{and_false, filter-skip, filter-keep, filter-none, filter-same}
 use Rattle.loss_law.proofs.FoundLaws.{confirmed-within}
 use Rattle.loss_law.proofs.ExtentLaws.{IsBetween, extents-between, frames_ended}
@@ -200,7 +200,7 @@ each_given longest pieces sent rest (segment ∷ further) fits carried sendable 
     (segment_given longest pieces segment fits sent rest carried (All-head (IsPart sent) segment further parts) sendable (All-head (StartsTrue (idle ∷ idle ∷ pieces)) segment further starts))
     (each_given longest pieces sent rest further fits carried sendable (All-tail (IsPart sent) segment further parts) (All-tail (StartsTrue (idle ∷ idle ∷ pieces)) segment further starts))
 
-pub deliver-kept : (longest : ℕ) (pieces : List Piece) (rows : List StreamRow) → longest ≤ 65531 → All (IsSentPiece longest) pieces → Carry rows (idle ∷ idle ∷ pieces) → TrueStarts (idle ∷ idle ∷ pieces) rows →
+pub deliver-kept : (longest : ℕ) (pieces : List Piece) (rows : List StreamRow) → longest ≤ 65531 → All (IsSentPiece longest) pieces → CarriesStream rows (idle ∷ idle ∷ pieces) → TrueStarts (idle ∷ idle ∷ pieces) rows →
     deliver longest rows ≡ frames_kept (idle ∷ idle ∷ pieces) rows
 deliver-kept longest pieces rows fits sendable carried starts =
     let sent : List ℕ = octets_of_rows rows in

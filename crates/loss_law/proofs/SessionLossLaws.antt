@@ -7,7 +7,7 @@ use Rattle.session_model.specs.declared.refusal.AcceptFault.TheVariants.{Length}
 use Rattle.session_model.specs.declared.window.Window.{Window}
 use Rattle.session_model.specs.Piece.{Piece, idle, client, size_of, frames_by}
 use Rattle.session_model.specs.Damage.{carried, are_whole, is_good, is_readable}
-use Rattle.session_model.specs.Scenario.{Offer, Scenario, comes_at, carried_by, is_read, is_heard}
+use Rattle.session_model.specs.Scenario.{DueFrame, Scenario, comes_at, carried_by, is_read, is_heard}
 use Rattle.session_model.specs.Table.{Told, active}
 use Rattle.session_model.specs.Source.{table_of}
 use Rattle.session_model.specs.Client.{Stream, frame_refusal, offered, place_of, stream_before, frames_in}
@@ -17,7 +17,7 @@ use Rattle.session_model.specs.Segment.{deliver}
 use Rattle.session_model.specs.Loss.{extents, TrueStarts, frames_kept}
 use Rattle.session_model.specs.SessionStream.{row_of, rows_of}
 use Rattle.session_law.proofs.ClientLaws.{stream_before-frames}
-use Rattle.loss_law.specs.Carried.{Carry, IsSentFrame, IsSentPiece, AreOctets, IsUndamaged}
+use Rattle.loss_law.specs.Carried.{CarriesStream, IsSentFrame, IsSentPiece, AreOctets, IsUndamaged}
 use Rattle.loss_law.proofs.KeptLaws.{deliver-kept, All-front}
 use Rattle.loss_law.proofs.WholeLaws.{IsWhole, deliver-whole}
 use Rattle.loss_law.proofs.ExtentLaws.{frames_ended}
@@ -25,10 +25,10 @@ use Rattle.loss_law.proofs.PrefixLaws.{all_frames, frames_to-first}
 use Rattle.loss_law.proofs.SessionStreamLaws.{pieces-open, rows-carry, rows-length, All-accepted}
 
 -- ---- accepted frames may be sent
-abbrev pub IsOffered : Offer → Type 0
+abbrev pub IsOffered : DueFrame → Type 0
 IsOffered offer = All (λ octet. octet < 2 ^ 8) offer.frame
 
-abbrev pub IsSentOffer : Offer → Type 0
+abbrev pub IsSentOffer : DueFrame → Type 0
 IsSentOffer offer = IsSentFrame 9600 offer.frame
 
 not_refused : (frame : List ℕ) (stream : Stream) → frame_refusal frame stream ≡ None → (64 ≤ length frame) × (length frame ≤ 9600)
@@ -40,7 +40,7 @@ not_refused frame stream none =
           (ltb-false (length frame) 64 parts.0, ltb-false 9600 (length frame) parts.1)
     ]
 
-accepted-sent : (offer : Offer) (stream : Stream) → frame_refusal offer.frame stream ≡ None → IsOffered offer → IsSentOffer offer
+accepted-sent : (offer : DueFrame) (stream : Stream) → frame_refusal offer.frame stream ≡ None → IsOffered offer → IsSentOffer offer
 accepted-sent offer stream none octets =
     let size = not_refused offer.frame stream none in
     record { most = size.1; least = (let least = size.0 in omega arith); octets = octets }
@@ -54,10 +54,10 @@ offers-sent scenario cells octets (suc t) =
     (All-accepted IsSentOffer IsOffered (λ offer stream. frame_refusal offer.frame stream) (λ stream offer. offered stream offer.frame) accepted-sent
     (stream_before scenario cells t) (filter (comes_at t) scenario.offers) (All-filter (comes_at t) IsOffered scenario.offers octets))
 
-frames-sent : (offers : List Offer) → All IsSentOffer offers → All (IsSentFrame 9600) (map (λ (offer : Offer). offer.frame) offers)
+frames-sent : (offers : List DueFrame) → All IsSentOffer offers → All (IsSentFrame 9600) (map (λ (offer : DueFrame). offer.frame) offers)
 frames-sent [] each = All-nil (IsSentFrame 9600)
 frames-sent (offer ∷ offers) each =
-    All-cons (IsSentFrame 9600) offer.frame (map (λ (o : Offer). o.frame) offers) (All-head IsSentOffer offer offers each) (frames-sent offers (All-tail IsSentOffer offer offers each))
+    All-cons (IsSentFrame 9600) offer.frame (map (λ (o : DueFrame). o.frame) offers) (All-head IsSentOffer offer offers each) (frames-sent offers (All-tail IsSentOffer offer offers each))
 
 pieces-of_frames : (pieces : List Piece) → All (IsSentFrame 9600) (frames_in pieces) → All (IsSentPiece 9600) pieces
 pieces-of_frames [] each = All-nil (IsSentPiece 9600)
@@ -87,7 +87,7 @@ session-kept scenario cells t n octets low starts =
     let pieces = (stream_before scenario cells n).pieces in
     let opens = pieces-open scenario cells n in
     let sent = rest-sent pieces opens.0 opens.1 (pieces-sent scenario cells n octets) in
-    let carried : Carry rows (idle ∷ idle ∷ opens.0) = subst (Carry rows) opens.1 (rows-carry scenario cells t n low) in
+    let carried : CarriesStream rows (idle ∷ idle ∷ opens.0) = subst (CarriesStream rows) opens.1 (rows-carry scenario cells t n low) in
     let true_starts : TrueStarts (idle ∷ idle ∷ opens.0) rows = subst (λ ps. TrueStarts ps rows) opens.1 starts in
     deliver-kept 9600 opens.0 rows (omega arith) sent carried true_starts ∙ ap (λ ps. frames_kept ps rows) (sym opens.1)
 
@@ -159,7 +159,7 @@ session-hitless scenario cells t n octets undamaged low =
     let pieces = (stream_before scenario cells n).pieces in
     let opens = pieces-open scenario cells n in
     let sent = rest-sent pieces opens.0 opens.1 (pieces-sent scenario cells n octets) in
-    let carried : Carry rows (idle ∷ idle ∷ opens.0) = subst (Carry rows) opens.1 (rows-carry scenario cells t n low) in
+    let carried : CarriesStream rows (idle ∷ idle ∷ opens.0) = subst (CarriesStream rows) opens.1 (rows-carry scenario cells t n low) in
     deliver-whole 9600 opens.0 rows (omega arith) sent carried (rows-whole scenario cells t (λ row low. undamaged-whole scenario cells row undamaged))
     ∙ ap₂ frames_by (rows-length scenario cells t n low) (sym opens.1)
 

@@ -13,7 +13,7 @@ use Rattle.session_model.specs.Payload.{payload_of}
 use Rattle.session_model.specs.SessionStream.{row_of, rows_of}
 use Rattle.session_model.proofs.StreamLaws.{stream_of-append, stream_behind}
 use Rattle.session_law.proofs.ClientLaws.{stream-reaches, stream_before-fewest}
-use Rattle.loss_law.specs.Carried.{Carry}
+use Rattle.loss_law.specs.Carried.{CarriesStream}
 use Rattle.loss_law.proofs.CarriedLaws.{octets-push}
 use Rattle.loss_law.proofs.KeptLaws.{part_of_stream}
 
@@ -74,7 +74,7 @@ rows-octets scenario cells (suc t) n low =
     ∙ ap (λ back. take (place_of scenario cells t) whole ++ back) (payload-part scenario cells t n (omega arith))
     ∙ sym (take-add (place_of scenario cells t) (scenario.size * width scenario cells t) whole)
 
-pub rows-carry : (scenario : Scenario) (cells : List (Option Told)) (t n : ℕ) → t ≤ n → Carry (rows_of scenario cells t) (stream_before scenario cells n).pieces
+pub rows-carry : (scenario : Scenario) (cells : List (Option Told)) (t n : ℕ) → t ≤ n → CarriesStream (rows_of scenario cells t) (stream_before scenario cells n).pieces
 rows-carry scenario cells t n low =
     let whole = stream_of (stream_before scenario cells n).pieces in
     record {

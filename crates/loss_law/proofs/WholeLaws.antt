@@ -7,7 +7,7 @@ use Rattle.session_model.specs.Piece.{Piece, idle, frames_by}
 use Rattle.session_model.specs.Delivery.{delivered}
 use Rattle.gfp_delineate.proofs.Delivery.{IsSendable, delivered-stream}
 use Rattle.session_model.specs.Segment.{StreamRow, Segments, no_rows, longer, row_by, segments_on, segments, segment_frames, deliver, octets_of_rows}
-use Rattle.loss_law.specs.Carried.{Carry, IsSentPiece}
+use Rattle.loss_law.specs.Carried.{CarriesStream, IsSentPiece}
 use Rattle.loss_law.proofs.KeptLaws.{sendable_of}
 
 abbrev pub IsWhole : StreamRow → Type 0
@@ -35,7 +35,7 @@ pub only_segment : (rows : List StreamRow) → All IsWhole rows →
 only_segment rows whole = ap (λ (come : Segments). come.ended ++ come.last ∷ []) (segments-whole no_rows rows whole)
 
 pub deliver-whole : (longest : ℕ) (pieces : List Piece) (rows : List StreamRow) → longest ≤ 65531 →
-    All (IsSentPiece longest) pieces → Carry rows (idle ∷ idle ∷ pieces) → All IsWhole rows →
+    All (IsSentPiece longest) pieces → CarriesStream rows (idle ∷ idle ∷ pieces) → All IsWhole rows →
     deliver longest rows ≡ frames_by (length (octets_of_rows rows)) (idle ∷ idle ∷ pieces)
 deliver-whole longest pieces rows fits sent carried whole =
     let octets : List ℕ = octets_of_rows rows in

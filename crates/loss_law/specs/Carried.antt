@@ -1,11 +1,11 @@
 -- What is asked of a stream and of the rows that carry it.
 use Rattle.std.specs.Prelude.{◌≡◌, ℕ, ◌<◌, ◌≤◌, ◌^◌, List, [], ◌++◌, length, All}
 use Rattle.session_model.specs.Piece.{Piece, idle, client, stream_of}
-use Rattle.session_model.specs.Scenario.{Offer, Scenario}
+use Rattle.session_model.specs.Scenario.{DueFrame, Scenario}
 use Rattle.session_model.specs.Segment.{StreamRow, octets_of_rows}
 
 -- rows carry the first octets of the stream of pieces
-pub record Carry (rows : List StreamRow) (pieces : List Piece) : Type 0 where
+pub record CarriesStream (rows : List StreamRow) (pieces : List Piece) : Type 0 where
   pub rest : List ℕ
   pub stream : stream_of pieces ≡ octets_of_rows rows ++ rest
 
@@ -22,7 +22,7 @@ IsSentPiece longest (client frame) = IsSentFrame longest frame
 
 -- the frames that are offered are octets
 abbrev pub AreOctets : Scenario → Type 0
-AreOctets scenario = All (λ (offer : Offer). All (λ octet. octet < 2 ^ 8) offer.frame) scenario.offers
+AreOctets scenario = All (λ (offer : DueFrame). All (λ octet. octet < 2 ^ 8) offer.frame) scenario.offers
 
 -- no line has a failure
 pub record IsUndamaged (scenario : Scenario) : Type 0 where

@@ -13,14 +13,14 @@ ghost use Rattle.session_model.specs.SessionRows.{is_whole_row};
 ghost use Rattle.session_model.specs.Segment.{StreamRow, segments, deliver, octets_of_rows};
 ghost use Rattle.session_model.specs.Loss.{Extent, extents, confirmed_in, Lost, is_frame_lost, IsPlaceOfPiece, TrueStarts, frames_kept};
 ghost use Rattle.session_model.specs.SessionStream.{rows_of};
-ghost use Rattle.loss_law.specs.Carried.{Carry, IsSentPiece, AreOctets, IsUndamaged};
+ghost use Rattle.loss_law.specs.Carried.{CarriesStream, IsSentPiece, AreOctets, IsUndamaged};
 ghost use Rattle.loss_law.specs.Worked.{worked_pieces, worked_rows, kept_frame, places_of, ends_of, worked_places, worked_ends, worked_confirmed, worked_lost};
 
 /// Where each place that is confirmed first after a break is that of a piece, the frames delivered are those that the rows carry and
 /// that aren't lost: nothing is altered or invented.
 pub fn loss_law()
     ensures { (longest : ℕ) (pieces : List Piece) (rows : List StreamRow) →
-        longest ≤ 65531 → All (IsSentPiece longest) pieces → Carry rows (idle ∷ idle ∷ pieces) →
+        longest ≤ 65531 → All (IsSentPiece longest) pieces → CarriesStream rows (idle ∷ idle ∷ pieces) →
         TrueStarts (idle ∷ idle ∷ pieces) rows →
         deliver longest rows ≡ frames_kept (idle ∷ idle ∷ pieces) rows }
 {}
@@ -28,7 +28,7 @@ pub fn loss_law()
 /// Where each row is whole, they are all frames whose piece ends in the rows.
 pub fn whole_law()
     ensures { (longest : ℕ) (pieces : List Piece) (rows : List StreamRow) →
-        longest ≤ 65531 → All (IsSentPiece longest) pieces → Carry rows (idle ∷ idle ∷ pieces) →
+        longest ≤ 65531 → All (IsSentPiece longest) pieces → CarriesStream rows (idle ∷ idle ∷ pieces) →
         All (λ row. row.whole ≡ true) rows →
         deliver longest rows ≡ frames_by (length (octets_of_rows rows)) (idle ∷ idle ∷ pieces) }
 {}
@@ -61,7 +61,7 @@ pub fn session_loss_law()
         map (λ (e : Extent). e.frame) (extents 0 (stream_before scenario cells n).pieces)
         ++ (stream_before scenario cells n).waiting ≡ frames_before scenario cells n }
     ensures carried { (scenario : Scenario) (cells : List (Option Told)) (t n : ℕ) → t ≤ n →
-        Carry (rows_of scenario cells t) (stream_before scenario cells n).pieces }
+        CarriesStream (rows_of scenario cells t) (stream_before scenario cells n).pieces }
     ensures place { (scenario : Scenario) (cells : List (Option Told)) (t : ℕ) →
         length (octets_of_rows (rows_of scenario cells t)) ≡ place_of scenario cells t }
     ensures kept { (scenario : Scenario) (cells : List (Option Told)) (t n : ℕ) →

@@ -7,7 +7,7 @@ ghost use Rattle.member_ring.specs.Calls.{calls_on};
 
 use crate::ends::{RingIn, RingOut};
 use crate::gate::{Gate, Who};
-use line_core::{Carry, LineCore};
+use line_core::{CarrySign, LineCore};
 use vc_cell::{Cell, Container, PAYLOAD};
 
 /// The most carries of a burst.
@@ -184,7 +184,7 @@ impl LineWorker {
 }
 
 /// Pushes the cell of a carry, if it gave one. The container of a good cell lies in `place`.
-fn send(producer: &mut RingOut<Cell>, carry: Carry, place: &Container)
+fn send(producer: &mut RingOut<Cell>, carry: CarrySign, place: &Container)
     requires { 0 < out_free producer.old }
     ensures sent { out_passed producer.new
         ≡ out_passed producer.old ++ carry_cells carry place.now }
@@ -192,10 +192,10 @@ fn send(producer: &mut RingOut<Cell>, carry: Carry, place: &Container)
     ensures quiet { out_misses producer.new ≡ out_misses producer.old }
 {
     match carry {
-        Carry::Nothing => {}
-        Carry::Good => producer.push(Cell::Good(*place)),
-        Carry::Fail => producer.push(Cell::Fail),
-        Carry::End => producer.push(Cell::End),
+        CarrySign::Nothing => {}
+        CarrySign::Good => producer.push(Cell::Good(*place)),
+        CarrySign::Fail => producer.push(Cell::Fail),
+        CarrySign::End => producer.push(Cell::End),
     }
 }
 

@@ -3,7 +3,7 @@ use Rattle.std.specs.Prelude.{◌≡◌, ℕ, ◌⊎◌, ◌<◌, List, length, 
 
 -- a source that has these octets left, gives at most `step` of them in a call where that is told, had so many calls and counted so
 -- many faults; the calls whose numbers are in `fail` fail, and the first call has number 0
-pub record SourceState : Type 0 where
+pub record MemSourceState : Type 0 where
   pub left : List ℕ
   pub step : Option ℕ
   pub fail : List ℕ
@@ -12,7 +12,7 @@ pub record SourceState : Type 0 where
 
 -- a sink that holds these octets and has room for so many more, had so many calls and counted so many faults; the
 -- calls whose numbers are in `fail` fail, and the first call has number 0
-pub record SinkState : Type 0 where
+pub record MemSinkState : Type 0 where
   pub written : List ℕ
   pub room : ℕ
   pub fail : List ℕ
@@ -25,9 +25,9 @@ given_at_once None left = left
 given_at_once (Some step) left = min step left
 
 -- the next call of the source fails
-abbrev pub IsFailingTake : SourceState → Type 0
+abbrev pub IsFailingTake : MemSourceState → Type 0
 IsFailingTake source = Contains source.fail source.calls
 
 -- the next call of the sink, with this piece, fails
-abbrev pub IsFailingPut : SinkState → List ℕ → Type 0
+abbrev pub IsFailingPut : MemSinkState → List ℕ → Type 0
 IsFailingPut sink piece = Contains sink.fail sink.calls ⊎ ((0 < length piece) × (sink.room ≡ 0))

@@ -22,9 +22,9 @@ pub struct MemSource {
 
 impl Model for MemSource {
     ghost use Rattle.std.specs.Prelude.{◌≤◌, vec_len, drop, IfSome};
-    ghost use Rattle.outside_io.specs.Memory.{SourceState};
+    ghost use Rattle.outside_io.specs.Memory.{MemSourceState};
 
-    ghost Value = { SourceState };
+    ghost Value = { MemSourceState };
 
     ghost view = { λ source. record {
       left = drop source.at source.bytes.items;
@@ -110,9 +110,9 @@ pub struct MemSink {
 
 impl Model for MemSink {
     ghost use Rattle.std.specs.Prelude.{◌≤◌, ◌+◌, vec_len, vec_capacity};
-    ghost use Rattle.outside_io.specs.Memory.{SinkState};
+    ghost use Rattle.outside_io.specs.Memory.{MemSinkState};
 
-    ghost Value = { SinkState };
+    ghost Value = { MemSinkState };
 
     ghost view = { λ sink. record {
       written = sink.bytes.items;

@@ -14,7 +14,7 @@ use Rattle.session_model.specs.declared.script.Config.{Config}
 use Rattle.session_model.specs.declared.script.Item.{Item}
 use Rattle.session_model.specs.Damage.{carried, slip_of}
 use Rattle.session_model.specs.Path.{cells_of, path, cells}
-use Rattle.session_model.specs.Number.{Lock, unlocked, begun, locked, over, Reading, reading_of, verdict_or, verdict_in, verdict}
+use Rattle.session_model.specs.Number.{LineLock, unlocked, begun, locked, over, Reading, reading_of, verdict_or, verdict_in, verdict}
 use Rattle.session_model.specs.Line.{IsLine, expected}
 use Rattle.session_model.specs.Counts.{LinePath}
 use Rattle.session_model.specs.Plan.{decided_by, decided_in, all_cells, path_of, paths_of, plan_of, greatest, least_or, least, greatest_slip}
@@ -63,7 +63,7 @@ cut carries n (x ∷ xs) (suc y) h = by-fate (carries n) refl h (cut carries (su
         (suc k, omega (arith, low), rw is same, rw is size)
 
 -- ---- decided numbers have a verdict
-some-decided : (total t : ℕ) (lock : Lock) (verdicts : List (Option Container)) → t < total → t < decided_by total lock (length verdicts) →
+some-decided : (total t : ℕ) (lock : LineLock) (verdicts : List (Option Container)) → t < total → t < decided_by total lock (length verdicts) →
     (told : Option Container) × (verdict_in (record { lock = lock; verdicts = verdicts }) t ≡ Some told)
 some-decided total t unlocked verdicts h d = let (v, e) = slice_get-inside verdicts t d in (v, rw e refl)
 some-decided total t (begun octet) verdicts h d = let (v, e) = slice_get-inside verdicts t d in (v, rw e refl)
@@ -78,7 +78,7 @@ decided-open : (verdicts : List (Option Container)) (t : ℕ) (v : Option (Optio
 decided-open verdicts t (Some v) told e h = slice_get_within verdicts t v e
 decided-open verdicts t None told e h = absurd cc
 
-decided-some : (total t : ℕ) (lock : Lock) (verdicts : List (Option Container)) (told : Option Container) → t < total → verdict_in (record { lock = lock; verdicts = verdicts }) t ≡ Some told → t < decided_by total lock (length verdicts)
+decided-some : (total t : ℕ) (lock : LineLock) (verdicts : List (Option Container)) (told : Option Container) → t < total → verdict_in (record { lock = lock; verdicts = verdicts }) t ≡ Some told → t < decided_by total lock (length verdicts)
 decided-some total t unlocked verdicts told h e = decided-open verdicts t (slice_get verdicts t) told refl e
 decided-some total t (begun octet) verdicts told h e = decided-open verdicts t (slice_get verdicts t) told refl e
 decided-some total t (locked mfi1) verdicts told h e = decided-open verdicts t (slice_get verdicts t) told refl e
@@ -153,7 +153,7 @@ module _ (windows : List Window) (containers : List Container) (delay : ℕ) (li
       let most = lost-slip_of windows (length (take k containers)) line.apart in
       by (reading_of (first k)).lock (length (reading_of (first k)).verdicts) (length (take k containers)) reads.decided reads.fits (omega (arith, count, below, n)) (omega (arith, count, near, most, n))
     where
-      by : (lock : Lock) (count n decided : ℕ) → invariant.Fits (carried windows) n decided lock → count ≤ k → k ≤ count + slip_of windows →
+      by : (lock : LineLock) (count n decided : ℕ) → invariant.Fits (carried windows) n decided lock → count ≤ k → k ≤ count + slip_of windows →
           (decided_by (length containers) lock count ≤ k) × (k ≤ decided_by (length containers) lock count + slip_of windows)
       by unlocked count n decided fits low high = (low, high)
       by (begun octet) count n decided fits low high = (low, high)

@@ -12,17 +12,17 @@ use Rattle.session_model.specs.Table.{Told, is_norm, is_normal}
 use Rattle.session_model.specs.Scenario.{Scenario}
 use Rattle.session_model.specs.Source.{planned_of, after, table_of}
 use Rattle.session_model.specs.GroupBit.{group_bit}
-use Rattle.session_model.specs.Forward.{Place, ctrl_by, place_in}
+use Rattle.session_model.specs.Forward.{LineFields, ctrl_by, place_in}
 use Rattle.session_model.specs.Rows.{is_carrying, has, lines_at, active_from, active_of}
 use Rattle.session_model.specs.SessionRows.{packet_if, packets_from}
 use Rattle.session_law.specs.Feedback.{lines_of}
 use Rattle.session_law.proofs.PlanLaws.{one, times, IsBelow, one-self, IsPlan-once, Fits-after, order-length}
 
 -- ---- a packet by what it says of its line, and by what all packets of one number say
-abbrev pub place_of : Ctrl → ℕ → Place
+abbrev pub place_of : Ctrl → ℕ → LineFields
 place_of ctrl sq = record { ctrl = ctrl; sq = sq }
 
-abbrev pub with_place : Bool → ℕ → ℕ → Place → Packet
+abbrev pub with_place : Bool → ℕ → ℕ → LineFields → Packet
 with_place chg k act place = record {
   mst = 0;
   rs_ack = false;

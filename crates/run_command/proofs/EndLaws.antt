@@ -14,8 +14,8 @@ use Rattle.walk_law.specs.Delivered.{delivered_of}
 use Rattle.walk_law.specs.Landed.{refusals_among, totals_among}
 use Rattle.walk_law.specs.Promise.{numbered}
 use Rattle.walk_law.specs.Report.{refused_texts, final_report}
-use Rattle.got_out.specs.declared.got.GotOut.{GotOut}
-use Rattle.got_out.specs.Told.{HasText}
+use Rattle.got_lines.specs.declared.got.GotLines.{GotLines}
+use Rattle.got_lines.specs.Told.{HasText}
 use Rattle.script_read.specs.declared.fault.ScriptFault.{ScriptFault}
 use Rattle.headline_law.specs.Headline.{IsRunHeadline}
 use Rattle.headline_law.proofs.HeadlineLaws.{run_headline}
@@ -30,7 +30,7 @@ use Rattle.run_command.specs.Commands.{command_in, task_for, task_of}
 use Rattle.run_command.specs.Ended.{end_text}
 
 -- what follows the got lines, of the session's own numbers
-pub end-written : {K : Type 0} (written : K → Option (List ℕ)) (faults : K → ℕ) (first last : GotOut K) (start : Start) (refusals : List (ℕ × Refusal)) (totals : Totals) (script : Script)
+pub end-written : {K : Type 0} (written : K → Option (List ℕ)) (faults : K → ℕ) (first last : GotLines K) (start : Start) (refusals : List (ℕ × Refusal)) (totals : Totals) (script : Script)
     → refusals ≡ refusals_among script (numbered 0 script.items)
     → totals ≡ totals_among script script.config.ticks script.config.ticks (numbered 0 script.items)
     → HasText written faults first start []

@@ -15,7 +15,7 @@ use crate::command::RunCommand;
 use crate::end::{RunEnd, cut, done, stopped};
 use cmd_words::number_within;
 use command_parts::{Stop, read_whole_script, take_back, write_rest};
-use got_out::GotOut;
+use got_lines::GotLines;
 use member_ring::Gate;
 use outside_io::{ByteSink, ByteSource, Failed};
 use report_text::Totals;
@@ -61,7 +61,7 @@ fn write_end<K: ByteSink>(ended: &Ended, out: &mut K) -> Result<(), Failed>
     ensures err { (script : Script) → HasEnded script ended.now → OnErr result
         (AppendsPart K.written K.faults out.old out.new (end_text script)) }
 {
-    let mut got = GotOut::new(out);
+    let mut got = GotLines::new(out);
     write_rest(ended.group.refusals(), &totals(ended), &mut got);
     let (back, end) = got.finish();
     take_back(back);

@@ -7,32 +7,32 @@ use Rattle.session_model.specs.declared.script.Item.{Item}
 use Rattle.session_model.specs.declared.script.ItemKind.{ItemKind}
 use Rattle.session_model.specs.declared.script.ItemKind.TheVariants.{Frame, Add, Remove}
 use Rattle.session_model.specs.declared.script.Script.{Script}
-use Rattle.session_model.specs.Scenario.{Order, Offer, order_of, offer_of, orders_of, offers_of, scenario_of}
+use Rattle.session_model.specs.Scenario.{DueCommand, DueFrame, order_of, offer_of, orders_of, offers_of, scenario_of}
 use Rattle.session_model.specs.Counts.{due_of, dues_of, frame_dues, command_dues}
 use Rattle.session_model.specs.Valid.{IsKind, IsItem, IsValid}
 use Rattle.loss_law.specs.Carried.{AreOctets}
 
 -- ---- due ticks
-one_order : (due : ℕ) (kind : ItemKind) (items : List Item) → map (λ (order : Order). order.due) (orders_of items) ≡ command_dues (dues_of items)
-    → map (λ (order : Order). order.due) (order_of due kind ++ orders_of items) ≡ command_dues (due_of due kind ∷ dues_of items)
+one_order : (due : ℕ) (kind : ItemKind) (items : List Item) → map (λ (order : DueCommand). order.due) (orders_of items) ≡ command_dues (dues_of items)
+    → map (λ (order : DueCommand). order.due) (order_of due kind ++ orders_of items) ≡ command_dues (due_of due kind ∷ dues_of items)
 unfolding command_dues
 one_order due (Frame octets) items rest = rest
 one_order due (Add line) items rest = ap (λ (dues : List ℕ). due ∷ dues) rest
 one_order due (Remove line) items rest = ap (λ (dues : List ℕ). due ∷ dues) rest
 
-pub order_dues : (items : List Item) → map (λ (order : Order). order.due) (orders_of items) ≡ command_dues (dues_of items)
+pub order_dues : (items : List Item) → map (λ (order : DueCommand). order.due) (orders_of items) ≡ command_dues (dues_of items)
 unfolding command_dues
 order_dues [] = refl
 order_dues (item ∷ items) = one_order item.due item.kind items (order_dues items)
 
-one_offer : (due : ℕ) (kind : ItemKind) (items : List Item) → map (λ (offer : Offer). offer.due) (offers_of items) ≡ frame_dues (dues_of items)
-    → map (λ (offer : Offer). offer.due) (offer_of due kind ++ offers_of items) ≡ frame_dues (due_of due kind ∷ dues_of items)
+one_offer : (due : ℕ) (kind : ItemKind) (items : List Item) → map (λ (offer : DueFrame). offer.due) (offers_of items) ≡ frame_dues (dues_of items)
+    → map (λ (offer : DueFrame). offer.due) (offer_of due kind ++ offers_of items) ≡ frame_dues (due_of due kind ∷ dues_of items)
 unfolding frame_dues
 one_offer due (Frame octets) items rest = ap (λ (dues : List ℕ). due ∷ dues) rest
 one_offer due (Add line) items rest = rest
 one_offer due (Remove line) items rest = rest
 
-pub offer_dues : (items : List Item) → map (λ (offer : Offer). offer.due) (offers_of items) ≡ frame_dues (dues_of items)
+pub offer_dues : (items : List Item) → map (λ (offer : DueFrame). offer.due) (offers_of items) ≡ frame_dues (dues_of items)
 unfolding frame_dues
 offer_dues [] = refl
 offer_dues (item ∷ items) = one_offer item.due item.kind items (offer_dues items)
@@ -43,14 +43,14 @@ rises_by n xs rise i j d before within =
     subst (λ (m : ℕ). m ≤ n (slice_index_or xs j d)) (get_or-map n xs i d (n d) (omega (arith, before, within)))
     (subst (λ (m : ℕ). slice_index_or (map n xs) i (n d) ≤ m) (get_or-map n xs j d (n d) within) less)
 
-pub orders_rise : (items : List Item) → IsNonDecreasing (command_dues (dues_of items)) → IsNonDecreasingBy (λ (order : Order). order.due) (orders_of items)
-orders_rise items rise = rises_by (λ (order : Order). order.due) (orders_of items) (subst IsNonDecreasing (sym (order_dues items)) rise)
+pub orders_rise : (items : List Item) → IsNonDecreasing (command_dues (dues_of items)) → IsNonDecreasingBy (λ (order : DueCommand). order.due) (orders_of items)
+orders_rise items rise = rises_by (λ (order : DueCommand). order.due) (orders_of items) (subst IsNonDecreasing (sym (order_dues items)) rise)
 
-pub offers_rise : (items : List Item) → IsNonDecreasing (frame_dues (dues_of items)) → IsNonDecreasingBy (λ (offer : Offer). offer.due) (offers_of items)
-offers_rise items rise = rises_by (λ (offer : Offer). offer.due) (offers_of items) (subst IsNonDecreasing (sym (offer_dues items)) rise)
+pub offers_rise : (items : List Item) → IsNonDecreasing (frame_dues (dues_of items)) → IsNonDecreasingBy (λ (offer : DueFrame). offer.due) (offers_of items)
+offers_rise items rise = rises_by (λ (offer : DueFrame). offer.due) (offers_of items) (subst IsNonDecreasing (sym (offer_dues items)) rise)
 
 -- ---- octets
-abbrev IsOffer : Offer → Type 0
+abbrev IsOffer : DueFrame → Type 0
 IsOffer offer = All (λ octet. octet < 256) offer.frame
 
 none : All IsOffer []

@@ -38,7 +38,7 @@ pub(crate) fn read_frame(alloc: Global, draft: &Draft, rest: &[u8]) -> Result<It
 }
 
 /// When a command is due, and the line that it names.
-pub(crate) fn read_command(draft: &Draft, rest: &[u8]) -> Result<(u32, u8), LineKind>
+pub(crate) fn read_due_line(draft: &Draft, rest: &[u8]) -> Result<(u32, u8), LineKind>
     requires stands { 6 ≤ draft.now.next }
     requires config { IsDraft draft.now }
     ensures ok { IfOk result (λ read. (rest_fault draft.now Keyword.Add (words rest.now) ≡ None)

@@ -8,7 +8,7 @@ ghost use Rattle.script_read.specs.Drafts.{IsDraft, IsPlaced, Fits};
 ghost use Rattle.session_model.specs.Valid.{IsCount};
 
 use crate::draft::{Draft, Statement};
-use crate::items::{read_carry, read_command, read_frame};
+use crate::items::{read_carry, read_due_line, read_frame};
 use crate::keyword::{Keyword, check_place};
 use crate::network::{read_container, read_delays, read_fail, read_lost};
 use session_model::{EventLine, Item, ItemKind};
@@ -69,14 +69,14 @@ fn read_item(alloc: Global, draft: &Draft, keyword: Keyword, rest: &[u8]) -> Res
     match keyword {
         Keyword::Frame => read_frame(alloc, draft, rest),
         Keyword::Add => {
-            let (due, line) = read_command(draft, rest)?;
+            let (due, line) = read_due_line(draft, rest)?;
             Ok(Item {
                 due,
                 kind: ItemKind::Add(line),
             })
         }
         Keyword::Remove => {
-            let (due, line) = read_command(draft, rest)?;
+            let (due, line) = read_due_line(draft, rest)?;
             Ok(Item {
                 due,
                 kind: ItemKind::Remove(line),

@@ -5,7 +5,7 @@ use Rattle.std.proofs.lemmas.List.{append_assoc, append-nil, map-append, length-
 use Rattle.std.proofs.lemmas.List.Sums.{sum-map}
 use Rattle.std.proofs.lemmas.Bool.{ltb-false}
 use Rattle.session_model.specs.declared.refusal.AcceptFault.{AcceptFault}
-use Rattle.session_model.specs.Scenario.{Offer, Scenario, comes_at, frames_at}
+use Rattle.session_model.specs.Scenario.{DueFrame, Scenario, comes_at, frames_at}
 use Rattle.session_model.specs.Table.{Told, active}
 use Rattle.session_model.specs.Source.{after, table_of}
 use Rattle.session_model.specs.Piece.{Piece, idle, client, size_of, stream_of}
@@ -71,14 +71,14 @@ stream_before-agree scenario a b t agree =
 abbrev pub known_frames : Stream → List (List ℕ)
 known_frames stream = frames_in stream.pieces ++ stream.waiting
 
-offered_by-frames : (why : Option AcceptFault) (offer : Offer) (rest : List Offer) (stream : Stream) →
+offered_by-frames : (why : Option AcceptFault) (offer : DueFrame) (rest : List DueFrame) (stream : Stream) →
     known_frames (offered_by why offer.frame stream) ++ map (λ offer. offer.frame) rest ≡ known_frames stream ++ map (λ offer. offer.frame) (kept_by why offer rest)
 offered_by-frames None offer rest stream =
     ap (λ frames. frames ++ map (λ offer. offer.frame) rest) (sym (append_assoc (frames_in stream.pieces) stream.waiting (offer.frame ∷ [])))
     ∙ append_assoc (frames_in stream.pieces ++ stream.waiting) (offer.frame ∷ []) (map (λ offer. offer.frame) rest)
 offered_by-frames (Some why) offer rest stream = refl
 
-offered_all-frames : (offers : List Offer) (stream : Stream) →
+offered_all-frames : (offers : List DueFrame) (stream : Stream) →
     known_frames (fold offered stream (map (λ offer. offer.frame) offers)) ≡ known_frames stream ++ map (λ offer. offer.frame) (accepted_offers stream offers)
 offered_all-frames [] stream = sym (append-nil (known_frames stream))
 offered_all-frames (offer ∷ offers) stream =
@@ -107,7 +107,7 @@ stream_before-frames scenario cells (suc t) =
     reaching-frames (place_of scenario cells (suc t)) (place_of scenario cells (suc t)) (fold offered (stream_before scenario cells t) (frames_at scenario t))
     ∙ offered_all-frames come (stream_before scenario cells t)
     ∙ ap (λ frames. frames ++ map (λ offer. offer.frame) (accepted_offers (stream_before scenario cells t) come)) (stream_before-frames scenario cells t)
-    ∙ sym (map-append (λ (offer : Offer). offer.frame) (offers_before scenario cells t) (accepted_offers (stream_before scenario cells t) come))
+    ∙ sym (map-append (λ (offer : DueFrame). offer.frame) (offers_before scenario cells t) (accepted_offers (stream_before scenario cells t) come))
 
 -- ---- the pieces reach the place
 pub stream_before-reaches : (scenario : Scenario) (cells : List (Option Told)) (t : ℕ) → place_of scenario cells t ≤ size (stream_before scenario cells t).pieces

@@ -1,7 +1,7 @@
 -- A session of what was accepted alone goes as the session, and accepts all of it again.
 use Rattle.std.proofs.Common.{◌≡◌, ℕ, zero, suc, ◌-◌, ◌%◌, ◌<◌, ◌≤◌, List, ◌++◌, map, filter, fold, length, Option, refl, sym, ◌∙◌, ap, arith}
 use Rattle.std.proofs.lemmas.List.Folds.{fold-map}
-use Rattle.session_model.specs.Scenario.{Order, Offer, Scenario, steps_in, orders_at, lands_at, comes_at}
+use Rattle.session_model.specs.Scenario.{DueCommand, DueFrame, Scenario, steps_in, orders_at, lands_at, comes_at}
 use Rattle.session_model.specs.Table.{Told}
 use Rattle.session_model.specs.Source.{Source, refusal, asked, asked_by, asked_all, decide, cell_at, after}
 use Rattle.session_model.specs.Client.{Stream, frame_refusal, offered, offered_by, stream_before}
@@ -11,18 +11,18 @@ use Rattle.session_law.proofs.LandingLaws.{Passes-filter, Grows, filter-there, l
 use Rattle.session_law.proofs.ClientLaws.{stream_before-same}
 
 -- ---- commands
-refused_command : (lines : ℕ) → LeavesRefused (λ (order : Order) (source : Source). refusal lines order.command source) (λ source order. asked lines source order.command)
+refused_command : (lines : ℕ) → LeavesRefused (λ (order : DueCommand) (source : Source). refusal lines order.command source) (λ source order. asked lines source order.command)
 refused_command lines source order why e = ap (λ r. asked_by r order.command source) e
 
-asked_all-accepted : (lines : ℕ) (source : Source) (orders : List Order) →
+asked_all-accepted : (lines : ℕ) (source : Source) (orders : List DueCommand) →
     asked_all lines (map (λ order. order.command) (accepted_orders lines source orders)) source ≡ asked_all lines (map (λ order. order.command) orders) source
 asked_all-accepted lines source orders =
-    fold-map (asked lines) (λ (order : Order). order.command) source (accepted_orders lines source orders)
-    ∙ fold-accepted_of (λ (order : Order) (source : Source). refusal lines order.command source) (λ source order. asked lines source order.command) (refused_command lines) source orders
-    ∙ sym (fold-map (asked lines) (λ (order : Order). order.command) source orders)
+    fold-map (asked lines) (λ (order : DueCommand). order.command) source (accepted_orders lines source orders)
+    ∙ fold-accepted_of (λ (order : DueCommand) (source : Source). refusal lines order.command source) (λ source order. asked lines source order.command) (refused_command lines) source orders
+    ∙ sym (fold-map (asked lines) (λ (order : DueCommand). order.command) source orders)
 
 -- the orders that step j accepts
-abbrev pub orders_accepted : Scenario → List (Option Told) → ℕ → List Order
+abbrev pub orders_accepted : Scenario → List (Option Told) → ℕ → List DueCommand
 orders_accepted scenario cells j = accepted_orders (length scenario.windows) (after scenario cells j) (filter (lands_at j) scenario.orders)
 
 orders-grow : (scenario : Scenario) (cells : List (Option Told)) → Grows lands_at (orders_accepted scenario cells) (orders_before scenario cells)
@@ -37,7 +37,7 @@ orders-grow scenario cells = record {
 orders-there : (scenario : Scenario) (cells : List (Option Told)) (n j : ℕ) → j < n → filter (lands_at j) (orders_before scenario cells n) ≡ orders_accepted scenario cells j
 orders-there scenario cells n j low = filter-there lands_at (orders_accepted scenario cells) (orders_before scenario cells) (orders-grow scenario cells) n j low
 
-pub after-journal : (scenario : Scenario) (cells : List (Option Told)) (offers : List Offer) (n j : ℕ) → j ≤ n →
+pub after-journal : (scenario : Scenario) (cells : List (Option Told)) (offers : List DueFrame) (n j : ℕ) → j ≤ n →
     after (with_items scenario (orders_before scenario cells n) offers) cells j ≡ after scenario cells j
 unfolding after
 after-journal scenario cells offers n zero low = refl
@@ -46,22 +46,22 @@ after-journal scenario cells offers n (suc j) low =
     let orders = orders_before scenario cells n in
     ap (λ source. decide ((j - scenario.lag) % 16) (cell_at scenario cells j) source)
     (ap (λ source. asked_all lines (orders_at (with_items scenario orders offers) j) source) (after-journal scenario cells offers n j (omega arith))
-    ∙ ap (λ found. asked_all lines (map (λ (order : Order). order.command) found) (after scenario cells j)) (orders-there scenario cells n j (omega arith))
+    ∙ ap (λ found. asked_all lines (map (λ (order : DueCommand). order.command) found) (after scenario cells j)) (orders-there scenario cells n j (omega arith))
     ∙ asked_all-accepted lines (after scenario cells j) (filter (lands_at j) scenario.orders))
 
 -- ---- frames
-refused_frame : LeavesRefused (λ (offer : Offer) (stream : Stream). frame_refusal offer.frame stream) (λ stream offer. offered stream offer.frame)
+refused_frame : LeavesRefused (λ (offer : DueFrame) (stream : Stream). frame_refusal offer.frame stream) (λ stream offer. offered stream offer.frame)
 refused_frame stream offer why e = ap (λ r. offered_by r offer.frame stream) e
 
-offered-accepted : (stream : Stream) (offers : List Offer) →
+offered-accepted : (stream : Stream) (offers : List DueFrame) →
     fold offered stream (map (λ offer. offer.frame) (accepted_offers stream offers)) ≡ fold offered stream (map (λ offer. offer.frame) offers)
 offered-accepted stream offers =
-    fold-map offered (λ (offer : Offer). offer.frame) stream (accepted_offers stream offers)
-    ∙ fold-accepted_of (λ (offer : Offer) (stream : Stream). frame_refusal offer.frame stream) (λ stream offer. offered stream offer.frame) refused_frame stream offers
-    ∙ sym (fold-map offered (λ (offer : Offer). offer.frame) stream offers)
+    fold-map offered (λ (offer : DueFrame). offer.frame) stream (accepted_offers stream offers)
+    ∙ fold-accepted_of (λ (offer : DueFrame) (stream : Stream). frame_refusal offer.frame stream) (λ stream offer. offered stream offer.frame) refused_frame stream offers
+    ∙ sym (fold-map offered (λ (offer : DueFrame). offer.frame) stream offers)
 
 -- the offers that are accepted when t ticks are made
-abbrev pub offers_accepted : Scenario → List (Option Told) → ℕ → List Offer
+abbrev pub offers_accepted : Scenario → List (Option Told) → ℕ → List DueFrame
 offers_accepted scenario cells t = accepted_offers (stream_before scenario cells t) (filter (comes_at t) scenario.offers)
 
 offers-grow : (scenario : Scenario) (cells : List (Option Told)) → Grows comes_at (offers_accepted scenario cells) (offers_before scenario cells)
@@ -84,7 +84,7 @@ pub stream-replayed : (scenario : Scenario) (cells : List (Option Told)) (t n : 
 stream-replayed scenario cells t n low =
     stream_before-same (replayed scenario cells t) cells scenario cells n
     (record { size = refl; tables = λ j near. after-replayed scenario cells t j (omega arith) })
-    (λ u near. ap (λ found. fold offered (stream_before scenario cells u) (map (λ (offer : Offer). offer.frame) found)) (offers-there scenario cells t u (omega arith))
+    (λ u near. ap (λ found. fold offered (stream_before scenario cells u) (map (λ (offer : DueFrame). offer.frame) found)) (offers-there scenario cells t u (omega arith))
     ∙ offered-accepted (stream_before scenario cells u) (filter (comes_at u) scenario.offers))
 
 pub orders-again : (scenario : Scenario) (cells : List (Option Told)) (t j : ℕ) → j ≤ steps_in t → orders_before (replayed scenario cells t) cells j ≡ orders_before scenario cells j

@@ -6,7 +6,7 @@ use Rattle.std.proofs.lemmas.Bool.{cases_lt, cases_Bool}
 use Rattle.std.proofs.lemmas.Bool.Decides.{nat_tests}
 use Rattle.std.proofs.lemmas.List.Elements.{filter-append}
 use Rattle.std.proofs.lemmas.List.{append-nil}
-use Rattle.session_model.specs.Scenario.{Order, Offer, lands_at, comes_at}
+use Rattle.session_model.specs.Scenario.{DueCommand, DueFrame, lands_at, comes_at}
 use Rattle.session_law.specs.Landing.{landed, AreOrdersInOrder, AreOffersInOrder, is_landed, is_come}
 use Rattle.session_law.proofs.AcceptedLaws.{Passes}
 
@@ -113,31 +113,31 @@ landed-come due at come xs step none sorted (suc n) =
     ∙ come-next due (come n) (at n) (come (suc n)) zero xs (step n) (IsFrom-start due xs sorted)
 
 -- ---- orders
-pub lands_apart : (i j : ℕ) (order : Order) → (i ≡ j → ⊥) → lands_at j order ≡ true → lands_at i order ≡ false
+pub lands_apart : (i j : ℕ) (order : DueCommand) → (i ≡ j → ⊥) → lands_at j order ≡ true → lands_at i order ≡ false
 lands_apart i j order other lands = grind (arith, nat_tests, lands, other)
 
-orders_step : (j : ℕ) → IsStep (λ (order : Order). order.due) (is_landed j) (lands_at j) (is_landed (suc j))
+orders_step : (j : ℕ) → IsStep (λ (order : DueCommand). order.due) (is_landed j) (lands_at j) (is_landed (suc j))
 orders_step j = record {
   gone = λ order come. (grind (arith, nat_tests, come), grind (arith, nat_tests, come));
   fresh = λ order late. grind (arith, nat_tests, late);
   stays = λ a b low late. grind (arith, nat_tests, low, late);
 }
 
-pub orders_land : (orders : List Order) (j : ℕ) → AreOrdersInOrder orders → landed lands_at orders j ≡ filter (is_landed j) orders
+pub orders_land : (orders : List DueCommand) (j : ℕ) → AreOrdersInOrder orders → landed lands_at orders j ≡ filter (is_landed j) orders
 orders_land orders j sorted =
-    landed-come (λ (order : Order). order.due) lands_at is_landed orders orders_step (λ order. grind (arith, nat_tests)) sorted j
+    landed-come (λ (order : DueCommand). order.due) lands_at is_landed orders orders_step (λ order. grind (arith, nat_tests)) sorted j
 
 -- ---- offers
-pub comes_apart : (i j : ℕ) (offer : Offer) → (i ≡ j → ⊥) → comes_at j offer ≡ true → comes_at i offer ≡ false
+pub comes_apart : (i j : ℕ) (offer : DueFrame) → (i ≡ j → ⊥) → comes_at j offer ≡ true → comes_at i offer ≡ false
 comes_apart i j offer other comes = grind (arith, nat_tests, comes, other)
 
-offers_step : (t : ℕ) → IsStep (λ (offer : Offer). offer.due) (is_come t) (comes_at t) (is_come (suc t))
+offers_step : (t : ℕ) → IsStep (λ (offer : DueFrame). offer.due) (is_come t) (comes_at t) (is_come (suc t))
 offers_step t = record {
   gone = λ offer come. (grind (arith, nat_tests, come), grind (arith, nat_tests, come));
   fresh = λ offer late. grind (arith, nat_tests, late);
   stays = λ a b low late. grind (arith, nat_tests, low, late);
 }
 
-pub offers_land : (offers : List Offer) (t : ℕ) → AreOffersInOrder offers → landed comes_at offers t ≡ filter (is_come t) offers
+pub offers_land : (offers : List DueFrame) (t : ℕ) → AreOffersInOrder offers → landed comes_at offers t ≡ filter (is_come t) offers
 offers_land offers t sorted =
-    landed-come (λ (offer : Offer). offer.due) comes_at is_come offers offers_step (λ offer. grind (arith, nat_tests)) sorted t
+    landed-come (λ (offer : DueFrame). offer.due) comes_at is_come offers offers_step (λ offer. grind (arith, nat_tests)) sorted t

@@ -3,21 +3,21 @@ use Rattle.std.specs.Prelude.{ℕ, ◌%◌, List, [], ◌∷◌, map, Option, So
 use Rattle.session_model.specs.declared.window.Window.{Window}
 use Rattle.session_model.specs.declared.table.Command.{Command}
 use Rattle.session_model.specs.declared.table.Command.TheVariants.{Add as add, Remove as remove}
-use Rattle.session_model.specs.Scenario.{Order, Scenario}
+use Rattle.session_model.specs.Scenario.{DueCommand, Scenario}
 use Rattle.session_model.specs.declared.table.Standing.TheVariants.{Add as adding, Norm as normal, Dnu as unused}
 use Rattle.session_model.specs.declared.table.Member.{Member}
 use Rattle.session_model.specs.Table.{member_of}
 use Rattle.session_model.specs.Source.{table_of}
 use Rattle.session_model.specs.Back.{session_cells}
 
-abbrev pub order : ℕ → Command → Order
+abbrev pub order : ℕ → Command → DueCommand
 order due command = record { due = due; command = command }
 
 -- containers from a number on and before another are damaged
 abbrev pub damaged : ℕ → ℕ → List Window
 damaged first end = record { first = first; «end» = end; slip = 0 } ∷ []
 
-abbrev pub scenario_for : ℕ → ℕ → List (List Window) → List Order → Scenario
+abbrev pub scenario_for : ℕ → ℕ → List (List Window) → List DueCommand → Scenario
 scenario_for lag ticks windows orders = record {
   lag = lag;
   ticks = ticks;

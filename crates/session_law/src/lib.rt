@@ -6,7 +6,7 @@
 ghost use Rattle.std.specs.Prelude.{◌≡◌, ◌↔◌, ◌<◌, ◌≤◌, ◌++◌, ◌+◌, ◌-◌, ◌*◌, ◌/◌, ℕ, Bool, true, List, Option, Some, take, filter, suc, length};
 ghost use Rattle.session_model.specs.declared.window.Carried.{Carried};
 ghost use Rattle.session_model.specs.Damage.{is_good, is_readable};
-ghost use Rattle.session_model.specs.Scenario.{Scenario, Order, Offer, steps_in, is_read, is_heard, lands_at, comes_at};
+ghost use Rattle.session_model.specs.Scenario.{Scenario, DueCommand, DueFrame, steps_in, is_read, is_heard, lands_at, comes_at};
 ghost use Rattle.session_model.specs.Table.{kept_of, Told};
 ghost use Rattle.session_model.specs.Source.{after, table_of, told_at};
 ghost use Rattle.session_model.specs.Back.{cells_before};
@@ -81,9 +81,9 @@ pub fn journal_law()
         orders_before (replayed scenario cells t) cells j ≡ orders_before scenario cells j }
     ensures offers_again { (scenario : Scenario) (cells : List (Option Told)) (t n : ℕ) → n ≤ t →
         offers_before (replayed scenario cells t) cells n ≡ offers_before scenario cells n }
-    ensures orders_land { (orders : List Order) (j : ℕ) → AreOrdersInOrder orders →
+    ensures orders_land { (orders : List DueCommand) (j : ℕ) → AreOrdersInOrder orders →
         landed lands_at orders j ≡ filter (is_landed j) orders }
-    ensures offers_land { (offers : List Offer) (t : ℕ) → AreOffersInOrder offers →
+    ensures offers_land { (offers : List DueFrame) (t : ℕ) → AreOffersInOrder offers →
         landed comes_at offers t ≡ filter (is_come t) offers }
 {}
 

@@ -4,7 +4,7 @@ use Rattle.std.specs.Prelude.{ℕ, ◌+◌, ◌/◌, ◌%◌, ◌==◌, nat_le, 
 use Rattle.std.specs.List.{list_all}
 use Rattle.session_model.specs.declared.packet.Packet.{Packet}
 use Rattle.session_model.specs.declared.packet.PacketFault.{PacketFault}
-use Rattle.session_model.specs.Number.{Lock, unlocked, Sight, unknown, locks, at}
+use Rattle.session_model.specs.Number.{LineLock, unlocked, Sight, unknown, locks, at}
 use Rattle.session_model.specs.Sight.{lock_by, sights_on}
 use Rattle.session_model.specs.Packet.{read_of}
 
@@ -19,11 +19,11 @@ is_at (locks number) = false
 is_at at = true
 
 -- octets may be the first ones of a packet: the first of them has MFI1 8, and they come while the line is locked
-abbrev pub is_front : Lock → List ℕ → Bool
+abbrev pub is_front : LineLock → List ℕ → Bool
 is_front lock octets = slice_index octets 0 % 16 == 8 && list_all is_at (sights_on lock (good_cells octets))
 
 -- a packet stands at the front of octets: there are sixteen such
-abbrev pub begins_packet : Lock → List ℕ → Bool
+abbrev pub begins_packet : LineLock → List ℕ → Bool
 begins_packet lock octets = nat_le 16 (length octets) && is_front lock (take 16 octets)
 
 -- the nibbles in the upper halves of octets
@@ -39,11 +39,11 @@ abbrev pub Found : Type 0
 Found = ℕ × Result Packet PacketFault
 
 -- the packet at the front of octets, whose first has this place
-abbrev pub packet_here : Lock → ℕ → List ℕ → List Found
+abbrev pub packet_here : LineLock → ℕ → List ℕ → List Found
 packet_here lock place octets = if begins_packet lock octets then (place, read_of (front_nibbles octets)) ∷ [] else []
 
 -- the packets of octets that come after others
-unfoldable pub packets_on : Lock → ℕ → List ℕ → List Found
+unfoldable pub packets_on : LineLock → ℕ → List ℕ → List Found
 packets_on lock place [] = []
 packets_on lock place (h4 ∷ octets) = packet_here lock place (h4 ∷ octets) ++ packets_on (lock_by lock (Some h4)) (place + 1) octets
 

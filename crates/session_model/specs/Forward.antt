@@ -38,12 +38,12 @@ ctrl_by normal more = if more then Norm else Eos
 ctrl_by unused more = Dnu
 
 -- what a packet says of one line alone: its control word and its SQ
-pub record Place : Type 0 where
+pub record LineFields : Type 0 where
   pub ctrl : Ctrl
   pub sq : ℕ
 
 -- those of a line among the lines from an SQ on. A line that has none says IDLE and 255
-unfoldable pub place_in : List Member → ℕ → ℕ → Place
+unfoldable pub place_in : List Member → ℕ → ℕ → LineFields
 place_in [] sq line = record { ctrl = Idle; sq = 255 }
 place_in (member ∷ order) sq line =
     if member.line == line then record { ctrl = ctrl_by member.standing (list_any is_normal order); sq = sq } else place_in order (sq + 1) line

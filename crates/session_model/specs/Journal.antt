@@ -1,30 +1,30 @@
 -- What a session has accepted, and the session of that alone.
 use Rattle.std.specs.Prelude.{ℕ, zero, suc, List, [], ◌++◌, map, filter, length, Option}
-use Rattle.session_model.specs.Scenario.{Order, Offer, Scenario, steps_in, lands_at, comes_at}
+use Rattle.session_model.specs.Scenario.{DueCommand, DueFrame, Scenario, steps_in, lands_at, comes_at}
 use Rattle.session_model.specs.Table.{Told}
 use Rattle.session_model.specs.Accepted.{accepted_of}
 use Rattle.session_model.specs.Source.{Source, refusal, asked, after}
 use Rattle.session_model.specs.Client.{Stream, frame_refusal, offered, stream_before}
 
 -- of orders that land one after the other those that are accepted
-abbrev pub accepted_orders : ℕ → Source → List Order → List Order
+abbrev pub accepted_orders : ℕ → Source → List DueCommand → List DueCommand
 accepted_orders lines source orders =
     accepted_of (λ order source. refusal lines order.command source) (λ source order. asked lines source order.command) source orders
 
 -- of offers that land one after the other those that are accepted
-abbrev pub accepted_offers : Stream → List Offer → List Offer
+abbrev pub accepted_offers : Stream → List DueFrame → List DueFrame
 accepted_offers stream offers =
     accepted_of (λ offer stream. frame_refusal offer.frame stream) (λ stream offer. offered stream offer.frame) stream offers
 
 -- the orders that are accepted before decision step j
-unfoldable pub orders_before : Scenario → List (Option Told) → ℕ → List Order
+unfoldable pub orders_before : Scenario → List (Option Told) → ℕ → List DueCommand
 orders_before scenario cells zero = []
 orders_before scenario cells (suc j) =
     orders_before scenario cells j
     ++ accepted_orders (length scenario.windows) (after scenario cells j) (filter (lands_at j) scenario.orders)
 
 -- the offers that are accepted before frame t is made
-unfoldable pub offers_before : Scenario → List (Option Told) → ℕ → List Offer
+unfoldable pub offers_before : Scenario → List (Option Told) → ℕ → List DueFrame
 offers_before scenario cells zero = []
 offers_before scenario cells (suc t) =
     offers_before scenario cells t ++ accepted_offers (stream_before scenario cells t) (filter (comes_at t) scenario.offers)
@@ -34,7 +34,7 @@ abbrev pub frames_before : Scenario → List (Option Told) → ℕ → List (Lis
 frames_before scenario cells t = map (λ offer. offer.frame) (offers_before scenario cells t)
 
 -- the session of other orders and offers
-abbrev pub with_items : Scenario → List Order → List Offer → Scenario
+abbrev pub with_items : Scenario → List DueCommand → List DueFrame → Scenario
 with_items scenario orders offers = record {
   lag = scenario.lag;
   ticks = scenario.ticks;

@@ -6,11 +6,11 @@ use Rattle.vc_cell.specs.declared.Cell.TheVariants.{Good, Fail, End}
 
 -- what is known of a line after some cells: it is not locked; nor is it, and the last cell was a good one with MFI1 0 and this H4
 -- octet; it is locked, and the last cell had this MFI1; it has ended
-pub data Lock : Type 0 where
-  unlocked : Lock
-  begun : ℕ → Lock
-  locked : ℕ → Lock
-  over : Lock
+pub data LineLock : Type 0 where
+  unlocked : LineLock
+  begun : ℕ → LineLock
+  locked : ℕ → LineLock
+  over : LineLock
 
 -- what a good cell is: it decides one number as bad; it locks the line, with its number modulo 4096; it has the next number
 pub data Sight : Type 0 where
@@ -18,13 +18,13 @@ pub data Sight : Type 0 where
   locks : ℕ → Sight
   at : Sight
 
-abbrev pub sight_of : Lock → ℕ → Sight
+abbrev pub sight_of : LineLock → ℕ → Sight
 sight_of unlocked h4 = unknown
 sight_of (begun octet) h4 = if h4 % 16 == 1 then locks (16 * (16 * (octet / 16) + h4 / 16) + 1) else unknown
 sight_of (locked mfi1) h4 = if h4 % 16 == (mfi1 + 1) % 16 then at else unknown
 sight_of over h4 = unknown
 
-abbrev pub lock_after : Sight → ℕ → Lock
+abbrev pub lock_after : Sight → ℕ → LineLock
 lock_after unknown h4 = if h4 % 16 == 0 then begun h4 else unlocked
 lock_after (locks number) h4 = locked (h4 % 16)
 lock_after at h4 = locked (h4 % 16)
@@ -41,7 +41,7 @@ verdicts_by at d container = Some container ∷ []
 
 -- what the cells of a line have told: of each number that they decide its verdict, by rising numbers
 pub record Reading : Type 0 where
-  pub lock : Lock
+  pub lock : LineLock
   pub verdicts : List (Option Container)
 
 abbrev pub read_good : Sight → List (Option Container) → Container → Reading
@@ -50,12 +50,12 @@ read_good sight verdicts container = record {
   verdicts = verdicts ++ verdicts_by sight (length verdicts) container;
 }
 
-abbrev pub read_open : Lock → List (Option Container) → Cell → Reading
+abbrev pub read_open : LineLock → List (Option Container) → Cell → Reading
 read_open lock verdicts (Good container) = read_good (sight_of lock container.h4) verdicts container
 read_open lock verdicts Fail = record { lock = unlocked; verdicts = verdicts ++ None ∷ [] }
 read_open lock verdicts End = record { lock = over; verdicts = verdicts }
 
-abbrev pub read_at : Lock → List (Option Container) → Cell → Reading
+abbrev pub read_at : LineLock → List (Option Container) → Cell → Reading
 read_at unlocked verdicts cell = read_open unlocked verdicts cell
 read_at (begun octet) verdicts cell = read_open (begun octet) verdicts cell
 read_at (locked mfi1) verdicts cell = read_open (locked mfi1) verdicts cell
@@ -69,7 +69,7 @@ abbrev pub reading_of : List Cell → Reading
 reading_of cells = read_on (record { lock = unlocked; verdicts = [] }) cells
 
 -- End decides all further numbers as bad
-abbrev pub verdict_over : Lock → Option (Option Container)
+abbrev pub verdict_over : LineLock → Option (Option Container)
 verdict_over unlocked = None
 verdict_over (begun octet) = None
 verdict_over (locked mfi1) = None

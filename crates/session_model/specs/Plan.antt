@@ -8,11 +8,11 @@ use Rattle.session_model.specs.declared.script.Config.{Config}
 use Rattle.session_model.specs.declared.script.Item.{Item}
 use Rattle.session_model.specs.Damage.{carried, slip_of}
 use Rattle.session_model.specs.Path.{cells}
-use Rattle.session_model.specs.Number.{Lock, unlocked, begun, locked, over, Reading, reading_of}
+use Rattle.session_model.specs.Number.{LineLock, unlocked, begun, locked, over, Reading, reading_of}
 use Rattle.session_model.specs.Counts.{LinePath, dues_of, Plan}
 
 -- how many numbers are decided, of a total, where so far a count of them has a verdict: End decides all
-abbrev pub decided_by : ℕ → Lock → ℕ → ℕ
+abbrev pub decided_by : ℕ → LineLock → ℕ → ℕ
 decided_by total unlocked count = count
 decided_by total (begun octet) count = count
 decided_by total (locked mfi1) count = count

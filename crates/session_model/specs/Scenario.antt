@@ -12,12 +12,12 @@ use Rattle.session_model.specs.declared.script.ItemKind.TheVariants.{Frame, Add,
 use Rattle.session_model.specs.Damage.{carried, is_readable}
 
 -- a command, and how many ticks are made when it lands
-pub record Order : Type 0 where
+pub record DueCommand : Type 0 where
   pub due : ℕ
   pub command : Command
 
 -- a frame, and how many ticks are made when it lands
-pub record Offer : Type 0 where
+pub record DueFrame : Type 0 where
   pub due : ℕ
   pub frame : List ℕ
 
@@ -29,24 +29,24 @@ pub record Scenario : Type 0 where
   pub size : ℕ
   pub windows : List (List Window)
   pub lost : List (ℕ × ℕ)
-  pub orders : List Order
-  pub offers : List Offer
+  pub orders : List DueCommand
+  pub offers : List DueFrame
 
 -- ---- the scenario of a script
-abbrev pub order_of : ℕ → ItemKind → List Order
+abbrev pub order_of : ℕ → ItemKind → List DueCommand
 order_of due (Frame octets) = []
 order_of due (Add line) = record { due = due; command = add line } ∷ []
 order_of due (Remove line) = record { due = due; command = remove line } ∷ []
 
-abbrev pub offer_of : ℕ → ItemKind → List Offer
+abbrev pub offer_of : ℕ → ItemKind → List DueFrame
 offer_of due (Frame octets) = record { due = due; frame = octets } ∷ []
 offer_of due (Add line) = []
 offer_of due (Remove line) = []
 
-abbrev pub orders_of : List Item → List Order
+abbrev pub orders_of : List Item → List DueCommand
 orders_of items = flat_map (λ (item : Item). order_of item.due item.kind) items
 
-abbrev pub offers_of : List Item → List Offer
+abbrev pub offers_of : List Item → List DueFrame
 offers_of items = flat_map (λ (item : Item). offer_of item.due item.kind) items
 
 abbrev pub scenario_of : Script → Scenario
@@ -90,7 +90,7 @@ steps_in ticks = (ticks + 7) / 16
 
 -- ---- what lands
 -- an order lands between decision steps j - 1 and j
-abbrev pub lands_at : ℕ → Order → Bool
+abbrev pub lands_at : ℕ → DueCommand → Bool
 lands_at j order = nat_lt (16 * j) (order.due + 8) && nat_le order.due (16 * j + 8)
 
 -- the commands that land between decision steps j - 1 and j
@@ -98,7 +98,7 @@ abbrev pub orders_at : Scenario → ℕ → List Command
 orders_at scenario j = map (λ order. order.command) (filter (lands_at j) scenario.orders)
 
 -- an offer lands when t ticks are made, so before frame t is
-abbrev pub comes_at : ℕ → Offer → Bool
+abbrev pub comes_at : ℕ → DueFrame → Bool
 comes_at t offer = nat_le offer.due t && nat_le t offer.due
 
 -- the frames that land before frame t is made

@@ -1,20 +1,20 @@
 -- What each cell of a line is to the lock on the multiframe (G.707), computed over the whole list of their H4 octets. An entry is
 -- the H4 octet of a good cell, or none for a cell that is not good.
 use Rattle.std.specs.Prelude.{ℕ, List, [], ◌∷◌, Option, Some, None}
-use Rattle.session_model.specs.Number.{Lock, unlocked, Sight, unknown, sight_of, lock_after}
+use Rattle.session_model.specs.Number.{LineLock, unlocked, Sight, unknown, sight_of, lock_after}
 
 -- what a cell is
-abbrev pub sight_by : Lock → Option ℕ → Sight
+abbrev pub sight_by : LineLock → Option ℕ → Sight
 sight_by lock None = unknown
 sight_by lock (Some h4) = sight_of lock h4
 
 -- what is known of the line after it
-abbrev pub lock_by : Lock → Option ℕ → Lock
+abbrev pub lock_by : LineLock → Option ℕ → LineLock
 lock_by lock None = unlocked
 lock_by lock (Some h4) = lock_after (sight_of lock h4) h4
 
 -- what cells are that come after others
-unfoldable pub sights_on : Lock → List (Option ℕ) → List Sight
+unfoldable pub sights_on : LineLock → List (Option ℕ) → List Sight
 sights_on lock [] = []
 sights_on lock (sign ∷ signs) = sight_by lock sign ∷ sights_on (lock_by lock sign) signs
 

@@ -5,7 +5,7 @@ use Rattle.outside_io.specs.Transfer.{AppendsPart}
 use Rattle.outside_io.proofs.Parts.{Appends-then, AppendsPart-then, AppendsPart-longer}
 use Rattle.report_text.specs.Report.{got_text, got_texts}
 use Rattle.sink_core.specs.Given.{given_frames, added_frames}
-use Rattle.got_out.specs.Told.{Seen, seen, known_of, faults_of}
+use Rattle.got_lines.specs.Told.{Seen, seen, known_of, faults_of}
 use Rattle.sink_worker.specs.Told.{Writes}
 use Rattle.sink_worker.specs.declared.worker.SinkWorker.{SinkWorker}
 use Rattle.sink_worker.specs.Worker.{Stands, IsLater, parts_of, cells_of, size_of, taken_of, has_failed}

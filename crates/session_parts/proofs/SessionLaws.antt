@@ -19,7 +19,7 @@ use Rattle.session_model.specs.Sent.{containers_of, container_of}
 use Rattle.session_model.specs.Rows.{return_at}
 use Rattle.line_law.specs.StableRows.{AreDecidedAt}
 use Rattle.line_law.proofs.ListLaws.{slice_get-inside}
-use Rattle.terminal_law.specs.Lines.{given, ComesOf, ComeOf}
+use Rattle.terminal_law.specs.Lines.{given, ComesOfLine, ComeOfLines}
 use Rattle.terminal_law.specs.Course.{told_of, IsCourse}
 use Rattle.terminal_law.proofs.ListLaws.{same-range}
 use Rattle.terminal_law.proofs.SentLaws.{containers-size}
@@ -76,7 +76,7 @@ module _ (script : Script) (returns : List (Option Told)) (tx : List (RingOut Co
             ∙ ap (λ (total : ℕ). cells (carried (slice_index_or script.config.windows m [])) (delay_on script m) total sent (script.config.ticks + delay_on script m + 1)) line.total,
       )
 
-  comes : (m : ℕ) (own : List Cell) → slice_get (received rx) m ≡ Some own → ComesOf (scenario_of script) returns m script.config.ticks own
+  comes : (m : ℕ) (own : List Cell) → slice_get (received rx) m ≡ Some own → ComesOfLine (scenario_of script) returns m script.config.ticks own
   comes m own there =
       let (into, at, is) = some-of in_passed (slice_get rx m) own (sym (slice_get-map in_passed rx m) ∙ there) in
       let inside = slice_get_within rx m into at in
@@ -90,7 +90,7 @@ module _ (script : Script) (returns : List (Option Told)) (tx : List (RingOut Co
         first = sym ended.1 ∙ sym (gathered.receives m worker into other at) ∙ ap (λ (l : List Cell). l ++ in_items into) is;
       }
 
-  pub all-come : length script.config.windows ≡ script.config.lines → ComeOf (scenario_of script) returns script.config.ticks (received rx)
+  pub all-come : length script.config.windows ≡ script.config.lines → ComeOfLines (scenario_of script) returns script.config.ticks (received rx)
   all-come size = record {
     made = omega arith;
     lines = length-map rx in_passed ∙ gathered.rx_count ∙ sym size;

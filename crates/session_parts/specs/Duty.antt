@@ -2,7 +2,7 @@
 use Rattle.std.specs.Prelude.{ℕ, false}
 use Rattle.report_text.specs.Report.{got_texts}
 use Rattle.sink_core.specs.Given.{given_frames}
-use Rattle.got_out.specs.Told.{Seen, known_of, faults_of}
+use Rattle.got_lines.specs.Told.{Seen, known_of, faults_of}
 use Rattle.sink_worker.specs.Told.{Writes}
 use Rattle.sink_worker.specs.declared.worker.SinkWorker.{SinkWorker}
 use Rattle.sink_worker.specs.Worker.{Stands, IsLater, cells_of, size_of, taken_of, has_failed}

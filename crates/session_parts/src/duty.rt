@@ -63,7 +63,7 @@ impl<'a, K: ByteSink> SinkDuty<'a, K> {
 
 impl<'a, K: ByteSink> Duty for SinkDuty<'a, K> {
     ghost use Rattle.std.specs.Prelude.{◌≡◌};
-    ghost use Rattle.got_out.specs.Told.{seen};
+    ghost use Rattle.got_lines.specs.Told.{seen};
     ghost use Rattle.sink_worker.specs.Worker.{taken_of, ticks_of};
     ghost use Rattle.session_parts.specs.Duty.{HasRun};
 

@@ -8,7 +8,7 @@ ghost use Rattle.session_model.specs.Scenario.{scenario_of};
 ghost use Rattle.session_model.specs.Table.{Told};
 ghost use Rattle.session_model.specs.Sent.{containers_of};
 ghost use Rattle.line_law.specs.StableRows.{AreDecidedAt};
-ghost use Rattle.terminal_law.specs.Lines.{given, ComeOf};
+ghost use Rattle.terminal_law.specs.Lines.{given, ComeOfLines};
 ghost use Rattle.terminal_law.specs.Course.{told_of, IsCourse};
 ghost use Rattle.walk_law.specs.Walk.{sent_on};
 ghost use Rattle.walk_law.specs.Rings.{delay_on};
@@ -35,7 +35,7 @@ pub fn gathered_law()
         (workers : List LineWorker) (rx : List (RingIn Cell)) →
         IsGathered script returns tx workers rx →
         length script.config.windows ≡ script.config.lines →
-        ComeOf (scenario_of script) returns script.config.ticks (received rx) }
+        ComeOfLines (scenario_of script) returns script.config.ticks (received rx) }
 {}
 
 /// Where the source was told what the sink said by cells that decide all rows, what was made is the session's, and so are the frames of

@@ -16,7 +16,7 @@ use Rattle.session_model.specs.Counts.{Due, dues_of, used_in}
 use Rattle.session_law.specs.Session.{AgreeBefore}
 use Rattle.line_law.specs.StableRows.{AreDecidedAt}
 use Rattle.line_law.proofs.ListLaws.{slice_get-inside}
-use Rattle.terminal_law.specs.Lines.{ComeOf}
+use Rattle.terminal_law.specs.Lines.{ComeOfLines}
 use Rattle.terminal_law.specs.Course.{told_of, IsCourse}
 use Rattle.terminal_law.proofs.SentLaws.{containers-size}
 use Rattle.terminal_law.proofs.CourseLaws.{course-returns, session-agree}
@@ -105,7 +105,7 @@ module _ (script : Script) (valid : IsValid script) (group : GroupState) (worker
   course = record {
     most = most;
     used = omega arith;
-    come = subst (λ returns. ComeOf (scenario_of script) returns script.config.ticks (cells_of sink)) told
+    come = subst (λ returns. ComeOfLines (scenario_of script) returns script.config.ticks (cells_of sink)) told
         (all-come script (taken_of group) group.tx.items workers sink.rx.items gathered windows);
     decided = λ k low. decided (16 * k + 23) (packet-row script.config.ticks (used_in script.config.lag script.config.ticks) k most low);
   }

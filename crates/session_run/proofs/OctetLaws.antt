@@ -5,7 +5,7 @@ use Rattle.std.proofs.lemmas.List.Sums.{sum_by-cons, sum_by-append, sum_by-le}
 use Rattle.session_model.specs.declared.script.Item.{Item}
 use Rattle.session_model.specs.declared.script.ItemKind.{ItemKind}
 use Rattle.session_model.specs.declared.script.ItemKind.TheVariants.{Frame, Add, Remove}
-use Rattle.session_model.specs.Scenario.{Offer, offer_of, offers_of}
+use Rattle.session_model.specs.Scenario.{DueFrame, offer_of, offers_of}
 use Rattle.session_model.specs.Valid.{IsKind}
 use Rattle.group_lock.specs.Session.{octets_in}
 
@@ -17,7 +17,7 @@ pub octets-sum : (items : List Item) → octets_in (offers_of items) ≡ sum_by 
 octets-sum [] = refl
 octets-sum (item ∷ items) =
     let one : octets_in (offers_of (item ∷ [])) ≡ octets_in (offer_of item.due item.kind) = ap octets_in (append-nil (offer_of item.due item.kind)) in
-    sum_by-append (λ (offer : Offer). length offer.frame) (offer_of item.due item.kind) (offers_of items)
+    sum_by-append (λ (offer : DueFrame). length offer.frame) (offer_of item.due item.kind) (offers_of items)
     ∙ ap (λ n. n + octets_in (offers_of items)) (sym one) ∙ ap (λ n. own_octets item + n) (octets-sum items) ∙ sym (sum_by-cons own_octets item items)
 
 own-few : (item : Item) → IsKind item.kind → own_octets item ≤ 65535

@@ -19,7 +19,7 @@ use Rattle.member_ring.specs.Worker.{IsLater}
 use Rattle.member_ring.proofs.EndLaws.{ends-moved}
 use Rattle.sink_core.specs.Given.{given_frames}
 use Rattle.sink_worker.specs.declared.worker.SinkWorker.{SinkWorker}
-use Rattle.got_out.specs.Told.{Seen, seen, known_of, faults_of}
+use Rattle.got_lines.specs.Told.{Seen, seen, known_of, faults_of}
 use Rattle.sink_worker.specs.Told.{Writes}
 use Rattle.sink_worker.specs.Worker.{Stands, parts_of, cells_of, size_of, taken_of, has_failed, ticks_of as rows_of}
 use Rattle.sink_worker.specs.Worker.{IsLater as IsSinkLater}

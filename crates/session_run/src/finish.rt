@@ -1,6 +1,6 @@
 //! What the calling thread goes on with once all others have ended: whatever isn't done, in turn.
 ghost use Rattle.std.specs.Prelude.{◌≡◌, ◌≤◌, ◌↔◌, true};
-ghost use Rattle.got_out.specs.Told.{seen};
+ghost use Rattle.got_lines.specs.Told.{seen};
 ghost use Rattle.group_lock.specs.Group.{ticks_of, total_of};
 ghost use Rattle.session_parts.specs.Duty.{Begun, HasRun};
 ghost use Rattle.session_parts.specs.Lines.{AreLater};

@@ -1,7 +1,7 @@
 //! Frames are counted, and written as lines of text.
 ghost use Rattle.std.specs.Prelude.{◌≡◌};
 
-use got_out::GotOver;
+use got_lines::LentGotLines;
 use outside_io::ByteSink;
 use sink_core::FrameOut;
 
@@ -24,14 +24,14 @@ impl FrameOut for CountOut {
 
 /// Writes the line of each frame that it is given, and counts them. After a write that failed it goes on counting.
 pub(crate) struct ToldOut<'a, K> {
-    pub(crate) lines: GotOver<'a, K>,
+    pub(crate) lines: LentGotLines<'a, K>,
     pub(crate) counted: CountOut,
 }
 
 impl<'a, K: ByteSink> FrameOut for ToldOut<'a, K> {
     ghost use Rattle.std.specs.Prelude.{◌≡◌};
     ghost use Rattle.report_text.specs.Report.{got_texts};
-    ghost use Rattle.got_out.specs.Over.{HasText};
+    ghost use Rattle.got_lines.specs.Over.{HasText};
     ghost use Rattle.sink_worker.specs.Told.{count_of};
 
     ghost stands_for = { λ told start frames.

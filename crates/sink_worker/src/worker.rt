@@ -5,7 +5,7 @@ ghost use Rattle.realign_core.specs.Gather.{line_count};
 use crate::burst::SinkBurst;
 use crate::got::{CountOut, ToldOut, take_back};
 use crate::rows::take_rows;
-use got_out::{GotOver, LineBlock};
+use got_lines::{LentGotLines, LineBlock};
 use member_ring::{Gate, RingIn, RingOut, Who};
 use outside_io::ByteSink;
 use realign_core::RowGather;
@@ -151,7 +151,7 @@ impl SinkWorker {
         ensures later { IsLater self.old self.new }
     {
         let mut told = ToldOut {
-            lines: GotOver::new(out, &mut self.block),
+            lines: LentGotLines::new(out, &mut self.block),
             counted: CountOut { count: 0 },
         };
         let first = take_rows(

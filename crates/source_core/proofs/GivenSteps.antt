@@ -6,7 +6,7 @@ use Rattle.std.proofs.lemmas.List.{map-append, append-nil}
 use Rattle.std.proofs.lemmas.List.Elements.{filter-append, All-append}
 use Rattle.std.proofs.lemmas.List.Sums.{fold-append}
 use Rattle.session_model.specs.declared.table.Command.{Command}
-use Rattle.session_model.specs.Scenario.{Scenario, Order, Offer, orders_at, frames_at, lands_at, comes_at, steps_in}
+use Rattle.session_model.specs.Scenario.{Scenario, DueCommand, DueFrame, orders_at, frames_at, lands_at, comes_at, steps_in}
 use Rattle.session_model.specs.Table.{Told}
 use Rattle.session_model.specs.Source.{asked, asked_all, after}
 use Rattle.session_model.specs.Course.{Course, called, asks}
@@ -32,19 +32,19 @@ pub lands-now : (due : ℕ) → (nat_lt (16 * steps_in due) (due + 8) && nat_le 
 lands-now due = grind (arith, nat_tests)
 
 -- ---- a frame
-abbrev pub offer_now : ℕ → List ℕ → Offer
+abbrev pub offer_now : ℕ → List ℕ → DueFrame
 offer_now t frame = record { due = t; frame = frame }
 
 frames-with : (scenario : Scenario) (t u : ℕ) (frame : List ℕ) →
-    frames_at (with_frame scenario t frame) u ≡ frames_at scenario u ++ map (λ (offer : Offer). offer.frame) (filter (comes_at u) (offer_now t frame ∷ []))
+    frames_at (with_frame scenario t frame) u ≡ frames_at scenario u ++ map (λ (offer : DueFrame). offer.frame) (filter (comes_at u) (offer_now t frame ∷ []))
 frames-with scenario t u frame =
-    ap (map (λ (offer : Offer). offer.frame)) (filter-append (comes_at u) scenario.offers (offer_now t frame ∷ []))
-    ∙ map-append (λ (offer : Offer). offer.frame) (filter (comes_at u) scenario.offers) (filter (comes_at u) (offer_now t frame ∷ []))
+    ap (map (λ (offer : DueFrame). offer.frame)) (filter-append (comes_at u) scenario.offers (offer_now t frame ∷ []))
+    ∙ map-append (λ (offer : DueFrame). offer.frame) (filter (comes_at u) scenario.offers) (filter (comes_at u) (offer_now t frame ∷ []))
 
 frames-if : (scenario : Scenario) (t u : ℕ) (frame : List ℕ) (b : Bool) → comes_at u (offer_now t frame) ≡ b →
-    frames_at (with_frame scenario t frame) u ≡ frames_at scenario u ++ map (λ (offer : Offer). offer.frame) (if b then offer_now t frame ∷ [] else [])
+    frames_at (with_frame scenario t frame) u ≡ frames_at scenario u ++ map (λ (offer : DueFrame). offer.frame) (if b then offer_now t frame ∷ [] else [])
 frames-if scenario t u frame b e =
-    frames-with scenario t u frame ∙ ap (λ c. frames_at scenario u ++ map (λ (offer : Offer). offer.frame) (if c then offer_now t frame ∷ [] else [])) e
+    frames-with scenario t u frame ∙ ap (λ c. frames_at scenario u ++ map (λ (offer : DueFrame). offer.frame) (if c then offer_now t frame ∷ [] else [])) e
 
 frames-before : (scenario : Scenario) (t u : ℕ) (frame : List ℕ) → u < t → frames_at (with_frame scenario t frame) u ≡ frames_at scenario u
 frames-before scenario t u frame low =
@@ -84,8 +84,8 @@ Stands-with_frame lag size ticks queue next sender table active nibbles scenario
       lines = stands.lines;
       lag = stands.lag;
       size = stands.size;
-      offers = All-append (λ (offer : Offer). offer.due ≤ ticks) scenario.offers (offer_now ticks frame ∷ []) stands.offers
-          (All-one (λ (offer : Offer). offer.due ≤ ticks) (offer_now ticks frame) (omega arith));
+      offers = All-append (λ (offer : DueFrame). offer.due ≤ ticks) scenario.offers (offer_now ticks frame ∷ []) stands.offers
+          (All-one (λ (offer : DueFrame). offer.due ≤ ticks) (offer_now ticks frame) (omega arith));
       orders = stands.orders;
       told = stands.told;
       table = stands.table ∙ sym (ap (λ source. record {
@@ -103,15 +103,15 @@ Stands-with_frame lag size ticks queue next sender table active nibbles scenario
     }
 
 -- ---- a command
-abbrev pub order_now : ℕ → Command → Order
+abbrev pub order_now : ℕ → Command → DueCommand
 order_now t command = record { due = t; command = command }
 
 orders-if : (scenario : Scenario) (t j : ℕ) (command : Command) (b : Bool) → lands_at j (order_now t command) ≡ b →
-    orders_at (with_command scenario t command) j ≡ orders_at scenario j ++ map (λ (order : Order). order.command) (if b then order_now t command ∷ [] else [])
+    orders_at (with_command scenario t command) j ≡ orders_at scenario j ++ map (λ (order : DueCommand). order.command) (if b then order_now t command ∷ [] else [])
 orders-if scenario t j command b e =
-    ap (map (λ (order : Order). order.command)) (filter-append (lands_at j) scenario.orders (order_now t command ∷ []))
-    ∙ map-append (λ (order : Order). order.command) (filter (lands_at j) scenario.orders) (filter (lands_at j) (order_now t command ∷ []))
-    ∙ ap (λ c. orders_at scenario j ++ map (λ (order : Order). order.command) (if c then order_now t command ∷ [] else [])) e
+    ap (map (λ (order : DueCommand). order.command)) (filter-append (lands_at j) scenario.orders (order_now t command ∷ []))
+    ∙ map-append (λ (order : DueCommand). order.command) (filter (lands_at j) scenario.orders) (filter (lands_at j) (order_now t command ∷ []))
+    ∙ ap (λ c. orders_at scenario j ++ map (λ (order : DueCommand). order.command) (if c then order_now t command ∷ [] else [])) e
 
 orders-before : (scenario : Scenario) (t j : ℕ) (command : Command) → j < steps_in t → orders_at (with_command scenario t command) j ≡ orders_at scenario j
 orders-before scenario t j command low = orders-if scenario t j command false (lands-later t j low) ∙ append-nil (orders_at scenario j)
@@ -151,8 +151,8 @@ Stands-with_command lag size ticks queue sender table next active nibbles scenar
       lag = stands.lag;
       size = stands.size;
       offers = stands.offers;
-      orders = All-append (λ (order : Order). order.due ≤ ticks) scenario.orders (order_now ticks command ∷ []) stands.orders
-          (All-one (λ (order : Order). order.due ≤ ticks) (order_now ticks command) (omega arith));
+      orders = All-append (λ (order : DueCommand). order.due ≤ ticks) scenario.orders (order_now ticks command ∷ []) stands.orders
+          (All-one (λ (order : DueCommand). order.due ≤ ticks) (order_now ticks command) (omega arith));
       told = stands.told;
       table = is ∙ ap (λ course. called course (asks command)) stands.table ∙ sym (ap (λ source. record {
         lines = length scenario.windows;

@@ -3,7 +3,7 @@ use Rattle.std.proofs.Common.{◌≡◌, ◌≤◌, ◌<◌, ℕ, ◌+◌, ◌-�
 use Rattle.std.proofs.lemmas.Bool.Decides.{nat_tests}
 use Rattle.std.proofs.lemmas.List.{append-nil, take-append-drop}
 use Rattle.std.proofs.lemmas.List.Elements.{filter-append}
-use Rattle.session_model.specs.Scenario.{Scenario, Order, Offer, lands_at, comes_at, steps_in}
+use Rattle.session_model.specs.Scenario.{Scenario, DueCommand, DueFrame, lands_at, comes_at, steps_in}
 use Rattle.session_model.specs.Table.{Told}
 use Rattle.session_model.specs.Source.{cell_at}
 use Rattle.session_law.specs.Session.{AgreeBefore}
@@ -41,11 +41,11 @@ alike-landed one other a b t comes agree = record {
   lines = comes.lines;
   lag = comes.lag;
   size = comes.size;
-  orders = λ j low. ap (map (λ (order : Order). order.command))
-      (same-parts (lands_at j) (λ (order : Order). has_come t order.due) one.orders other.orders (λ order lands. lands-within order.due j t low lands) comes.orders);
+  orders = λ j low. ap (map (λ (order : DueCommand). order.command))
+      (same-parts (lands_at j) (λ (order : DueCommand). has_come t order.due) one.orders other.orders (λ order lands. lands-within order.due j t low lands) comes.orders);
   cells = λ j low. cells-same one other a b (steps_in t) comes.lag agree j low;
-  offers = λ u low. ap (map (λ (offer : Offer). offer.frame))
-      (same-parts (comes_at u) (λ (offer : Offer). has_come t offer.due) one.offers other.offers (λ offer here. comes-within offer.due u t low here) comes.offers);
+  offers = λ u low. ap (map (λ (offer : DueFrame). offer.frame))
+      (same-parts (comes_at u) (λ (offer : DueFrame). has_come t offer.due) one.offers other.offers (λ offer here. comes-within offer.due u t low here) comes.offers);
 }
 
 -- ---- the first items of a session, where none of the others is due yet
@@ -57,12 +57,12 @@ prefix-alike all n xs none =
 not-come : (t due : ℕ) → t ≤ due → nat_lt due t ≡ false
 not-come t due late = grind (arith, nat_tests, late)
 
-pub first-alike : (scenario : Scenario) (n m t : ℕ) → All (λ (order : Order). t ≤ order.due) (drop n scenario.orders) → All (λ (offer : Offer). t ≤ offer.due) (drop m scenario.offers) →
+pub first-alike : (scenario : Scenario) (n m t : ℕ) → All (λ (order : DueCommand). t ≤ order.due) (drop n scenario.orders) → All (λ (offer : DueFrame). t ≤ offer.due) (drop m scenario.offers) →
     ComesAlike (first_items scenario n m) scenario t
 first-alike scenario n m t orders offers = record {
   lines = refl;
   lag = refl;
   size = refl;
-  offers = prefix-alike (λ (offer : Offer). has_come t offer.due) m scenario.offers (λ k d low. not-come t (slice_index_or (drop m scenario.offers) k d).due (offers k d low));
-  orders = prefix-alike (λ (order : Order). has_come t order.due) n scenario.orders (λ k d low. not-come t (slice_index_or (drop n scenario.orders) k d).due (orders k d low));
+  offers = prefix-alike (λ (offer : DueFrame). has_come t offer.due) m scenario.offers (λ k d low. not-come t (slice_index_or (drop m scenario.offers) k d).due (offers k d low));
+  orders = prefix-alike (λ (order : DueCommand). has_come t order.due) n scenario.orders (λ k d low. not-come t (slice_index_or (drop n scenario.orders) k d).due (orders k d low));
 }

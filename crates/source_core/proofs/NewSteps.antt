@@ -3,7 +3,7 @@ use Rattle.std.proofs.Common.{◌≡◌, ◌≤◌, ◌<◌, ℕ, ◌-◌, ◌*�
 use Rattle.std.proofs.lemmas.List.{length-replicate, get_or-replicate}
 use Rattle.std.proofs.lemmas.List.Elements.{All-replicate}
 use Rattle.std.proofs.lemmas.List.FromFn.{fill_by_all}
-use Rattle.session_model.specs.Scenario.{Scenario, Order, Offer, orders_at, frames_at, lands_at, comes_at, steps_in}
+use Rattle.session_model.specs.Scenario.{Scenario, DueCommand, DueFrame, orders_at, frames_at, lands_at, comes_at, steps_in}
 use Rattle.session_model.specs.Table.{active}
 use Rattle.session_model.specs.Source.{opening, asked_all, after}
 use Rattle.session_model.specs.Course.{Course, begun}
@@ -45,10 +45,10 @@ IsTerminal-new lag size lines queue sender table active nibbles octets few small
 
 -- ---- the scenario
 no-orders : (scenario : Scenario) (j : ℕ) → scenario.orders ≡ [] → orders_at scenario j ≡ []
-no-orders scenario j none = ap (λ orders. map (λ (order : Order). order.command) (filter (lands_at j) orders)) none
+no-orders scenario j none = ap (λ orders. map (λ (order : DueCommand). order.command) (filter (lands_at j) orders)) none
 
 no-frames : (scenario : Scenario) (t : ℕ) → scenario.offers ≡ [] → frames_at scenario t ≡ []
-no-frames scenario t none = ap (λ offers. map (λ (offer : Offer). offer.frame) (filter (comes_at t) offers)) none
+no-frames scenario t none = ap (λ offers. map (λ (offer : DueFrame). offer.frame) (filter (comes_at t) offers)) none
 
 source-new : (scenario : Scenario) → scenario.orders ≡ [] → source_now scenario [] 0 ≡ opening (length scenario.windows)
 unfolding after
@@ -85,8 +85,8 @@ Stands-new lag size lines queue sender table active nibbles scenario is_queue wr
   lines = ap (λ (course : Course). course.lines) is_table ∙ sym fresh.of_lines;
   lag = sym fresh.of_lag;
   size = sym fresh.of_size;
-  offers = subst (All (λ (offer : Offer). offer.due ≤ 0)) (sym fresh.no_offers) (λ k d low. absurd (omega arith));
-  orders = subst (All (λ (order : Order). order.due ≤ 0)) (sym fresh.no_orders) (λ k d low. absurd (omega arith));
+  offers = subst (All (λ (offer : DueFrame). offer.due ≤ 0)) (sym fresh.no_offers) (λ k d low. absurd (omega arith));
+  orders = subst (All (λ (order : DueCommand). order.due ≤ 0)) (sym fresh.no_orders) (λ k d low. absurd (omega arith));
   told = omega arith;
   table = is_table ∙ course-new scenario lines fresh.no_orders fresh.of_lines;
   stream = subst (λ queue. HasWritten sender queue (stream_now scenario [] 0) (place_of scenario [] 0)) (sym is_queue)

@@ -9,7 +9,7 @@ use Rattle.std.proofs.lemmas.List.Elements.{All-head, All-tail}
 use Rattle.std.proofs.lemmas.List.FromFn.{length-map-range_with_len, get_or-map-range_with_len, fill_by_all}
 use Rattle.vc_cell.specs.declared.BackCell.{BackCell}
 use Rattle.vc_cell.specs.declared.Container.{Container}
-use Rattle.session_model.specs.Scenario.{Scenario, Order, Offer, orders_at, frames_at, lands_at, comes_at, steps_in}
+use Rattle.session_model.specs.Scenario.{Scenario, DueCommand, DueFrame, orders_at, frames_at, lands_at, comes_at, steps_in}
 use Rattle.session_model.specs.Packet.{packet_nibbles}
 use Rattle.session_model.specs.Piece.{stream_of}
 use Rattle.session_model.specs.Table.{Told, active}
@@ -114,15 +114,15 @@ filter-none test (x ∷ xs) none =
 comes-late : (due t : ℕ) → due ≤ t → (nat_le due (t + 1) && nat_le (t + 1) due) ≡ false
 comes-late due t low = grind (arith, nat_tests, low)
 
-no-orders : (scenario : Scenario) (t j : ℕ) → t ≤ 16 * j + 8 → All (λ (order : Order). order.due ≤ t) scenario.orders → orders_at scenario (suc j) ≡ []
+no-orders : (scenario : Scenario) (t j : ℕ) → t ≤ 16 * j + 8 → All (λ (order : DueCommand). order.due ≤ t) scenario.orders → orders_at scenario (suc j) ≡ []
 no-orders scenario t j high due =
-    ap (map (λ (order : Order). order.command)) (filter-none (lands_at (suc j)) scenario.orders (λ k d low. late (slice_index_or scenario.orders k d).due (due k d low))) where
+    ap (map (λ (order : DueCommand). order.command)) (filter-none (lands_at (suc j)) scenario.orders (λ k d low. late (slice_index_or scenario.orders k d).due (due k d low))) where
       late : (n : ℕ) → n ≤ t → (nat_lt (16 * suc j) (n + 8) && nat_le n (16 * suc j + 8)) ≡ false
       late n low = grind (arith, nat_tests, low, high)
 
-no-frames : (scenario : Scenario) (t : ℕ) → All (λ (offer : Offer). offer.due ≤ t) scenario.offers → frames_at scenario (t + 1) ≡ []
+no-frames : (scenario : Scenario) (t : ℕ) → All (λ (offer : DueFrame). offer.due ≤ t) scenario.offers → frames_at scenario (t + 1) ≡ []
 no-frames scenario t due =
-    ap (map (λ (offer : Offer). offer.frame)) (filter-none (comes_at (t + 1)) scenario.offers (λ k d low. comes-late (slice_index_or scenario.offers k d).due t (due k d low)))
+    ap (map (λ (offer : DueFrame). offer.frame)) (filter-none (comes_at (t + 1)) scenario.offers (λ k d low. comes-late (slice_index_or scenario.offers k d).due t (due k d low)))
 
 -- ---- the table
 source-next : (scenario : Scenario) (cells : List (Option Told)) (back : Option BackCell) (t n : ℕ) → n ≡ t / 16 → t % 16 ≡ 8 → length cells ≡ n - scenario.lag → IsDue scenario.lag t back →
@@ -144,7 +144,7 @@ course_after scenario cells n = record {
 }
 
 course-next : (scenario : Scenario) (cells : List (Option Told)) (back : Option BackCell) (t n : ℕ) → n ≡ t / 16 → t % 16 ≡ 8 → length cells ≡ n - scenario.lag → IsDue scenario.lag t back →
-    All (λ (order : Order). order.due ≤ t) scenario.orders →
+    All (λ (order : DueCommand). order.due ≤ t) scenario.orders →
     called (course_after scenario cells n) (decides (option_map told_in back)) ≡ course_after scenario (with_cell cells back) (suc n)
 course-next scenario cells back t n is at told due orders =
     let more = with_cell cells back in
@@ -162,7 +162,7 @@ no-cell scenario cells None t e due = refl
 no-cell scenario cells (Some cell) t e due = let other = eqb-false (t % 16) 8 e in absurd (other due.0)
 
 pub table-ticked : (scenario : Scenario) (cells : List (Option Told)) (back : Option BackCell) (t : ℕ) → length cells ≡ steps_in t - scenario.lag → IsDue scenario.lag t back →
-    All (λ (order : Order). order.due ≤ t) scenario.orders → (b : Bool) → is_step t ≡ b →
+    All (λ (order : DueCommand). order.due ≤ t) scenario.orders → (b : Bool) → is_step t ≡ b →
     table_by b back (course_now scenario cells t) ≡ course_now scenario (with_cell cells back) (t + 1)
 table-ticked scenario cells back t told due orders true e =
     let at = eqb-true (t % 16) 8 e in
@@ -264,7 +264,7 @@ stream-ticked scenario cells back t place told is =
     ∙ ap (λ stream. reached (place_of scenario more (suc t)) (fold offered stream (frames_at scenario t))) (sym (alike-stream scenario more scenario cells t (tick-alike scenario cells back t told)))
     ∙ sym (stream-next scenario more t)
 
-pub stream-now : (scenario : Scenario) (cells : List (Option Told)) (t : ℕ) → All (λ (offer : Offer). offer.due ≤ t) scenario.offers →
+pub stream-now : (scenario : Scenario) (cells : List (Option Told)) (t : ℕ) → All (λ (offer : DueFrame). offer.due ≤ t) scenario.offers →
     stream_now scenario cells (t + 1) ≡ stream_before scenario cells (suc t)
 stream-now scenario cells t offers =
     let next : t + 1 ≡ suc t = omega arith in
@@ -295,7 +295,7 @@ next-fields lag size t queue sender table next active members nibbles said back 
 -- the stream is written up to the place at which the next frame begins
 stream-written : (size t place : ℕ) (queue : Held) (sender : Sender) (members : List ℕ) (back : Option BackCell) (scenario : Scenario) (cells : List (Option Told)) →
     length cells ≡ steps_in t - scenario.lag → size ≡ scenario.size → members ≡ active_now scenario (with_cell cells back) (t + 1) →
-    All (λ (offer : Offer). offer.due ≤ t) scenario.offers → place ≡ place_of scenario cells t + size * length members →
+    All (λ (offer : DueFrame). offer.due ≤ t) scenario.offers → place ≡ place_of scenario cells t + size * length members →
     HasWritten sender queue (reached place (stream_now scenario cells t)) place →
     HasWritten sender queue (stream_now scenario (with_cell cells back) (t + 1)) (place_of scenario (with_cell cells back) (t + 1))
 stream-written size t place queue sender members back scenario cells told is_size are_members offers is_place written =
@@ -305,10 +305,10 @@ stream-written size t place queue sender members back scenario cells told is_siz
     subst (HasWritten sender queue (stream_now scenario more (t + 1))) (further ∙ ap (place_of scenario more) next)
     (subst (λ s. HasWritten sender queue s place) (stream-ticked scenario cells back t place told further ∙ sym (stream-now scenario more t offers)) written)
 
-later-offers : (t : ℕ) (scenario : Scenario) → All (λ (offer : Offer). offer.due ≤ t) scenario.offers → All (λ (offer : Offer). offer.due ≤ t + 1) scenario.offers
+later-offers : (t : ℕ) (scenario : Scenario) → All (λ (offer : DueFrame). offer.due ≤ t) scenario.offers → All (λ (offer : DueFrame). offer.due ≤ t + 1) scenario.offers
 later-offers t scenario due k d low = let now = due k d low in omega arith
 
-later-orders : (t : ℕ) (scenario : Scenario) → All (λ (order : Order). order.due ≤ t) scenario.orders → All (λ (order : Order). order.due ≤ t + 1) scenario.orders
+later-orders : (t : ℕ) (scenario : Scenario) → All (λ (order : DueCommand). order.due ≤ t) scenario.orders → All (λ (order : DueCommand). order.due ≤ t + 1) scenario.orders
 later-orders t scenario due k d low = let now = due k d low in omega arith
 
 pub Stands-ticked : (lag size t : ℕ) (queue later : Held) (sender further : Sender) (table next : Course) (active members : List ℕ) (nibbles said : List (List ℕ)) (back : Option BackCell) (scenario : Scenario) (cells : List (Option Told)) →

@@ -3,7 +3,7 @@ use Rattle.std.specs.Prelude.{◌≡◌, ◌≤◌, ℕ, zero, suc, ◌-◌, nat
 use Rattle.std.specs.List.{range_with_len}
 use Rattle.vc_cell.specs.declared.BackCell.{BackCell}
 use Rattle.session_model.specs.declared.table.Command.{Command}
-use Rattle.session_model.specs.Scenario.{Scenario, Order, Offer, frames_at, steps_in}
+use Rattle.session_model.specs.Scenario.{Scenario, DueCommand, DueFrame, frames_at, steps_in}
 use Rattle.session_model.specs.Journal.{with_items}
 use Rattle.session_model.specs.Packet.{packet_nibbles}
 use Rattle.session_model.specs.Table.{Told, active}
@@ -72,8 +72,8 @@ pub record Stands (core : Terminal) (scenario : Scenario) (cells : List (Option 
   pub lines : core.lines ≡ length scenario.windows
   pub lag : core.lag ≡ scenario.lag
   pub size : core.size ≡ scenario.size
-  pub offers : All (λ (offer : Offer). offer.due ≤ core.ticks) scenario.offers
-  pub orders : All (λ (order : Order). order.due ≤ core.ticks) scenario.orders
+  pub offers : All (λ (offer : DueFrame). offer.due ≤ core.ticks) scenario.offers
+  pub orders : All (λ (order : DueCommand). order.due ≤ core.ticks) scenario.orders
   pub told : length cells ≡ steps_in core.ticks - scenario.lag
   pub table : core.table ≡ course_now scenario cells core.ticks
   pub stream : HasWritten core.sender core.queue (stream_now scenario cells core.ticks) (place_of scenario cells core.ticks)
@@ -94,5 +94,5 @@ pub record ComesAlike (one other : Scenario) (t : ℕ) : Type 0 where
   pub lines : length one.windows ≡ length other.windows
   pub lag : one.lag ≡ other.lag
   pub size : one.size ≡ other.size
-  pub offers : filter (λ (offer : Offer). has_come t offer.due) one.offers ≡ filter (λ (offer : Offer). has_come t offer.due) other.offers
-  pub orders : filter (λ (order : Order). has_come t order.due) one.orders ≡ filter (λ (order : Order). has_come t order.due) other.orders
+  pub offers : filter (λ (offer : DueFrame). has_come t offer.due) one.offers ≡ filter (λ (offer : DueFrame). has_come t offer.due) other.offers
+  pub orders : filter (λ (order : DueCommand). has_come t order.due) one.orders ≡ filter (λ (order : DueCommand). has_come t order.due) other.orders

@@ -30,7 +30,7 @@ use Rattle.line_law.proofs.RunLaws.{are_numbered}
 use Rattle.line_law.proofs.StableLaws.{verdict-stays}
 use Rattle.line_law.proofs.RowLaws.{earlier, packets_stay, are_read}
 use Rattle.row_law.specs.Received.{HasPackets, TellsRow}
-use Rattle.terminal_law.specs.Lines.{HasLines, given, ComesOf, ComeOf}
+use Rattle.terminal_law.specs.Lines.{HasLines, given, ComesOfLine, ComeOfLines}
 use Rattle.terminal_law.proofs.SentLaws.{forward-packet, container-at, containers-size, are-sent, packet-nibbles}
 
 -- ---- one line
@@ -63,7 +63,7 @@ module _ (scenario : Scenario) (returns : List (Option Told)) (lines : HasLines 
     sent = are-sent scenario returns line scenario.ticks lines.few;
   }
 
-  module _ (frames : ℕ) (made : frames ≤ scenario.ticks) (own : List Cell) (comes : ComesOf scenario returns line frames own) where
+  module _ (frames : ℕ) (made : frames ≤ scenario.ticks) (own : List Cell) (comes : ComesOfLine scenario returns line frames own) where
     all-cells : line_cells (windows_of scenario line) (containers_of scenario returns line scenario.ticks) comes.delay comes.carries ≡ own ++ comes.later
     all-cells =
         ap (λ n. cells (carried_by scenario line) comes.delay n (containers_of scenario returns line scenario.ticks) comes.carries) (containers-size scenario returns line scenario.ticks)
@@ -107,7 +107,7 @@ map-lines f g (x ∷ xs) from same =
     ap₂ (λ y ys. y ∷ ys) (same 0 x refl ∙ ap g e)
     (map-lines f g xs (from + 1) (λ m y here. same (suc m) y here ∙ (let e : from + suc m ≡ from + 1 + m = omega arith in ap g e)))
 
-module _ (scenario : Scenario) (returns : List (Option Told)) (lines : HasLines scenario) (frames : ℕ) (cells : List (List Cell)) (come : ComeOf scenario returns frames cells) where
+module _ (scenario : Scenario) (returns : List (Option Told)) (lines : HasLines scenario) (frames : ℕ) (cells : List (List Cell)) (come : ComeOfLines scenario returns frames cells) where
   packets-read : (k : ℕ) → 16 * k + 23 < scenario.ticks → AreDecidedAt cells (16 * k + 23) → read_packets cells k ≡ packets_of scenario returns k
   packets-read k low decided =
       let table = table_of scenario returns k in

@@ -14,7 +14,7 @@ use Rattle.session_model.specs.Sent.{container_of}
 use Rattle.line_law.proofs.ListLaws.{take-next}
 use Rattle.session_law.specs.Session.{AgreeBefore}
 use Rattle.session_law.proofs.SessionLaws.{return_cell-agree, Agree-take, cells_before-prefix}
-use Rattle.terminal_law.specs.Lines.{HasLines, ComesOf, ComeOf}
+use Rattle.terminal_law.specs.Lines.{HasLines, ComesOfLine, ComeOfLines}
 use Rattle.terminal_law.specs.Course.{back_of, told_of, IsCourse}
 use Rattle.terminal_law.proofs.ListLaws.{range-at, same-range}
 use Rattle.terminal_law.proofs.DealtLaws.{container-same}
@@ -79,7 +79,7 @@ frames-same scenario a b frames n used agree line t low =
     container-same scenario a b line t (agree-sooner m n a b (needs scenario.lag frames n t used low) agree)
 
 comes-same : (scenario : Scenario) (a b : List (Option Told)) (line frames : ℕ) (own : List Cell) →
-    ((t : ℕ) → t < frames → container_of scenario a line t ≡ container_of scenario b line t) → ComesOf scenario a line frames own → ComesOf scenario b line frames own
+    ((t : ℕ) → t < frames → container_of scenario a line t ≡ container_of scenario b line t) → ComesOfLine scenario a line frames own → ComesOfLine scenario b line frames own
 comes-same scenario a b line frames own same comes = record {
   delay = comes.delay;
   carries = comes.carries;
@@ -91,7 +91,7 @@ comes-same scenario a b line frames own same comes = record {
 }
 
 pub come-same : (scenario : Scenario) (a b : List (Option Told)) (frames n : ℕ) (cells : List (List Cell)) → steps_in frames ≤ n + scenario.lag → AgreeBefore n a b →
-    ComeOf scenario a frames cells → ComeOf scenario b frames cells
+    ComeOfLines scenario a frames cells → ComeOfLines scenario b frames cells
 come-same scenario a b frames n cells used agree come = record {
   made = come.made;
   lines = come.lines;

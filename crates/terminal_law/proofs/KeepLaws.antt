@@ -19,7 +19,7 @@ use Rattle.line_law.proofs.ListLaws.{is-some, slice_get-inside}
 use Rattle.line_law.proofs.StableLaws.{verdict-stays}
 use Rattle.line_law.proofs.RowLaws.{returns_stay}
 use Rattle.session_law.specs.Session.{AgreeBefore}
-use Rattle.terminal_law.specs.Lines.{given, ComesOf, ComeOf}
+use Rattle.terminal_law.specs.Lines.{given, ComesOfLine, ComeOfLines}
 use Rattle.terminal_law.specs.Course.{back_of, told_of, IsCourse}
 use Rattle.terminal_law.proofs.CellLaws.{given-whole}
 use Rattle.terminal_law.proofs.ListLaws.{same-range}
@@ -30,7 +30,7 @@ none-given : (scenario : Scenario) (returns : List (Option Told)) (line : ℕ) �
 unfolding path
 none-given scenario returns line = ap (λ b. if b then End ∷ [] else []) (let e : nat_lt scenario.ticks 0 ≡ false = grind arith in e)
 
-none-comes : (scenario : Scenario) (returns : List (Option Told)) (line : ℕ) (own : List Cell) → own ≡ [] → ComesOf scenario returns line 0 own
+none-comes : (scenario : Scenario) (returns : List (Option Told)) (line : ℕ) (own : List Cell) → own ≡ [] → ComesOfLine scenario returns line 0 own
 none-comes scenario returns line own none = record {
   delay = 0;
   carries = 0;
@@ -58,7 +58,7 @@ course-opens scenario = record {
 
 -- ---- a frame is made
 comes-more : (scenario : Scenario) (returns : List (Option Told)) (line frames : ℕ) (own : List Cell) → suc frames ≤ scenario.ticks →
-    ComesOf scenario returns line frames own → ComesOf scenario returns line (suc frames) own
+    ComesOfLine scenario returns line frames own → ComesOfLine scenario returns line (suc frames) own
 comes-more scenario returns line frames own made comes =
     let taken = comes.taken in
     record {
@@ -105,11 +105,11 @@ told-longer scenario cells longer n are decided =
     (λ k low. ap (λ packet. told_in (if is_lost scenario k then Lost else Nibbles (packet_nibbles packet))) (returns_stay cells longer k are (decided k low)))
 
 pub course-comes : (scenario : Scenario) (frames n : ℕ) (cells longer : List (List Cell)) → IsLonger cells longer →
-    ComeOf scenario (told_of scenario cells n) frames longer → IsCourse scenario frames n cells → IsCourse scenario frames n longer
+    ComeOfLines scenario (told_of scenario cells n) frames longer → IsCourse scenario frames n cells → IsCourse scenario frames n longer
 course-comes scenario frames n cells longer are come course = record {
   most = course.most;
   used = course.used;
-  come = subst (λ returns. ComeOf scenario returns frames longer) (sym (told-longer scenario cells longer n are course.decided)) come;
+  come = subst (λ returns. ComeOfLines scenario returns frames longer) (sym (told-longer scenario cells longer n are course.decided)) come;
   decided = λ k low. decided-longer cells longer (16 * k + 23) are (course.decided k low);
 }
 
@@ -135,7 +135,7 @@ course-backs scenario frames n cells most decided course =
 
 -- ---- the first cells that a line gives have come of it
 pub comes-first : (scenario : Scenario) (returns : List (Option Told)) (line frames delay carries popped : ℕ) → min carries scenario.ticks ≤ frames →
-    ComesOf scenario returns line frames (take popped (given scenario returns line frames delay carries))
+    ComesOfLine scenario returns line frames (take popped (given scenario returns line frames delay carries))
 comes-first scenario returns line frames delay carries popped taken = record {
   delay = delay;
   carries = carries;

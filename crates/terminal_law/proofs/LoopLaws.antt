@@ -14,7 +14,7 @@ use Rattle.line_law.specs.StableRows.{AreDecidedAt}
 use Rattle.session_law.specs.Session.{AgreeBefore}
 use Rattle.session_law.proofs.SessionLaws.{Agree, Agree-first, after-agree, return_cell-agree, Agree-take}
 use Rattle.session_law.proofs.ClientLaws.{stream_before-agree}
-use Rattle.terminal_law.specs.Lines.{HasLines, ComeOf}
+use Rattle.terminal_law.specs.Lines.{HasLines, ComeOfLines}
 use Rattle.terminal_law.specs.Course.{back_of, packet_by, told_of, IsCourse}
 use Rattle.terminal_law.proofs.RowLaws.{row-told, back-told, packet-told}
 use Rattle.terminal_law.proofs.ListLaws.{same-range}
@@ -29,7 +29,7 @@ module _ (scenario : Scenario) (frames n : ℕ) (cells : List (List Cell)) (line
   pub course-containers : (line t : ℕ) → t < frames → container_of scenario (told_of scenario cells n) line t ≡ container_of scenario (session_cells scenario) line t
   course-containers = frames-same scenario (told_of scenario cells n) (session_cells scenario) frames n course.used course-agree
 
-  pub course-come : ComeOf scenario (session_cells scenario) frames cells
+  pub course-come : ComeOfLines scenario (session_cells scenario) frames cells
   course-come = come-same scenario (told_of scenario cells n) (session_cells scenario) frames n cells course.used course-agree course.come
 
   pub course-rows : (t : ℕ) → t < scenario.ticks → AreDecidedAt cells t →
@@ -73,7 +73,7 @@ lasts : (ticks k : ℕ) → k < (ticks - 8) / 16 → 16 * k + 23 < ticks
 lasts ticks k low = omega arith
 
 pub next-cell : (scenario : Scenario) (frames k : ℕ) (cells : List (List Cell)) → HasLines scenario → 0 < scenario.lag → k < packets scenario →
-    ComeOf scenario (session_cells scenario) frames cells → AreDecidedAt cells (16 * k + 23) →
+    ComeOfLines scenario (session_cells scenario) frames cells → AreDecidedAt cells (16 * k + 23) →
     cells_before scenario (suc k) ≡ cells_before scenario k ++ told_in (back_of scenario cells k) ∷ []
 unfolding cells_before
 next-cell scenario frames k cells lines lag low come decided =

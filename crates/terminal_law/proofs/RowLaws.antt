@@ -16,14 +16,14 @@ use Rattle.line_law.specs.StableRows.{AreDecidedAt}
 use Rattle.row_law.proofs.WholeLaws.{row-whole}
 use Rattle.row_law.proofs.DealtLaws.{row-payload}
 use Rattle.row_law.proofs.ReturnLaws.{said-nibbles}
-use Rattle.terminal_law.specs.Lines.{HasLines, ComeOf}
+use Rattle.terminal_law.specs.Lines.{HasLines, ComeOfLines}
 use Rattle.terminal_law.specs.Course.{back_of, packet_by}
 use Rattle.terminal_law.proofs.ListLaws.{same-range}
 use Rattle.terminal_law.proofs.DealtLaws.{dealt-row}
 use Rattle.terminal_law.proofs.CellLaws.{has-packets, tells-row}
 
 pub row-told : (scenario : Scenario) (returns : List (Option Told)) (frames : ℕ) (cells : List (List Cell)) (t : ℕ) → HasLines scenario →
-    ComeOf scenario returns frames cells → t < scenario.ticks → AreDecidedAt cells t →
+    ComeOfLines scenario returns frames cells → t < scenario.ticks → AreDecidedAt cells t →
     row_at scenario.size cells t ≡ (if is_whole_row scenario returns t then Some (payload_of scenario returns t) else None)
 row-told scenario returns frames cells t lines come low decided =
     let sent = λ (line : ℕ). container_of scenario returns line t in
@@ -36,14 +36,14 @@ lost-or true nibbles told is = refl
 lost-or false nibbles told is = is
 
 pub back-told : (scenario : Scenario) (returns : List (Option Told)) (frames : ℕ) (cells : List (List Cell)) (k : ℕ) → HasLines scenario →
-    ComeOf scenario returns frames cells → 16 * k + 23 < scenario.ticks → AreDecidedAt cells (16 * k + 23) →
+    ComeOfLines scenario returns frames cells → 16 * k + 23 < scenario.ticks → AreDecidedAt cells (16 * k + 23) →
     told_in (back_of scenario cells k) ≡ return_cell scenario returns k
 back-told scenario returns frames cells k lines come low decided =
     lost-or (is_lost scenario k) (packet_nibbles (return_at cells k)) (return_packet scenario returns k)
     (said-nibbles scenario returns cells k (has-packets scenario returns lines frames cells come k low decided))
 
 pub packet-told : (scenario : Scenario) (returns : List (Option Told)) (frames : ℕ) (cells : List (List Cell)) (k : ℕ) → HasLines scenario →
-    ComeOf scenario returns frames cells → 16 * k + 23 < scenario.ticks → AreDecidedAt cells (16 * k + 23) →
+    ComeOfLines scenario returns frames cells → 16 * k + 23 < scenario.ticks → AreDecidedAt cells (16 * k + 23) →
     return_at cells k ≡ packet_by scenario returns k
 packet-told scenario returns frames cells k lines come low decided =
     let read = has-packets scenario returns lines frames cells come k low decided in

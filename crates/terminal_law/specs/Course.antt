@@ -13,7 +13,7 @@ use Rattle.session_model.specs.ReturnPacket.{return_of}
 use Rattle.session_model.specs.Rows.{return_at}
 use Rattle.session_model.specs.SessionRows.{packets_of}
 use Rattle.line_law.specs.StableRows.{AreDecidedAt}
-use Rattle.terminal_law.specs.Lines.{ComeOf}
+use Rattle.terminal_law.specs.Lines.{ComeOfLines}
 
 -- what comes of return packet k, which a sink says by these cells
 abbrev pub back_of : Scenario → List (List Cell) → ℕ → BackCell
@@ -33,5 +33,5 @@ told_of scenario cells n = map (λ k. told_in (back_of scenario cells k)) (range
 pub record IsCourse (scenario : Scenario) (frames n : ℕ) (cells : List (List Cell)) : Type 0 where
   pub most : n ≤ packets scenario
   pub used : steps_in frames ≤ n + scenario.lag
-  pub come : ComeOf scenario (told_of scenario cells n) frames cells
+  pub come : ComeOfLines scenario (told_of scenario cells n) frames cells
   pub decided : (k : ℕ) → k < n → AreDecidedAt cells (16 * k + 23)

@@ -20,7 +20,7 @@ given scenario returns line frames delay carries =
     cells (carried_by scenario line) delay scenario.ticks (containers_of scenario returns line frames) carries
 
 -- cells that have come of a line: the first ones of those that it gives. Each of its carries but the last ones took a container
-pub record ComesOf (scenario : Scenario) (returns : List (Option Told)) (line frames : ℕ) (own : List Cell) : Type 0 where
+pub record ComesOfLine (scenario : Scenario) (returns : List (Option Told)) (line frames : ℕ) (own : List Cell) : Type 0 where
   pub delay : ℕ
   pub carries : ℕ
   pub later : List Cell
@@ -28,7 +28,7 @@ pub record ComesOf (scenario : Scenario) (returns : List (Option Told)) (line fr
   pub first : given scenario returns line frames delay carries ≡ own ++ later
 
 -- cells have come of each line of a session, in which this many frames were made
-pub record ComeOf (scenario : Scenario) (returns : List (Option Told)) (frames : ℕ) (cells : List (List Cell)) : Type 0 where
+pub record ComeOfLines (scenario : Scenario) (returns : List (Option Told)) (frames : ℕ) (cells : List (List Cell)) : Type 0 where
   pub made : frames ≤ scenario.ticks
   pub lines : length cells ≡ length scenario.windows
-  pub each : (line : ℕ) (own : List Cell) → slice_get cells line ≡ Some own → ComesOf scenario returns line frames own
+  pub each : (line : ℕ) (own : List Cell) → slice_get cells line ≡ Some own → ComesOfLine scenario returns line frames own

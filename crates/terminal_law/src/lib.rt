@@ -22,7 +22,7 @@ ghost use Rattle.session_model.specs.Sent.{container_of, containers_of, frame_of
 ghost use Rattle.line_law.specs.StableRows.{IsLonger, AreDecidedAt};
 ghost use Rattle.session_law.specs.Session.{AgreeBefore};
 ghost use Rattle.row_law.specs.Received.{HasPackets, TellsRow, IsDealtRow};
-ghost use Rattle.terminal_law.specs.Lines.{HasLines, given, ComesOf, ComeOf};
+ghost use Rattle.terminal_law.specs.Lines.{HasLines, given, ComesOfLine, ComeOfLines};
 ghost use Rattle.terminal_law.specs.Course.{back_of, packet_by, told_of, IsCourse};
 ghost use Rattle.terminal_law.specs.Worked.{two_lines, h4_from, no_packet, first_added, first_in_use, second_added, first_told, first_cells, dealt};
 
@@ -61,14 +61,14 @@ pub fn cells_law()
         ≡ given scenario returns line scenario.ticks delay carries }
     ensures first { (scenario : Scenario) (returns : List (Option Told))
         (line frames delay carries popped : ℕ) → min carries scenario.ticks ≤ frames →
-        ComesOf scenario returns line frames
+        ComesOfLine scenario returns line frames
         (take popped (given scenario returns line frames delay carries)) }
     ensures packets { (scenario : Scenario) (returns : List (Option Told)) (frames k : ℕ)
-        (cells : List (List Cell)) → HasLines scenario → ComeOf scenario returns frames cells →
+        (cells : List (List Cell)) → HasLines scenario → ComeOfLines scenario returns frames cells →
         16 * k + 23 < scenario.ticks → AreDecidedAt cells (16 * k + 23) →
         HasPackets scenario returns cells k }
     ensures row { (scenario : Scenario) (returns : List (Option Told)) (frames t : ℕ)
-        (cells : List (List Cell)) → HasLines scenario → ComeOf scenario returns frames cells →
+        (cells : List (List Cell)) → HasLines scenario → ComeOfLines scenario returns frames cells →
         t < scenario.ticks → AreDecidedAt cells t →
         TellsRow scenario returns (λ line. container_of scenario returns line t) cells t }
 {}
@@ -78,16 +78,16 @@ pub fn cells_law()
 /// what the definition of a session says, or is lost.
 pub fn rows_law()
     ensures rows { (scenario : Scenario) (returns : List (Option Told)) (frames t : ℕ)
-        (cells : List (List Cell)) → HasLines scenario → ComeOf scenario returns frames cells →
+        (cells : List (List Cell)) → HasLines scenario → ComeOfLines scenario returns frames cells →
         t < scenario.ticks → AreDecidedAt cells t →
         row_at scenario.size cells t
         ≡ (if is_whole_row scenario returns t then Some (payload_of scenario returns t) else None) }
     ensures backs { (scenario : Scenario) (returns : List (Option Told)) (frames k : ℕ)
-        (cells : List (List Cell)) → HasLines scenario → ComeOf scenario returns frames cells →
+        (cells : List (List Cell)) → HasLines scenario → ComeOfLines scenario returns frames cells →
         16 * k + 23 < scenario.ticks → AreDecidedAt cells (16 * k + 23) →
         told_in (back_of scenario cells k) ≡ return_cell scenario returns k }
     ensures packets { (scenario : Scenario) (returns : List (Option Told)) (frames k : ℕ)
-        (cells : List (List Cell)) → HasLines scenario → ComeOf scenario returns frames cells →
+        (cells : List (List Cell)) → HasLines scenario → ComeOfLines scenario returns frames cells →
         16 * k + 23 < scenario.ticks → AreDecidedAt cells (16 * k + 23) →
         return_at cells k ≡ packet_by scenario returns k }
 {}
@@ -105,7 +105,7 @@ pub fn course_law()
         ≡ container_of scenario (session_cells scenario) line t }
     ensures come { (scenario : Scenario) (frames n : ℕ) (cells : List (List Cell)) →
         HasLines scenario → 0 < scenario.lag → IsCourse scenario frames n cells →
-        ComeOf scenario (session_cells scenario) frames cells }
+        ComeOfLines scenario (session_cells scenario) frames cells }
     ensures rows { (scenario : Scenario) (frames n t : ℕ) (cells : List (List Cell)) →
         HasLines scenario → 0 < scenario.lag → IsCourse scenario frames n cells →
         t < scenario.ticks → AreDecidedAt cells t →
@@ -130,7 +130,7 @@ pub fn keep_law()
         frames < scenario.ticks → steps_in (suc frames) ≤ n + scenario.lag →
         IsCourse scenario frames n cells → IsCourse scenario (suc frames) n cells }
     ensures comes { (scenario : Scenario) (frames n : ℕ) (cells longer : List (List Cell)) →
-        IsLonger cells longer → ComeOf scenario (told_of scenario cells n) frames longer →
+        IsLonger cells longer → ComeOfLines scenario (told_of scenario cells n) frames longer →
         IsCourse scenario frames n cells → IsCourse scenario frames n longer }
     ensures backs { (scenario : Scenario) (frames n : ℕ) (cells : List (List Cell)) →
         n < packets scenario → AreDecidedAt cells (16 * n + 23) →
@@ -153,7 +153,7 @@ pub fn loop_law()
         ≡ stream_before scenario (session_cells scenario) t }
     ensures next { (scenario : Scenario) (frames k : ℕ) (cells : List (List Cell)) →
         HasLines scenario → 0 < scenario.lag → k < packets scenario →
-        ComeOf scenario (session_cells scenario) frames cells → AreDecidedAt cells (16 * k + 23) →
+        ComeOfLines scenario (session_cells scenario) frames cells → AreDecidedAt cells (16 * k + 23) →
         cells_before scenario (suc k)
         ≡ cells_before scenario k ++ told_in (back_of scenario cells k) ∷ [] }
 {}

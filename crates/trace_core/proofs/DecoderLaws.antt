@@ -4,63 +4,63 @@ use Rattle.std.specs.List.{list_all}
 use Rattle.std.proofs.Math.Bool.{and_assoc, and-true}
 use Rattle.std.proofs.lemmas.Bool.{cases_Bool, cases_lt, and_parts, and_cases, and_from, and_left, and_right, eqb-true, ne_eqb, lt-ltb, le-ltb, ltb-true, ltb-false, le-leb, lt-leb}
 use Rattle.std.proofs.lemmas.List.{append-nil, length-append, length-map, map-append, take_all, take-append-le}
-use Rattle.session_model.specs.Number.{Lock, locked, Sight, unknown, locks, at, sight_of, lock_after}
+use Rattle.session_model.specs.Number.{LineLock, locked, Sight, unknown, locks, at, sight_of, lock_after}
 use Rattle.session_model.specs.Sight.{lock_by, sights_on}
 use Rattle.session_model.specs.Packet.{read_of}
 use Rattle.session_model.specs.Decode.{good_cells, is_at, is_front, upper_halves, Found, packet_here, packets_on}
 use Rattle.trace_core.specs.Decoder.{begun_on}
 
 -- what is known of the line after octets
-unfoldable pub lock_on : Lock → List ℕ → Lock
+unfoldable pub lock_on : LineLock → List ℕ → LineLock
 lock_on lock [] = lock
 lock_on lock (h4 ∷ octets) = lock_on (lock_by lock (Some h4)) octets
 
 -- ---- octets that come while the line is locked
-abbrev are_at : Lock → List ℕ → Bool
+abbrev are_at : LineLock → List ℕ → Bool
 are_at lock octets = list_all is_at (sights_on lock (good_cells octets))
 
-are_at-more : (octets : List ℕ) (lock : Lock) (o : ℕ) → are_at lock (octets ++ o ∷ []) ≡ (are_at lock octets && is_at (sight_of (lock_on lock octets) o))
+are_at-more : (octets : List ℕ) (lock : LineLock) (o : ℕ) → are_at lock (octets ++ o ∷ []) ≡ (are_at lock octets && is_at (sight_of (lock_on lock octets) o))
 unfolding sights_on lock_on
 are_at-more [] lock o = and-true (is_at (sight_of lock o))
 are_at-more (h4 ∷ octets) lock o =
     ap (λ b. is_at (sight_of lock h4) && b) (are_at-more octets (lock_by lock (Some h4)) o)
     ∙ sym (and_assoc (is_at (sight_of lock h4)) (are_at (lock_by lock (Some h4)) octets) (is_at (sight_of (lock_on (lock_by lock (Some h4)) octets) o)))
 
-front-more : (h4 : ℕ) (octets : List ℕ) (lock : Lock) (o : ℕ) →
+front-more : (h4 : ℕ) (octets : List ℕ) (lock : LineLock) (o : ℕ) →
     is_front lock (h4 ∷ octets ++ o ∷ []) ≡ (is_front lock (h4 ∷ octets) && is_at (sight_of (lock_on lock (h4 ∷ octets)) o))
 front-more h4 octets lock o =
     ap (λ b. h4 % 16 == 8 && b) (are_at-more (h4 ∷ octets) lock o)
     ∙ sym (and_assoc (h4 % 16 == 8) (are_at lock (h4 ∷ octets)) (is_at (sight_of (lock_on lock (h4 ∷ octets)) o)))
 
 -- ---- the packet at the front of octets
-not_here : (lock : Lock) (place : ℕ) (octets : List ℕ) → is_front lock (take 16 octets) ≡ false → packet_here lock place octets ≡ []
+not_here : (lock : LineLock) (place : ℕ) (octets : List ℕ) → is_front lock (take 16 octets) ≡ false → packet_here lock place octets ≡ []
 not_here lock place octets other = rw (and_right (nat_le 16 (length octets)) (is_front lock (take 16 octets)) other) refl
 
-few_here : (lock : Lock) (place : ℕ) (octets : List ℕ) → length octets < 16 → packet_here lock place octets ≡ []
+few_here : (lock : LineLock) (place : ℕ) (octets : List ℕ) → length octets < 16 → packet_here lock place octets ≡ []
 few_here lock place octets few =
     rw (and_left (nat_le 16 (length octets)) (is_front lock (take 16 octets)) (lt-leb 16 (length octets) few)) refl
 
-whole_here : (lock : Lock) (place : ℕ) (octets : List ℕ) → length octets ≡ 16 → is_front lock octets ≡ true →
+whole_here : (lock : LineLock) (place : ℕ) (octets : List ℕ) → length octets ≡ 16 → is_front lock octets ≡ true →
     packet_here lock place octets ≡ (place, read_of (upper_halves octets)) ∷ []
 whole_here lock place octets size is =
     let whole : take 16 octets ≡ octets = take_all 16 octets (omega arith) in
     rw (whole, is, le-leb 16 (length octets) (omega arith)) refl
 
-same_here : (lock : Lock) (place : ℕ) (octets : List ℕ) (o : ℕ) → 16 ≤ length octets → packet_here lock place (octets ++ o ∷ []) ≡ packet_here lock place octets
+same_here : (lock : LineLock) (place : ℕ) (octets : List ℕ) (o : ℕ) → 16 ≤ length octets → packet_here lock place (octets ++ o ∷ []) ≡ packet_here lock place octets
 same_here lock place octets o enough =
     let more : 16 ≤ length (octets ++ o ∷ []) = omega (arith, length-append octets (o ∷ [])) in
     let first : take 16 (octets ++ o ∷ []) ≡ take 16 octets = take-append-le 16 octets (o ∷ []) enough in
     rw (le-leb 16 (length (octets ++ o ∷ [])) more, le-leb 16 (length octets) enough, first) refl
 
 -- fewer than sixteen octets have none
-pub few_packets : (octets : List ℕ) (lock : Lock) (place : ℕ) → length octets < 16 → packets_on lock place octets ≡ []
+pub few_packets : (octets : List ℕ) (lock : LineLock) (place : ℕ) → length octets < 16 → packets_on lock place octets ≡ []
 unfolding packets_on
 few_packets [] lock place few = refl
 few_packets (h4 ∷ octets) lock place few =
     rw (few_here lock place (h4 ∷ octets) few) (few_packets octets (lock_by lock (Some h4)) (place + 1) (omega arith))
 
 -- the packet at the front, of octets and of one more
-here-more : (lock : Lock) (place : ℕ) (octets : List ℕ) (o : ℕ) → (nat_lt (length octets) 16 && is_front lock (octets ++ o ∷ [])) ≡ false →
+here-more : (lock : LineLock) (place : ℕ) (octets : List ℕ) (o : ℕ) → (nat_lt (length octets) 16 && is_front lock (octets ++ o ∷ [])) ≡ false →
     packet_here lock place (octets ++ o ∷ []) ≡ packet_here lock place octets
 here-more lock place octets o other =
     elim (cases_lt (length octets) 16) [
@@ -72,7 +72,7 @@ here-more lock place octets o other =
     ]
 
 -- ---- an octet that doesn't come while the line is locked
-pub packets-out : (octets : List ℕ) (lock : Lock) (place o : ℕ) → is_at (sight_of (lock_on lock octets) o) ≡ false →
+pub packets-out : (octets : List ℕ) (lock : LineLock) (place o : ℕ) → is_at (sight_of (lock_on lock octets) o) ≡ false →
     (begun_on lock (octets ++ o ∷ []) ≡ []) × (packets_on lock place (octets ++ o ∷ []) ≡ packets_on lock place octets)
 unfolding begun_on packets_on lock_on sights_on
 packets-out [] lock place o out =
@@ -99,7 +99,7 @@ due-mfi1 mfi1 o e =
       | inr other ↦ let never : is_at unknown ≡ true = rw other at e in absurd cc
     ]
 
-lock-at : (lock : Lock) (o : ℕ) → is_at (sight_of lock o) ≡ true → lock_by lock (Some o) ≡ locked (o % 16)
+lock-at : (lock : LineLock) (o : ℕ) → is_at (sight_of lock o) ≡ true → lock_by lock (Some o) ≡ locked (o % 16)
 lock-at lock o e = ap (λ sight. lock_after sight o) (is_at-at (sight_of lock o) e)
 
 not_eight : (mfi1 j o : ℕ) → mfi1 ≡ (8 + j) % 16 → j < 15 → o % 16 ≡ (mfi1 + 1) % 16 → (o % 16 ≡ 8 → ⊥) × (o % 16 ≡ (8 + suc j) % 16)
@@ -133,34 +133,34 @@ abbrev pub whole_at : ℕ → List ℕ → List Found
 whole_at place nibbles = if nat_le 16 (length nibbles) then (place, read_of nibbles) ∷ [] else []
 
 -- what a further octet does, where these are the nibbles with it
-abbrev pub Grows : Lock → ℕ → List ℕ → ℕ → List ℕ → Type 0
+abbrev pub Grows : LineLock → ℕ → List ℕ → ℕ → List ℕ → Type 0
 Grows lock place octets o nibbles =
     (begun_on lock (octets ++ o ∷ []) ≡ going_on nibbles)
     × (packets_on lock place (octets ++ o ∷ []) ≡ packets_on lock place octets ++ whole_at (place + (length octets + 1) - 16) nibbles)
 
-begun-front : (h4 : ℕ) (octets : List ℕ) (lock : Lock) → length (h4 ∷ octets) < 16 → is_front lock (h4 ∷ octets) ≡ true →
+begun-front : (h4 : ℕ) (octets : List ℕ) (lock : LineLock) → length (h4 ∷ octets) < 16 → is_front lock (h4 ∷ octets) ≡ true →
     begun_on lock (h4 ∷ octets) ≡ upper_halves (h4 ∷ octets)
 unfolding begun_on
 begun-front h4 octets lock few front =
     rw (and_from (nat_lt (length (h4 ∷ octets)) 16) (is_front lock (h4 ∷ octets)) (lt-ltb (length (h4 ∷ octets)) 16 few) front) refl
 
-begun-other : (h4 : ℕ) (octets : List ℕ) (lock : Lock) → (nat_lt (length (h4 ∷ octets)) 16 && is_front lock (h4 ∷ octets)) ≡ false →
+begun-other : (h4 : ℕ) (octets : List ℕ) (lock : LineLock) → (nat_lt (length (h4 ∷ octets)) 16 && is_front lock (h4 ∷ octets)) ≡ false →
     begun_on lock (h4 ∷ octets) ≡ begun_on (lock_by lock (Some h4)) octets
 unfolding begun_on
 begun-other h4 octets lock other = rw other refl
 
-packets-first : (h4 : ℕ) (octets : List ℕ) (lock : Lock) (place : ℕ) →
+packets-first : (h4 : ℕ) (octets : List ℕ) (lock : LineLock) (place : ℕ) →
     packets_on lock place (h4 ∷ octets) ≡ packet_here lock place (h4 ∷ octets) ++ packets_on (lock_by lock (Some h4)) (place + 1) octets
 unfolding packets_on
 packets-first h4 octets lock place = refl
 
-front-same : (h4 : ℕ) (octets : List ℕ) (lock : Lock) (o : ℕ) → is_at (sight_of (lock_on lock (h4 ∷ octets)) o) ≡ true →
+front-same : (h4 : ℕ) (octets : List ℕ) (lock : LineLock) (o : ℕ) → is_at (sight_of (lock_on lock (h4 ∷ octets)) o) ≡ true →
     is_front lock (h4 ∷ octets ++ o ∷ []) ≡ is_front lock (h4 ∷ octets)
 front-same h4 octets lock o comes =
     front-more h4 octets lock o ∙ ap (λ b. is_front lock (h4 ∷ octets) && b) comes ∙ and-true (is_front lock (h4 ∷ octets))
 
 -- a packet that has begun goes on
-front-grows : (h4 : ℕ) (octets : List ℕ) (lock : Lock) (place o : ℕ) → is_at (sight_of (lock_on lock (h4 ∷ octets)) o) ≡ true →
+front-grows : (h4 : ℕ) (octets : List ℕ) (lock : LineLock) (place o : ℕ) → is_at (sight_of (lock_on lock (h4 ∷ octets)) o) ≡ true →
     is_front lock (h4 ∷ octets) ≡ true → length (h4 ∷ octets) < 15 → Grows lock place (h4 ∷ octets) o (upper_halves (h4 ∷ octets ++ o ∷ []))
 front-grows h4 octets lock place o comes front few =
     let all = h4 ∷ octets ++ o ∷ [] in
@@ -171,12 +171,12 @@ front-grows h4 octets lock place o comes front few =
     )
 
 -- or is whole
-front-whole : (h4 : ℕ) (octets : List ℕ) (lock : Lock) (place o : ℕ) → is_at (sight_of (lock_on lock (h4 ∷ octets)) o) ≡ true →
+front-whole : (h4 : ℕ) (octets : List ℕ) (lock : LineLock) (place o : ℕ) → is_at (sight_of (lock_on lock (h4 ∷ octets)) o) ≡ true →
     is_front lock (h4 ∷ octets) ≡ true → length (h4 ∷ octets) ≡ 15 → Grows lock place (h4 ∷ octets) o (upper_halves (h4 ∷ octets ++ o ∷ []))
 unfolding sights_on
 front-whole h4 octets lock place o comes front size =
     let all = h4 ∷ octets ++ o ∷ [] in
-    let next : Lock = lock_by lock (Some h4) in
+    let next : LineLock = lock_by lock (Some h4) in
     let rest : List ℕ = octets ++ o ∷ [] in
     let sixteen : length all ≡ 16 = let more = length-append octets (o ∷ []) in omega arith in
     let long : nat_le 16 (length (upper_halves all)) ≡ true = le-leb 16 (length (upper_halves all)) (omega (arith, length-map all (λ octet. octet / 16))) in
@@ -199,12 +199,12 @@ front-whole h4 octets lock place o comes front size =
     )
 
 -- the octets before it are one more octet before others, from which on the packet that has begun is looked for
-front-passes : (h4 : ℕ) (octets : List ℕ) (lock : Lock) (place o : ℕ) (nibbles : List ℕ) → is_at (sight_of (lock_on lock (h4 ∷ octets)) o) ≡ true →
+front-passes : (h4 : ℕ) (octets : List ℕ) (lock : LineLock) (place o : ℕ) (nibbles : List ℕ) → is_at (sight_of (lock_on lock (h4 ∷ octets)) o) ≡ true →
     (nat_lt (length (h4 ∷ octets)) 16 && is_front lock (h4 ∷ octets)) ≡ false → Grows (lock_by lock (Some h4)) (place + 1) octets o nibbles →
     Grows lock place (h4 ∷ octets) o nibbles
 front-passes h4 octets lock place o nibbles comes other (goes_on, packets) =
     let all = h4 ∷ octets ++ o ∷ [] in
-    let next : Lock = lock_by lock (Some h4) in
+    let next : LineLock = lock_by lock (Some h4) in
     let same = front-same h4 octets lock o comes in
     let still : (nat_lt (length (h4 ∷ octets)) 16 && is_front lock all) ≡ false = ap (λ b. nat_lt (length (h4 ∷ octets)) 16 && b) same ∙ other in
     let passed : (nat_lt (length all) 16 && is_front lock all) ≡ false =
@@ -221,7 +221,7 @@ front-passes h4 octets lock place o nibbles comes other (goes_on, packets) =
           ∙ ap (λ (n : ℕ). packets_on lock place (h4 ∷ octets) ++ whole_at n nibbles) there,
     )
 
-first-grows : (lock : Lock) (place o : ℕ) → is_at (sight_of lock o) ≡ true → Grows lock place [] o (grown [] o)
+first-grows : (lock : LineLock) (place o : ℕ) → is_at (sight_of lock o) ≡ true → Grows lock place [] o (grown [] o)
 unfolding begun_on packets_on sights_on
 first-grows lock place o comes =
     elim (cases_Bool (o % 16 == 8)) [
@@ -229,7 +229,7 @@ first-grows lock place o comes =
       | inr other ↦ (rw other refl, rw other refl)
     ]
 
-pub packets-grow : (octets : List ℕ) (lock : Lock) (place o : ℕ) → is_at (sight_of (lock_on lock octets) o) ≡ true →
+pub packets-grow : (octets : List ℕ) (lock : LineLock) (place o : ℕ) → is_at (sight_of (lock_on lock octets) o) ≡ true →
     Grows lock place octets o (grown (begun_on lock octets) o)
 unfolding lock_on begun_on
 packets-grow [] lock place o comes = first-grows lock place o comes

@@ -10,7 +10,7 @@ use Rattle.h4_multiframe.specs.Place.{IsPlace}
 use Rattle.h4_multiframe.specs.Stands.{Stands as LockStands}
 use Rattle.session_model.specs.declared.packet.Packet.{Packet}
 use Rattle.session_model.specs.declared.packet.PacketFault.{PacketFault}
-use Rattle.session_model.specs.Number.{Lock, unlocked, Sight, unknown, locks, at, sight_of}
+use Rattle.session_model.specs.Number.{LineLock, unlocked, Sight, unknown, locks, at, sight_of}
 use Rattle.session_model.specs.Sight.{lock_by}
 use Rattle.session_model.specs.Packet.{read_of}
 use Rattle.session_model.specs.Decode.{Found, good_cells, is_at, packets_in}
@@ -27,7 +27,7 @@ good_cells-append octets more = map-append Some octets more
 pub length-good_cells : (octets : List ℕ) → length (good_cells octets) ≡ length octets
 length-good_cells octets = length-map octets Some
 
-stands-on : (octets : List ℕ) (lock : Lock) (signs : List (Option ℕ)) → SightStands lock signs → SightStands (lock_on lock octets) (signs ++ good_cells octets)
+stands-on : (octets : List ℕ) (lock : LineLock) (signs : List (Option ℕ)) → SightStands lock signs → SightStands (lock_on lock octets) (signs ++ good_cells octets)
 unfolding lock_on
 stands-on [] lock signs stands = rw (append-nil signs) stands
 stands-on (h4 ∷ octets) lock signs stands =

@@ -8,7 +8,7 @@ use Rattle.std.proofs.lemmas.Bool.{cases_Bool, both_ways, cases_order, and_parts
 use Rattle.std.proofs.lemmas.List.{append-nil, length-append, take-append-drop}
 use Rattle.vc_bits.specs.Lock.{IsAt}
 use Rattle.vc_bits.proofs.LockLaws.{IsInStep-append, IsInStep_before, IsInStep-inside, IsAt-append}
-use Rattle.session_model.specs.Number.{Lock, unlocked, at, sight_of}
+use Rattle.session_model.specs.Number.{LineLock, unlocked, at, sight_of}
 use Rattle.session_model.specs.Sight.{sights_on, lock_by}
 use Rattle.session_model.specs.Packet.{read_of}
 use Rattle.session_model.specs.Decode.{good_cells, is_at, is_front, begins_packet, front_nibbles, Found, packet_here, packets_on, packets_in}
@@ -50,7 +50,7 @@ true-all p [] each = refl
 true-all p (y ∷ xs) each = and_from (p y) (list_all p xs) (each 0 y refl) (true-all p xs (λ k. each (suc k)))
 
 -- ---- each of octets comes while the line is locked
-module _ (before : List (Option ℕ)) (lock : Lock) (stands : SightStands lock before) where
+module _ (before : List (Option ℕ)) (lock : LineLock) (stands : SightStands lock before) where
   each-at : (octets : List ℕ) → list_all is_at (sights_on lock (good_cells octets)) ≡ true → (k : ℕ) → k < length octets → IsAt (before ++ good_cells octets) (length before + k)
   each-at octets all k inside =
       let sights = sights_on lock (good_cells octets) in
@@ -112,7 +112,7 @@ packet-begins before rest packet =
     (and_from (slice_index (take 16 rest) 0 % 16 == 8) (list_all is_at (sights_on lock (good_cells (take 16 rest)))) (eq-eqb (slice_index (take 16 rest) 0 % 16) 8 first) all)
 
 -- ---- those that are computed are the packets of octets
-lock_on-more : (before : List ℕ) (lock : Lock) (h4 : ℕ) → lock_on lock (before ++ h4 ∷ []) ≡ lock_by (lock_on lock before) (Some h4)
+lock_on-more : (before : List ℕ) (lock : LineLock) (h4 : ℕ) → lock_on lock (before ++ h4 ∷ []) ≡ lock_by (lock_on lock before) (Some h4)
 unfolding lock_on
 lock_on-more [] lock h4 = refl
 lock_on-more (x ∷ before) lock h4 = lock_on-more before (lock_by lock (Some x)) h4

@@ -2,7 +2,7 @@
 use Rattle.std.specs.Prelude.{◌≡◌, ℕ, nat_lt, ◌&&◌, if◌then◌else◌, List, [], ◌∷◌, length, take, Some}
 use Rattle.h4_multiframe.specs.declared.MfiLock.{MfiLock}
 use Rattle.h4_multiframe.specs.Stands.{Stands as LockStands}
-use Rattle.session_model.specs.Number.{Lock, unlocked}
+use Rattle.session_model.specs.Number.{LineLock, unlocked}
 use Rattle.session_model.specs.Sight.{lock_by}
 use Rattle.session_model.specs.Decode.{good_cells, is_front, upper_halves}
 
@@ -16,7 +16,7 @@ pub record Decoding : Type 0 where
 
 -- the nibbles of a packet that has begun among octets that come after others, and is not whole: the last octets are the first
 -- ones of a packet, and fewer than sixteen
-unfoldable pub begun_on : Lock → List ℕ → List ℕ
+unfoldable pub begun_on : LineLock → List ℕ → List ℕ
 begun_on lock [] = []
 begun_on lock (h4 ∷ octets) =
     if nat_lt (length (h4 ∷ octets)) 16 && is_front lock (h4 ∷ octets) then upper_halves (h4 ∷ octets) else begun_on (lock_by lock (Some h4)) octets

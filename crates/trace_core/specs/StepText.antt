@@ -6,7 +6,7 @@ use Rattle.vc_cell.specs.declared.BackCell.{BackCell}
 use Rattle.vc_cell.specs.declared.BackCell.TheVariants.{Packet, Lost}
 use Rattle.session_model.specs.PacketText.{ctrl_text, bit_text, nibble_text}
 use Rattle.session_model.specs.Table.{Table, active}
-use Rattle.session_model.specs.Forward.{Place, place_in}
+use Rattle.session_model.specs.Forward.{LineFields, place_in}
 
 -- the nibble of a return packet at a place
 abbrev pub nibble_at : List ℕ → ℕ → ℕ
@@ -20,7 +20,7 @@ back_text (Some (Packet nibbles)) =
     nibble_text (nibble_at nibbles 0) ++ nibble_text (nibble_at nibbles 1) ++ codes "/" ++ bit_text (nibble_at nibbles 2 % 2 == 1)
 
 -- a line: its code and its SQ
-abbrev pub place_text : Place → List ℕ
+abbrev pub place_text : LineFields → List ℕ
 place_text place = codes " " ++ ctrl_text place.ctrl ++ codes ":" ++ decimal place.sq
 
 -- the lines from 0 on

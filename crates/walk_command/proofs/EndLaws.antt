@@ -7,8 +7,8 @@ use Rattle.session_model.specs.declared.script.Script.{Script}
 use Rattle.session_model.specs.Counts.{Counts, begin}
 use Rattle.report_text.specs.Report.{got_texts, total_text}
 use Rattle.outside_io.specs.Start.{Start}
-use Rattle.got_out.specs.declared.got.GotOut.{GotOut}
-use Rattle.got_out.specs.Told.{GivesUp, HasText, has_failed, name_of, start_at}
+use Rattle.got_lines.specs.declared.got.GotLines.{GotLines}
+use Rattle.got_lines.specs.Told.{GivesUp, HasText, has_failed, name_of, start_at}
 use Rattle.walk_law.specs.Walk.{walk_plan}
 use Rattle.walk_law.specs.Delivered.{delivered_of}
 use Rattle.walk_law.specs.Landed.{refusals_of, totals_of}
@@ -24,11 +24,11 @@ use Rattle.walk_command.proofs.TraceLaws.{stops-both, walk-given_up}
 
 module _ {K E : Type 0} (k_written : K → Option (List ℕ)) (k_faults : K → ℕ) (e_written : E → Option (List ℕ)) (e_faults : E → ℕ) (out : K) (first : E) where
   -- what stands for frames is their lines
-  abbrev lines_of : GotOut K → Start → List (List ℕ) → Type 0
+  abbrev lines_of : GotLines K → Start → List (List ℕ) → Type 0
   lines_of got start frames = HasText k_written k_faults got start (got_texts frames)
 
   -- nothing is told before any event
-  pub begun-told : (got : GotOut K) (walk : Walked) → has_failed got ≡ false → HasText k_written k_faults got (start_at k_written k_faults out (name_of got)) [] → walk.counts ≡ begin (walk_plan walk.script)
+  pub begun-told : (got : GotLines K) (walk : Walked) → has_failed got ≡ false → HasText k_written k_faults got (start_at k_written k_faults out (name_of got)) [] → walk.counts ≡ begin (walk_plan walk.script)
       → TellsAll lines_of has_failed e_written e_faults (start_at k_written k_faults out (name_of got)) first got first walk
   begun-told got walk whole fresh begun =
       let P : List ℕ → Type 0 = λ text. HasText k_written k_faults got (start_at k_written k_faults out (name_of got)) text in
@@ -41,7 +41,7 @@ module _ {K E : Type 0} (k_written : K → Option (List ℕ)) (k_faults : K → 
         lines = subst Q (sym quiet) (Appends-none e_written e_faults first);
       }
 
-  module _ (script : Script) (was got : GotOut K) (notes : E) (walk : Walked) (same : walk.script ≡ script) (counts : walk.counts ≡ counts_in script) where
+  module _ (script : Script) (was got : GotLines K) (notes : E) (walk : Walked) (same : walk.script ≡ script) (counts : walk.counts ≡ counts_in script) where
     abbrev start : Start
     start = start_at k_written k_faults out (name_of was)
 
@@ -63,7 +63,7 @@ module _ {K E : Type 0} (k_written : K → Option (List ℕ)) (k_faults : K → 
         (subst Q trace told.lines)
 
     -- no write failed in the walk: the rest of its text is written
-    pub whole-told : (last : GotOut K) → TellsAll lines_of has_failed e_written e_faults (start_at k_written k_faults out (name_of was)) first got notes walk
+    pub whole-told : (last : GotLines K) → TellsAll lines_of has_failed e_written e_faults (start_at k_written k_faults out (name_of was)) first got notes walk
         → ((at : Start) (before : List ℕ) → HasText k_written k_faults got at before
         → HasText k_written k_faults last at (before ++ refused_texts (refusals_of walk.script walk.counts) ++ total_text (totals_of walk.script walk.counts)))
         → HasText k_written k_faults last (start_at k_written k_faults out (name_of last)) (walk_text script)

@@ -17,7 +17,7 @@ use Rattle.progress_law.proofs.ReachLaws.{run-append, walked-reached}
 use Rattle.report_text.specs.Report.{got_text, got_texts, total_text}
 use Rattle.outside_io.specs.Start.{Start}
 use Rattle.trace_core.proofs.StepTextLaws.{texts-more}
-use Rattle.got_out.specs.Told.{AppendsSome, GivesUp}
+use Rattle.got_lines.specs.Told.{AppendsSome, GivesUp}
 use Rattle.walk_law.specs.Delivered.{delivered_of}
 use Rattle.walk_law.specs.Walk.{session_of, walk_plan, IsWalked}
 use Rattle.walk_law.specs.Step.{last_packet, cell_taken, table_in}

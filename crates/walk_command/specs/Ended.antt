@@ -5,7 +5,7 @@ use Rattle.outside_io.specs.Transfer.{AppendsPart}
 use Rattle.session_model.specs.declared.script.Script.{Script}
 use Rattle.headline_law.specs.Texts.{counts_in}
 use Rattle.walk_core.specs.Moved.{Walked}
-use Rattle.got_out.specs.Told.{AppendsSome}
+use Rattle.got_lines.specs.Told.{AppendsSome}
 use Rattle.command_parts.specs.Ends.{Lent}
 use Rattle.command_parts.specs.Scripts.{HasScript}
 

@@ -7,4 +7,4 @@ pub mod Commands
 pub mod Ended
 pub mod Written
 pub mod Told
-pub mod Begun
+pub mod ReadyWalk

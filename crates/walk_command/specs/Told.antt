@@ -5,7 +5,7 @@ use Rattle.session_model.specs.declared.walk.Event.{Event}
 use Rattle.session_model.specs.Counts.{Plan, round}
 use Rattle.progress_law.specs.Progress.{HasLine}
 use Rattle.outside_io.specs.Start.{Start}
-use Rattle.got_out.specs.Told.{GivesUp}
+use Rattle.got_lines.specs.Told.{GivesUp}
 use Rattle.walk_law.specs.Delivered.{delivered_of}
 use Rattle.walk_core.specs.Moved.{Walked}
 use Rattle.walk_command.specs.Trace.{decisions_text}

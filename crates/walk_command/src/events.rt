@@ -13,7 +13,7 @@ ghost use Rattle.walk_law.specs.Walk.{walk_plan, IsWalked};
 ghost use Rattle.walk_law.specs.Landed.{refusals_of, totals_of};
 ghost use Rattle.walk_law.specs.Report.{refused_texts};
 ghost use Rattle.report_text.specs.Report.{total_text};
-ghost use Rattle.got_out.specs.Told.{HasText};
+ghost use Rattle.got_lines.specs.Told.{HasText};
 ghost use Rattle.walk_law.specs.Delivered.{delivered_of};
 ghost use Rattle.walk_core.specs.Moved.{GivesRows};
 ghost use Rattle.walk_command.specs.Ended.{StopsBoth};
@@ -21,9 +21,9 @@ ghost use Rattle.headline_law.specs.Texts.{counts_in, walk_text};
 ghost use Rattle.walk_command.specs.Trace.{decision_text, decisions_text, trace_text};
 ghost use Rattle.walk_command.specs.Told.{events_of, IsTurn, IsTold};
 
-use crate::begun::Size;
+use crate::ready::LinesAndTicks;
 use command_parts::take_back;
-use got_out::{GotOut, MayFail};
+use got_lines::{GotLines, MayFail};
 use outside_io::{ByteSink, Failed, put_all};
 use session_model::{Event, EventLine};
 use sink_core::FrameOut;
@@ -222,7 +222,7 @@ fn trace_turns<F: MayFail, E: ByteSink>(
 /// Makes rounds until all rows are taken.
 fn trace_drain<F: MayFail, E: ByteSink>(
     walk: &mut Walk,
-    size: Size,
+    size: LinesAndTicks,
     out: &mut F,
     notes: &mut E,
     mut over: bool,
@@ -268,10 +268,10 @@ fn turns_of(line: EventLine) -> Option<(Turn, u32)>
 }
 
 /// Makes what an event line says.
-fn trace_line_of<F: MayFail, E: ByteSink>(
+fn trace_event_line<F: MayFail, E: ByteSink>(
     walk: &mut Walk,
     line: EventLine,
-    size: Size,
+    size: LinesAndTicks,
     out: &mut F,
     notes: &mut E,
     over: bool,
@@ -297,10 +297,10 @@ fn trace_line_of<F: MayFail, E: ByteSink>(
 }
 
 /// Makes what the event lines of a walk's script say. Where there are none, it drains. Answers whether a write has failed.
-fn trace_lines<F: MayFail, E: ByteSink>(
+fn trace_event_lines<F: MayFail, E: ByteSink>(
     walk: &mut Walk,
     lines: &[EventLine],
-    size: Size,
+    size: LinesAndTicks,
     out: &mut F,
     notes: &mut E,
 ) -> bool
@@ -322,13 +322,13 @@ fn trace_lines<F: MayFail, E: ByteSink>(
     }
     let mut over = false;
     for line in lines {
-        over = trace_line_of(walk, *line, size, out, notes, over);
+        over = trace_event_line(walk, *line, size, out, notes, over);
     }
     over
 }
 
 /// Writes what follows the lines of delivered frames: those of refused items, and that of totals.
-fn write_rest<K: ByteSink>(walk: &Walk, got: &mut GotOut<K>)
+fn write_rest<K: ByteSink>(walk: &Walk, got: &mut GotLines<K>)
     ensures { (start : Start) (before : List ℕ) →
         HasText K.written K.faults got.old start before →
         HasText K.written K.faults got.new start
@@ -342,7 +342,7 @@ fn write_rest<K: ByteSink>(walk: &Walk, got: &mut GotOut<K>)
 pub fn write_trace<K: ByteSink, E: ByteSink>(
     walk: &mut Walk,
     lines: &[EventLine],
-    size: Size,
+    size: LinesAndTicks,
     out: &mut K,
     notes: &mut E,
 ) -> Result<(), Failed>
@@ -361,8 +361,8 @@ pub fn write_trace<K: ByteSink, E: ByteSink>(
         (StopsBoth K.written K.faults out.old out.new (walk_text walk.old.script)
         E.written E.faults notes.old notes.new (trace_text walk.old.script)) }
 {
-    let mut got = GotOut::new(out);
-    if trace_lines(walk, lines, size, &mut got, notes) {
+    let mut got = GotLines::new(out);
+    if trace_event_lines(walk, lines, size, &mut got, notes) {
         let back = got.abandon();
         take_back(back);
         return Err(Failed);
@@ -372,4 +372,3 @@ pub fn write_trace<K: ByteSink, E: ByteSink>(
     take_back(back);
     end
 }
-

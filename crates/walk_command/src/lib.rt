@@ -3,13 +3,13 @@
 //! run, and one of specs/ for what it means. Begin with `walk_top`.
 #![tactic(auto)]
 
-mod begun;
 mod command;
 mod decode;
 mod end;
 mod events;
 mod hex_lines;
 mod make;
+mod ready;
 mod top;
 mod trace;
 mod walk;

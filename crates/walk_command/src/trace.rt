@@ -6,10 +6,10 @@ ghost use Rattle.command_parts.specs.Ends.{Ends, lent};
 ghost use Rattle.walk_command.specs.Trace.{trace_words, trace_answer};
 ghost use Rattle.walk_command.specs.Ended.{HandsScript};
 
-use crate::begun::read_walk;
 use crate::command::WalkCommand;
 use crate::end::{WalkEnd, cut, done, stopped};
 use crate::events::write_trace;
+use crate::ready::read_walk;
 use outside_io::{ByteSink, ByteSource, Failed};
 use std::alloc::Global;
 

@@ -11,10 +11,10 @@ ghost use Rattle.command_parts.specs.Ends.{Ends, lent};
 ghost use Rattle.walk_command.specs.Walk.{walk_words, walk_answer};
 ghost use Rattle.walk_command.specs.Ended.{HandsScript};
 
-use crate::begun::{Size, read_walk};
 use crate::command::WalkCommand;
 use crate::end::{WalkEnd, cut, done, stopped};
 use crate::events::write_trace;
+use crate::ready::{LinesAndTicks, read_walk};
 use outside_io::{ByteSink, ByteSource, Failed};
 use session_model::EventLine;
 use std::alloc::Global;
@@ -38,6 +38,7 @@ impl ByteSink for Nowhere {
     ghost use Rattle.std.specs.Prelude.{None};
 
     ghost written = { λ nowhere. None };
+
     ghost faults = { λ nowhere. 0 };
 
     fn put(&mut self, piece: &[u8]) -> Result<usize, Failed> {
@@ -49,7 +50,7 @@ impl ByteSink for Nowhere {
 fn write_walk<K: ByteSink>(
     walk: &mut Walk,
     lines: &[EventLine],
-    size: Size,
+    size: LinesAndTicks,
     out: &mut K,
 ) -> Result<(), Failed>
     requires valid { IsValid walk.old.script }

@@ -9,7 +9,7 @@ use Rattle.session_model.specs.declared.walk.Event.{Event}
 use Rattle.session_model.specs.declared.walk.Event.TheVariants.{Accept, Command}
 use Rattle.session_model.specs.declared.walk.StallCause.{StallCause}
 use Rattle.session_model.specs.declared.walk.StallCause.TheVariants.{NotDue}
-use Rattle.session_model.specs.Scenario.{Scenario, Order, Offer, order_of, offer_of, orders_of, offers_of}
+use Rattle.session_model.specs.Scenario.{Scenario, DueCommand, DueFrame, order_of, offer_of, orders_of, offers_of}
 use Rattle.session_model.specs.Counts.{Counts, Step, land_due, step}
 use Rattle.session_model.specs.declared.table.Command.TheVariants.{Add as add, Remove as remove}
 use Rattle.session_model.specs.Source.{refusal}
@@ -108,24 +108,24 @@ item-there ticks items i none = by-found (slice_get items i) none
     ]
 
 -- ---- what the item is
-pub record IsOffer (due : ℕ) (kind : ItemKind) (offer : Offer) : Type 0 where
+pub record IsOffer (due : ℕ) (kind : ItemKind) (offer : DueFrame) : Type 0 where
   pub is : offer_of due kind ≡ offer ∷ []
   pub time : offer.due ≡ due
   pub met : (core : Terminal) → met_by core kind ≡ option_map frame_fault (refusal_while core.queue.waiting offer.frame)
   pub told : (scenario : Scenario) (ticks : ℕ) → with_kind scenario ticks kind ≡ with_frame scenario ticks offer.frame
 
-pub offer-here : (due : ℕ) (kind : ItemKind) → is_frame kind ≡ true → (offer : Offer) × IsOffer due kind offer
+pub offer-here : (due : ℕ) (kind : ItemKind) → is_frame kind ≡ true → (offer : DueFrame) × IsOffer due kind offer
 offer-here due (Frame octets) e = (record { due = due; frame = octets }, record { is = refl; time = refl; met = λ core. refl; told = λ scenario ticks. refl })
 offer-here due (Add line) e = absurd cc
 offer-here due (Remove line) e = absurd cc
 
-pub record IsOrder (due : ℕ) (kind : ItemKind) (order : Order) : Type 0 where
+pub record IsOrder (due : ℕ) (kind : ItemKind) (order : DueCommand) : Type 0 where
   pub is : order_of due kind ≡ order ∷ []
   pub time : order.due ≡ due
   pub met : (core : Terminal) → met_by core kind ≡ option_map command_fault (refusal core.lines order.command core.table.source)
   pub told : (scenario : Scenario) (ticks : ℕ) → with_kind scenario ticks kind ≡ with_command scenario ticks order.command
 
-pub order-here : (due : ℕ) (kind : ItemKind) → is_command kind ≡ true → (order : Order) × IsOrder due kind order
+pub order-here : (due : ℕ) (kind : ItemKind) → is_command kind ≡ true → (order : DueCommand) × IsOrder due kind order
 order-here due (Frame octets) e = absurd cc
 order-here due (Add line) e = (record { due = due; command = add line }, record { is = refl; time = refl; met = λ core. refl; told = λ scenario ticks. refl })
 order-here due (Remove line) e = (record { due = due; command = remove line }, record { is = refl; time = refl; met = λ core. refl; told = λ scenario ticks. refl })

@@ -9,7 +9,7 @@ use Rattle.std.proofs.lemmas.List.{append-nil}
 use Rattle.session_model.specs.declared.script.Item.{Item}
 use Rattle.session_model.specs.declared.script.ItemKind.{ItemKind}
 use Rattle.session_model.specs.declared.script.Script.{Script}
-use Rattle.session_model.specs.Scenario.{Scenario, Order, Offer, orders_of, offers_of, scenario_of}
+use Rattle.session_model.specs.Scenario.{Scenario, DueCommand, DueFrame, orders_of, offers_of, scenario_of}
 use Rattle.session_model.specs.Source.{Source, refusal}
 use Rattle.session_model.specs.Client.{refusal_while}
 use Rattle.session_model.specs.Journal.{with_items}
@@ -106,7 +106,7 @@ module _ (script : Script) (parts : Parts) (landing : Landing) (got : ℕ) (last
             (refusal_while waiting offer.frame)) is.source.made.stream.waits
             ∙ sym (meets-stream script s (valid-walks script is.valid) is.walked numbered offer here soon);
         told = that.told (landed_scenario script s) parts.source.ticks
-            ∙ ap (λ (offers : List Offer). with_items (scenario_of script)
+            ∙ ap (λ (offers : List DueFrame). with_items (scenario_of script)
             (take landing.commands (orders_of script.items)) offers)
             (sym (take-next (offers_of script.items) landing.frames
             (record { due = parts.source.ticks; frame = offer.frame }) landed));
@@ -147,7 +147,7 @@ module _ (script : Script) (parts : Parts) (landing : Landing) (got : ℕ) (last
             (ap (λ (c : Course). c.source) is.source.made.table)
             ∙ sym (meets-source script s (valid-walks script is.valid) is.walked numbered order here soon);
         told = that.told (landed_scenario script s) parts.source.ticks
-            ∙ ap (λ (orders : List Order). with_items (scenario_of script) orders
+            ∙ ap (λ (orders : List DueCommand). with_items (scenario_of script) orders
             (take landing.frames (offers_of script.items)))
             (sym (take-next (orders_of script.items) landing.commands
             (record { due = parts.source.ticks; command = order.command }) landed));

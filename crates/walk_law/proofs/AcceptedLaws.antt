@@ -13,7 +13,7 @@ use Rattle.session_model.specs.declared.script.ItemKind.{ItemKind}
 use Rattle.session_model.specs.declared.script.ItemKind.TheVariants.{Frame, Add, Remove}
 use Rattle.session_model.specs.declared.script.Script.{Script}
 use Rattle.session_model.specs.Accepted.{kept_by}
-use Rattle.session_model.specs.Scenario.{Scenario, Offer, offer_of, offers_of, scenario_of, comes_at}
+use Rattle.session_model.specs.Scenario.{Scenario, DueFrame, offer_of, offers_of, scenario_of, comes_at}
 use Rattle.session_model.specs.Table.{Told}
 use Rattle.session_model.specs.Back.{session_cells}
 use Rattle.session_model.specs.Client.{Stream, frame_refusal, offered, stream_before}
@@ -36,12 +36,12 @@ kept (Some why) frame = []
 
 module _ (scenario : Scenario) (cells : List (Option Told)) where
   -- those that are accepted of offers that come after others
-  unfoldable pub judged : List Offer → List Offer → List (List ℕ)
+  unfoldable pub judged : List DueFrame → List DueFrame → List (List ℕ)
   judged before [] = []
   judged before (offer ∷ offers) =
       kept (frame_refusal offer.frame (stream_met scenario cells offer.due before)) offer.frame ++ judged (before ++ offer ∷ []) offers
 
-  judged-append : (before xs ys : List Offer) → judged before (xs ++ ys) ≡ judged before xs ++ judged (before ++ xs) ys
+  judged-append : (before xs ys : List DueFrame) → judged before (xs ++ ys) ≡ judged before xs ++ judged (before ++ xs) ys
   unfolding judged
   judged-append before [] ys = ap (λ l. judged l ys) (sym (append-nil before))
   judged-append before (x ∷ xs) ys =
@@ -50,17 +50,17 @@ module _ (scenario : Scenario) (cells : List (Option Told)) where
       ∙ sym (append_assoc own (judged (before ++ x ∷ []) xs) (judged (before ++ x ∷ xs) ys))
 
   -- ---- those that land in one number of ticks
-  due-of : (t : ℕ) (offer : Offer) → comes_at t offer ≡ true → offer.due ≡ t
+  due-of : (t : ℕ) (offer : DueFrame) → comes_at t offer ≡ true → offer.due ≡ t
   due-of t offer comes = grind (arith, nat_tests, comes)
 
-  accepted-on : (t : ℕ) (before earlier offers : List Offer) → filter (comes_at t) before ≡ [] → filter (comes_at t) earlier ≡ earlier →
-      All (λ (offer : Offer). comes_at t offer ≡ true) offers →
+  accepted-on : (t : ℕ) (before earlier offers : List DueFrame) → filter (comes_at t) before ≡ [] → filter (comes_at t) earlier ≡ earlier →
+      All (λ (offer : DueFrame). comes_at t offer ≡ true) offers →
       judged (before ++ earlier) offers
-      ≡ map (λ (offer : Offer). offer.frame) (accepted_offers (fold offered (stream_before scenario cells t) (map (λ (offer : Offer). offer.frame) earlier)) offers)
+      ≡ map (λ (offer : DueFrame). offer.frame) (accepted_offers (fold offered (stream_before scenario cells t) (map (λ (offer : DueFrame). offer.frame) earlier)) offers)
   unfolding judged
   accepted-on t before earlier [] none all come = refl
   accepted-on t before earlier (offer ∷ offers) none all come =
-      let frame_of = λ (offer : Offer). offer.frame in
+      let frame_of = λ (offer : DueFrame). offer.frame in
       let start : Stream = stream_before scenario cells t in
       let state : Stream = fold offered start (map frame_of earlier) in
       let here : comes_at t offer ≡ true = come 0 offer (omega arith) in
@@ -77,13 +77,13 @@ module _ (scenario : Scenario) (cells : List (Option Told)) where
       (ap (λ l. judged l offers) (append_assoc before earlier (offer ∷ [])) ∙ rest ∙ ap (λ (stream : Stream). map frame_of (accepted_offers stream offers)) more)
       ∙ kept-map (frame_refusal offer.frame state) offer (accepted_offers (offered state offer.frame) offers)
     where
-      kept-map : (why : Option AcceptFault) (offer : Offer) (offers : List Offer) →
-          kept why offer.frame ++ map (λ (offer : Offer). offer.frame) offers ≡ map (λ (offer : Offer). offer.frame) (kept_by why offer offers)
+      kept-map : (why : Option AcceptFault) (offer : DueFrame) (offers : List DueFrame) →
+          kept why offer.frame ++ map (λ (offer : DueFrame). offer.frame) offers ≡ map (λ (offer : DueFrame). offer.frame) (kept_by why offer offers)
       kept-map None offer offers = refl
       kept-map (Some why) offer offers = refl
 
   -- ---- tick by tick
-  apart : (i t : ℕ) (offers : List Offer) → i < t → filter (comes_at t) (filter (comes_at i) offers) ≡ []
+  apart : (i t : ℕ) (offers : List DueFrame) → i < t → filter (comes_at t) (filter (comes_at i) offers) ≡ []
   apart i t [] low = refl
   apart i t (offer ∷ offers) low =
       elim (cases_Bool (comes_at i offer)) [
@@ -93,7 +93,7 @@ module _ (scenario : Scenario) (cells : List (Option Told)) where
         | inr e ↦ rw e (apart i t offers low)
       ]
 
-  none-yet : (offers : List Offer) (n t : ℕ) → n ≤ t → filter (comes_at t) (landed comes_at offers n) ≡ []
+  none-yet : (offers : List DueFrame) (n t : ℕ) → n ≤ t → filter (comes_at t) (landed comes_at offers n) ≡ []
   unfolding landed
   none-yet offers zero t low = refl
   none-yet offers (suc n) t low =
@@ -104,9 +104,9 @@ module _ (scenario : Scenario) (cells : List (Option Told)) where
   unfolding judged landed offers_before
   landed-judged zero = refl
   landed-judged (suc n) =
-      let frame_of = λ (offer : Offer). offer.frame in
-      let before : List Offer = landed comes_at scenario.offers n in
-      let now : List Offer = filter (comes_at n) scenario.offers in
+      let frame_of = λ (offer : DueFrame). offer.frame in
+      let before : List DueFrame = landed comes_at scenario.offers n in
+      let now : List DueFrame = filter (comes_at n) scenario.offers in
       judged-append [] before now
       ∙ ap₂ ◌++◌ (landed-judged n)
       (ap (λ l. judged l now) (sym (append-nil before))
@@ -114,7 +114,7 @@ module _ (scenario : Scenario) (cells : List (Option Told)) where
       ∙ sym (map-append frame_of (offers_before scenario cells n) (accepted_offers (stream_before scenario cells n) now))
 
 -- ---- the items of a script
-abbrev offers_by : Item → List Offer
+abbrev offers_by : Item → List DueFrame
 offers_by item = offer_of item.due item.kind
 
 frame-kept : (why : Option AcceptFault) (octets : List ℕ) → frame_by (option_map frame_fault why) (Frame octets) ≡ kept why octets
@@ -129,7 +129,7 @@ no-frame-remove : (why : Option Refusal) (line : ℕ) → frame_by why (Remove l
 no-frame-remove None line = refl
 no-frame-remove (Some why) line = refl
 
-kind-judged : (scenario : Scenario) (cells : List (Option Told)) (due : ℕ) (front : List Item) (kind : ItemKind) (more : List Offer) →
+kind-judged : (scenario : Scenario) (cells : List (Option Told)) (due : ℕ) (front : List Item) (kind : ItemKind) (more : List DueFrame) →
     frame_by (kind_refusal scenario cells due front kind) kind ++ judged scenario cells (offers_of front ++ offer_of due kind) more
     ≡ judged scenario cells (offers_of front) (offer_of due kind ++ more)
 unfolding judged
@@ -137,9 +137,9 @@ kind-judged scenario cells due front (Frame octets) more =
     ap (λ l. l ++ judged scenario cells (offers_of front ++ record { due = due; frame = octets } ∷ []) more)
     (frame-kept (frame_refusal octets (stream_met scenario cells due (offers_of front))) octets)
 kind-judged scenario cells due front (Add line) more =
-    ap₂ (λ l (before : List Offer). l ++ judged scenario cells before more) (no-frame-add (kind_refusal scenario cells due front (Add line)) line) (append-nil (offers_of front))
+    ap₂ (λ l (before : List DueFrame). l ++ judged scenario cells before more) (no-frame-add (kind_refusal scenario cells due front (Add line)) line) (append-nil (offers_of front))
 kind-judged scenario cells due front (Remove line) more =
-    ap₂ (λ l (before : List Offer). l ++ judged scenario cells before more) (no-frame-remove (kind_refusal scenario cells due front (Remove line)) line) (append-nil (offers_of front))
+    ap₂ (λ l (before : List DueFrame). l ++ judged scenario cells before more) (no-frame-remove (kind_refusal scenario cells due front (Remove line)) line) (append-nil (offers_of front))
 
 pub items-judged : (script : Script) (rest front : List Item) → script.items ≡ front ++ rest →
     flat_map (λ (item : Numbered). frame_by (refusal_at script item) item.item.kind) (numbered (length front) rest)

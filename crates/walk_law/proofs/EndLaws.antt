@@ -9,7 +9,7 @@ use Rattle.session_model.specs.declared.script.Item.{Item}
 use Rattle.session_model.specs.declared.script.ItemKind.{ItemKind}
 use Rattle.session_model.specs.declared.script.ItemKind.TheVariants.{Frame, Add, Remove}
 use Rattle.session_model.specs.declared.script.Script.{Script}
-use Rattle.session_model.specs.Scenario.{Order, Offer, order_of, offer_of, orders_of, offers_of}
+use Rattle.session_model.specs.Scenario.{DueCommand, DueFrame, order_of, offer_of, orders_of, offers_of}
 use Rattle.session_model.specs.Counts.{due_of, dues_of, frame_dues, command_dues, Counts}
 use Rattle.session_model.specs.Valid.{IsItem, IsValid}
 use Rattle.line_law.proofs.ListLaws.{slice_get-inside}
@@ -94,8 +94,8 @@ ended-landed script valid frames commands ahead =
     (λ due there. ahead.of_frames frames due (omega arith) there) in
     let others = past-end (command_dues (dues_of script.items)) script.config.ticks commands (commands-due script.config.ticks script.items valid.items.each)
     (λ due there. ahead.of_commands commands due (omega arith) there) in
-    let offers = ap length (frame-dues script.items) ∙ length-map (offers_of script.items) (λ (offer : Offer). offer.due) in
-    let orders = ap length (command-dues script.items) ∙ length-map (orders_of script.items) (λ (order : Order). order.due) in
+    let offers = ap length (frame-dues script.items) ∙ length-map (offers_of script.items) (λ (offer : DueFrame). offer.due) in
+    let orders = ap length (command-dues script.items) ∙ length-map (orders_of script.items) (λ (order : DueCommand). order.due) in
     let most : length (offers_of script.items) ≤ frames = omega arith in
     let most_orders : length (orders_of script.items) ≤ commands = omega arith in
     (most, most_orders, all-landed script.items frames commands 0 most most_orders)

@@ -9,7 +9,7 @@ use Rattle.session_model.specs.declared.script.Item.{Item}
 use Rattle.session_model.specs.declared.script.Script.{Script}
 use Rattle.session_model.specs.declared.walk.Event.{Event}
 use Rattle.session_model.specs.declared.walk.Event.TheVariants.{Accept, Command, Tick, Carry, Back, Take}
-use Rattle.session_model.specs.Scenario.{Order, Offer, order_of, offer_of, orders_of, offers_of, scenario_of, lands_at, comes_at, orders_at, frames_at}
+use Rattle.session_model.specs.Scenario.{DueCommand, DueFrame, order_of, offer_of, orders_of, offers_of, scenario_of, lands_at, comes_at, orders_at, frames_at}
 use Rattle.session_model.specs.Counts.{Due, frame_due, command_due, dues_of, frame_dues, command_dues, LinePath, LineCounts, Plan, Counts, land_due, held, full, is_missing, tick_full, tick_held, tick, in_send, in_receive, carry_on, carry_at, in_return, back, take_popped, pop_lines, is_back_full, take_row, step, run, begin}
 use Rattle.loss_law.proofs.FilterLaws.{and_false, filter-skip}
 use Rattle.script_law.proofs.ItemLaws.{order_dues, offer_dues}
@@ -157,23 +157,23 @@ walked-ahead script s walked =
     }))
 
 -- ---- items as offers and orders
-pub frame-dues : (items : List Item) → frame_dues (dues_of items) ≡ map (λ (offer : Offer). offer.due) (offers_of items)
+pub frame-dues : (items : List Item) → frame_dues (dues_of items) ≡ map (λ (offer : DueFrame). offer.due) (offers_of items)
 frame-dues items = sym (offer_dues items)
 
-pub command-dues : (items : List Item) → command_dues (dues_of items) ≡ map (λ (order : Order). order.due) (orders_of items)
+pub command-dues : (items : List Item) → command_dues (dues_of items) ≡ map (λ (order : DueCommand). order.due) (orders_of items)
 command-dues items = sym (order_dues items)
 
-pub frame-waits : (script : Script) (s : Counts) (k : ℕ) (offer : Offer) → IsWalked script s → s.frames ≤ k → slice_get (offers_of script.items) k ≡ Some offer → s.ticks ≤ offer.due
+pub frame-waits : (script : Script) (s : Counts) (k : ℕ) (offer : DueFrame) → IsWalked script s → s.frames ≤ k → slice_get (offers_of script.items) k ≡ Some offer → s.ticks ≤ offer.due
 frame-waits script s k offer walked low there =
     (walked-ahead script s walked).of_frames k offer.due low
-    (ap (λ l. slice_get l k) (frame-dues script.items) ∙ slice_get-map (λ (offer : Offer). offer.due) (offers_of script.items) k
-    ∙ ap (option_map (λ (offer : Offer). offer.due)) there)
+    (ap (λ l. slice_get l k) (frame-dues script.items) ∙ slice_get-map (λ (offer : DueFrame). offer.due) (offers_of script.items) k
+    ∙ ap (option_map (λ (offer : DueFrame). offer.due)) there)
 
-pub command-waits : (script : Script) (s : Counts) (k : ℕ) (order : Order) → IsWalked script s → s.commands ≤ k → slice_get (orders_of script.items) k ≡ Some order → s.ticks ≤ order.due
+pub command-waits : (script : Script) (s : Counts) (k : ℕ) (order : DueCommand) → IsWalked script s → s.commands ≤ k → slice_get (orders_of script.items) k ≡ Some order → s.ticks ≤ order.due
 command-waits script s k order walked low there =
     (walked-ahead script s walked).of_commands k order.due low
-    (ap (λ l. slice_get l k) (command-dues script.items) ∙ slice_get-map (λ (order : Order). order.due) (orders_of script.items) k
-    ∙ ap (option_map (λ (order : Order). order.due)) there)
+    (ap (λ l. slice_get l k) (command-dues script.items) ∙ slice_get-map (λ (order : DueCommand). order.due) (orders_of script.items) k
+    ∙ ap (option_map (λ (order : DueCommand). order.due)) there)
 
 -- ---- the session of what has landed
 pub filter-first : {X : Type 0} (p : X → Bool) (a : ℕ) (xs : List X) → ((k : ℕ) (x : X) → a ≤ k → slice_get xs k ≡ Some x → p x ≡ false) →
@@ -188,13 +188,13 @@ filter-first p (suc a) (x ∷ xs) none =
 
 pub frames-landed : (script : Script) (s : Counts) (t : ℕ) → IsWalked script s → t < s.ticks → frames_at (landed_scenario script s) t ≡ frames_at (scenario_of script) t
 frames-landed script s t walked low =
-    ap (map (λ (offer : Offer). offer.frame)) (filter-first (comes_at t) s.frames (offers_of script.items) (λ k offer waits there.
+    ap (map (λ (offer : DueFrame). offer.frame)) (filter-first (comes_at t) s.frames (offers_of script.items) (λ k offer waits there.
     let late = frame-waits script s k offer walked waits there in
     ap (λ b. b && nat_le t offer.due) (lt-leb offer.due t (omega arith))))
 
 pub orders-landed : (script : Script) (s : Counts) (j : ℕ) → IsWalked script s → 16 * j + 8 < s.ticks → orders_at (landed_scenario script s) j ≡ orders_at (scenario_of script) j
 orders-landed script s j walked low =
-    ap (map (λ (order : Order). order.command)) (filter-first (lands_at j) s.commands (orders_of script.items) (λ k order waits there.
+    ap (map (λ (order : DueCommand). order.command)) (filter-first (lands_at j) s.commands (orders_of script.items) (λ k order waits there.
     let late = command-waits script s k order walked waits there in
     ap (λ b. nat_lt (16 * j) (order.due + 8) && b) (lt-leb order.due (16 * j + 8) (omega arith)) ∙ and_false (nat_lt (16 * j) (order.due + 8))))
 
@@ -208,20 +208,20 @@ flat-at f (z ∷ xs) (suc i) x y there is =
     let (rest, e) = flat-at f xs i x y there is in
     (rest, ap (λ l. f z ++ l) e ∙ sym (append_assoc (f z) (flat_map f (take i xs)) (y ∷ rest)))
 
-pub offer-at : (items : List Item) (a : ℕ) (item : Numbered) (offer : Offer) → IsOfferAt items a item offer →
+pub offer-at : (items : List Item) (a : ℕ) (item : Numbered) (offer : DueFrame) → IsOfferAt items a item offer →
     (slice_get (offers_of items) a ≡ Some offer) × (offers_of (take item.number items) ≡ take a (offers_of items))
 offer-at items a item offer at =
-    let front : List Offer = offers_of (take item.number items) in
+    let front : List DueFrame = offers_of (take item.number items) in
     let (rest, e) = flat-at (λ (item : Item). offer_of item.due item.kind) items item.number item.item offer at.there at.is in
     let size = at.before in (
       ap (λ n. slice_get (offers_of items) n) (sym size) ∙ ap (λ l. slice_get l (length front)) e ∙ slice_get-append_seam front offer rest,
       sym (ap (take a) e ∙ take_at front (offer ∷ rest) a size),
     )
 
-pub order-at : (items : List Item) (b : ℕ) (item : Numbered) (order : Order) → IsOrderAt items b item order →
+pub order-at : (items : List Item) (b : ℕ) (item : Numbered) (order : DueCommand) → IsOrderAt items b item order →
     (slice_get (orders_of items) b ≡ Some order) × (orders_of (take item.number items) ≡ take b (orders_of items))
 order-at items b item order at =
-    let front : List Order = orders_of (take item.number items) in
+    let front : List DueCommand = orders_of (take item.number items) in
     let (rest, e) = flat-at (λ (item : Item). order_of item.due item.kind) items item.number item.item order at.there at.is in
     let size = at.before in (
       ap (λ n. slice_get (orders_of items) n) (sym size) ∙ ap (λ l. slice_get l (length front)) e ∙ slice_get-append_seam front order rest,

@@ -20,7 +20,7 @@ use Rattle.session_model.specs.Plan.{FitsRing, FitsLag}
 use Rattle.session_model.specs.Damage.{carried, are_whole, AreWindows, slip_after}
 use Rattle.session_model.specs.declared.table.Member.{Member}
 use Rattle.session_model.specs.Table.{member_of, keep, none_kept, admit, turned, take_out, exchange}
-use Rattle.session_model.specs.Scenario.{Offer, Scenario, scenario_of, offers_of, carried_by, is_read}
+use Rattle.session_model.specs.Scenario.{DueFrame, Scenario, scenario_of, offers_of, carried_by, is_read}
 use Rattle.session_model.specs.Source.{after, table_of}
 use Rattle.session_model.specs.Source.{carried as carried_out}
 use Rattle.session_model.specs.Back.{said_before, cells_before, session_cells}
@@ -132,14 +132,14 @@ failing-valid = record {
   events = All-nil (IsEvent 1);
 }
 
-abbrev IsLate : Offer → Type 0
+abbrev IsLate : DueFrame → Type 0
 IsLate offer = 1032 ≤ offer.due
 
 all-late : All IsLate (offers_of failing_script.items)
 all-late =
-    let one : Offer = record { due = 1040; frame = replicate 64 1 } in
-    let two : Offer = record { due = 1040; frame = replicate 64 2 } in
-    let three : Offer = record { due = 1040; frame = replicate 64 3 } in
+    let one : DueFrame = record { due = 1040; frame = replicate 64 1 } in
+    let two : DueFrame = record { due = 1040; frame = replicate 64 2 } in
+    let three : DueFrame = record { due = 1040; frame = replicate 64 3 } in
     All-cons IsLate one (two ∷ three ∷ []) (omega arith)
     (All-cons IsLate two (three ∷ []) (omega arith) (All-cons IsLate three [] (omega arith) (All-nil IsLate)))
 

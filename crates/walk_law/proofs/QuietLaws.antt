@@ -5,7 +5,7 @@ use Rattle.std.proofs.lemmas.Bool.{lt-leb, cases_lt}
 use Rattle.std.proofs.lemmas.List.Elements.{All-head, All-tail}
 use Rattle.session_model.specs.declared.script.Script.{Script}
 use Rattle.session_model.specs.Piece.{Piece, idle, client, cut, stream_of}
-use Rattle.session_model.specs.Scenario.{Offer, Scenario, scenario_of, offers_of, comes_at}
+use Rattle.session_model.specs.Scenario.{DueFrame, Scenario, scenario_of, offers_of, comes_at}
 use Rattle.session_model.specs.Table.{Told}
 use Rattle.session_model.specs.Client.{frames_in, width, place_of, stream_before}
 use Rattle.session_model.specs.Journal.{accepted_offers, offers_before}
@@ -31,16 +31,16 @@ aligned-true script rows valid low each =
 
 -- ---- no frame yet
 -- no offer comes before a tick
-none-come : (offers : List Offer) (from t : ℕ) → All (λ (offer : Offer). from ≤ offer.due) offers → t < from →
+none-come : (offers : List DueFrame) (from t : ℕ) → All (λ (offer : DueFrame). from ≤ offer.due) offers → t < from →
     filter (comes_at t) offers ≡ []
 none-come [] from t late low = refl
 none-come (offer ∷ offers) from t late low =
-    let due : from ≤ offer.due = All-head (λ (offer : Offer). from ≤ offer.due) offer offers late in
+    let due : from ≤ offer.due = All-head (λ (offer : DueFrame). from ≤ offer.due) offer offers late in
     let not_yet : nat_le offer.due t ≡ false = lt-leb offer.due t (omega (arith, due, low)) in
-    rw not_yet (none-come offers from t (All-tail (λ (offer : Offer). from ≤ offer.due) offer offers late) low)
+    rw not_yet (none-come offers from t (All-tail (λ (offer : DueFrame). from ≤ offer.due) offer offers late) low)
 
 module _ (scenario : Scenario) (cells : List (Option Told)) (from : ℕ)
-    (late : All (λ (offer : Offer). from ≤ offer.due) scenario.offers) where
+    (late : All (λ (offer : DueFrame). from ≤ offer.due) scenario.offers) where
   none-before : (t : ℕ) → t ≤ from → offers_before scenario cells t ≡ []
   unfolding offers_before
   none-before zero low = refl
@@ -54,7 +54,7 @@ module _ (scenario : Scenario) (cells : List (Option Told)) (from : ℕ)
   no-frames t low =
       let all : frames_in (stream_before scenario cells t).pieces ++ (stream_before scenario cells t).waiting ≡ [] =
       stream_before-frames scenario cells t
-      ∙ ap (λ (offers : List Offer). map (λ (offer : Offer). offer.frame) offers) (none-before t low) in
+      ∙ ap (λ (offers : List DueFrame). map (λ (offer : DueFrame). offer.frame) offers) (none-before t low) in
       front-none (frames_in (stream_before scenario cells t).pieces) (stream_before scenario cells t).waiting all
     where
       front-none : (front back : List (List ℕ)) → front ++ back ≡ [] → front ≡ []
@@ -105,7 +105,7 @@ place-fourth scenario cells (suc t) is =
 
 pub quiet-true : (script : Script) (rows from : ℕ) → IsValid script → rows ≤ script.config.ticks →
     from ≤ script.config.ticks →
-    All (λ (offer : Offer). from ≤ offer.due) (offers_of script.items) →
+    All (λ (offer : DueFrame). from ≤ offer.due) (offers_of script.items) →
     ((t : ℕ) → from ≤ t → t < rows →
     is_whole_row (scenario_of script) (session_cells (scenario_of script)) t ≡ true) → ConfirmsTrue script rows
 quiet-true script rows from valid low within late whole =

@@ -8,7 +8,7 @@ use Rattle.session_model.specs.declared.script.Item.{Item}
 use Rattle.session_model.specs.declared.script.ItemKind.{ItemKind}
 use Rattle.session_model.specs.declared.script.ItemKind.TheVariants.{Frame, Add, Remove}
 use Rattle.session_model.specs.declared.script.Script.{Script}
-use Rattle.session_model.specs.Scenario.{Order, Offer, order_of, offer_of, orders_of, offers_of}
+use Rattle.session_model.specs.Scenario.{DueCommand, DueFrame, order_of, offer_of, orders_of, offers_of}
 use Rattle.session_model.specs.Counts.{Counts}
 use Rattle.report_text.specs.declared.report.Refusal.{Refusal}
 use Rattle.report_text.specs.declared.report.Totals.{Totals}
@@ -24,12 +24,12 @@ pub record IsInserted (item : Numbered) (was now : List Numbered) : Type 0 where
   pub before : All (λ (other : Numbered). other.number < item.number) front
   pub after : All (λ (other : Numbered). item.number < other.number) back
 
-client-offer : (due : ℕ) (kind : ItemKind) (offer : Offer) → offer_of due kind ≡ offer ∷ [] → is_client kind ≡ true
+client-offer : (due : ℕ) (kind : ItemKind) (offer : DueFrame) → offer_of due kind ≡ offer ∷ [] → is_client kind ≡ true
 client-offer due (Frame octets) offer is = refl
 client-offer due (Add line) offer is = absurd cc
 client-offer due (Remove line) offer is = absurd cc
 
-operator-order : (due : ℕ) (kind : ItemKind) (order : Order) → order_of due kind ≡ order ∷ [] → is_client kind ≡ false
+operator-order : (due : ℕ) (kind : ItemKind) (order : DueCommand) → order_of due kind ≡ order ∷ [] → is_client kind ≡ false
 operator-order due (Frame octets) order is = absurd cc
 operator-order due (Add line) order is = refl
 operator-order due (Remove line) order is = refl
@@ -83,7 +83,7 @@ put-here item items high = record {
   after = λ k d inside. let more = high k d inside in omega arith;
 }
 
-offer-put : (items : List Item) (a b i k : ℕ) (item : Item) (offer : Offer) → slice_get items k ≡ Some item → offer_of item.due item.kind ≡ offer ∷ [] →
+offer-put : (items : List Item) (a b i k : ℕ) (item : Item) (offer : DueFrame) → slice_get items k ≡ Some item → offer_of item.due item.kind ≡ offer ∷ [] →
     length (offers_of (take k items)) ≡ a → IsInserted (record { number = i + k; item = item }) (landed_from a b i items) (landed_from (suc a) b i items)
 unfolding landed_from
 offer-put [] a b i k item offer there is before = absurd cc
@@ -115,7 +115,7 @@ offer-put (first ∷ items) a b i (suc k) item offer there is before =
           (offer-put items a (b - 1) (suc i) k item offer there is less))
     ]
 
-order-put : (items : List Item) (a b i k : ℕ) (item : Item) (order : Order) → slice_get items k ≡ Some item → order_of item.due item.kind ≡ order ∷ [] →
+order-put : (items : List Item) (a b i k : ℕ) (item : Item) (order : DueCommand) → slice_get items k ≡ Some item → order_of item.due item.kind ≡ order ∷ [] →
     length (orders_of (take k items)) ≡ b → IsInserted (record { number = i + k; item = item }) (landed_from a b i items) (landed_from a (suc b) i items)
 unfolding landed_from
 order-put [] a b i k item order there is before = absurd cc
@@ -147,7 +147,7 @@ order-put (first ∷ items) a b i (suc k) item order there is before =
           (order-put items (a - 1) b (suc i) k item order there is less))
     ]
 
-pub landed-frame : (script : Script) (s : Counts) (item : Numbered) (offer : Offer) → IsOfferAt script.items s.frames item offer →
+pub landed-frame : (script : Script) (s : Counts) (item : Numbered) (offer : DueFrame) → IsOfferAt script.items s.frames item offer →
     IsInserted item (landed_items script s) (landed_items script (record s { frames = s.frames + 1 }))
 landed-frame script s item offer at =
     let e : suc s.frames ≡ s.frames + 1 = omega arith in
@@ -157,7 +157,7 @@ landed-frame script s item offer at =
     (subst (λ a. IsInserted (record { number = 0 + item.number; item = item.item }) (landed_from s.frames s.commands 0 script.items) (landed_from a s.commands 0 script.items)) e
     (offer-put script.items s.frames s.commands 0 item.number item.item offer at.there at.is at.before))
 
-pub landed-command : (script : Script) (s : Counts) (item : Numbered) (order : Order) → IsOrderAt script.items s.commands item order →
+pub landed-command : (script : Script) (s : Counts) (item : Numbered) (order : DueCommand) → IsOrderAt script.items s.commands item order →
     IsInserted item (landed_items script s) (landed_items script (record s { commands = s.commands + 1 }))
 landed-command script s item order at =
     let e : suc s.commands ≡ s.commands + 1 = omega arith in
@@ -198,12 +198,12 @@ placed why item was now put =
       after = list-within (λ number. item.number < number) why put.back put.after;
     }
 
-pub frame-placed : (script : Script) (s : Counts) (item : Numbered) (offer : Offer) → IsOfferAt script.items s.frames item offer →
+pub frame-placed : (script : Script) (s : Counts) (item : Numbered) (offer : DueFrame) → IsOfferAt script.items s.frames item offer →
     IsPlaced item.number (refused_by item.number (refusal_at script item)) (refusals_of script s) (refusals_of script (record s { frames = s.frames + 1 }))
 frame-placed script s item offer at =
     placed (refusal_at script) item (landed_items script s) (landed_items script (record s { frames = s.frames + 1 })) (landed-frame script s item offer at)
 
-pub command-placed : (script : Script) (s : Counts) (item : Numbered) (order : Order) → IsOrderAt script.items s.commands item order →
+pub command-placed : (script : Script) (s : Counts) (item : Numbered) (order : DueCommand) → IsOrderAt script.items s.commands item order →
     IsPlaced item.number (refused_by item.number (refusal_at script item)) (refusals_of script s) (refusals_of script (record s { commands = s.commands + 1 }))
 command-placed script s item order at =
     placed (refusal_at script) item (landed_items script s) (landed_items script (record s { commands = s.commands + 1 })) (landed-command script s item order at)
@@ -261,7 +261,7 @@ command-told script s (Some why) number frames commands refused =
 counted : (script : Script) (s : Counts) (a b c d e f : ℕ) → a ≡ b → c ≡ d → e ≡ f → totals_by script s a c e ≡ totals_by script s b d f
 counted script s a b c d e f one two three = rw (one, two, three) refl
 
-pub frame-totals : (script : Script) (s : Counts) (item : Numbered) (offer : Offer) → IsOfferAt script.items s.frames item offer →
+pub frame-totals : (script : Script) (s : Counts) (item : Numbered) (offer : DueFrame) → IsOfferAt script.items s.frames item offer →
     totals_of script (record s { frames = s.frames + 1 }) ≡ with_frame_told (refusal_at script item) (totals_of script s)
 frame-totals script s item offer at =
     let was : List Numbered = landed_items script s in
@@ -277,7 +277,7 @@ frame-totals script s item offer at =
     (more-refused script item was now put)
     ∙ frame-told script s why item.number (length (filter (is_accepted_frame script) was)) (length (filter (is_accepted_command script) was)) (length (refusals_among script was))
 
-pub command-totals : (script : Script) (s : Counts) (item : Numbered) (order : Order) → IsOrderAt script.items s.commands item order →
+pub command-totals : (script : Script) (s : Counts) (item : Numbered) (order : DueCommand) → IsOrderAt script.items s.commands item order →
     totals_of script (record s { commands = s.commands + 1 }) ≡ with_command_told (refusal_at script item) (totals_of script s)
 command-totals script s item order at =
     let was : List Numbered = landed_items script s in

@@ -18,7 +18,7 @@ use Rattle.session_model.specs.Counts.{LineCounts, Counts, used_in}
 use Rattle.line_law.specs.StableRows.{IsLonger, AreDecidedAt}
 use Rattle.line_law.proofs.RowLaws.{returns_stay}
 use Rattle.progress_law.proofs.LineLaws.{is_path}
-use Rattle.terminal_law.specs.Lines.{ComesOf, ComeOf}
+use Rattle.terminal_law.specs.Lines.{ComesOfLine, ComeOfLines}
 use Rattle.terminal_law.specs.Course.{packet_by}
 use Rattle.terminal_law.proofs.SentLaws.{containers-size}
 use Rattle.terminal_law.proofs.ListLaws.{range-at}
@@ -78,7 +78,7 @@ module _ (script : Script) (can : CanWalk script) where
       let (inside, same) = line-at (line_cells script) (length script.config.windows) line own here in
       subst (λ own. IsSome (verdict own t)) same (line-decides line t inside low)
 
-  line-comes : (line : ℕ) → ComesOf (scenario_of script) (session_cells (scenario_of script)) line script.config.ticks (line_cells script line)
+  line-comes : (line : ℕ) → ComesOfLine (scenario_of script) (session_cells (scenario_of script)) line script.config.ticks (line_cells script line)
   line-comes line =
       let delay : ℕ = delay_on script line in
       record {
@@ -90,13 +90,13 @@ module _ (script : Script) (can : CanWalk script) where
             ∙ sym (append-nil (line_cells script line));
       }
 
-  pub all-come : ComeOf (scenario_of script) (session_cells (scenario_of script)) script.config.ticks (all_lines script)
+  pub all-come : ComeOfLines (scenario_of script) (session_cells (scenario_of script)) script.config.ticks (all_lines script)
   all-come = record {
     made = omega arith;
     lines = length-map-range_with_len (line_cells script) 0 (length script.config.windows);
     each = λ line own here.
         let (inside, same) = line-at (line_cells script) (length script.config.windows) line own here in
-        subst (λ own. ComesOf (scenario_of script) (session_cells (scenario_of script)) line script.config.ticks own) same (line-comes line);
+        subst (λ own. ComesOfLine (scenario_of script) (session_cells (scenario_of script)) line script.config.ticks own) same (line-comes line);
   }
 
   pub cell-told : (k : ℕ) → 16 * k + 23 < script.config.ticks → told_in (back_cell script k) ≡ return_cell (scenario_of script) (session_cells (scenario_of script)) k

@@ -5,7 +5,7 @@ use Rattle.session_model.specs.declared.script.ItemKind.{ItemKind}
 use Rattle.session_model.specs.declared.script.ItemKind.TheVariants.{Frame, Add, Remove}
 use Rattle.session_model.specs.declared.script.Script.{Script}
 use Rattle.session_model.specs.declared.table.Command.TheVariants.{Add as add, Remove as remove}
-use Rattle.session_model.specs.Scenario.{Scenario, Order, Offer, order_of, offer_of, orders_of, offers_of, scenario_of, steps_in, packets, orders_at, frames_at}
+use Rattle.session_model.specs.Scenario.{Scenario, DueCommand, DueFrame, order_of, offer_of, orders_of, offers_of, scenario_of, steps_in, packets, orders_at, frames_at}
 use Rattle.session_model.specs.Table.{Told}
 use Rattle.session_model.specs.Source.{Source, asked_all, refusal, after, source_at}
 use Rattle.session_model.specs.Client.{Stream, frame_refusal, offered, stream_before}
@@ -28,23 +28,23 @@ few-used rows ticks backs used low most taken = omega arith
 same-first : {X : Type 0} (x y : X) → x ∷ [] ≡ y ∷ [] → x ≡ y
 same-first x y e = cc
 
-offer-refusal : (scenario : Scenario) (cells : List (Option Told)) (due : ℕ) (earlier : List Item) (kind : ItemKind) (offer : Offer) → offer_of due kind ≡ offer ∷ [] →
+offer-refusal : (scenario : Scenario) (cells : List (Option Told)) (due : ℕ) (earlier : List Item) (kind : ItemKind) (offer : DueFrame) → offer_of due kind ≡ offer ∷ [] →
     kind_refusal scenario cells due earlier kind ≡ option_map frame_fault (frame_refusal offer.frame (stream_met scenario cells offer.due (offers_of earlier)))
 offer-refusal scenario cells due earlier (Frame octets) offer is =
-    ap (λ (o : Offer). option_map frame_fault (frame_refusal o.frame (stream_met scenario cells o.due (offers_of earlier))))
+    ap (λ (o : DueFrame). option_map frame_fault (frame_refusal o.frame (stream_met scenario cells o.due (offers_of earlier))))
     (same-first (record { due = due; frame = octets }) offer is)
 offer-refusal scenario cells due earlier (Add line) offer is = absurd cc
 offer-refusal scenario cells due earlier (Remove line) offer is = absurd cc
 
-order-refusal : (scenario : Scenario) (cells : List (Option Told)) (due : ℕ) (earlier : List Item) (kind : ItemKind) (order : Order) → order_of due kind ≡ order ∷ [] →
+order-refusal : (scenario : Scenario) (cells : List (Option Told)) (due : ℕ) (earlier : List Item) (kind : ItemKind) (order : DueCommand) → order_of due kind ≡ order ∷ [] →
     kind_refusal scenario cells due earlier kind
     ≡ option_map command_fault (refusal (length scenario.windows) order.command (source_met scenario cells order.due (orders_of earlier)))
 order-refusal scenario cells due earlier (Frame octets) order is = absurd cc
 order-refusal scenario cells due earlier (Add line) order is =
-    ap (λ (o : Order). option_map command_fault (refusal (length scenario.windows) o.command (source_met scenario cells o.due (orders_of earlier))))
+    ap (λ (o : DueCommand). option_map command_fault (refusal (length scenario.windows) o.command (source_met scenario cells o.due (orders_of earlier))))
     (same-first (record { due = due; command = add line }) order is)
 order-refusal scenario cells due earlier (Remove line) order is =
-    ap (λ (o : Order). option_map command_fault (refusal (length scenario.windows) o.command (source_met scenario cells o.due (orders_of earlier))))
+    ap (λ (o : DueCommand). option_map command_fault (refusal (length scenario.windows) o.command (source_met scenario cells o.due (orders_of earlier))))
     (same-first (record { due = due; command = remove line }) order is)
 
 module _ (script : Script) (s : Counts) (can : CanWalk script) (walked : IsWalked script s) where
@@ -81,7 +81,7 @@ module _ (script : Script) (s : Counts) (can : CanWalk script) (walked : IsWalke
       (Alike-sooner (landed_scenario script s) (told_before script s.ticks) (scenario_of script) session (suc t) s.ticks (omega arith) told-alike)
 
   -- ---- the next item
-  pub meets-stream : (item : Numbered) (offer : Offer) → IsOfferAt script.items s.frames item offer → offer.due ≤ s.ticks →
+  pub meets-stream : (item : Numbered) (offer : DueFrame) → IsOfferAt script.items s.frames item offer → offer.due ≤ s.ticks →
       refusal_at script item
       ≡ option_map frame_fault (frame_refusal offer.frame (fold offered (stream_before (landed_scenario script s) (told_before script s.ticks) s.ticks) (frames_at (landed_scenario script s) s.ticks)))
   meets-stream item offer at due =
@@ -90,11 +90,11 @@ module _ (script : Script) (s : Counts) (can : CanWalk script) (walked : IsWalke
       let now : offer.due ≡ s.ticks = omega arith in
       let answer = λ (stream : Stream). option_map frame_fault (frame_refusal offer.frame stream) in
       offer-refusal (scenario_of script) session item.item.due (take item.number script.items) item.item.kind offer at.is
-      ∙ ap (λ (offers : List Offer). answer (stream_met (scenario_of script) session offer.due offers)) earlier
+      ∙ ap (λ (offers : List DueFrame). answer (stream_met (scenario_of script) session offer.due offers)) earlier
       ∙ ap (λ t. answer (stream_met (scenario_of script) session t (take s.frames (offers_of script.items)))) now
       ∙ ap (λ (stream : Stream). answer (fold offered stream (frames_at (landed_scenario script s) s.ticks))) (sym (told-streams s.ticks (omega arith)))
 
-  pub meets-source : (item : Numbered) (order : Order) → IsOrderAt script.items s.commands item order → order.due ≤ s.ticks →
+  pub meets-source : (item : Numbered) (order : DueCommand) → IsOrderAt script.items s.commands item order → order.due ≤ s.ticks →
       refusal_at script item
       ≡ option_map command_fault (refusal (length script.config.windows) order.command (source_at (landed_scenario script s) (told_before script s.ticks) (steps_in s.ticks)))
   meets-source item order at due =
@@ -103,7 +103,7 @@ module _ (script : Script) (s : Counts) (can : CanWalk script) (walked : IsWalke
       let now : order.due ≡ s.ticks = omega arith in
       let answer = λ (source : Source). option_map command_fault (refusal (length script.config.windows) order.command source) in
       order-refusal (scenario_of script) session item.item.due (take item.number script.items) item.item.kind order at.is
-      ∙ ap (λ (orders : List Order). answer (source_met (scenario_of script) session order.due orders)) earlier
+      ∙ ap (λ (orders : List DueCommand). answer (source_met (scenario_of script) session order.due orders)) earlier
       ∙ ap (λ t. answer (source_met (scenario_of script) session t (take s.commands (orders_of script.items)))) now
       ∙ ap (λ (source : Source). answer (asked_all (length script.config.windows) (orders_at (landed_scenario script s) (steps_in s.ticks)) source))
       (sym (told-tables (steps_in s.ticks) (omega arith)))

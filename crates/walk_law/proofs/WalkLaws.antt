@@ -31,7 +31,7 @@ use Rattle.progress_law.specs.Progress.{Each, LineFits, Fits}
 use Rattle.progress_law.proofs.LineLaws.{is_decided}
 use Rattle.progress_law.proofs.MoveLaws.{reached-fits}
 use Rattle.progress_law.proofs.ReachLaws.{run-none, Leads-then, Leads-drain}
-use Rattle.terminal_law.specs.Lines.{given, ComesOf, ComeOf}
+use Rattle.terminal_law.specs.Lines.{given, ComesOfLine, ComeOfLines}
 use Rattle.terminal_law.specs.Course.{back_of, told_of, IsCourse}
 use Rattle.terminal_law.proofs.SentLaws.{containers-size}
 use Rattle.terminal_law.proofs.ListLaws.{range-at}
@@ -109,7 +109,7 @@ module _ (script : Script) (s : Counts) (can : CanWalk script) (walked : IsWalke
       each-there (LineFits script.config.ticks script.config.ring s.ticks s.rows) (walk_plan script).paths s.lines line
       (path_of (carried_by scenario line) (delay_of line) (sent_on scenario line)) (record { carried = 0; popped = 0 }) fits.lines (line-path script can line inside)
 
-  popped-comes : (line : ℕ) → line < length script.config.windows → ComesOf scenario session line s.ticks (popped_on script s.lines line)
+  popped-comes : (line : ℕ) → line < length script.config.windows → ComesOfLine scenario session line s.ticks (popped_on script s.lines line)
   popped-comes line inside =
       let is = line-fits line inside in
       let ticks = fits.ticks in
@@ -151,13 +151,13 @@ module _ (script : Script) (s : Counts) (can : CanWalk script) (walked : IsWalke
       ∙ ap (option_map (popped_on script s.lines)) (range-at 0 lines line low ∙ ap Some (let e : 0 + line ≡ line = omega arith in e)) in
       (low, cc)
 
-  pub cells-come : ComeOf scenario session s.ticks (popped_cells script s.lines)
+  pub cells-come : ComeOfLines scenario session s.ticks (popped_cells script s.lines)
   cells-come = record {
     made = fits.ticks;
     lines = length-map-range_with_len (popped_on script s.lines) 0 (length script.config.windows);
     each = λ line own here.
         let (inside, same) = popped-at line own here in
-        subst (λ own. ComesOf scenario session line s.ticks own) same (popped-comes line inside);
+        subst (λ own. ComesOfLine scenario session line s.ticks own) same (popped-comes line inside);
   }
 
   pub cells-decide : (t : ℕ) → t < s.rows → AreDecidedAt (popped_cells script s.lines) t
@@ -221,7 +221,7 @@ module _ (script : Script) (s : Counts) (can : CanWalk script) (walked : IsWalke
       record {
         most = most;
         used = omega arith;
-        come = subst (λ returns. ComeOf scenario returns s.ticks (popped_cells script s.lines)) (sym backs-are)
+        come = subst (λ returns. ComeOfLines scenario returns s.ticks (popped_cells script s.lines)) (sym backs-are)
             (come-same scenario session (cells_before scenario s.backs) s.ticks s.backs (popped_cells script s.lines) (omega arith) (sym agree) cells-come);
         decided = λ k low.
             let backs = fits.backs in

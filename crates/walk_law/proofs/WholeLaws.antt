@@ -21,7 +21,7 @@ use Rattle.session_model.specs.SessionStream.{rows_of}
 use Rattle.session_model.specs.Valid.{IsValid}
 use Rattle.session_law.specs.Session.{AreWhole}
 use Rattle.session_law.proofs.DamageLaws.{readable-whole, good-whole, heard-line}
-use Rattle.loss_law.specs.Carried.{Carry, IsSentPiece}
+use Rattle.loss_law.specs.Carried.{CarriesStream, IsSentPiece}
 use Rattle.loss_law.proofs.FilterLaws.{and_false}
 use Rattle.loss_law.proofs.SessionLossLaws.{pieces-sent, rows-whole}
 use Rattle.loss_law.proofs.SessionStreamLaws.{pieces-open, rows-carry, rows-length}
@@ -105,7 +105,7 @@ delivered-before script rows valid low whole =
     let opens = pieces-open scenario cells script.config.ticks in
     let all : All (IsSentPiece 9600) (idle ∷ idle ∷ opens.0) = subst (All (IsSentPiece 9600)) opens.1 (pieces-sent scenario cells script.config.ticks (are_octets script valid)) in
     let sent : All (IsSentPiece 9600) opens.0 = λ k d inside. all (suc (suc k)) d (omega arith) in
-    let carry : Carry (rows_of scenario cells rows) (idle ∷ idle ∷ opens.0) = subst (Carry (rows_of scenario cells rows)) opens.1 (rows-carry scenario cells rows script.config.ticks low) in
+    let carry : CarriesStream (rows_of scenario cells rows) (idle ∷ idle ∷ opens.0) = subst (CarriesStream (rows_of scenario cells rows)) opens.1 (rows-carry scenario cells rows script.config.ticks low) in
     deliver-whole 9600 opens.0 (rows_of scenario cells rows) (omega arith) sent carry (rows-whole scenario cells rows whole)
     ∙ ap₂ frames_by (rows-length scenario cells rows script.config.ticks low) (sym opens.1)
 

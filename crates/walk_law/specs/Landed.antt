@@ -6,7 +6,7 @@ use Rattle.session_model.specs.declared.script.ItemKind.{ItemKind}
 use Rattle.session_model.specs.declared.script.ItemKind.TheVariants.{Frame, Add, Remove}
 use Rattle.session_model.specs.declared.script.Script.{Script}
 use Rattle.session_model.specs.declared.table.Command.TheVariants.{Add as add, Remove as remove}
-use Rattle.session_model.specs.Scenario.{Order, Offer, Scenario, order_of, offer_of, orders_of, offers_of, scenario_of, steps_in, lands_at, comes_at}
+use Rattle.session_model.specs.Scenario.{DueCommand, DueFrame, Scenario, order_of, offer_of, orders_of, offers_of, scenario_of, steps_in, lands_at, comes_at}
 use Rattle.session_model.specs.Journal.{with_items}
 use Rattle.session_model.specs.Table.{Told}
 use Rattle.session_model.specs.Source.{Source, after, asked_all, refusal}
@@ -55,24 +55,24 @@ abbrev pub told_before : Script → ℕ → List (Option Told)
 told_before script ticks = told_first script (used_in script.config.lag ticks)
 
 -- an item of a list is this offer, and so many offers are before it; or this order, and so many orders
-pub record IsOfferAt (items : List Item) (count : ℕ) (item : Numbered) (offer : Offer) : Type 0 where
+pub record IsOfferAt (items : List Item) (count : ℕ) (item : Numbered) (offer : DueFrame) : Type 0 where
   pub there : slice_get items item.number ≡ Some item.item
   pub is : offer_of item.item.due item.item.kind ≡ offer ∷ []
   pub before : length (offers_of (take item.number items)) ≡ count
 
-pub record IsOrderAt (items : List Item) (count : ℕ) (item : Numbered) (order : Order) : Type 0 where
+pub record IsOrderAt (items : List Item) (count : ℕ) (item : Numbered) (order : DueCommand) : Type 0 where
   pub there : slice_get items item.number ≡ Some item.item
   pub is : order_of item.item.due item.item.kind ≡ order ∷ []
   pub before : length (orders_of (take item.number items)) ≡ count
 
 -- ---- why an item is refused
 -- the stream as a frame finds it that lands in a number of ticks, after these offers
-abbrev pub stream_met : Scenario → List (Option Told) → ℕ → List Offer → Stream
+abbrev pub stream_met : Scenario → List (Option Told) → ℕ → List DueFrame → Stream
 stream_met scenario cells due earlier =
     fold offered (stream_before scenario cells due) (map (λ offer. offer.frame) (filter (comes_at due) earlier))
 
 -- the source as a command finds it
-abbrev pub source_met : Scenario → List (Option Told) → ℕ → List Order → Source
+abbrev pub source_met : Scenario → List (Option Told) → ℕ → List DueCommand → Source
 source_met scenario cells due earlier =
     asked_all (length scenario.windows) (map (λ order. order.command) (filter (lands_at (steps_in due)) earlier))
     (after scenario cells (steps_in due))

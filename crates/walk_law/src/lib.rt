@@ -18,7 +18,7 @@ ghost use Rattle.report_text.specs.declared.report.Refusal.TheVariants.{Frame as
 ghost use Rattle.session_model.specs.Path.{cells};
 ghost use Rattle.session_model.specs.Number.{verdict};
 ghost use Rattle.session_model.specs.Valid.{IsValid};
-ghost use Rattle.session_model.specs.Scenario.{Order, Offer, orders_of, offers_of, scenario_of, carried_by, steps_in, orders_at, frames_at, packets_in};
+ghost use Rattle.session_model.specs.Scenario.{DueCommand, DueFrame, orders_of, offers_of, scenario_of, carried_by, steps_in, orders_at, frames_at, packets_in};
 ghost use Rattle.session_model.specs.Source.{refusal, after, source_at, told_at};
 ghost use Rattle.session_model.specs.Client.{frame_refusal, offered, stream_before};
 ghost use Rattle.session_model.specs.Back.{return_cell};
@@ -37,7 +37,7 @@ ghost use Rattle.line_law.specs.StableRows.{IsLonger, AreDecidedAt};
 ghost use Rattle.progress_law.specs.Progress.{IsPlan, LineFits, SomeProgress};
 ghost use Rattle.session_law.specs.Feedback.{Takes, Acknowledges, TellsOf, SameLines, WasSaid};
 ghost use Rattle.session_law.specs.Use.{AddsUndamaged, AddsAmongSilent};
-ghost use Rattle.terminal_law.specs.Lines.{HasLines, ComeOf};
+ghost use Rattle.terminal_law.specs.Lines.{HasLines, ComeOfLines};
 ghost use Rattle.terminal_law.specs.Course.{packet_by, told_of, IsCourse};
 ghost use Rattle.walk_law.specs.Walk.{session_of, told_first, walk_plan, CanWalk, IsWalked, counts_at, popped_on, popped_cells, path_on};
 ghost use Rattle.walk_law.specs.Rings.{delay_on, line_cells, AreDecidedBefore, sent_at, taken_by, cells_by, send_by, receive_by, all_lines, said_packet, back_cell, return_ring, inbox};
@@ -149,7 +149,7 @@ pub fn walk_law()
         stream_before (scenario_of script) (told_first script s.backs) t
         ≡ stream_before (scenario_of script) (session_of script) t }
     ensures come { (script : Script) (s : Counts) → CanWalk script → IsWalked script s →
-        ComeOf (scenario_of script) (session_of script) s.ticks
+        ComeOfLines (scenario_of script) (session_of script) s.ticks
         (popped_cells script s.lines) }
     ensures decided { (script : Script) (s : Counts) (t : ℕ) → CanWalk script →
         IsWalked script s → t < s.rows → AreDecidedAt (popped_cells script s.lines) t }
@@ -167,22 +167,22 @@ pub fn walk_law()
 /// that have landed is the script's own. An item that lands is put in its place among those that have, and so is its refusal.
 pub fn landing_law()
     ensures frame_dues { (items : List Item) →
-        frame_dues (dues_of items) ≡ map (λ (offer : Offer). offer.due) (offers_of items) }
+        frame_dues (dues_of items) ≡ map (λ (offer : DueFrame). offer.due) (offers_of items) }
     ensures command_dues { (items : List Item) →
-        command_dues (dues_of items) ≡ map (λ (order : Order). order.due) (orders_of items) }
-    ensures frame_waits { (script : Script) (s : Counts) (offer : Offer) → IsWalked script s →
+        command_dues (dues_of items) ≡ map (λ (order : DueCommand). order.due) (orders_of items) }
+    ensures frame_waits { (script : Script) (s : Counts) (offer : DueFrame) → IsWalked script s →
         slice_get (offers_of script.items) s.frames ≡ Some offer → s.ticks ≤ offer.due }
-    ensures command_waits { (script : Script) (s : Counts) (order : Order) → IsWalked script s →
+    ensures command_waits { (script : Script) (s : Counts) (order : DueCommand) → IsWalked script s →
         slice_get (orders_of script.items) s.commands ≡ Some order → s.ticks ≤ order.due }
     ensures frames { (script : Script) (s : Counts) (t : ℕ) → IsWalked script s → t < s.ticks →
         frames_at (landed_scenario script s) t ≡ frames_at (scenario_of script) t }
     ensures orders { (script : Script) (s : Counts) (j : ℕ) → IsWalked script s →
         16 * j + 8 < s.ticks →
         orders_at (landed_scenario script s) j ≡ orders_at (scenario_of script) j }
-    ensures offer { (items : List Item) (a : ℕ) (item : Numbered) (offer : Offer) →
+    ensures offer { (items : List Item) (a : ℕ) (item : Numbered) (offer : DueFrame) →
         IsOfferAt items a item offer → (slice_get (offers_of items) a ≡ Some offer)
         × (offers_of (take item.number items) ≡ take a (offers_of items)) }
-    ensures order { (items : List Item) (b : ℕ) (item : Numbered) (order : Order) →
+    ensures order { (items : List Item) (b : ℕ) (item : Numbered) (order : DueCommand) →
         IsOrderAt items b item order → (slice_get (orders_of items) b ≡ Some order)
         × (orders_of (take item.number items) ≡ take b (orders_of items)) }
 {}
@@ -199,13 +199,13 @@ pub fn source_law()
     ensures frames { (script : Script) (s : Counts) (t : ℕ) → CanWalk script → IsWalked script s →
         t < s.ticks → frame_of (landed_scenario script s) (told_before script s.ticks) t
         ≡ frame_of (scenario_of script) (session_of script) t }
-    ensures frame { (script : Script) (s : Counts) (item : Numbered) (offer : Offer) →
+    ensures frame { (script : Script) (s : Counts) (item : Numbered) (offer : DueFrame) →
         CanWalk script → IsWalked script s → IsOfferAt script.items s.frames item offer →
         offer.due ≤ s.ticks → refusal_at script item
         ≡ option_map frame_fault (frame_refusal offer.frame (fold offered
         (stream_before (landed_scenario script s) (told_before script s.ticks) s.ticks)
         (frames_at (landed_scenario script s) s.ticks))) }
-    ensures command { (script : Script) (s : Counts) (item : Numbered) (order : Order) →
+    ensures command { (script : Script) (s : Counts) (item : Numbered) (order : DueCommand) →
         CanWalk script → IsWalked script s → IsOrderAt script.items s.commands item order →
         order.due ≤ s.ticks → refusal_at script item ≡ option_map command_fault
         (refusal (length script.config.windows) order.command
@@ -227,19 +227,19 @@ pub fn step_law()
 
 /// What an item that lands adds to the refusals and the totals.
 pub fn report_law()
-    ensures frame { (script : Script) (s : Counts) (item : Numbered) (offer : Offer) →
+    ensures frame { (script : Script) (s : Counts) (item : Numbered) (offer : DueFrame) →
         IsOfferAt script.items s.frames item offer →
         IsPlaced item.number (refused_by item.number (refusal_at script item))
         (refusals_of script s) (refusals_of script (record s { frames = s.frames + 1 })) }
-    ensures command { (script : Script) (s : Counts) (item : Numbered) (order : Order) →
+    ensures command { (script : Script) (s : Counts) (item : Numbered) (order : DueCommand) →
         IsOrderAt script.items s.commands item order →
         IsPlaced item.number (refused_by item.number (refusal_at script item))
         (refusals_of script s) (refusals_of script (record s { commands = s.commands + 1 })) }
-    ensures frame_totals { (script : Script) (s : Counts) (item : Numbered) (offer : Offer) →
+    ensures frame_totals { (script : Script) (s : Counts) (item : Numbered) (offer : DueFrame) →
         IsOfferAt script.items s.frames item offer →
         totals_of script (record s { frames = s.frames + 1 })
         ≡ with_frame_told (refusal_at script item) (totals_of script s) }
-    ensures command_totals { (script : Script) (s : Counts) (item : Numbered) (order : Order) →
+    ensures command_totals { (script : Script) (s : Counts) (item : Numbered) (order : DueCommand) →
         IsOrderAt script.items s.commands item order →
         totals_of script (record s { commands = s.commands + 1 })
         ≡ with_command_told (refusal_at script item) (totals_of script s) }
@@ -361,7 +361,7 @@ pub fn start_law()
         ConfirmsTrue script rows }
     ensures quiet { (script : Script) (rows from : ℕ) → IsValid script →
         rows ≤ script.config.ticks → from ≤ script.config.ticks →
-        All (λ (offer : Offer). from ≤ offer.due) (offers_of script.items) →
+        All (λ (offer : DueFrame). from ≤ offer.due) (offers_of script.items) →
         ((t : ℕ) → from ≤ t → t < rows →
         is_whole_row (scenario_of script) (session_of script) t ≡ true) →
         ConfirmsTrue script rows }

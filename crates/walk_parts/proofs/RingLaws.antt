@@ -9,8 +9,8 @@ use Rattle.circular_buffer.proofs.Places.{slice_get-set_same, slice_get-set_othe
 use Rattle.vc_cell.specs.declared.Container.{Container}
 use Rattle.vc_cell.specs.declared.Cell.{Cell}
 use Rattle.vc_cell.specs.Held.{held}
-use Rattle.line_core.specs.declared.carry.Carry.{Carry}
-use Rattle.line_core.specs.declared.carry.Carry.TheVariants.{Nothing, Good, Fail, End}
+use Rattle.line_core.specs.declared.carry.CarrySign.{CarrySign}
+use Rattle.line_core.specs.declared.carry.CarrySign.TheVariants.{Nothing, Good, Fail, End}
 use Rattle.line_core.specs.Carry.{carry_cells}
 use Rattle.session_model.specs.declared.window.Window.{Window}
 use Rattle.session_model.specs.Path.{path}
@@ -38,31 +38,31 @@ slot-apart r y given popped low under room same =
     let e : given ≡ y + (given - y) = omega (arith, under) in
     mod-apart r y (given - y) (omega (arith, under)) (omega (arith, low, under, room)) (sym (ap (λ n. n % r) e) ∙ sym same)
 
-pub length-with_sign : (carry : Carry) (slot : ℕ) (signs : List Carry) → length (with_sign carry slot signs) ≡ length signs
+pub length-with_sign : (carry : CarrySign) (slot : ℕ) (signs : List CarrySign) → length (with_sign carry slot signs) ≡ length signs
 length-with_sign Nothing slot signs = refl
 length-with_sign Good slot signs = length-slice_set signs slot Good
 length-with_sign Fail slot signs = length-slice_set signs slot Fail
 length-with_sign End slot signs = length-slice_set signs slot End
 
-sign-other : (carry : Carry) (slot k : ℕ) (signs : List Carry) → k ≢ slot → slice_get (with_sign carry slot signs) k ≡ slice_get signs k
+sign-other : (carry : CarrySign) (slot k : ℕ) (signs : List CarrySign) → k ≢ slot → slice_get (with_sign carry slot signs) k ≡ slice_get signs k
 sign-other Nothing slot k signs apart = refl
 sign-other Good slot k signs apart = slice_get-set_other signs slot k Good apart
 sign-other Fail slot k signs apart = slice_get-set_other signs slot k Fail apart
 sign-other End slot k signs apart = slice_get-set_other signs slot k End apart
 
-pub length-carry : (carry : Carry) (place : Container) → length (carry_cells carry place) ≡ count_of carry
+pub length-carry : (carry : CarrySign) (place : Container) → length (carry_cells carry place) ≡ count_of carry
 length-carry Nothing place = refl
 length-carry Good place = refl
 length-carry Fail place = refl
 length-carry End place = refl
 
-module _ (signs : List Carry) (places : List Container) (given popped : ℕ) (path : List Cell) (place : Container)
+module _ (signs : List CarrySign) (places : List Container) (given popped : ℕ) (path : List Cell) (place : Container)
     (some : 0 < length signs) (beside : length places ≡ length signs) (room : given < popped + length signs) (is : given ≡ length path)
     (holds : (y : ℕ) (cell : Cell) → popped ≤ y → y < given → slice_get path y ≡ Some cell → cell_at signs places y ≡ cell ∷ []) where
   abbrev pub slot : ℕ
   slot = given % length signs
 
-  earlier : (carry : Carry) (y : ℕ) (cell : Cell) → popped ≤ y → y < given → slice_get (path ++ carry_cells carry place) y ≡ Some cell →
+  earlier : (carry : CarrySign) (y : ℕ) (cell : Cell) → popped ≤ y → y < given → slice_get (path ++ carry_cells carry place) y ≡ Some cell →
       cell_at (with_sign carry slot signs) (slice_set places slot place) y ≡ cell ∷ []
   earlier carry y cell low under told =
       let apart : y % length signs ≢ slot = λ same. slot-apart (length signs) y given popped low under room same in
@@ -72,7 +72,7 @@ module _ (signs : List Carry) (places : List Container) (given popped : ℕ) (pa
       ∙ ap (λ p. cell_in (slice_get signs (y % length signs)) p) (slice_get-set_other places slot (y % length signs) place apart)
       ∙ holds y cell low under (sym (slice_get-append_left path (carry_cells carry place) y (omega (arith, under, is))) ∙ told)
 
-  last : (carry : Carry) (y : ℕ) → y ≡ given → with_sign carry slot signs ≡ slice_set signs slot carry →
+  last : (carry : CarrySign) (y : ℕ) → y ≡ given → with_sign carry slot signs ≡ slice_set signs slot carry →
       cell_at (with_sign carry slot signs) (slice_set places slot place) y ≡ carry_cells carry place
   last carry y same put =
       let size = length-with_sign carry slot signs in
@@ -83,13 +83,13 @@ module _ (signs : List Carry) (places : List Container) (given popped : ℕ) (pa
       ∙ ap (λ s. cell_in s (slice_get (slice_set places slot place) slot)) (slice_get-set_same signs slot carry low)
       ∙ ap (λ p. cell_in (Some carry) p) (slice_get-set_same places slot place (omega (arith, low, beside)))
 
-  told-last : (carry : Carry) (y : ℕ) (cell : Cell) (one : Cell) → y ≡ given → carry_cells carry place ≡ one ∷ [] → slice_get (path ++ carry_cells carry place) y ≡ Some cell → one ≡ cell
+  told-last : (carry : CarrySign) (y : ℕ) (cell : Cell) (one : Cell) → y ≡ given → carry_cells carry place ≡ one ∷ [] → slice_get (path ++ carry_cells carry place) y ≡ Some cell → one ≡ cell
   told-last carry y cell one same e told =
       let h : slice_get (path ++ carry_cells carry place) y ≡ slice_get (carry_cells carry place) 0 = slice_get-append_right path (carry_cells carry place) y 0 (omega (arith, same, is)) in
       let f : Some one ≡ Some cell = sym (ap (λ xs. slice_get xs 0) e) ∙ sym h ∙ told in
       cc
 
-  after : (carry : Carry) (one : Cell) → carry_cells carry place ≡ one ∷ [] → with_sign carry slot signs ≡ slice_set signs slot carry → (y : ℕ) (cell : Cell) → popped ≤ y → y < given + 1 →
+  after : (carry : CarrySign) (one : Cell) → carry_cells carry place ≡ one ∷ [] → with_sign carry slot signs ≡ slice_set signs slot carry → (y : ℕ) (cell : Cell) → popped ≤ y → y < given + 1 →
       slice_get (path ++ carry_cells carry place) y ≡ Some cell → cell_at (with_sign carry slot signs) (slice_set places slot place) y ≡ cell ∷ []
   after carry one e put y cell low under told =
       elim (cases_lt y given) [
@@ -99,7 +99,7 @@ module _ (signs : List Carry) (places : List Container) (given popped : ℕ) (pa
             last carry y same put ∙ e ∙ ap (λ x. x ∷ []) (told-last carry y cell one same e told))
       ]
 
-  pub kept-holds : (carry : Carry) (y : ℕ) (cell : Cell) → popped ≤ y → y < given + count_of carry → slice_get (path ++ carry_cells carry place) y ≡ Some cell →
+  pub kept-holds : (carry : CarrySign) (y : ℕ) (cell : Cell) → popped ≤ y → y < given + count_of carry → slice_get (path ++ carry_cells carry place) y ≡ Some cell →
       cell_at (with_sign carry slot signs) (slice_set places slot place) y ≡ cell ∷ []
   kept-holds Nothing y cell low under told = earlier Nothing y cell low (omega (arith, under)) told
   kept-holds Good y cell low under told = after Good (Cell.Good place) refl refl y cell low under told
@@ -107,7 +107,7 @@ module _ (signs : List Carry) (places : List Container) (given popped : ℕ) (pa
   kept-holds End y cell low under told = after End Cell.End refl refl y cell low under told
 
 -- a carry more
-pub has-more : (line : Ringed) (core : Line) (calls more : Calls) (carry : Carry) (place : Container) (signs : List Carry) (places : List Container) (count : ℕ) →
+pub has-more : (line : Ringed) (core : Line) (calls more : Calls) (carry : CarrySign) (place : Container) (signs : List CarrySign) (places : List Container) (count : ℕ) →
     Has line calls → 0 < length line.signs → length line.places ≡ length line.signs → line.given < line.popped + length line.signs →
     Stands core more → carries_of more ≡ carries_of calls + 1 → path_cells more ≡ path_cells calls ++ carry_cells carry place →
     signs ≡ with_sign carry (line.given % length line.signs) line.signs → places ≡ slice_set line.places (line.given % length line.signs) place → count ≡ count_of carry →
@@ -154,7 +154,7 @@ has-popped line calls place has more room = record {
 }
 
 -- no carry
-pub has-none : (core : Line) (signs : List Carry) (places : List Container) (delay : ℕ) (windows : List Window) (total : ℕ) → Stands core (opened delay windows total) →
+pub has-none : (core : Line) (signs : List CarrySign) (places : List Container) (delay : ℕ) (windows : List Window) (total : ℕ) → Stands core (opened delay windows total) →
     Has (record { core = core; signs = signs; places = places; carried = 0; given = 0; popped = 0 }) (opened delay windows total)
 unfolding path
 has-none core signs places delay windows total stands = record {
@@ -168,7 +168,7 @@ has-none core signs places delay windows total stands = record {
     none delay total = let e : 0 - delay ≡ 0 = omega arith in let f : nat_lt total 0 ≡ false = grind arith in rw (e, f) refl
 
 -- a cell that is read where it lies
-pub cell-read : (signs : List Carry) (boxes : List (Box Container)) (y len : ℕ) (sign : Carry) (place : Box Container) → 0 < length signs → length boxes ≡ length signs → len ≡ length signs →
+pub cell-read : (signs : List CarrySign) (boxes : List (Box Container)) (y len : ℕ) (sign : CarrySign) (place : Box Container) → 0 < length signs → length boxes ≡ length signs → len ≡ length signs →
     sign ≡ slice_index_or signs (y % len) sign → place ≡ slice_index_or boxes (y % len) place → cell_at signs (held boxes) y ≡ carry_cells sign place.value
 cell-read signs boxes y len sign place some beside size at put =
     let low : y % length signs < length signs = mod-lt y some in

@@ -2,8 +2,8 @@
 use Rattle.std.specs.Prelude.{◌≡◌, ℕ, zero, suc, ◌+◌, ◌%◌, ◌<◌, ◌≤◌, Bool, false, ◌==◌, if◌then◌else◌, List, [], ◌∷◌, length, take, slice_get, slice_set, Option, Some, None, is_none, IsSome}
 use Rattle.vc_cell.specs.declared.Container.{Container}
 use Rattle.vc_cell.specs.declared.Cell.{Cell}
-use Rattle.line_core.specs.declared.carry.Carry.{Carry}
-use Rattle.line_core.specs.declared.carry.Carry.TheVariants.{Nothing, Good, Fail, End}
+use Rattle.line_core.specs.declared.carry.CarrySign.{CarrySign}
+use Rattle.line_core.specs.declared.carry.CarrySign.TheVariants.{Nothing, Good, Fail, End}
 use Rattle.line_core.specs.Carry.{carry_cells}
 use Rattle.line_core.specs.Line.{Line, Calls, carries_of, path_cells, Stands}
 use Rattle.session_model.specs.Number.{verdict}
@@ -13,7 +13,7 @@ use Rattle.realign_core.specs.Gather.{Gather, Stands as Gathers}
 -- were given and popped
 pub record Ringed : Type 0 where
   pub core : Line
-  pub signs : List Carry
+  pub signs : List CarrySign
   pub places : List Container
   pub carried : ℕ
   pub given : ℕ
@@ -23,23 +23,23 @@ pub record Ringed : Type 0 where
 abbrev pub ring_of : Ringed → ℕ
 ring_of line = length line.signs
 
-abbrev pub cell_in : Option Carry → Option Container → List Cell
+abbrev pub cell_in : Option CarrySign → Option Container → List Cell
 cell_in None place = []
 cell_in (Some sign) None = []
 cell_in (Some sign) (Some place) = carry_cells sign place
 
 -- the cell of number y, where the ring holds it
-abbrev pub cell_at : List Carry → List Container → ℕ → List Cell
+abbrev pub cell_at : List CarrySign → List Container → ℕ → List Cell
 cell_at signs places y = cell_in (slice_get signs (y % length signs)) (slice_get places (y % length signs))
 
 -- what a ring has after a carry, whose sign is put at a place where it gave a cell, and how many cells it gave
-abbrev pub with_sign : Carry → ℕ → List Carry → List Carry
+abbrev pub with_sign : CarrySign → ℕ → List CarrySign → List CarrySign
 with_sign Nothing slot signs = signs
 with_sign Good slot signs = slice_set signs slot Good
 with_sign Fail slot signs = slice_set signs slot Fail
 with_sign End slot signs = slice_set signs slot End
 
-abbrev pub count_of : Carry → ℕ
+abbrev pub count_of : CarrySign → ℕ
 count_of Nothing = 0
 count_of Good = 1
 count_of Fail = 1

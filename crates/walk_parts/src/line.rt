@@ -14,7 +14,7 @@ ghost use Rattle.walk_parts.specs.Ringed.{Ringed, ring_of, Has, popped_cells, Is
 
 use crate::boxes::blank_boxes;
 use failure_window::{Window, Windows};
-use line_core::{Carry, LineCore};
+use line_core::{CarrySign, LineCore};
 use line_reader::{CellRef, CellSign};
 use realign_core::{RowAnswer, RowGather};
 use std::alloc::{AllocError, Global};
@@ -27,7 +27,7 @@ use vc_cell::{Container, HeldContainer};
 pub struct WalkLine {
     core: LineCore,
     /// What carries gave: that of cell `y` at place `y` modulo the size of the ring.
-    signs: Vec<Carry>,
+    signs: Vec<CarrySign>,
     /// The containers of those that are good, each in a box that it may come from the line and go into a row in.
     places: Vec<Box<HeldContainer>>,
     /// How many carries were made.
@@ -72,7 +72,7 @@ impl WalkLine {
         };
         Ok(WalkLine {
             core: LineCore::new(alloc, delay, windows, total)?,
-            signs: vec![in alloc; Carry::Nothing; usize::from(ring)]?,
+            signs: vec![in alloc; CarrySign::Nothing; usize::from(ring)]?,
             places: blank_boxes(alloc, ring)?,
             carried: 0,
             given: 0,
@@ -204,14 +204,14 @@ fn exchange(places: &mut Vec<Box<HeldContainer>>, a: usize, b: usize)
 }
 
 /// Puts what a carry gave at its place, where it gave a cell. Answers how many cells it gave.
-fn keep(signs: &mut Vec<Carry>, slot: usize, carry: Carry) -> u32
+fn keep(signs: &mut Vec<CarrySign>, slot: usize, carry: CarrySign) -> u32
     requires { slot < length signs.old.items }
     ensures signs { signs.new.items ≡ with_sign carry slot signs.old.items }
     ensures count { result ≡ count_of carry }
 {
     match carry {
-        Carry::Nothing => 0,
-        Carry::Good | Carry::Fail | Carry::End => {
+        CarrySign::Nothing => 0,
+        CarrySign::Good | CarrySign::Fail | CarrySign::End => {
             signs[slot] = carry;
             1
         }
@@ -231,24 +231,24 @@ fn waits_for(rows: &RowGather, line: u8) -> bool
 }
 
 /// The cell that a carry gave, whose container lies in this place.
-fn cell_at(carry: Carry, place: &Container) -> CellRef<'_>
+fn cell_at(carry: CarrySign, place: &Container) -> CellRef<'_>
     ensures { (cell : Cell) → carry_cells carry place.now ≡ cell ∷ [] → cell_of result ≡ cell }
 {
     match carry {
-        Carry::Good => CellRef::Good(place),
-        Carry::End => CellRef::End,
-        Carry::Fail | Carry::Nothing => CellRef::Fail,
+        CarrySign::Good => CellRef::Good(place),
+        CarrySign::End => CellRef::End,
+        CarrySign::Fail | CarrySign::Nothing => CellRef::Fail,
     }
 }
 
 /// The sign of the cell that a carry gave.
-fn sign_of(carry: Carry) -> CellSign
+fn sign_of(carry: CarrySign) -> CellSign
     ensures { (place : Container) (cell : Cell) → carry_cells carry place ≡ cell ∷ [] →
         cell_with result place ≡ cell }
 {
     match carry {
-        Carry::Good => CellSign::Good,
-        Carry::End => CellSign::End,
-        Carry::Fail | Carry::Nothing => CellSign::Fail,
+        CarrySign::Good => CellSign::Good,
+        CarrySign::End => CellSign::End,
+        CarrySign::Fail | CarrySign::Nothing => CellSign::Fail,
     }
 }

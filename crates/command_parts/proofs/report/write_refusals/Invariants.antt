@@ -2,7 +2,7 @@
 use Rattle.std.proofs.Common.{ℕ, List, ◌++◌, take}
 use Rattle.outside_io.specs.Start.{Start}
 use Rattle.walk_law.specs.Report.{refused_texts}
-use Rattle.got_out.specs.Told.{HasText}
+use Rattle.got_lines.specs.Told.{HasText}
 use Rattle.command_parts.proofs.report.write_refusals.Given as goal
 
 abbrev pub invariant-loop-item : goal.invariant-loop-item

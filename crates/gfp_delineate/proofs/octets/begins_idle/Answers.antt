@@ -27,8 +27,15 @@ returns-clause-all c place alike =
     let back : List ℕ = take (4 - (4 - n)) (drop (4 - n) window) in
     let have : ℕ = c.args.have in
     let short : place ≡ n =
-    omega (arith, ap length alike, length-drop (4 - have) window, length-take place idle_header, c.told-window,
-    c.requires, c.from-have.ensures) in
+    omega (
+      arith,
+      ap length alike,
+      length-drop (4 - have) window,
+      length-take place idle_header,
+      c.told-window,
+      c.requires,
+      c.from-have.ensures,
+    ) in
     c.eq.ensures
     ∙ (bytes_eq-Decides back (take n idle_header)).1
     (sym (came have n window c.from-have.ensures c.told-window c.requires) ∙ alike ∙ ap (λ n. take n idle_header) short)

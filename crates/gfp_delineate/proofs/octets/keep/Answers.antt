@@ -20,8 +20,14 @@ returns-clause-stands c settled octets stands =
     let piece = c.args.piece.now in
     let whole : xs ≡ items ++ piece = c.deref_mut.ensures.value ∙ c.in-Ok.ensures.items in
     let at : length items ≡ c.len-old.result =
-    omega (arith, c.deref_mut.ensures.len, c.in-Ok.ensures.len, ap length whole, length-append items piece,
-    c.len-old.ensures) in
+    omega (
+      arith,
+      c.deref_mut.ensures.len,
+      c.in-Ok.ensures.len,
+      ap length whole,
+      length-append items piece,
+      c.len-old.ensures,
+    ) in
     subst (λ l. Stands c.area.new.self settled (octets ++ l)) (part_is c.len-old.result xs items piece whole at)
     (c.area.ensures.stands settled octets stands)
 

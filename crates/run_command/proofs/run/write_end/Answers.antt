@@ -2,7 +2,7 @@
 use Rattle.std.proofs.Common.{rules, sym, ◌∙◌, subst, ℕ, OnOk, OnErr}
 use Rattle.outside_io.specs.Transfer.{Appends, AppendsPart}
 use Rattle.outside_io.specs.Start.{Start}
-use Rattle.got_out.specs.Told.{HasText, name_of, start_at}
+use Rattle.got_lines.specs.Told.{HasText, name_of, start_at}
 use Rattle.run_command.specs.Ended.{end_text}
 use Rattle.run_command.proofs.EndLaws.{end-written}
 use Rattle.run_command.proofs.run.write_end.Goals as goal

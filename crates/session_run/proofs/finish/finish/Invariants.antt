@@ -1,5 +1,5 @@
 -- The workers of the lines are later, and the sink has run on.
-use Rattle.got_out.specs.Told.{seen}
+use Rattle.got_lines.specs.Told.{seen}
 use Rattle.session_parts.specs.Duty.{Begun, HasRun}
 use Rattle.session_parts.specs.Lines.{AreLater}
 use Rattle.session_run.proofs.finish.finish.Given as goal

@@ -4,7 +4,7 @@ use Rattle.std.proofs.lemmas.Result.{on_ok_weaker, on_err_weaker}
 use borrow.Rule.Slice.PartMut.{put_mid}
 use Rattle.outside_io.specs.Transfer.{Appends, AppendsPart}
 use Rattle.report_text.specs.Report.{total_text}
-use Rattle.got_out.proofs.BlockLaws.{front_added}
+use Rattle.got_lines.proofs.BlockLaws.{front_added}
 use Rattle.walk_command.specs.Make.{made_text}
 use Rattle.walk_command.proofs.MakeLaws.{room-behind}
 use Rattle.walk_command.proofs.make.write_made.Goals as goal

@@ -3,8 +3,8 @@ use Rattle.std.proofs.Common.{rules, [], refl, sym, ◌∙◌, subst, false}
 use Rattle.std.specs.Result.{is_err}
 use Rattle.report_text.specs.Report.{got_texts}
 use Rattle.sink_core.specs.Given.{given_frames, added_frames}
-use Rattle.got_out.specs.Told.{start_at}
-use Rattle.got_out.specs.Over.{HasText, name_of}
+use Rattle.got_lines.specs.Told.{start_at}
+use Rattle.got_lines.specs.Over.{HasText, name_of}
 use Rattle.sink_worker.specs.Told.{Writes}
 use Rattle.sink_worker.specs.Received.{received}
 use Rattle.sink_worker.specs.Parts.{parts}
