@@ -16,7 +16,11 @@ pub(crate) fn words_parser<'a>(alloc: Global) -> Result<Command<'a>, AllocError>
         .no_binary_name(true)
         .disable_help_flag(true)
         .disable_help_subcommand(true)
-        .arg(Arg::new(alloc, "word").required(true).action(ArgAction::Append))
+        .arg(
+            Arg::new(alloc, "word")
+                .required(true)
+                .action(ArgAction::Append),
+        )
 }
 
 /// What the parser makes of plain words.

@@ -5,6 +5,7 @@ use Rattle.outside_io.specs.Transfer.{GivesAll, Appends, AppendsPart, Tells}
 use Rattle.got_lines.specs.Told.{AppendsSome}
 use Rattle.command_parts.specs.declared.stop.Refusal.{Refusal}
 use Rattle.command_parts.specs.Task.{Answer, Task, writes, writes_both, refuses, none, reads, makes, IsCommand, Reads, refused_status}
+use Rattle.session_model.specs.Limits.{longest_input}
 
 -- ---- the source and the two sinks
 -- what was lent to a call: before it, after it, what it tells of its octets, where it tells them, and its count of faults
@@ -45,12 +46,12 @@ IsTold x text = Tells x.octets x.faults x.old x.new text
 -- a text of at most 67,108,864 octets was read to its end
 pub record HasRead {S : Type 0} (source : Lent S) (text : List ℕ) : Type 0 where
   pub given : GivesAll source.octets source.old source.new text
-  pub fits : length text ≤ 67108864
+  pub fits : length text ≤ longest_input
   pub quiet : Quiet source
 
 -- more octets came
 pub record IsLong {S : Type 0} (source : Lent S) : Type 0 where
-  pub much : IfSome (source.octets source.old) (λ text. 67108864 < length text)
+  pub much : IfSome (source.octets source.old) (λ text. longest_input < length text)
   pub quiet : Quiet source
 
 -- the answer of a task, of the text that it read where it reads one

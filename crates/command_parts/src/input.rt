@@ -3,6 +3,7 @@ ghost use Rattle.std.specs.Prelude.{◌≤◌, ℕ, List, vec_len, IfOk, IfErr};
 ghost use Rattle.command_parts.specs.Task.{Answer};
 ghost use Rattle.command_parts.specs.Ends.{lent, HasRead};
 ghost use Rattle.command_parts.specs.Stops.{StopsReading};
+ghost use Rattle.session_model.specs.Limits.{longest_input};
 
 use crate::stop::Stop;
 use outside_io::{ByteSource, ReadEnd, read_all};
@@ -15,7 +16,7 @@ const MOST: usize = 67_108_864;
 pub fn read_input<S: ByteSource>(alloc: Global, source: &mut S) -> Result<Vec<u8>, Stop>
     ensures read { IfOk result (λ text.
         HasRead (lent S.left S.faults source.old source.new) text.items) }
-    ensures fits { IfOk result (λ text. vec_len text ≤ 67108864) }
+    ensures fits { IfOk result (λ text. vec_len text ≤ longest_input) }
     ensures stopped { (answer : List ℕ → Answer) → IfErr result
         (StopsReading (lent S.left S.faults source.old source.new) answer) }
 {

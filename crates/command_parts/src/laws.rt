@@ -5,6 +5,7 @@ ghost use Rattle.command_parts.specs.declared.stop.Refusal.{Refusal};
 ghost use Rattle.command_parts.specs.Task.{Answer, Task, none, reads, makes, refuses, Reads, IsGood, IsQuietTask, refused_status};
 ghost use Rattle.command_parts.specs.Ends.{Lent, Kept, Quiet, FailedOnce, IsTold, IsLong, WritesAll, WritesPart, until, since, Ends};
 ghost use Rattle.command_parts.specs.Status.{is_status, HasReadAt, Rises};
+ghost use Rattle.session_model.specs.Limits.{longest_input};
 
 /// What an end says of any task: which statuses there are, what was read and written, which faults were counted, and what was told.
 pub fn end_law<S, K, E>()
@@ -24,7 +25,7 @@ pub fn end_law<S, K, E>()
         Ends source out notes task s → s ≡ 8 → IsLong source }
     ensures fits { (source : Lent S) (out : Lent K) (notes : Lent E) (task : Task) (s : ℕ) →
         Ends source out notes task s → Reads task → HasReadAt s →
-        IfSome (source.octets source.old) (λ text. length text ≤ 67108864) }
+        IfSome (source.octets source.old) (λ text. length text ≤ longest_input) }
     ensures end { (source : Lent S) (out : Lent K) (notes : Lent E) (task : Task) (s : ℕ) →
         Ends source out notes task s → Reads task → HasReadAt s →
         IsAtEnd (source.octets source.new) }
@@ -81,7 +82,7 @@ pub fn input_law<S, K, E>()
     ensures complete { (source : Lent S) (out : Lent K) (notes : Lent E)
         (answer : List ℕ → Answer) (s : ℕ) →
         Ends source out notes (reads answer) s → IfSome (source.octets source.old)
-        (λ text. length text ≤ 67108864 → IsGood (answer text) → (s ≡ 0) ⊎ ((s ≡ 7)
+        (λ text. length text ≤ longest_input → IsGood (answer text) → (s ≡ 0) ⊎ ((s ≡ 7)
         ⊎ (Rises (source.faults source.old) (source.faults source.new)
         ⊎ (Rises (out.faults out.old) (out.faults out.new)
         ⊎ Rises (notes.faults notes.old) (notes.faults notes.new))))) }

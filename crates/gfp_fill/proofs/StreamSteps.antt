@@ -28,8 +28,12 @@ octets_left sender queue stream place stands =
     let all : List ℕ = stands.given ++ queue.begun in
     let area : List ℕ = drop (length stands.given) (scrambled_octets all) in
     let size : length area ≡ length queue.begun =
-    omega (arith, length-drop (length stands.given) (scrambled_octets all), length-scrambled_octets all,
-    length-append stands.given queue.begun) in
+    omega (
+      arith,
+      length-drop (length stands.given) (scrambled_octets all),
+      length-scrambled_octets all,
+      length-append stands.given queue.begun,
+    ) in
     ap length stands.rest ∙ length-append (head_of sender) area ∙ ap (λ n. length (head_of sender) + n) size
 
 -- two lists that are alike end alike

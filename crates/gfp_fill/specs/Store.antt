@@ -5,7 +5,8 @@ use Rattle.std.specs.Vec.{vec_capacity}
 use Rattle.std.specs.VecDeque.{deque_len, deque_capacity}
 use Rattle.std.specs.declared.alloc.Global.{Global}
 use Rattle.std.specs.declared.collections.VecDeque.{VecDeque}
-use Rattle.gfp_fill.specs.Queue.{IsFrameLength, longest_frame, most_waiting}
+use Rattle.gfp_fill.specs.Queue.{IsFrameLength}
+use Rattle.session_model.specs.Limits.{longest_frame, most_waiting}
 
 -- a buffer that has room for any frame
 abbrev pub HasRoom : Vec ℕ Global → Type 0

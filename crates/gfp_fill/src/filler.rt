@@ -7,8 +7,9 @@ ghost use Rattle.session_model.specs.TypeHeader.{type_header};
 ghost use Rattle.session_model.specs.Piece.{with_header, stream_of};
 ghost use Rattle.session_model.specs.Client.{Stream, reached};
 ghost use Rattle.gfp_scramble.specs.Scrambler.{Continues, ScramblesTo};
-ghost use Rattle.gfp_fill.specs.Queue.{unbegun, longest_frame};
+ghost use Rattle.gfp_fill.specs.Queue.{unbegun};
 ghost use Rattle.gfp_fill.specs.Stream.{Sender, head_of, unsent, Stands, Writes};
+ghost use Rattle.session_model.specs.Limits.{longest_frame};
 
 use crate::octets::{copy_some, put};
 use crate::queue::FrameQueue;

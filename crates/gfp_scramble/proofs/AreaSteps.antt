@@ -14,8 +14,17 @@ front_longer : (n u : ℕ) (f : List ℕ → List ℕ) → ((l : List ℕ) → l
     drop u (f (octets ++ take n was) ++ more) ≡ drop u (f octets ++ (take n area ++ more))
 front_longer n u f same octets was area more size front =
     drop_alike u u (f (octets ++ take n was)) (f octets ++ take n area) more
-    (omega (arith, same (octets ++ take n was), same octets, length-append octets (take n was), length-append
-    (f octets) (take n area), length-take n was, length-take n area, size)) front
+    (omega (
+      arith,
+      same (octets ++ take n was),
+      same octets,
+      length-append octets (take n was),
+      length-append
+          (f octets) (take n area),
+      length-take n was,
+      length-take n area,
+      size,
+    )) front
     ∙ ap (drop u) (append_assoc (f octets) (take n area) more)
 
 module _ (i : ℕ) (was area : List ℕ) (fits : i < length was) (size : length area ≡ length was) (back : drop i area ≡ drop i was) where

@@ -66,6 +66,10 @@ module _ (last : List Bool) (octets : List ℕ) where
       ∙ ap (λ l. drop (length six + 6) (descrambled_octets l)) (sym (append_assoc six octets more))
       ∙ ap (drop (length six + 6)) (answer 6 (six ++ octets) (settled-before given stands))
       ∙ drop_alike (length six + 6) 6 (descrambled_octets (six ++ octets)) (descrambled_octets octets) out
-      (omega (arith, length-descrambled_octets (six ++ octets), length-descrambled_octets octets,
-      length-append six octets))
+      (omega (
+        arith,
+        length-descrambled_octets (six ++ octets),
+        length-descrambled_octets octets,
+        length-append six octets,
+      ))
       (descrambled_octets-behind six octets)

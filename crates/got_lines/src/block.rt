@@ -3,6 +3,7 @@ ghost use Rattle.std.specs.Prelude.{◌≡◌, ◌≤◌, [], ◌++◌, length, 
 ghost use Rattle.outside_io.specs.Transfer.{Appends, AppendsPart};
 ghost use Rattle.report_text.specs.Report.{got_text};
 ghost use Rattle.got_lines.specs.Told.{Holds};
+ghost use Rattle.session_model.specs.Limits.{longest_frame, longest_got_line};
 
 use outside_io::{ByteSink, Failed, put_all};
 use report_text::{GOT_ROOM, got_line};
@@ -50,7 +51,7 @@ impl LineBlock {
 
     /// Adds the line of a delivered frame, and puts what waits where it is much.
     pub fn add_got<K: ByteSink>(&mut self, frame: &[u8], out: &mut K) -> Result<(), Failed>
-        requires { length frame.now ≤ 9600 }
+        requires { length frame.now ≤ longest_frame }
         ensures ok { let text = self.old ++ got_text frame.now in
             OnOk result (Holds K.written K.faults out.old out.new self.new text) }
         ensures err { let text = self.old ++ got_text frame.now in
@@ -67,7 +68,7 @@ impl LineBlock {
 
     /// Adds a line, and puts what waits where it is much.
     pub fn add<K: ByteSink>(&mut self, line: &[u8], out: &mut K) -> Result<(), Failed>
-        requires { length line.now ≤ 19205 }
+        requires { length line.now ≤ longest_got_line }
         ensures ok { let text = self.old ++ line.now in
             OnOk result (Holds K.written K.faults out.old out.new self.new text) }
         ensures err { let text = self.old ++ line.now in

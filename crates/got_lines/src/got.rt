@@ -4,6 +4,7 @@ ghost use Rattle.outside_io.specs.Transfer.{Appends, AppendsPart};
 ghost use Rattle.outside_io.specs.Faults.{one_more};
 ghost use Rattle.outside_io.specs.Start.{Start};
 ghost use Rattle.got_lines.specs.Told.{HasText, GivesUp, name_of, has_failed, start_at};
+ghost use Rattle.session_model.specs.Limits.{longest_got_line};
 
 use crate::block::LineBlock;
 use outside_io::{ByteSink, Failed};
@@ -42,7 +43,7 @@ impl<'a, K: ByteSink> GotLines<'a, K> {
 
     /// Writes a line of at most 19,205 octets.
     pub fn line(&mut self, text: &[u8])
-        requires { length text.now ≤ 19205 }
+        requires { length text.now ≤ longest_got_line }
         ensures { (start : Start) (before : List ℕ) →
             HasText K.written K.faults self.old start before →
             HasText K.written K.faults self.new start (before ++ text.now) }

@@ -6,6 +6,7 @@ use Rattle.session_model.specs.Counts.{Due, dues_of, frame_dues, command_dues}
 use Rattle.report_text.specs.declared.report.Refusal.{Refusal}
 use Rattle.walk_law.specs.Landed.{is_client}
 use Rattle.walk_parts.specs.Place.{is_frame, is_command, place_of}
+use Rattle.session_model.specs.Limits.{longest_input}
 
 -- the items, without the octets of frames; how many frames and commands have landed; the items that were refused, in their order, and why
 pub record Landed : Type 0 where
@@ -75,7 +76,7 @@ AreOfLanded landed = All (λ (refused : ℕ × Refusal). (item : Item) → slice
 pub record IsLanded (landed : Landed) (next_frame next_command space : ℕ) : Type 0 where
   pub frame : next_frame ≡ next_place landed true
   pub command : next_command ≡ next_place landed false
-  pub few : length landed.items ≤ 67108864
+  pub few : length landed.items ≤ longest_input
   pub frames : IsNonDecreasing (frame_dues (dues_of landed.items))
   pub commands : IsNonDecreasing (command_dues (dues_of landed.items))
   pub most_frames : landed.frames ≤ length (frame_dues (dues_of landed.items))

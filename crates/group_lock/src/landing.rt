@@ -7,6 +7,7 @@ ghost use Rattle.session_model.specs.Counts.{dues_of, frame_dues, command_dues, 
 ghost use Rattle.walk_law.specs.Landed.{IsPlaced, refused_by};
 ghost use Rattle.group_lock.specs.Item.{bare, bare_items};
 ghost use Rattle.group_lock.specs.Landed.{none_landed, next_place, next_number, due_at, AreOthers, AreBefore, AreAfter};
+ghost use Rattle.session_model.specs.Limits.{longest_input};
 
 use report_text::Refusal;
 use session_model::{Item, ItemKind, Octets};
@@ -41,7 +42,7 @@ impl Model for Landing {
 impl Landing {
     /// Nothing of these items has landed.
     pub(crate) fn new(alloc: Global, items: &[Item]) -> Result<Landing, AllocError>
-        requires few { length items.now ≤ 67108864 }
+        requires few { length items.now ≤ longest_input }
         requires frames { IsNonDecreasing (frame_dues (dues_of items.now)) }
         requires commands { IsNonDecreasing (command_dues (dues_of items.now)) }
         ensures { IfOk result (λ landing. landing ≡ none_landed (bare_items items.now)) }

@@ -15,6 +15,7 @@ ghost use Rattle.session_model.specs.Loss.{Extent, extents, confirmed_in, Lost, 
 ghost use Rattle.session_model.specs.SessionStream.{rows_of};
 ghost use Rattle.loss_law.specs.Carried.{CarriesStream, IsSentPiece, AreOctets, IsUndamaged};
 ghost use Rattle.loss_law.specs.Worked.{worked_pieces, worked_rows, kept_frame, places_of, ends_of, worked_places, worked_ends, worked_confirmed, worked_lost};
+ghost use Rattle.session_model.specs.Limits.{longest_frame};
 
 /// Where each place that is confirmed first after a break is that of a piece, the frames delivered are those that the rows carry and
 /// that aren't lost: nothing is altered or invented.
@@ -67,7 +68,7 @@ pub fn session_loss_law()
     ensures kept { (scenario : Scenario) (cells : List (Option Told)) (t n : ℕ) →
         AreOctets scenario → t ≤ n →
         TrueStarts (stream_before scenario cells n).pieces (rows_of scenario cells t) →
-        deliver 9600 (rows_of scenario cells t)
+        deliver longest_frame (rows_of scenario cells t)
         ≡ frames_kept (stream_before scenario cells n).pieces (rows_of scenario cells t) }
     ensures aligned { (scenario : Scenario) (cells : List (Option Told)) (t n : ℕ) →
         AreOctets scenario → t ≤ n → ((row : ℕ) → row < t → is_whole_row scenario cells row ≡ false →
@@ -82,12 +83,12 @@ pub fn hitless_law()
         IsUndamaged scenario → is_whole_row scenario cells t ≡ true }
     ensures delivered { (scenario : Scenario) (cells : List (Option Told)) (t n : ℕ) →
         AreOctets scenario → IsUndamaged scenario → t ≤ n →
-        deliver 9600 (rows_of scenario cells t)
+        deliver longest_frame (rows_of scenario cells t)
         ≡ frames_by (place_of scenario cells t) (stream_before scenario cells n).pieces }
     ensures first { (scenario : Scenario) (cells : List (Option Told)) (t n : ℕ) →
         AreOctets scenario → IsUndamaged scenario → t ≤ n →
-        deliver 9600 (rows_of scenario cells t)
-        ≡ take (length (deliver 9600 (rows_of scenario cells t))) (frames_before scenario cells n) }
+        deliver longest_frame (rows_of scenario cells t)
+        ≡ take (length (deliver longest_frame (rows_of scenario cells t))) (frames_before scenario cells n) }
 {}
 
 /// A worked stream, computed, in which a frame is lost in each of the four ways: the rows that aren't whole cut the first frame off and
@@ -99,7 +100,7 @@ pub fn worked_law()
     ensures confirmed { map confirmed_in (segments worked_rows) ≡ worked_confirmed }
     ensures lost { map (is_frame_lost (segments worked_rows) (extents 0 worked_pieces))
         (extents 0 worked_pieces) ≡ worked_lost }
-    ensures delivered { deliver 9600 worked_rows ≡ kept_frame ∷ [] }
+    ensures delivered { deliver longest_frame worked_rows ≡ kept_frame ∷ [] }
     ensures kept { frames_kept worked_pieces worked_rows ≡ kept_frame ∷ [] }
     ensures starts { TrueStarts worked_pieces worked_rows }
 {}

@@ -6,6 +6,7 @@ use Rattle.session_model.specs.declared.script.Item.{Item}
 use Rattle.session_model.specs.declared.script.ItemKind.TheVariants.{Frame, Add}
 use Rattle.session_model.specs.declared.script.Script.{Script}
 use Rattle.make_load.specs.Draws.{next, drawn, draws, after_draws}
+use Rattle.session_model.specs.Limits.{vc4_size}
 
 -- ---- a frame
 -- its length is drawn first, and then its octets
@@ -46,7 +47,7 @@ config_of number lines ticks = record {
   ring = 64;
   lag = 4;
   ticks = ticks;
-  size = 2340;
+  size = vc4_size;
 }
 
 abbrev pub load : ℕ → ℕ → ℕ → Script

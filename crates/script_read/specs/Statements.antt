@@ -15,6 +15,7 @@ use Rattle.script_read.specs.declared.keyword.Keyword.TheVariants as word
 use Rattle.script_read.specs.declared.draft.Statement.{Statement}
 use Rattle.script_read.specs.declared.draft.Statement.TheVariants as says
 use Rattle.script_read.specs.declared.draft.Draft.{Draft}
+use Rattle.session_model.specs.Limits.{vc3_size, vc4_size}
 
 -- ---- the first word
 -- the words that may begin an event line
@@ -109,7 +110,7 @@ fields d word.Drain = []
 
 -- the payload octets of a container, by its name
 abbrev pub size_of : List ℕ → Option ℕ
-size_of w = if bytes_eq w (codes "vc3") then Some 756 else if bytes_eq w (codes "vc4") then Some 2340 else None
+size_of w = if bytes_eq w (codes "vc3") then Some vc3_size else if bytes_eq w (codes "vc4") then Some vc4_size else None
 
 -- ---- what the lines before it leave no room for
 -- the windows of a line so far, and the end of the last of them
@@ -209,7 +210,7 @@ after d (says.Event e) = record d { next = 8; events = d.events ++ e ∷ [] }
 abbrev pub at_first : Draft
 at_first = record {
   next = 0;
-  config = record { lines = 0; delays = []; windows = []; lost = []; ring = 0; lag = 0; ticks = 0; size = 2340 };
+  config = record { lines = 0; delays = []; windows = []; lost = []; ring = 0; lag = 0; ticks = 0; size = vc4_size };
   items = [];
   events = [];
   frame_due = 0;

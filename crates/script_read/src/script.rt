@@ -4,6 +4,7 @@ ghost use Rattle.text_lines.specs.Language.{said_by};
 ghost use Rattle.script_read.specs.Script.{script_of, script_in, script_lines};
 ghost use Rattle.script_read.specs.Drafts.{IsDraft, fault_at};
 ghost use Rattle.session_model.specs.Valid.{IsValid};
+ghost use Rattle.session_model.specs.Limits.{longest_input};
 
 use crate::draft::Draft;
 use crate::fault::ScriptFault;
@@ -26,10 +27,10 @@ fn fault_of(number: u32, stop: LineStop) -> ScriptFault
 
 // What the lines of a text say.
 fn read_draft(alloc: Global, text: &[u8]) -> Result<Draft, ScriptFault>
-    requires { length text.now ≤ 67108864 }
+    requires { length text.now ≤ longest_input }
     ensures ok { IfOk result (λ draft. said_by script_lines text.now ≡ Ok draft) }
     ensures stands { IfOk result (λ draft. IsDraft draft × (6 ≤ draft.next)) }
-    ensures few { IfOk result (λ draft. length draft.items ≤ 67108864) }
+    ensures few { IfOk result (λ draft. length draft.items ≤ longest_input) }
     ensures err { IfErr result (λ fault. (fault ≡ ScriptFault.Memory)
         ⊎ (script_of text.now ≡ Err fault)) }
 {
@@ -71,7 +72,7 @@ fn finished(draft: Draft) -> Script
 /// no line has one, the first that fails of the tests of slips, spread and lag. Want of memory may come in place of any answer. What
 /// a script that is given meets is `IsValid`.
 pub fn read_script(alloc: Global, text: &[u8]) -> Result<Script, ScriptFault>
-    requires { length text.now ≤ 67108864 }
+    requires { length text.now ≤ longest_input }
     ensures script { IfOk result (λ script. script_of text.now ≡ Ok script) }
     ensures valid { IfOk result IsValid }
     ensures fault { IfErr result (λ fault.

@@ -9,6 +9,7 @@ use Rattle.session_model.specs.declared.table.Member.{Member}
 use Rattle.session_model.specs.Table.{member_of}
 use Rattle.session_model.specs.Source.{table_of}
 use Rattle.session_model.specs.Back.{session_cells}
+use Rattle.session_model.specs.Limits.{vc4_size}
 
 abbrev pub order : ℕ → Command → DueCommand
 order due command = record { due = due; command = command }
@@ -21,7 +22,7 @@ abbrev pub scenario_for : ℕ → ℕ → List (List Window) → List DueCommand
 scenario_for lag ticks windows orders = record {
   lag = lag;
   ticks = ticks;
-  size = 2340;
+  size = vc4_size;
   windows = windows;
   lost = [];
   orders = orders;

@@ -6,6 +6,7 @@ use Rattle.session_model.specs.Piece.{Piece, idle, client, size_of}
 use Rattle.session_model.specs.Scenario.{Scenario, frames_at}
 use Rattle.session_model.specs.Table.{Told, active}
 use Rattle.session_model.specs.Source.{table_of}
+use Rattle.session_model.specs.Limits.{shortest_frame, longest_frame, most_waiting}
 
 -- how many octets pieces have on the stream
 abbrev pub size : List Piece → ℕ
@@ -19,8 +20,8 @@ pub record Stream : Type 0 where
 -- why a frame is refused while others wait: its length is outside 64 to 9600 octets, or else 256 frames wait
 abbrev pub refusal_while : List (List ℕ) → List ℕ → Option AcceptFault
 refusal_while waiting frame =
-    if nat_lt (length frame) 64 || nat_lt 9600 (length frame) then Some (Length (length frame))
-    else if nat_le 256 (length waiting) then Some (QueueFull 256)
+    if nat_lt (length frame) shortest_frame || nat_lt longest_frame (length frame) then Some (Length (length frame))
+    else if nat_le most_waiting (length waiting) then Some (QueueFull most_waiting)
     else None
 
 abbrev pub frame_refusal : List ℕ → Stream → Option AcceptFault

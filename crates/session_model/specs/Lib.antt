@@ -1,3 +1,4 @@
+pub mod Limits
 pub mod Scramble
 pub mod Core
 pub mod TypeHeader

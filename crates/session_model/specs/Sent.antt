@@ -10,6 +10,7 @@ use Rattle.session_model.specs.Source.{table_of}
 use Rattle.session_model.specs.Forward.{forward_packet}
 use Rattle.session_model.specs.Payload.{payload_of}
 use Rattle.session_model.specs.Interleave.{part_of}
+use Rattle.session_model.specs.Limits.{vc4_size}
 
 -- the lines that carry payload in frame t, in the order of SQ: packet k governs frames 16 k + 24 to 16 k + 39
 abbrev pub active_at : Scenario → List (Option Told) → ℕ → List ℕ
@@ -22,8 +23,8 @@ rank_of lines line = position_from (λ other. other == line) 0 lines
 -- what the member of a rank carries of a row, of x members with a size of payload octets each: zeros follow up to 2,340 octets, and a
 -- line without a rank carries zeros alone
 abbrev pub payload_by : Option ℕ → ℕ → ℕ → List ℕ → List ℕ
-payload_by None x size row = replicate 2340 0
-payload_by (Some rank) x size row = part_of rank x size row ++ replicate (2340 - size) 0
+payload_by None x size row = replicate vc4_size 0
+payload_by (Some rank) x size row = part_of rank x size row ++ replicate (vc4_size - size) 0
 
 abbrev pub payload_on : List ℕ → ℕ → ℕ → List ℕ → List ℕ
 payload_on lines line size row = payload_by (rank_of lines line) (length lines) size row

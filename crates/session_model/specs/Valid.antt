@@ -13,6 +13,7 @@ use Rattle.session_model.specs.declared.script.Script.{Script}
 use Rattle.session_model.specs.Damage.{AreWindows}
 use Rattle.session_model.specs.Counts.{dues_of, frame_dues, command_dues}
 use Rattle.session_model.specs.Plan.{FitsRing, FitsLag}
+use Rattle.session_model.specs.Limits.{vc3_size, vc4_size, longest_input}
 
 -- a number within two bounds
 abbrev pub IsWithin : ℕ → ℕ → ℕ → Type 0
@@ -38,7 +39,7 @@ pub record HasLosses (lost : List (ℕ × ℕ)) : Type 0 where
 
 -- the payload octets of a container
 abbrev pub IsSize : ℕ → Type 0
-IsSize size = (size ≡ 756) ⊎ (size ≡ 2340)
+IsSize size = (size ≡ vc3_size) ⊎ (size ≡ vc4_size)
 
 pub record IsNetwork (config : Config) : Type 0 where
   pub lines : IsWithin 1 128 config.lines
@@ -86,5 +87,5 @@ IsEvent lines Drain = Unit {0}
 pub record IsValid (script : Script) : Type 0 where
   pub network : IsNetwork script.config
   pub items : AreItems script.config.ticks script.items
-  pub few : length script.items ≤ 67108864
+  pub few : length script.items ≤ longest_input
   pub events : All (IsEvent script.config.lines) script.events

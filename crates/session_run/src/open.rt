@@ -9,6 +9,7 @@ ghost use Rattle.group_lock.specs.Rings.{AreUnused};
 ghost use Rattle.group_lock.specs.Session.{octets_in, IsBound};
 ghost use Rattle.session_run.specs.Room.{HasRoomFor};
 ghost use Rattle.session_run.specs.Session.{IsOpen, IsSinkOf};
+ghost use Rattle.session_model.specs.Limits.{longest_input};
 
 use crate::room::{Flags, Room};
 use group_lock::GroupState;
@@ -41,7 +42,7 @@ fn octets(item: &Item) -> u64
 
 /// The octets of all frames of a script.
 fn all_octets(items: &[Item]) -> u64
-    requires few { length items.now ≤ 67108864 }
+    requires few { length items.now ≤ longest_input }
     requires each { All (λ (item : Item). IsKind item.kind) items.now }
     ensures { result ≡ octets_in (offers_of items.now) }
 {

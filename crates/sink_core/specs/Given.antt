@@ -10,6 +10,7 @@ use Rattle.realign_core.specs.Gather.{Gather, line_count, IsOpenAt, AreDecided}
 use Rattle.loss_law.specs.Added.{whole_row, lost_row}
 use Rattle.sink_core.specs.declared.sink.TakeAnswer.{TakeAnswer}
 use Rattle.sink_core.specs.declared.sink.TakeAnswer.TheVariants.{Taken, Waiting}
+use Rattle.session_model.specs.Limits.{longest_frame}
 
 -- ---- rows and frames
 -- a row, where it is whole with these octets. What was sent in a row that isn't whole is not known
@@ -23,7 +24,7 @@ received_rows size cells taken = map (λ t. row_in (row_at size cells t)) (range
 
 -- the frames that they give
 abbrev pub given_frames : ℕ → List (List Cell) → ℕ → List (List ℕ)
-given_frames size cells taken = deliver 9600 (received_rows size cells taken)
+given_frames size cells taken = deliver longest_frame (received_rows size cells taken)
 
 -- those that the rows up to a count give beside those of fewer rows
 abbrev pub added_frames : ℕ → List (List Cell) → ℕ → ℕ → List (List ℕ)

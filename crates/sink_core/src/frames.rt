@@ -3,6 +3,7 @@
 ghost use Rattle.std.specs.Prelude.{◌≡◌, ℕ, ◌≤◌, false, List, [], ◌∷◌, ◌++◌, length, map, IfOk};
 ghost use Rattle.outside_io.specs.Start.{Start};
 ghost use Rattle.sink_core.specs.Kept.{HasKept};
+ghost use Rattle.session_model.specs.Limits.{longest_frame};
 
 use std::alloc::{AllocError, Global};
 use std::marker::Model;
@@ -14,7 +15,7 @@ pub trait FrameOut {
 
     /// Takes the next frame, from destination address to FCS, of at most 9,600 octets.
     fn frame(&mut self, frame: &[u8])
-        requires { length frame.now ≤ 9600 }
+        requires { length frame.now ≤ longest_frame }
         ensures { (start : Start) (frames : List (List ℕ)) → stands_for self.old start frames →
             stands_for self.new start (frames ++ frame.now ∷ []) };
 }

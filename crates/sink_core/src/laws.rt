@@ -12,6 +12,7 @@ ghost use Rattle.realign_core.specs.Gather.{with_cell};
 ghost use Rattle.sink_core.specs.Given.{given_frames, added_frames, back_at};
 ghost use Rattle.sink_core.specs.Core.{Core, Stands};
 ghost use Rattle.sink_core.specs.Session.{AreSessionRows, TellRows};
+ghost use Rattle.session_model.specs.Limits.{longest_frame};
 
 /// What was taken stays taken where more cells come, and more rows give more frames and change none of those before. Return packet k
 /// is made at row 16 k + 23.
@@ -39,7 +40,7 @@ pub fn sink_law()
 pub fn session_sink_law()
     ensures frames { (scenario : Scenario) (returns : List (Option Told)) (cells : List (List Cell))
         (n : ℕ) → AreSessionRows scenario returns cells n →
-        given_frames scenario.size cells n ≡ deliver 9600 (rows_of scenario returns n) }
+        given_frames scenario.size cells n ≡ deliver longest_frame (rows_of scenario returns n) }
     ensures rows { (scenario : Scenario) (returns : List (Option Told)) (cells : List (List Cell))
         (n : ℕ) → length scenario.windows ≤ 128 → TellRows scenario returns cells n →
         AreSessionRows scenario returns cells n }

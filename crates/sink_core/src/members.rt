@@ -11,6 +11,7 @@ ghost use Rattle.session_model.specs.Interleave.{octets_from};
 ghost use Rattle.vcat_interleave.specs.Members.{payload_at, payloads_of, AreLines};
 ghost use Rattle.outside_io.specs.Start.{Start};
 ghost use Rattle.sink_core.specs.Receives.{IsKnown, Grows, Gives, IsIdle};
+ghost use Rattle.session_model.specs.Limits.{longest_frame, vc4_size};
 
 use crate::frames::FrameOut;
 use gfp_delineate::{Delineator, Step, word_run};
@@ -26,7 +27,7 @@ const SIDE: usize = 16;
 /// Gives the frame that a receiver holds to `out`.
 fn give<F: FrameOut>(delineator: &Delineator, out: &mut F)
     requires held { IsSome (frame_of delineator.now) }
-    requires short { IfSome (frame_of delineator.now) (λ frame. length frame ≤ 9600) }
+    requires short { IfSome (frame_of delineator.now) (λ frame. length frame ≤ longest_frame) }
     ensures { (start : Start) (frames : List (List ℕ)) → F.stands_for out.old start frames →
         F.stands_for out.new start (frames ++ option_to_list (frame_of delineator.now)) }
 {
@@ -121,7 +122,7 @@ fn payload_of(containers: &[Box<HeldContainer>], line: u8) -> &[u8; PAYLOAD]
 #[inline]
 fn part_of(containers: &[Box<HeldContainer>], line: u8, place: usize, places: usize) -> &[u8]
     requires line { line < length containers.now }
-    requires within { place + places ≤ 2340 }
+    requires within { place + places ≤ vc4_size }
     ensures size { length result.now ≡ places }
     ensures octets { result.now ≡ take places (drop place (payload_at (held containers.now) line)) }
 {
@@ -137,7 +138,7 @@ fn carries_word(
     word: u64,
 ) -> bool
     requires line { line < length containers.now }
-    requires within { place + places ≤ 2340 }
+    requires within { place + places ≤ vc4_size }
     requires eights { places % 8 ≡ 0 }
     ensures { result ≡ true → (p : ℕ) → p < places →
         slice_index (payload_at (held containers.now) line) (place + p)
@@ -156,7 +157,7 @@ fn are_idle(
 ) -> bool
     requires lines { AreLines (length containers.now) active.now }
     requires few { length active.now ≤ 128 }
-    requires within { place + places ≤ 2340 }
+    requires within { place + places ≤ vc4_size }
     requires eights { places % 8 ≡ 0 }
     requires have { have < 4 }
     ensures { result ≡ true →
@@ -190,7 +191,7 @@ fn idle_places(
     requires lines { AreLines (length containers.now) active.now }
     requires few { length active.now ≤ 128 }
     requires place { place ≤ size }
-    requires size { size ≤ 2340 }
+    requires size { size ≤ vc4_size }
     ensures within { place + result ≤ size }
     ensures idle { IsIdle delineator.now
         (octets_from place result (payloads_of (held containers.now) active.now)) }
@@ -205,7 +206,7 @@ fn idle_places(
 /// The octets of a row that one line carries alone.
 fn only_payload(containers: &[Box<HeldContainer>], line: u8, size: usize) -> &[u8]
     requires line { line < length containers.now }
-    requires size { size ≤ 2340 }
+    requires size { size ≤ vc4_size }
     ensures size { length result.now ≡ size }
     ensures octets { result.now ≡ take size (payload_at (held containers.now) line) }
 {
@@ -226,7 +227,7 @@ pub(crate) fn take_members<F: FrameOut>(
     requires known { IsKnown delineator.old }
     requires lines { AreLines (length containers.now) active.now }
     requires few { length active.now ≤ 128 }
-    requires size { size ≤ 2340 }
+    requires size { size ≤ vc4_size }
     requires block { length block.old ≡ 4096 }
     ensures grows { Grows delineator.old delineator.new
         (octets_from 0 size (payloads_of (held containers.now) active.now)) }
@@ -254,8 +255,8 @@ pub(crate) fn take_members<F: FrameOut>(
 
 /// Tells a receiver of a break of the stream.
 pub(crate) fn take_break(delineator: &mut Delineator)
-    ensures { (first : Bool) (octets : List ℕ) → StandsIn delineator.old 9600 first octets →
-        StandsIn delineator.new 9600 false [] }
+    ensures { (first : Bool) (octets : List ℕ) → StandsIn delineator.old longest_frame first octets →
+        StandsIn delineator.new longest_frame false [] }
 {
     delineator.broken();
 }

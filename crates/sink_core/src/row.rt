@@ -12,6 +12,7 @@ ghost use Rattle.sink_core.specs.Members.{Hold, octets_if};
 ghost use Rattle.outside_io.specs.Start.{Start};
 ghost use Rattle.sink_core.specs.Given.{row_in};
 ghost use Rattle.sink_core.specs.Receives.{IsKnown, Receives};
+ghost use Rattle.session_model.specs.Limits.{vc4_size};
 
 use crate::active::leading_act;
 use crate::frames::FrameOut;
@@ -68,7 +69,7 @@ pub(crate) fn take_row<F: FrameOut>(
     requires known { IsKnown delineator.old }
     requires few { length active.now ≤ 128 }
     requires block { length block.old ≡ 4096 }
-    requires size { size ≤ 2340 }
+    requires size { size ≤ vc4_size }
     requires lines { AreLines (line_count rows.now) active.now }
     requires decided { AreDecided rows.now }
     requires row { rows.now.rows ≡ t }

@@ -10,6 +10,8 @@ ghost use Rattle.vcat_interleave.specs.Members.{AreLines};
 ghost use Rattle.lcas_sink.specs.Stands.{Stands as HasTold};
 ghost use Rattle.sink_core.specs.Given.{answer_at, added_frames, back_at, read_rows, packet_rows, rows_taken, waiting_for, back_of, IsPacketEnd, IsWaiting, Allows};
 ghost use Rattle.sink_core.specs.Core.{Stands};
+ghost use Rattle.session_model.specs.Limits.{vc4_size};
+ghost use Rattle.session_model.specs.Valid.{IsSize};
 
 use crate::active::find_active;
 use crate::frames::FrameOut;
@@ -76,7 +78,7 @@ impl Model for SinkCore {
       active = core.active.items;
     } };
 
-    ghost invariant = { λ core. IsKnown core.delineator × (core.lines ≤ 128) × (core.size ≤ 2340) × (core.table.lines ≡ core.lines)
+    ghost invariant = { λ core. IsKnown core.delineator × (core.lines ≤ 128) × (core.size ≤ vc4_size) × (core.table.lines ≡ core.lines)
         × (core.table.taken ≡ packet_rows core.taken) × (128 ≤ vec_capacity core.active)
         × AreLines core.lines core.active.items × (length core.active.items ≤ 128) × (length core.block.items ≡ 4096) };
 }
@@ -86,7 +88,7 @@ impl SinkCore {
     pub fn new(alloc: Global, lines: u8, size: u16) -> Result<SinkCore, AllocError>
         requires least { 1 ≤ lines }
         requires most { lines ≤ 128 }
-        requires size { (size ≡ 756) ⊎ (size ≡ 2340) }
+        requires size { IsSize size }
         ensures lines { IfOk result (λ core. core.lines ≡ lines) }
         ensures size { IfOk result (λ core. core.size ≡ size) }
         ensures taken { IfOk result (λ core. core.taken ≡ 0) }

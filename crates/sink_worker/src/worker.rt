@@ -1,6 +1,7 @@
 //! The worker of the sink.
 ghost use Rattle.std.specs.Prelude.{◌≡◌, ◌≤◌, length};
 ghost use Rattle.realign_core.specs.Gather.{line_count};
+ghost use Rattle.session_model.specs.Valid.{IsSize};
 
 use crate::burst::SinkBurst;
 use crate::got::{CountOut, ToldOut, take_back};
@@ -55,7 +56,7 @@ impl SinkWorker {
     ) -> Result<SinkWorker, AllocError>
         requires least { 1 ≤ lines }
         requires most { lines ≤ 128 }
-        requires size { (size ≡ 756) ⊎ (size ≡ 2340) }
+        requires size { IsSize size }
         requires rings { length rx.items ≡ lines }
         requires fresh { received rx.items ≡ replicate lines [] }
         requires back { out_passed back ≡ [] }

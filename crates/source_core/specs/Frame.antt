@@ -4,6 +4,7 @@ use Rattle.std.specs.Option.{is_some}
 use Rattle.std.specs.List.{range_with_len}
 use Rattle.vc_cell.specs.declared.Container.{Container}
 use Rattle.session_model.specs.Sent.{rank_of, payload_on}
+use Rattle.session_model.specs.Limits.{vc4_size}
 
 -- H4 in frame t, where these are the nibbles of the line's packet, which begins in a frame of number 8 modulo 16
 abbrev pub h4_by : ℕ → List ℕ → ℕ
@@ -16,7 +17,7 @@ carries active line = is_some (rank_of active line)
 -- a container to which only octets of the stream are to be written, as many as are filled: H4 is there, and zeros behind those octets
 pub record IsBegun (h4 filled : ℕ) (container : Container) : Type 0 where
   pub header : container.h4 ≡ h4
-  pub zeros : drop filled container.payload ≡ replicate (2340 - filled) 0
+  pub zeros : drop filled container.payload ≡ replicate (vc4_size - filled) 0
 
 -- those of a number of lines in frame t
 abbrev pub AreBegun : ℕ → List (List ℕ) → List ℕ → ℕ → ℕ → List Container → Type 0

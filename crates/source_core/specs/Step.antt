@@ -14,6 +14,7 @@ use Rattle.gfp_fill.specs.Stream.{Sender}
 use Rattle.vcat_interleave.specs.Members.{AreLines}
 use Rattle.vcat_interleave.specs.Spread.{AreDistinct}
 use Rattle.source_core.specs.Terminal.{Terminal}
+use Rattle.session_model.specs.Limits.{vc4_size}
 
 -- a decision step is made in the tick of frame t
 abbrev pub is_step : ℕ → Bool
@@ -63,7 +64,7 @@ terminal_of lag size ticks queue sender table active nibbles = record {
 -- what is true of the fields
 pub record IsTerminal (core : Terminal) (octets : ℕ) : Type 0 where
   pub lines : core.lines ≤ 128
-  pub size : core.size ≤ 2340
+  pub size : core.size ≤ vc4_size
   pub room : octets ≡ core.size * core.lines
   pub fits : Fits core.lines core.table.source
   pub steps : core.table.steps ≡ steps_in core.ticks

@@ -9,6 +9,7 @@ ghost use Rattle.vcat_interleave.specs.Members.{AreLines, with_octets};
 ghost use Rattle.vcat_interleave.specs.Spread.{Spreads};
 ghost use Rattle.source_core.specs.Frame.{h4_by, carries, IsBegun, AreBegun};
 ghost use Rattle.source_core.specs.Step.{AreMembers, AreNibbles};
+ghost use Rattle.session_model.specs.Limits.{vc4_size};
 
 use crate::step::NIBBLES;
 use gfp_fill::{Filler, FrameQueue};
@@ -53,7 +54,7 @@ pub(crate) fn begin_all(
     requires few { length out.old ≤ 128 }
     requires below { AreNibbles nibbles.now }
     requires members { AreMembers (length out.old) active.now }
-    requires size { size ≤ 2340 }
+    requires size { size ≤ vc4_size }
     ensures { AreBegun ticks nibbles.now active.now size (length out.old) (held out.new) }
 {
     let carry = carriers(active);
@@ -93,7 +94,7 @@ fn h4_of(ticks: u32, nibbles: &[u8; NIBBLES]) -> u8
 
 /// Writes H4, and zeros behind the octets that are filled.
 fn begin(h4: u8, filled: usize, container: &mut HeldContainer)
-    requires { filled ≤ 2340 }
+    requires { filled ≤ vc4_size }
     ensures { IsBegun h4 filled container.new }
 {
     if filled == 0 {
@@ -122,7 +123,7 @@ pub(crate) fn fill_all(
     out: &mut [Box<HeldContainer>],
 )
     requires members { AreMembers (length out.old) active.now }
-    requires size { size ≤ 2340 }
+    requires size { size ≤ vc4_size }
     requires room { size * length active.now ≤ length row.old }
     ensures stands { (stream : Stream) (place : ℕ) → Stands filler.old queue.old stream place →
         let further = place + size * length active.now in
@@ -148,7 +149,7 @@ pub(crate) fn fill_all(
 
 /// Writes the next octets of the stream to the front of a payload.
 fn fill_one(filler: &mut Filler, queue: &mut FrameQueue, size: usize, container: &mut Container)
-    requires { size ≤ 2340 }
+    requires { size ≤ vc4_size }
     ensures stands { (stream : Stream) (place : ℕ) → Stands filler.old queue.old stream place →
         Stands filler.new queue.new (reached (place + size) stream) (place + size) }
     ensures octets { (stream : Stream) (place : ℕ) → Stands filler.old queue.old stream place →

@@ -13,6 +13,7 @@ ghost use Rattle.vcat_interleave.specs.Spread.{AreDistinct};
 ghost use Rattle.source_core.specs.Terminal.{needed_at};
 ghost use Rattle.source_core.specs.Given.{ComesAlike, first_items};
 ghost use Rattle.source_core.specs.Dealt.{IsDealt};
+ghost use Rattle.session_model.specs.Limits.{vc4_size};
 
 /// What lands later, and return cells that come later, change nothing of what was sent before: so what a terminal makes of the
 /// items that have landed is what the definitions say of the whole session.
@@ -55,7 +56,7 @@ pub fn membership_law()
         i < length (payload_of scenario cells t) → IsDealt scenario cells t i }
     ensures others { (scenario : Scenario) (cells : List (Option Told)) (t line : ℕ) →
         rank_of (active_at scenario cells t) line ≡ None →
-        (container_of scenario cells line t).payload ≡ replicate 2340 0 }
+        (container_of scenario cells line t).payload ≡ replicate vc4_size 0 }
 {}
 
 /// A tick needs return cell `k` exactly where it makes frame `16 (k + lag) + 8`.

@@ -8,6 +8,7 @@ ghost use Rattle.vc_cell.specs.Held.{held};
 ghost use Rattle.source_core.specs.Terminal.{needed, SameKind};
 ghost use Rattle.source_core.specs.Given.{with_cell, IsFresh, Stands};
 ghost use Rattle.source_core.specs.Maker.{terminal_in, IsMaker};
+ghost use Rattle.session_model.specs.Limits.{vc4_size};
 
 use crate::frame::{begin_all, fill_all};
 use crate::step::{NIBBLES, no_packets, take_step};
@@ -44,7 +45,7 @@ impl Maker {
     /// Of a terminal that was given nothing.
     pub(crate) fn new(alloc: Global, lines: u8, lag: u16, size: u16) -> Result<Maker, AllocError>
         requires lines { lines ≤ 128 }
-        requires size { size ≤ 2340 }
+        requires size { size ≤ vc4_size }
         ensures is { IfOk result (λ maker. IsMaker maker) }
         ensures stands { IfOk result (λ maker. (scenario : Scenario) →
             IsFresh scenario lines lag size → Stands (terminal_in maker) scenario []) }

@@ -11,6 +11,7 @@ ghost use Rattle.session_model.specs.Sent.{frame_of};
 ghost use Rattle.vc_cell.specs.Held.{held};
 ghost use Rattle.source_core.specs.Terminal.{needed, SameKind};
 ghost use Rattle.source_core.specs.Given.{with_frame, with_command, with_cell, IsFresh, Stands};
+ghost use Rattle.session_model.specs.Limits.{vc4_size};
 
 use crate::frame::{boxes, copy_out};
 use crate::maker::Maker;
@@ -46,7 +47,7 @@ impl SourceCore {
     /// of packet `k` comes with the tick of frame `16 (k + lag) + 8`.
     pub fn new(alloc: Global, lines: u8, lag: u16, size: u16) -> Result<SourceCore, AllocError>
         requires lines { lines ≤ 128 }
-        requires size { size ≤ 2340 }
+        requires size { size ≤ vc4_size }
         ensures stands { IfOk result (λ core. (scenario : Scenario) → IsFresh scenario lines lag size →
             Stands core scenario []) }
         ensures lines { IfOk result (λ core. core.lines ≡ lines) }

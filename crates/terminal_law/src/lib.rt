@@ -25,6 +25,7 @@ ghost use Rattle.row_law.specs.Received.{HasPackets, TellsRow, IsDealtRow};
 ghost use Rattle.terminal_law.specs.Lines.{HasLines, given, ComesOfLine, ComeOfLines};
 ghost use Rattle.terminal_law.specs.Course.{back_of, packet_by, told_of, IsCourse};
 ghost use Rattle.terminal_law.specs.Worked.{two_lines, h4_from, no_packet, first_added, first_in_use, second_added, first_told, first_cells, dealt};
+ghost use Rattle.session_model.specs.Limits.{vc4_size};
 
 /// The containers that the source makes, whatever it was told. Their H4 octets say their numbers, and the nibbles of each packet
 /// stand in them in their order; their payload is that of a VC-4 in length, in octets, and the lines that carry payload are dealt the octets of
@@ -40,7 +41,7 @@ pub fn sent_law()
         sent_nibbles (containers_of scenario returns line frames) k
         ≡ packet_nibbles (forward_packet (table_of scenario returns k) line k) }
     ensures payload { (scenario : Scenario) (returns : List (Option Told)) (line t : ℕ) →
-        scenario.size ≤ 2340 → length (container_of scenario returns line t).payload ≡ 2340 }
+        scenario.size ≤ vc4_size → length (container_of scenario returns line t).payload ≡ vc4_size }
     ensures octets { (scenario : Scenario) (returns : List (Option Told)) (line t : ℕ) →
         All (λ o. o < 256) (container_of scenario returns line t).payload }
     ensures dealt { (scenario : Scenario) (returns : List (Option Told)) (t : ℕ) →

@@ -54,7 +54,7 @@ digits_read least most w (Ok octets) is none =
     subst (AreOctets least most) same
     (record {
       size = inside least most (length octets)
-      (where_none (not (nat_le least (length octets) && nat_le (length octets) most)) Range none);
+          (where_none (not (nat_le least (length octets) && nat_le (length octets) most)) Range none);
       each = bytes_all octets (decode_of-ok w octets is).3;
     })
 

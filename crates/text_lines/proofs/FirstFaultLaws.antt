@@ -82,7 +82,7 @@ this_line : {D K : Type 0} (language : Language D K) (n : ℕ) (d : D) (l : List
     (fault : K) (f : Option K)
     → language.fault d (words l) ≡ f
     → (said_from language (n + 1) (language.after d (words l)) ls ≡ told m fault
-      → IsFirstFault language (n + 1) (language.after d (words l)) ls m fault)
+    → IsFirstFault language (n + 1) (language.after d (words l)) ls m fault)
     → unless_fault n f (said_from language (n + 1) (language.after d (words l)) ls) ≡ told m fault
     → IsFirstFault language n d (l ∷ ls) m fault
 unfolding AreSound
@@ -120,7 +120,7 @@ this_read : {D K : Type 0} (language : Language D K) (n : ℕ) (d now : D) (l : 
     (f : Option K)
     → language.fault d (words l) ≡ f
     → (said_from language (n + 1) (language.after d (words l)) ls ≡ said now
-      → AreWhole language (language.after d (words l)) ls now)
+    → AreWhole language (language.after d (words l)) ls now)
     → unless_fault n f (said_from language (n + 1) (language.after d (words l)) ls) ≡ said now
     → AreWhole language d (l ∷ ls) now
 unfolding AreSound
@@ -152,5 +152,5 @@ pub all_said : {D K : Type 0} (language : Language D K) (text : List ℕ) (now :
 all_said language text now = (
   λ e. all_read language (lines text) 1 language.first now e,
   λ is. passed_all language (lines text) 1 language.first now is.sound
-    ∙ end_sound language (1 + length (lines text)) now [] refl is.whole,
+      ∙ end_sound language (1 + length (lines text)) now [] refl is.whole,
 )

@@ -4,6 +4,7 @@ ghost use Rattle.vc_cell.specs.Held.{held};
 ghost use Rattle.session_model.specs.Interleave.{octets_from};
 ghost use Rattle.vcat_interleave.specs.Square.{octet_at};
 ghost use Rattle.vcat_interleave.specs.Members.{payloads_of, AreLines};
+ghost use Rattle.session_model.specs.Limits.{vc4_size};
 
 use crate::member::{put_pairs, put_rank};
 use crate::square::{SIDE, octets_of, put_octets, squares_of, squares_over, turned};
@@ -14,7 +15,7 @@ use vc_cell::{HeldContainer, PAYLOAD};
 /// stay as they were.
 pub fn gather(part: &[u8; PAYLOAD], rank: usize, x: usize, size: usize, out: &mut [u8])
     requires rank { rank < x }
-    requires size { size ≤ 2340 }
+    requires size { size ≤ vc4_size }
     requires out { length out.old ≡ size * x }
     ensures placed { (p : ℕ) → p < size →
         slice_index out.new (p * x + rank) ≡ slice_index part.now p }
@@ -33,7 +34,7 @@ pub fn gather_places(
     out: &mut [u8],
 )
     requires lines { AreLines (length containers.now) active.now }
-    requires within { place + places ≤ 2340 }
+    requires within { place + places ≤ vc4_size }
     requires out { length out.old ≡ places * length active.now }
     ensures { out.new ≡ octets_from place places (payloads_of (held containers.now) active.now) }
 {
@@ -55,7 +56,7 @@ fn gather_squares(
 )
     requires lines { AreLines (length containers.now) active.now }
     requires least { 0 < squares → 16 ≤ length active.now }
-    requires within { place + squares * 16 ≤ 2340 }
+    requires within { place + squares * 16 ≤ vc4_size }
     requires out { length out.old ≡ squares * 16 * length active.now }
     ensures { out.new ≡ octets_from place (squares * 16)
         (payloads_of (held containers.now) active.now) }
@@ -72,7 +73,7 @@ fn gather_squares(
 fn gather_sixteen(containers: &[Box<HeldContainer>], active: &[u8], place: usize, out: &mut [u8])
     requires lines { AreLines (length containers.now) active.now }
     requires least { 16 ≤ length active.now }
-    requires within { place + 16 ≤ 2340 }
+    requires within { place + 16 ≤ vc4_size }
     requires out { length out.old ≡ 16 * length active.now }
     ensures { out.new ≡ octets_from place 16 (payloads_of (held containers.now) active.now) }
 {
@@ -100,7 +101,7 @@ fn rows_of(
     requires lines { AreLines (length containers.now) active.now }
     requires few { ranks ≤ 16 }
     requires ranks { rank + ranks ≤ length active.now }
-    requires within { place + 16 ≤ 2340 }
+    requires within { place + 16 ≤ vc4_size }
     ensures { (i j : ℕ) → i < ranks → j < 16 → octet_at result i j
         ≡ octet_at (payloads_of (held containers.now) active.now) (rank + i) (place + j) }
 {
@@ -151,7 +152,7 @@ fn piece<'a>(
 ) -> &'a [u8]
     requires lines { AreLines (length containers.now) active.now }
     requires rank { rank < length active.now }
-    requires within { place + places ≤ 2340 }
+    requires within { place + places ≤ vc4_size }
     ensures size { length result.now ≡ places }
     ensures octets { (p : ℕ) → p < places → slice_index result.now p
         ≡ octet_at (payloads_of (held containers.now) active.now) rank (place + p) }
@@ -168,7 +169,7 @@ fn gather_each(
     out: &mut [u8],
 )
     requires lines { AreLines (length containers.now) active.now }
-    requires within { place + places ≤ 2340 }
+    requires within { place + places ≤ vc4_size }
     requires out { length out.old ≡ places * length active.now }
     ensures { out.new ≡ octets_from place places (payloads_of (held containers.now) active.now) }
 {
@@ -192,7 +193,7 @@ fn gather_some(
     out: &mut [u8],
 )
     requires lines { AreLines (length containers.now) active.now }
-    requires within { place + places ≤ 2340 }
+    requires within { place + places ≤ vc4_size }
     requires out { length out.old ≡ places * length active.now }
     ensures { out.new ≡ octets_from place places (payloads_of (held containers.now) active.now) }
 {
@@ -223,7 +224,7 @@ fn gather_few(
 )
     requires lines { AreLines (length containers.now) active.now }
     requires few { 0 < squares → length active.now ≤ 16 }
-    requires within { place + squares * 16 ≤ 2340 }
+    requires within { place + squares * 16 ≤ vc4_size }
     requires out { 0 < squares →
         squares * 16 * length active.now + 16 ≤ length out.old + length active.now }
     ensures { take (squares * 16 * length active.now) out.new
@@ -241,7 +242,7 @@ fn gather_few(
 fn gather_square(containers: &[Box<HeldContainer>], active: &[u8], place: usize, out: &mut [u8])
     requires lines { AreLines (length containers.now) active.now }
     requires few { length active.now ≤ 16 }
-    requires within { place + 16 ≤ 2340 }
+    requires within { place + 16 ≤ vc4_size }
     requires out { 15 * length active.now + 16 ≤ length out.old }
     ensures { take (16 * length active.now) out.new
         ≡ octets_from place 16 (payloads_of (held containers.now) active.now) }
@@ -272,7 +273,7 @@ fn gather_ranks(
     out: &mut [u8],
 )
     requires lines { AreLines (length containers.now) active.now }
-    requires within { place + places ≤ 2340 }
+    requires within { place + places ≤ vc4_size }
     requires out { length out.old ≡ places * length active.now }
     ensures { out.new ≡ octets_from place places (payloads_of (held containers.now) active.now) }
 {

@@ -6,6 +6,7 @@ ghost use Rattle.vcat_interleave.specs.Square.{octet_at, overhang};
 ghost use Rattle.vc_cell.specs.Held.{held};
 ghost use Rattle.vcat_interleave.specs.Members.{AreLines, with_octets};
 ghost use Rattle.vcat_interleave.specs.Spread.{SpreadsOver, Spreads, AreDistinct};
+ghost use Rattle.session_model.specs.Limits.{vc4_size};
 
 use crate::member::take_rank;
 use crate::square::{SIDE, octets_of, put_octets, squares_over, turned};
@@ -15,9 +16,9 @@ use vc_cell::{HeldContainer, PAYLOAD};
 /// Writes the octets of a row that the member of a rank carries at `size` places, and zeros at the places from there on.
 pub fn spread(bytes: &[u8], rank: usize, x: usize, size: usize, out: &mut [u8; PAYLOAD])
     requires rank { rank < x }
-    requires size { size ≤ 2340 }
+    requires size { size ≤ vc4_size }
     requires bytes { length bytes.now ≡ size * x }
-    ensures { out.new ≡ part_of rank x size bytes.now ++ replicate (2340 - size) 0 }
+    ensures { out.new ≡ part_of rank x size bytes.now ++ replicate (vc4_size - size) 0 }
 {
     let (octets, rest) = out.split_at_mut(size);
     take_rank(bytes, rank, x, octets);
@@ -35,7 +36,7 @@ pub fn spread_places(
 )
     requires lines { AreLines (length containers.old) active.now }
     requires distinct { AreDistinct active.now }
-    requires within { place + places ≤ 2340 }
+    requires within { place + places ≤ vc4_size }
     requires row { length row.now ≡ places * length active.now }
     ensures members { (rank : ℕ) (c : Container) → rank < length active.now →
         slice_index_or (held containers.new) (slice_index active.now rank) c
@@ -64,7 +65,7 @@ fn spread_squares(
 )
     requires lines { AreLines (length containers.old) active.now }
     requires distinct { AreDistinct active.now }
-    requires within { place + squares * 16 ≤ 2340 }
+    requires within { place + squares * 16 ≤ vc4_size }
     requires room { 0 < squares →
         squares * 16 * length active.now + overhang (length active.now) ≤ length row.now }
     ensures { Spreads place (squares * 16) row.now active.now
@@ -89,7 +90,7 @@ fn spread_last(
     requires lines { AreLines (length containers.old) active.now }
     requires distinct { AreDistinct active.now }
     requires rank { rank ≡ length active.now / 16 * 16 }
-    requires within { place + squares * 16 ≤ 2340 }
+    requires within { place + squares * 16 ≤ vc4_size }
     requires room { 0 < squares →
         squares * 16 * length active.now + overhang (length active.now) ≤ length row.now }
     ensures { SpreadsOver rank (length active.now) place (squares * 16) row.now active.now
@@ -116,7 +117,7 @@ fn spread_ranks(
     requires distinct { AreDistinct active.now }
     requires few { ranks ≤ 16 }
     requires ranks { rank + ranks ≤ length active.now }
-    requires within { place + squares * 16 ≤ 2340 }
+    requires within { place + squares * 16 ≤ vc4_size }
     requires room { 0 < squares →
         squares * 16 * length active.now + (rank + 16) ≤ length row.now + length active.now }
     ensures { SpreadsOver rank (rank + ranks) place (squares * 16) row.now active.now
@@ -144,7 +145,7 @@ fn spread_square(
     requires distinct { AreDistinct active.now }
     requires few { ranks ≤ 16 }
     requires ranks { rank + ranks ≤ length active.now }
-    requires within { place + 16 ≤ 2340 }
+    requires within { place + 16 ≤ vc4_size }
     requires room { 15 * length active.now + (rank + 16) ≤ length row.now }
     ensures { SpreadsOver rank (rank + ranks) place 16 row.now active.now
         (held containers.old) (held containers.new) }
@@ -173,13 +174,13 @@ fn rows_between(row: &[u8], rank: usize, x: usize) -> [u8x16; 16]
 #[inline]
 fn put_member(octets: u8x16, place: usize, line: usize, containers: &mut [Box<HeldContainer>])
     requires line { line < length containers.old }
-    requires within { place + 16 ≤ 2340 }
+    requires within { place + 16 ≤ vc4_size }
     ensures put { (c : Container) → held containers.new
         ≡ slice_set (held containers.old) line
         (with_octets place octets (slice_index_or (held containers.old) line c)) }
     ensures octets { length octets ≡ 16 }
     ensures size { (c : Container) →
-        length (slice_index_or (held containers.old) line c).payload ≡ 2340 }
+        length (slice_index_or (held containers.old) line c).payload ≡ vc4_size }
 {
     put_octets(octets, place, &mut containers[line].container_mut().payload);
 }
@@ -194,7 +195,7 @@ fn spread_each(
 )
     requires lines { AreLines (length containers.old) active.now }
     requires distinct { AreDistinct active.now }
-    requires within { place + places ≤ 2340 }
+    requires within { place + places ≤ vc4_size }
     requires row { length row.now ≡ places * length active.now }
     ensures { Spreads place places row.now active.now
         (held containers.old) (held containers.new) }
@@ -218,13 +219,13 @@ fn put_part(
 )
     requires rank { rank < x }
     requires line { line < length containers.old }
-    requires within { place + places ≤ 2340 }
+    requires within { place + places ≤ vc4_size }
     requires row { length row.now ≡ places * x }
     ensures put { (c : Container) → held containers.new ≡ slice_set (held containers.old) line
         (with_octets place (part_of rank x places row.now)
         (slice_index_or (held containers.old) line c)) }
     ensures size { (c : Container) →
-        length (slice_index_or (held containers.old) line c).payload ≡ 2340 }
+        length (slice_index_or (held containers.old) line c).payload ≡ vc4_size }
 {
     let payload = &mut containers[line].container_mut().payload;
     put_piece(row, rank, x, place, places, payload);

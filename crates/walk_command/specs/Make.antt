@@ -14,6 +14,7 @@ use Rattle.walk_command.specs.Walk.{word_at}
 use Rattle.walk_law.specs.Delivered.{delivered_of}
 use Rattle.walk_law.specs.Landed.{totals_of}
 use Rattle.headline_law.specs.Texts.{counts_in}
+use Rattle.session_model.specs.Limits.{longest_frame}
 
 -- the load of three numbers: below 2^64, 1 to 64, and 1 to 1,000,000
 abbrev pub load_of : Option ℕ → Option ℕ → Option ℕ → Option WalkCommand
@@ -63,5 +64,5 @@ make_answer number lines ticks = writes (make_text number lines ticks)
 pub record HasSummed (count add : ℕ) (frames : List (List ℕ)) : Type 0 where
   pub octets : count ≡ min (octet_count frames) 18446744073709551615
   pub total : add ≡ min (octet_sum frames) 18446744073709551615
-  pub few : octet_count frames ≤ 9600 * length frames
+  pub few : octet_count frames ≤ longest_frame * length frames
   pub small : octet_sum frames ≤ 2448000 * length frames

@@ -3,6 +3,7 @@ ghost use Rattle.std.specs.Prelude.{◌≡◌, ℕ, ◌≤◌, ◌+◌, ◌*◌,
 ghost use Rattle.std.specs.Vec.{vec_capacity};
 ghost use Rattle.text_lines.specs.Words.{words};
 ghost use Rattle.walk_command.specs.HexLines.{hex_text_of, line_octets};
+ghost use Rattle.session_model.specs.Limits.{longest_input};
 
 use hex_text::{NotHex, decode_into};
 use std::alloc::Global;
@@ -38,7 +39,7 @@ fn take_line(line: &[u8], octets: &mut Vec<u8>) -> Result<(), NotHex>
 
 /// The octets that the lines of a text say.
 pub fn read_octets(alloc: Global, text: &[u8]) -> Result<Vec<u8>, HexLinesFault>
-    requires { length text.now ≤ 67108864 }
+    requires { length text.now ≤ longest_input }
     ensures octets { IfOk result (λ octets. hex_text_of text.now ≡ Ok octets.items) }
     ensures short { IfOk result (λ octets. 2 * vec_len octets ≤ length text.now) }
     ensures line { (number : ℕ) → result ≡ Err (HexLinesFault.Line number) →

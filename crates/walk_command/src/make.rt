@@ -12,6 +12,7 @@ ghost use Rattle.command_parts.specs.Ends.{Ends, lent, no_source};
 ghost use Rattle.walk_command.specs.Ended.{IsWalkOf};
 ghost use Rattle.walk_command.specs.Make.{octet_count, octet_sum, made_text, sum_text, lines_text, load_of, make_words, make_answer};
 ghost use Rattle.cmd_words.specs.Words.{number_in};
+ghost use Rattle.session_model.specs.Limits.{longest_frame};
 
 use crate::command::WalkCommand;
 use crate::end::{WalkEnd, cut, done, stopped};
@@ -73,7 +74,7 @@ impl FrameOut for SumOut {
 
 /// The sum of octets.
 fn sum_of(octets: &[u8]) -> u64
-    requires { length octets.now ≤ 9600 }
+    requires { length octets.now ≤ longest_frame }
     ensures sum { result ≡ sum octets.now }
     ensures small { result ≤ 255 * length octets.now }
 {

@@ -6,6 +6,7 @@ use Rattle.session_model.specs.Segment.{StreamRow, deliver}
 use Rattle.session_model.specs.SessionStream.{rows_of}
 use Rattle.loss_law.specs.Added.{whole_row}
 use Rattle.walk_law.specs.Walk.{session_of}
+use Rattle.session_model.specs.Limits.{longest_frame}
 
 -- the first rows
 abbrev pub session_rows : Script → ℕ → List StreamRow
@@ -13,7 +14,7 @@ session_rows script rows = rows_of (scenario_of script) (session_of script) rows
 
 -- the frames that are delivered of them
 abbrev pub delivered_of : Script → ℕ → List (List ℕ)
-delivered_of script rows = deliver 9600 (session_rows script rows)
+delivered_of script rows = deliver longest_frame (session_rows script rows)
 
 -- what a sink makes of a row that it reads: the row with its octets, where it is whole, and else one that isn't whole, of any octets
 pub record IsReceived (receive : Option (List ℕ) → StreamRow) : Type 0 where

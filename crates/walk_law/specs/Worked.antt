@@ -16,6 +16,7 @@ use Rattle.report_text.specs.declared.report.Refusal.{Refusal}
 use Rattle.report_text.specs.declared.report.Refusal.TheVariants.{Frame as frame_fault, Command as command_fault}
 use Rattle.report_text.specs.declared.report.Totals.{Totals}
 use Rattle.walk_law.specs.Walk.{session_of}
+use Rattle.session_model.specs.Limits.{vc3_size}
 
 abbrev pub item : ℕ → ItemKind → Item
 item due kind = record { due = due; kind = kind }
@@ -30,7 +31,7 @@ plain windows ring lag ticks = record {
   ring = ring;
   lag = lag;
   ticks = ticks;
-  size = 756;
+  size = vc3_size;
 }
 
 -- one line; 41 ticks; a frame that is too short, a line that there isn't, and a line that is added twice and removed twice

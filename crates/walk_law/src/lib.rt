@@ -47,6 +47,7 @@ ghost use Rattle.walk_law.specs.Report.{report_of, final_report};
 ghost use Rattle.walk_law.specs.Worked.{worked_script, three_landed, at_the_end, first_refusals, all_refusals, first_totals, all_totals, two_frames, worked_report, delivering_script, one_frame, failing_script, seen_rows, seen_whole, whole_rows, silent_script};
 ghost use Rattle.walk_law.specs.Promise.{numbered, accepted_frames, session_pieces, session_extents, session_waiting, place_after, HasNoFailure, IsClear, row_from, AreWholeBefore, ConfirmsTrue, drained, InUseBy};
 ghost use Rattle.walk_law.specs.Landed.{Numbered, landed_items, landed_scenario, told_before, IsOfferAt, IsOrderAt, refusal_at, refused_by, refusals_of, IsPlaced, totals_of, with_frame_told, with_command_told};
+ghost use Rattle.session_model.specs.Limits.{longest_frame};
 
 /// A script whose rings fit has a plan of its walk, whose lines are what the session sends on them.
 pub fn plan_law()
@@ -289,7 +290,7 @@ pub fn return_law()
 pub fn frames_law()
     ensures received { (script : Script) (s : Counts) (n : ℕ)
         (receive : Option (List ℕ) → StreamRow) → CanWalk script → IsWalked script s → IsReceived receive → n ≤ s.rows →
-        deliver 9600 (map (λ t. receive (row_at script.config.size (popped_cells script s.lines) t))
+        deliver longest_frame (map (λ t. receive (row_at script.config.size (popped_cells script s.lines) t))
         (range_with_len 0 n)) ≡ delivered_of script n }
     ensures few { (script : Script) (rows : ℕ) → IsValid script → rows ≤ script.config.ticks →
         length (delivered_of script rows) ≤ 299520000000 }

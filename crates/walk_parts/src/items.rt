@@ -4,6 +4,7 @@ ghost use Rattle.std.specs.Prelude.{◌≡◌, ℕ, ◌+◌, ◌<◌, ◌≤◌,
 ghost use Rattle.std.specs.List.Sorted.{IsNonDecreasing};
 ghost use Rattle.session_model.specs.Counts.{dues_of, frame_dues, command_dues, held};
 ghost use Rattle.walk_parts.specs.Place.{is_frame, is_command, place_of, due_by, least_held};
+ghost use Rattle.session_model.specs.Limits.{longest_input};
 
 use session_model::{Item, ItemKind};
 
@@ -55,7 +56,7 @@ fn is_command_item(item: &Item) -> bool
 
 /// The least item that is due now and hasn't landed, where the next frame and the next command stand at these places.
 pub fn held_item(items: &[Item], frame: usize, command: usize, ticks: u32) -> Option<u32>
-    requires { length items.now ≤ 67108864 }
+    requires { length items.now ≤ longest_input }
     ensures { (a b : ℕ) → IsNonDecreasing (frame_dues (dues_of items.now)) →
         IsNonDecreasing (command_dues (dues_of items.now)) →
         frame ≡ place_of is_frame a items.now → command ≡ place_of is_command b items.now →
@@ -68,8 +69,8 @@ pub fn held_item(items: &[Item], frame: usize, command: usize, ticks: u32) -> Op
 
 /// The least place of those whose item is due.
 fn least_of(frame: usize, command: usize, client: bool, operator: bool) -> Option<u32>
-    requires client { client ≡ true → frame < 67108864 }
-    requires operator { operator ≡ true → command < 67108864 }
+    requires client { client ≡ true → frame < longest_input }
+    requires operator { operator ≡ true → command < longest_input }
     ensures { result ≡ least_held 0 frame command client operator }
 {
     if client && (frame < command || !operator) {

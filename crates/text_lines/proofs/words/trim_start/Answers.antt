@@ -6,6 +6,6 @@ use Rattle.text_lines.proofs.words.trim_start.Goals as goal
 pub loop-text-preserved : goal.loop-text-preserved
 loop-text-preserved c = record {
   words = words_later c.loop-text.text.now _ 0 (omega arith) (omega arith) c.if-first-eq32.true
-    ∙ c.loop-text.invariant.words;
+      ∙ c.loop-text.invariant.words;
   shorter = omega (arith, c.loop-text.invariant.shorter);
 }

@@ -23,7 +23,13 @@ returns-clause-answer c settled octets stands =
     ∙ c.octets.ensures.answer settled (octets ++ front) (c.words.ensures.stands settled octets stands)
     ∙ drop_alike u u (descrambled_octets (octets ++ front))
     (descrambled_octets octets ++ c.words.new.area) c.octets.new.area
-    (omega (arith, length-descrambled_octets (octets ++ front), length-descrambled_octets octets,
-    length-append octets front, length-append (descrambled_octets octets) c.words.new.area, c.words.auto.area))
+    (omega (
+      arith,
+      length-descrambled_octets (octets ++ front),
+      length-descrambled_octets octets,
+      length-append octets front,
+      length-append (descrambled_octets octets) c.words.new.area,
+      c.words.auto.area,
+    ))
     (c.words.ensures.answer settled octets stands)
     ∙ ap (drop u) (append_assoc (descrambled_octets octets) c.words.new.area c.octets.new.area)
