@@ -10,7 +10,6 @@ ghost use Rattle.vcat_interleave.specs.Members.{AreLines};
 ghost use Rattle.lcas_sink.specs.Stands.{Stands as HasTold};
 ghost use Rattle.sink_core.specs.Given.{answer_at, added_frames, back_at, read_rows, packet_rows, rows_taken, waiting_for, back_of, IsPacketEnd, IsWaiting, Allows};
 ghost use Rattle.sink_core.specs.Core.{Stands};
-ghost use Rattle.session_model.specs.Limits.{vc4_size};
 ghost use Rattle.session_model.specs.Valid.{IsSize};
 
 use crate::active::find_active;
@@ -62,6 +61,7 @@ pub struct SinkCore {
 impl Model for SinkCore {
     ghost use Rattle.std.specs.Prelude.{◌≡◌, ◌≤◌, length};
     ghost use Rattle.std.specs.Vec.{vec_capacity};
+    ghost use Rattle.session_model.specs.Limits.{vc4_size};
     ghost use Rattle.vcat_interleave.specs.Members.{AreLines};
     ghost use Rattle.sink_core.specs.Receives.{IsKnown};
     ghost use Rattle.sink_core.specs.Given.{packet_rows};

@@ -1,7 +1,6 @@
 //! The worker of the sink.
 ghost use Rattle.std.specs.Prelude.{◌≡◌, ◌≤◌, length};
 ghost use Rattle.realign_core.specs.Gather.{line_count};
-ghost use Rattle.session_model.specs.Valid.{IsSize};
 
 use crate::burst::SinkBurst;
 use crate::got::{CountOut, ToldOut, take_back};
@@ -36,6 +35,7 @@ pub struct SinkWorker {
 
 impl SinkWorker {
     ghost use Rattle.std.specs.Prelude.{◌≡◌, ◌≢◌, ◌+◌, ◌<◌, ◌≤◌, ◌↔◌, ◌⊎◌, [], replicate, length, true, false, IfOk};
+    ghost use Rattle.session_model.specs.Valid.{IsSize};
     ghost use Rattle.member_ring.specs.Ends.{out_passed};
     ghost use Rattle.report_text.specs.Report.{got_texts};
     ghost use Rattle.sink_core.specs.Given.{given_frames, added_frames};
