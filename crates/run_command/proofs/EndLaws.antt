@@ -1,7 +1,5 @@
 -- What a session that has ended writes, and what is handed back.
 use Rattle.std.proofs.Common.{◌≡◌, ◌≤◌, ℕ, List, [], ◌++◌, length, Option, Some, None, IfSome, Result, Ok, Err, refl, sym, ap, subst, append_assoc}
-use Rattle.std.specs.Prelude.{String}
-use Rattle.std.specs.declared.alloc.Global.{Global}
 use Rattle.outside_io.specs.Transfer.{Appends, AppendsPart}
 use Rattle.outside_io.proofs.Parts.{Appends-then, AppendsPart-then, AppendsPart-longer}
 use Rattle.session_model.specs.declared.script.Script.{Script}
@@ -19,14 +17,11 @@ use Rattle.got_lines.specs.Told.{HasText}
 use Rattle.script_read.specs.declared.fault.ScriptFault.{ScriptFault}
 use Rattle.headline_law.specs.Headline.{IsRunHeadline}
 use Rattle.headline_law.proofs.HeadlineLaws.{run_headline}
-use Rattle.command_parts.specs.Task.{IsCommand, reads, writes}
+use Rattle.command_parts.specs.Task.{reads, writes}
 use Rattle.command_parts.specs.Ends.{Lent, Takes, WritesAll, Ends}
 use Rattle.command_parts.specs.Scripts.{answer_of}
 use Rattle.command_parts.proofs.EndLaws.{is-done, known-text}
-use Rattle.run_command.specs.declared.command.RunCommand.{RunCommand}
-use Rattle.run_command.specs.declared.command.RunCommand.TheVariants.{Run}
 use Rattle.run_command.specs.Run.{run_answer}
-use Rattle.run_command.specs.Commands.{command_in, task_for, task_of}
 use Rattle.run_command.specs.Ended.{end_text}
 
 -- what follows the got lines, of the session's own numbers
@@ -86,11 +81,3 @@ module _ {S K E : Type 0} (source : Lent S) (out : Lent K) (notes : Lent E) (sta
       let it = is-done source out notes (reads run_answer) status ends at in
       let text = it.meets.0 in
       known-text source IsHead text it.meets.1 (told-by text (script_of text) refl it.meets.1.fits (subst (WritesAll out notes) (sym it.meets.2) it.written))
-
--- ---- words
-pub is-task : (words : List (String Global)) (o : Option RunCommand) → command_in words ≡ o → task_of words ≡ task_for o
-is-task words o is = ap task_for is
-
-pub has-command : (o : Option RunCommand) → ¬ (o ≡ None) → IsCommand (task_for o)
-has-command None some = absurd (some refl)
-has-command (Some (Run workers)) some = tt
