@@ -1,17 +1,25 @@
-//! The check of 32 bits over octets (CRC-32), in either order of bits, as a definition with its laws. There is no
-//! code here. Begin with `specs/Crc32.antt`.
+//! The check of 32 bits over octets (CRC-32), in either order of bits, as a definition with its laws, and the code
+//! that makes it. Begin with `fcs`; what it computes is in `specs/Crc32.antt`.
 #![tactic(auto)]
 
-ghost use Rattle.std.specs.Prelude.{◌≡◌, ◌<◌, ℕ, Bool, List, [], ◌∷◌, length, All};
-ghost use Rattle.remainder.specs.Bits.{xors};
-ghost use Rattle.remainder.specs.Remainder.{remainder};
-ghost use Rattle.crc32.specs.Crc32.{crc32, check_bits, most_first, least_first, fcs, fcs_in};
+mod check;
+mod tables;
 
-/// A check has four octets. Where bits of what it is over are turned over, it differs by the remainder of a list with
-/// a 1 at each place where one is.
+ghost use Rattle.std.specs.Prelude.{◌≡◌, ◌<◌, ◌≤◌, ℕ, Bool, true, List, [], ◌∷◌, length, replicate, All};
+ghost use Rattle.remainder.specs.Bits.{xors};
+ghost use Rattle.remainder.specs.Remainder.{add_front, remainder};
+ghost use Rattle.crc32.specs.Crc32.{crc32, check_bits, most_first, least_first, fcs_of, fcs_in};
+
+pub use check::{ethernet_fcs, fcs};
+
+/// A check has four octets. Of at least 32 bits it is the remainder, with the first 32 bits inverted before and the
+/// remainder after. Where bits of what it is over are turned over, it differs by the remainder of a list with a 1 at
+/// each place where one is.
 pub fn check_law()
-    ensures size { (octets : List ℕ) → length (fcs octets) ≡ 4 }
-    ensures octets { (octets : List ℕ) → All (λ octet. octet < 256) (fcs octets) }
+    ensures size { (octets : List ℕ) → length (fcs_of octets) ≡ 4 }
+    ensures octets { (octets : List ℕ) → All (λ octet. octet < 256) (fcs_of octets) }
+    ensures inverted { (bits : List Bool) → 32 ≤ length bits → check_bits bits
+        ≡ xors (replicate 32 true) (remainder crc32 (add_front (replicate 32 true) bits)) }
     ensures differs { (bits flips : List Bool) → length bits ≡ length flips →
         check_bits (xors bits flips) ≡ xors (check_bits bits) (remainder crc32 flips) }
 {}

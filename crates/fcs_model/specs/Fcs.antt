@@ -4,7 +4,7 @@ use Rattle.std.specs.Prelude.{ℕ, ◌-◌, ◌/◌, ◌%◌, ◌^◌, ◌==◌,
 use Rattle.std.specs.Str.{bytes_eq}
 use Rattle.remainder.specs.Bits.{number, octet_bits}
 use Rattle.hec16.specs.Hec.{hec_of}
-use Rattle.crc32.specs.Crc32.{fcs}
+use Rattle.crc32.specs.Crc32.{fcs_of}
 use Rattle.session_model.specs.declared.TypeFault.{TypeFault}
 use Rattle.session_model.specs.declared.TypeFault.TheVariants.{Check as WrongCheck, NotClient, PayloadFcs, Extension, NotEthernet}
 use Rattle.session_model.specs.TypeHeader.{type_field, type_check}
@@ -17,7 +17,7 @@ fcs_header = 0x10 ∷ 0x01 ∷ 0x13 ∷ 0x52 ∷ []
 
 -- the area of a frame: a type header, the frame, and its FCS
 abbrev pub fcs_area : List ℕ → List ℕ
-fcs_area frame = fcs_header ++ (frame ++ fcs frame)
+fcs_area frame = fcs_header ++ (frame ++ fcs_of frame)
 
 -- the first field in which a type field differs from that of an Ethernet frame with FCS. `PayloadFcs` says that PFI
 -- is 0
@@ -49,7 +49,7 @@ word_of octets = number (octet_bits octets)
 -- an area with a sound type header, by its size and its check
 abbrev pub by_check : List ℕ → List ℕ → FcsOutcome
 by_check said info =
-    if bytes_eq said (fcs info) then delivery info else dropping (Fcs (word_of said) (word_of (fcs info)))
+    if bytes_eq said (fcs_of info) then delivery info else dropping (Fcs (word_of said) (word_of (fcs_of info)))
 
 abbrev pub by_size : List ℕ → FcsOutcome
 by_size area =

@@ -12,8 +12,8 @@ use Rattle.remainder.proofs.XorLaws.{xors-self, xors_twice}
 use Rattle.remainder.proofs.RemainderLaws.{length-remainder, divide_behind}
 use Rattle.remainder.proofs.OctetLaws.{length-octet_bits, octets_of_below}
 use Rattle.fcs_model.specs.Flips.{count, flipped}
-use Rattle.crc32.specs.Crc32.{crc32, check_bits, fcs}
-use Rattle.crc32.proofs.CheckLaws.{length-crc32, length-check_bits, check_bits-xors, octet_bits-fcs, length-fcs}
+use Rattle.crc32.specs.Crc32.{crc32, check_bits, fcs_of}
+use Rattle.crc32.proofs.CheckLaws.{length-crc32, length-check_bits, check_bits-xors, octet_bits-fcs_of, length-fcs_of}
 use Rattle.fcs_model.specs.declared.FcsWhy.TheVariants.{Header}
 use Rattle.fcs_model.specs.Fcs.{fcs_header, fcs_area, FcsOutcome, delivery, dropping, by_check, by_type, fcs_type_fault, fcs_outcome, frame_in}
 use Rattle.flip_law.specs.Single.{IsOneOrTwo, one, two}
@@ -31,16 +31,16 @@ none_in_zeros bs n e = ap count e ∙ count-zeros n
 -- flips in octets and in their FCS, that leave something
 pub fcs_differs : (frame : List ℕ) (first second : List Bool) → length first ≡ 8 * length frame → length second ≡ 32
     → IsOneOrTwo (first ++ second) →
-    flipped second (fcs frame) ≢ fcs (flipped first frame)
+    flipped second (fcs_of frame) ≢ fcs_of (flipped first frame)
 fcs_differs frame first second size four single e =
     let check : List Bool = check_bits (octet_bits frame) in
     let rest : List Bool = remainder crc32 first in
     let long : length check ≡ 32 = length-check_bits (octet_bits frame) in
     let rest_long : length rest ≡ 32 = length-remainder crc32 first ∙ length-crc32 in
     let bits_same : xors check second ≡ xors check rest =
-    ap (λ l. xors l second) (sym (octet_bits-fcs frame))
-    ∙ sym (octet_bits-flipped second (fcs frame) (four ∙ sym (ap (λ n. 8 * n) (length-fcs frame))))
-    ∙ ap octet_bits e ∙ octet_bits-fcs (flipped first frame)
+    ap (λ l. xors l second) (sym (octet_bits-fcs_of frame))
+    ∙ sym (octet_bits-flipped second (fcs_of frame) (four ∙ sym (ap (λ n. 8 * n) (length-fcs_of frame))))
+    ∙ ap octet_bits e ∙ octet_bits-fcs_of (flipped first frame)
     ∙ ap check_bits (octet_bits-flipped first frame size)
     ∙ check_bits-xors (octet_bits frame) first (length-octet_bits frame ∙ sym size) in
     let same : second ≡ rest =
@@ -128,18 +128,18 @@ fcs_header_below =
 
 pub fcs_area_below : (frame : List ℕ) → IsFrame frame → All (λ o. o < 256) (fcs_area frame)
 fcs_area_below frame is =
-    All-append (λ o. o < 256) fcs_header (frame ++ fcs frame) fcs_header_below
-    (All-append (λ o. o < 256) frame (fcs frame) is.octets (octets_of_below 4 (check_bits (octet_bits frame))))
+    All-append (λ o. o < 256) fcs_header (frame ++ fcs_of frame) fcs_header_below
+    (All-append (λ o. o < 256) frame (fcs_of frame) is.octets (octets_of_below 4 (check_bits (octet_bits frame))))
 
 pub length-fcs_area : (frame : List ℕ) → length (fcs_area frame) ≡ length frame + 8
 length-fcs_area frame =
-    omega (arith, length-append fcs_header (frame ++ fcs frame), length-append frame (fcs frame), length-fcs frame)
+    omega (arith, length-append fcs_header (frame ++ fcs_of frame), length-append frame (fcs_of frame), length-fcs_of frame)
 
 -- it is delivered as it is sent
 pub fcs_area-delivered : (frame : List ℕ) → IsFrame frame → fcs_outcome true (fcs_area frame) ≡ delivery frame
 fcs_area-delivered frame is =
-    outcome-parts fcs_header frame (fcs frame) refl is.least is.most (length-fcs frame)
-    ∙ rw (fcs_header_right, bytes_eq-true (fcs frame) (fcs frame) refl) refl
+    outcome-parts fcs_header frame (fcs_of frame) refl is.least is.most (length-fcs_of frame)
+    ∙ rw (fcs_header_right, bytes_eq-true (fcs_of frame) (fcs_of frame) refl) refl
 
 -- ---- one bit, or two, in two parts
 take_some : (k a : ℕ) (rest : List Bool) → a < k → 0 < count (take k (replicate a false ++ true ∷ rest))
@@ -200,24 +200,24 @@ module _ (frame : List ℕ) (flips : List Bool) (is : IsFrame frame) (size : len
   whole = ap (λ l. first ++ l) behind ∙ take-append-drop 32 flips
 
   parts : flipped flips (fcs_area frame) ≡ flipped first fcs_header ++
-      (flipped middle frame ++ flipped last (fcs frame))
+      (flipped middle frame ++ flipped last (fcs_of frame))
   parts =
       ap (λ l. flipped l (fcs_area frame)) (sym whole)
-      ∙ flipped-append first (middle ++ last) fcs_header (frame ++ fcs frame) length-first
-      ∙ ap (λ l. flipped first fcs_header ++ l) (flipped-append middle last frame (fcs frame) length-middle)
+      ∙ flipped-append first (middle ++ last) fcs_header (frame ++ fcs_of frame) length-first
+      ∙ ap (λ l. flipped first fcs_header ++ l) (flipped-append middle last frame (fcs_of frame) length-middle)
 
   outcome : fcs_outcome true (flipped flips (fcs_area frame)) ≡ parts_outcome (flipped first fcs_header)
-      (flipped middle frame) (flipped last (fcs frame))
+      (flipped middle frame) (flipped last (fcs_of frame))
   outcome =
       ap (fcs_outcome true) parts
-      ∙ outcome-parts (flipped first fcs_header) (flipped middle frame) (flipped last (fcs frame))
+      ∙ outcome-parts (flipped first fcs_header) (flipped middle frame) (flipped last (fcs_of frame))
       (length-flipped first fcs_header)
       (omega (arith, length-flipped middle frame, is.least))
       (omega (arith, length-flipped middle frame, is.most))
-      (length-flipped last (fcs frame) ∙ length-fcs frame)
+      (length-flipped last (fcs_of frame) ∙ length-fcs_of frame)
 
   -- with the type header as it was or not
-  by_header : (fault : Option TypeFault) (info said : List ℕ) → bytes_eq said (fcs info) ≡ false
+  by_header : (fault : Option TypeFault) (info said : List ℕ) → bytes_eq said (fcs_of info) ≡ false
       → frame_in (parts_by fault info said) ≡ []
   by_header None info said e = rw e refl
   by_header (Some fault) info said e = refl
@@ -233,14 +233,14 @@ module _ (frame : List ℕ) (flips : List Bool) (is : IsFrame frame) (size : len
         let header : List ℕ = flipped first fcs_header in
         let differs : header ≢ fcs_header = header_differs first fcs_header length-first some in
         ap frame_in outcome
-        ∙ faulty (fcs_type_fault header) (flipped middle frame) (flipped last (fcs frame))
+        ∙ faulty (fcs_type_fault header) (flipped middle frame) (flipped last (fcs_of frame))
         (λ none. differs (fcs_type_fault-right header (length-flipped first fcs_header)
         (flipped_below first fcs_header) none)))
     | inr more ↦ (
-        let differs : bytes_eq (flipped last (fcs frame)) (fcs (flipped middle frame)) ≡ false =
-        bytes_eq-false (flipped last (fcs frame)) (fcs (flipped middle frame))
+        let differs : bytes_eq (flipped last (fcs_of frame)) (fcs_of (flipped middle frame)) ≡ false =
+        bytes_eq-false (flipped last (fcs_of frame)) (fcs_of (flipped middle frame))
         (fcs_differs frame middle last length-middle length-last (subst IsOneOrTwo (sym behind) more)) in
         ap frame_in outcome
         ∙ by_header (fcs_type_fault (flipped first fcs_header)) (flipped middle frame)
-        (flipped last (fcs frame)) differs)
+        (flipped last (fcs_of frame)) differs)
   ]

@@ -9,7 +9,7 @@ ghost use Rattle.fcs_model.specs.Flips.{count, flipped};
 ghost use Rattle.std.specs.List.{fold, list_any};
 ghost use Rattle.flip_law.specs.Places.{Flip, at, LiesIn, IsRising, turned, flips_of};
 ghost use Rattle.fcs_model.specs.Near.{near, IsNear, IsFixed, check_of};
-ghost use Rattle.crc32.specs.Crc32.{fcs};
+ghost use Rattle.crc32.specs.Crc32.{fcs_of};
 ghost use Rattle.fcs_model.specs.Fcs.{fcs_header, fcs_type_fault, fcs_area, delivery, fcs_outcome, frame_in};
 ghost use Rattle.flip_law.specs.Single.{IsOneOrTwo};
 ghost use Rattle.flip_law.specs.Flipped.{worked_frames, one_flip, fcs_stream, IsFrame, fcs_delivered, window, AreFew, clear};
@@ -46,7 +46,7 @@ pub fn window_law()
 pub fn fcs_law()
     ensures { (frame : List ℕ) (first second : List Bool) → length first ≡ 8 * length frame →
         length second ≡ 32 → IsOneOrTwo (first ++ second) →
-        flipped second (fcs frame) ≢ fcs (flipped first frame) }
+        flipped second (fcs_of frame) ≢ fcs_of (flipped first frame) }
 {}
 
 /// A frame comes through as it is sent, and with one bit of its descrambled area turned over, or two that are 43

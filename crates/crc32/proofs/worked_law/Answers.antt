@@ -2,13 +2,13 @@
 use Rattle.std.proofs.Common.{refl}
 use Rattle.remainder.specs.Bits.{bits, number_behind, octets_of, xors}
 use Rattle.remainder.specs.Remainder.{add_front, divide}
-use Rattle.crc32.specs.Crc32.{check_bits}
+use Rattle.crc32.specs.Crc32.{rest_of, check_bits}
 use Rattle.crc32.proofs.worked_law.Goals as goal
 
 pub returns-clause-most : goal.returns-clause-most
-unfolding check_bits bits number_behind octets_of xors add_front divide
+unfolding check_bits rest_of bits number_behind octets_of xors add_front divide
 returns-clause-most c = refl
 
 pub returns-clause-least : goal.returns-clause-least
-unfolding check_bits bits number_behind octets_of xors add_front divide
+unfolding check_bits rest_of bits number_behind octets_of xors add_front divide
 returns-clause-least c = refl
