@@ -41,7 +41,8 @@ length-rest_of bs =
 pub length-check_bits : (bs : List Bool) → length (check_bits bs) ≡ 32
 unfolding check_bits
 length-check_bits bs =
-    length_xors (replicate 32 true) (rest_of bs) (length-replicate 32 true ∙ sym (length-rest_of bs)) ∙ length-rest_of bs
+    length_xors (replicate 32 true) (rest_of bs) (length-replicate 32 true ∙ sym (length-rest_of bs))
+    ∙ length-rest_of bs
 
 -- of at least 32 bits it is over the remainder, with the first 32 inverted
 pub check_bits-inverted : (bs : List Bool) → 32 ≤ length bs
@@ -55,7 +56,8 @@ check_bits-inverted bs h =
     (sym (length-add_front ones bs)) (sym length-crc32)
 
 -- it differs by what the flips leave
-rest_of-xors : (bs flips : List Bool) → length bs ≡ length flips → rest_of (xors bs flips) ≡ xors (rest_of bs) (remainder crc32 flips)
+rest_of-xors : (bs flips : List Bool) → length bs ≡ length flips
+    → rest_of (xors bs flips) ≡ xors (rest_of bs) (remainder crc32 flips)
 unfolding rest_of
 rest_of-xors bs flips e =
     let ones : List Bool = replicate 32 true in
@@ -65,7 +67,8 @@ rest_of-xors bs flips e =
     (ap (λ l. xors bs flips ++ l) (sym twice) ∙ sym (xors-append bs flips zeros zeros e))
     ∙ ap (divide (length flips) crc32) (add_front-xors ones (bs ++ zeros) (flips ++ zeros))
     ∙ divide-xors (length flips) crc32 (add_front ones (bs ++ zeros)) (flips ++ zeros)
-    ∙ ap₂ (λ n k. xors (divide n crc32 (add_front ones (bs ++ zeros))) (divide (length flips) crc32 (flips ++ replicate k false)))
+    ∙ ap₂ (λ n k. xors (divide n crc32 (add_front ones (bs ++ zeros)))
+    (divide (length flips) crc32 (flips ++ replicate k false)))
     (sym e) (sym length-crc32)
 
 pub check_bits-xors : (bs flips : List Bool) → length bs ≡ length flips
@@ -76,7 +79,8 @@ check_bits-xors bs flips e =
     ∙ sym (xors_assoc (replicate 32 true) (rest_of bs) (remainder crc32 flips))
 
 pub octet_bits-fcs_of : (octets : List ℕ) → octet_bits (fcs_of octets) ≡ check_bits (octet_bits octets)
-octet_bits-fcs_of octets = octet_bits-octets_of 4 (check_bits (octet_bits octets)) (length-check_bits (octet_bits octets))
+octet_bits-fcs_of octets = octet_bits-octets_of 4 (check_bits (octet_bits octets))
+    (length-check_bits (octet_bits octets))
 
 pub length-fcs_of : (octets : List ℕ) → length (fcs_of octets) ≡ 4
 length-fcs_of octets = length-octets_of 4 (check_bits (octet_bits octets))

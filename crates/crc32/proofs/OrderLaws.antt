@@ -56,11 +56,13 @@ octet_at-xor order k a b =
     ∙ ordered-xor order (a / 2 ^ k % 2 ^ 8) (b / 2 ^ k % 2 ^ 8)
 
 -- ---- lists of octets
-pub All-ordered : (order : BitOrder) (octets : List ℕ) → All (λ o. o < 256) octets → All (λ o. o < 256) (map (ordered order) octets)
+pub All-ordered : (order : BitOrder) (octets : List ℕ) → All (λ o. o < 256) octets
+    → All (λ o. o < 256) (map (ordered order) octets)
 All-ordered order [] h = All-nil (λ o. o < 256)
 All-ordered order (o ∷ octets) h =
     All-cons (λ o. o < 256) (ordered order o) (map (ordered order) octets)
-    (ordered-below order o (All-head (λ o. o < 256) o octets h)) (All-ordered order octets (All-tail (λ o. o < 256) o octets h))
+    (ordered-below order o (All-head (λ o. o < 256) o octets h))
+    (All-ordered order octets (All-tail (λ o. o < 256) o octets h))
 
 pub map-ordered_twice : (order : BitOrder) (octets : List ℕ) → All (λ o. o < 256) octets
     → map (ordered order) (map (ordered order) octets) ≡ octets

@@ -23,11 +23,13 @@ abbrev octet_in : BitOrder → ℕ → List Bool
 octet_in order o = bits 8 (ordered order o)
 
 -- ---- exclusive or
-one_more : (order : BitOrder) (x y z : ℕ) (both left right : List Bool) → octet_in order z ≡ xors (octet_in order x) (octet_in order y)
+one_more : (order : BitOrder) (x y z : ℕ) (both left right : List Bool)
+    → octet_in order z ≡ xors (octet_in order x) (octet_in order y)
     → both ≡ xors left right → octet_in order z ++ both ≡ xors (octet_in order x ++ left) (octet_in order y ++ right)
 one_more order x y z both left right e f =
     ap₂ ◌++◌ e f
-    ∙ sym (xors-append (octet_in order x) (octet_in order y) left right (length-bits 8 (ordered order x) ∙ sym (length-bits 8 (ordered order y))))
+    ∙ sym (xors-append (octet_in order x) (octet_in order y) left right
+    (length-bits 8 (ordered order x) ∙ sym (length-bits 8 (ordered order y))))
 
 octet_low-xor : (order : BitOrder) (a b : ℕ)
     → octet_in order (bit_xor a b % 2 ^ 8) ≡ xors (octet_in order (a % 2 ^ 8)) (octet_in order (b % 2 ^ 8))
@@ -45,7 +47,8 @@ register_bits-xor order a b =
     (one_more order _ _ _ _ _ _ (octet_at-xor order 16 a b)
     (one_more order _ _ _ _ _ _ (octet_at-xor order 24 a b) none)))
 
-word_bits-xor : (order : BitOrder) (a b : ℕ) → word_bits order (bit_xor a b) ≡ xors (word_bits order a) (word_bits order b)
+word_bits-xor : (order : BitOrder) (a b : ℕ) → word_bits order (bit_xor a b)
+    ≡ xors (word_bits order a) (word_bits order b)
 word_bits-xor order a b =
     one_more order (a % 2 ^ 8) (b % 2 ^ 8) (bit_xor a b % 2 ^ 8) _ _ _ (octet_low-xor order a b)
     (one_more order _ _ _ _ _ _ (octet_at-xor order 8 a b)
@@ -72,22 +75,26 @@ unfolding bits number_behind
 ones most_first = refl
 ones least_first = refl
 
-pub bits_in-append : (order : BitOrder) (front back : List ℕ) → bits_in order (front ++ back) ≡ bits_in order front ++ bits_in order back
+pub bits_in-append : (order : BitOrder) (front back : List ℕ)
+    → bits_in order (front ++ back) ≡ bits_in order front ++ bits_in order back
 bits_in-append order front back =
-    ap octet_bits (map-append (ordered order) front back) ∙ octet_bits-append (map (ordered order) front) (map (ordered order) back)
+    ap octet_bits (map-append (ordered order) front back)
+    ∙ octet_bits-append (map (ordered order) front) (map (ordered order) back)
 
 length-bits_in : (order : BitOrder) (octets : List ℕ) → length (bits_in order octets) ≡ 8 * length octets
 length-bits_in order octets =
     length-octet_bits (map (ordered order) octets) ∙ ap (λ n. 8 * n) (length-map octets (ordered order))
 
 -- a register as a word
-widened : (order : BitOrder) (register : ℕ) → register < 2 ^ 32 → word_bits order register ≡ register_bits order register ++ replicate 32 false
+widened : (order : BitOrder) (register : ℕ) → register < 2 ^ 32
+    → word_bits order register ≡ register_bits order register ++ replicate 32 false
 widened order register h =
     let a : register / 2 ^ 32 % 2 ^ 8 ≡ 0 = omega arith in
     let b : register / 2 ^ 40 % 2 ^ 8 ≡ 0 = omega arith in
     let c : register / 2 ^ 48 % 2 ^ 8 ≡ 0 = omega arith in
     let d : register / 2 ^ 56 % 2 ^ 8 ≡ 0 = omega arith in
-    ap (λ l. bits_in order (to_le_bytes w32 register ++ l)) (ap₂ (λ x l. x ∷ l) a (ap₂ (λ x l. x ∷ l) b (ap₂ (λ x y. x ∷ y ∷ []) c d)))
+    ap (λ l. bits_in order (to_le_bytes w32 register ++ l))
+    (ap₂ (λ x l. x ∷ l) a (ap₂ (λ x l. x ∷ l) b (ap₂ (λ x y. x ∷ y ∷ []) c d)))
     ∙ bits_in-append order (to_le_bytes w32 register) (0 ∷ 0 ∷ 0 ∷ 0 ∷ [])
     ∙ ap (λ l. register_bits order register ++ l) (zero_octets order)
 
@@ -113,7 +120,8 @@ unfolding upper_octets
 split_register order register = refl
 
 -- ---- an octet further
-pub octet_step : (order : BitOrder) (table : List ℕ) (word : List Bool) (register octet : ℕ) → register < 2 ^ 32 → octet < 256
+pub octet_step : (order : BitOrder) (table : List ℕ) (word : List Bool) (register octet : ℕ) → register < 2 ^ 32
+    → octet < 256
     → ((o : ℕ) → o < 256 → register_bits order (slice_index table o) ≡ remainder crc32 (bits_in order (o ∷ [])))
     → register_bits order register ≡ remainder crc32 word
     → register_bits order (bit_xor (register / 2 ^ 8) (slice_index table (bit_xor (register % 2 ^ 8) octet)))
@@ -128,7 +136,8 @@ octet_step order table word register octet h small entry stands =
     let below : index < 256 = xor_of_8 (register % 2 ^ 8) octet (omega arith) small in
     let few : 8 ≤ length crc32 = omega (arith, length-crc32) in
     let eight : length (bits_in order (octet ∷ [])) ≡ 8 = length-bits_in order (octet ∷ []) in
-    let leaves : remainder crc32 (xors (take 8 rest) (bits_in order (octet ∷ []))) ≡ register_bits order (slice_index table index) =
+    let leaves : remainder crc32 (xors (take 8 rest) (bits_in order (octet ∷ [])))
+    ≡ register_bits order (slice_index table index) =
     ap (remainder crc32)
     (ap₂ xors (ap (take 8) split ∙ take_at low back 8 size) (append-nil (octet_in order octet))
     ∙ sym (ordered-xor order (register % 2 ^ 8) octet) ∙ sym (append-nil (octet_in order index)))
@@ -136,16 +145,20 @@ octet_step order table word register octet h small entry stands =
     register_bits-xor order (register / 2 ^ 8) (slice_index table index)
     ∙ xors_comm (register_bits order (register / 2 ^ 8)) (register_bits order (slice_index table index))
     ∙ sym (remainder-append_at 8 crc32 word (bits_in order (octet ∷ [])) eight few
-    ∙ ap₂ xors leaves (ap (λ l. l ++ replicate 8 false) (ap (drop 8) split ∙ drop_at low back 8 size) ∙ moved order register h))
+    ∙ ap₂ xors leaves (ap (λ l. l ++ replicate 8 false) (ap (drop 8) split ∙ drop_at low back 8 size)
+    ∙ moved order register h))
 
 -- ---- eight octets further
-one_part : (order : BitOrder) (tables : List (List ℕ)) (k octet : ℕ) (octets : List ℕ) → IsTables order tables → k < 8 → octet < 256
+one_part : (order : BitOrder) (tables : List (List ℕ)) (k octet : ℕ) (octets : List ℕ) → IsTables order tables
+    → k < 8 → octet < 256
     → length octets ≡ k → remainder crc32 (bits_in order (octet ∷ octets))
-    ≡ xors (register_bits order (slice_index (slice_index_or tables k []) octet)) (remainder crc32 (bits_in order octets))
+    ≡ xors (register_bits order (slice_index (slice_index_or tables k []) octet))
+    (remainder crc32 (bits_in order octets))
 one_part order tables k octet octets are low small e =
     remainder-parts crc32 (octet_in order octet) (bits_in order octets)
     ∙ ap (λ l. xors l (remainder crc32 (bits_in order octets)))
-    (ap (λ n. remainder crc32 (octet_in order octet ++ replicate n false)) (length-bits_in order octets ∙ ap (λ n. 8 * n) e)
+    (ap (λ n. remainder crc32 (octet_in order octet ++ replicate n false))
+    (length-bits_in order octets ∙ ap (λ n. 8 * n) e)
     ∙ sym (are.entry k octet low small))
 
 abbrev pub entry_of : List (List ℕ) → ℕ → ℕ → ℕ
@@ -164,14 +177,16 @@ then_xor : (order : BitOrder) (x y : ℕ) {left : List Bool} → register_bits o
 then_xor order x y e = register_bits-xor order x y ∙ ap (λ l. xors l (register_bits order y)) e
 
 in_turn : (a b c d e f g h : List Bool)
-    → xors (xors (xors (xors (xors (xors (xors a b) c) d) e) f) g) h ≡ xors a (xors b (xors c (xors d (xors e (xors f (xors g h))))))
+    → xors (xors (xors (xors (xors (xors (xors a b) c) d) e) f) g) h
+    ≡ xors a (xors b (xors c (xors d (xors e (xors f (xors g h))))))
 in_turn a b c d e f g h = simp xors_assoc
 
 entries-xor : (order : BitOrder) (a b c d e f g h : ℕ) → let r = register_bits order in
     r (bit_xor (bit_xor (bit_xor (bit_xor (bit_xor (bit_xor (bit_xor a b) c) d) e) f) g) h)
     ≡ xors (r a) (xors (r b) (xors (r c) (xors (r d) (xors (r e) (xors (r f) (xors (r g) (r h)))))))
 entries-xor order a b c d e f g h =
-    then_xor order _ h (then_xor order _ g (then_xor order _ f (then_xor order _ e (then_xor order _ d (then_xor order _ c (register_bits-xor order a b))))))
+    then_xor order _ h (then_xor order _ g
+    (then_xor order _ f (then_xor order _ e (then_xor order _ d (then_xor order _ c (register_bits-xor order a b))))))
     ∙ in_turn (register_bits order a) (register_bits order b) (register_bits order c) (register_bits order d)
     (register_bits order e) (register_bits order f) (register_bits order g) (register_bits order h)
 
@@ -182,11 +197,15 @@ eight_leave order tables m are =
     let r : ℕ → ℕ → List Bool = λ k i. register_bits order (entry_of tables k (o i)) in
     let last : remainder crc32 (bits_in order (o 7 ∷ [])) ≡ r 0 7 =
     ap (remainder crc32) refl ∙ sym (are.entry 0 (o 7) (omega arith) (omega arith)) in
-    entries-xor order (entry_of tables 7 (o 0)) (entry_of tables 6 (o 1)) (entry_of tables 5 (o 2)) (entry_of tables 4 (o 3))
+    entries-xor order (entry_of tables 7 (o 0)) (entry_of tables 6 (o 1)) (entry_of tables 5 (o 2))
+    (entry_of tables 4 (o 3))
     (entry_of tables 3 (o 4)) (entry_of tables 2 (o 5)) (entry_of tables 1 (o 6)) (entry_of tables 0 (o 7))
-    ∙ sym (one_part order tables 7 (o 0) (o 1 ∷ o 2 ∷ o 3 ∷ o 4 ∷ o 5 ∷ o 6 ∷ o 7 ∷ []) are (omega arith) (omega arith) refl
-    ∙ ap (xors (r 7 0)) (one_part order tables 6 (o 1) (o 2 ∷ o 3 ∷ o 4 ∷ o 5 ∷ o 6 ∷ o 7 ∷ []) are (omega arith) (omega arith) refl
-    ∙ ap (xors (r 6 1)) (one_part order tables 5 (o 2) (o 3 ∷ o 4 ∷ o 5 ∷ o 6 ∷ o 7 ∷ []) are (omega arith) (omega arith) refl
+    ∙ sym (one_part order tables 7 (o 0) (o 1 ∷ o 2 ∷ o 3 ∷ o 4 ∷ o 5 ∷ o 6 ∷ o 7 ∷ []) are (omega arith)
+    (omega arith) refl
+    ∙ ap (xors (r 7 0)) (one_part order tables 6 (o 1) (o 2 ∷ o 3 ∷ o 4 ∷ o 5 ∷ o 6 ∷ o 7 ∷ []) are (omega arith)
+    (omega arith) refl
+    ∙ ap (xors (r 6 1)) (one_part order tables 5 (o 2) (o 3 ∷ o 4 ∷ o 5 ∷ o 6 ∷ o 7 ∷ []) are (omega arith)
+    (omega arith) refl
     ∙ ap (xors (r 5 2)) (one_part order tables 4 (o 3) (o 4 ∷ o 5 ∷ o 6 ∷ o 7 ∷ []) are (omega arith) (omega arith) refl
     ∙ ap (xors (r 4 3)) (one_part order tables 3 (o 4) (o 5 ∷ o 6 ∷ o 7 ∷ []) are (omega arith) (omega arith) refl
     ∙ ap (xors (r 3 4)) (one_part order tables 2 (o 5) (o 6 ∷ o 7 ∷ []) are (omega arith) (omega arith) refl
@@ -201,7 +220,8 @@ word_step order tables before register word h are stands =
     let rest : List Bool = remainder crc32 before in
     let size : length (word_bits order word) ≡ 64 = length-bits_in order (to_le_bytes w64 word) in
     let long : length crc32 ≤ length (word_bits order word) = omega (arith, length-crc32) in
-    let whole : length rest + 32 ≡ length (word_bits order word) = omega (arith, length-crc32, length-remainder crc32 before) in
+    let whole : length rest + 32 ≡ length (word_bits order word) =
+    omega (arith, length-crc32, length-remainder crc32 before) in
     eight_leave order tables (bit_xor word register) are
     ∙ ap (remainder crc32)
     (word_bits-xor order word register

@@ -18,7 +18,8 @@ add_front-at [] (y ∷ ys) zs e = absurd (omega arith)
 add_front-at (x ∷ xs) [] zs e = absurd (omega arith)
 add_front-at (x ∷ xs) (y ∷ ys) zs e = ap (λ l. xor x y ∷ l) (add_front-at xs ys zs (omega arith))
 
-pub add_front-zeros : (xs ys : List Bool) (n : ℕ) → length xs + n ≡ length ys → add_front xs ys ≡ xors (xs ++ replicate n false) ys
+pub add_front-zeros : (xs ys : List Bool) (n : ℕ) → length xs + n ≡ length ys
+    → add_front xs ys ≡ xors (xs ++ replicate n false) ys
 unfolding add_front xors
 add_front-zeros [] ys n e = sym (xors-zeros n ys (omega arith))
 add_front-zeros (x ∷ xs) [] n e = absurd (omega arith)
@@ -26,7 +27,8 @@ add_front-zeros (x ∷ xs) (y ∷ ys) n e = ap (λ l. xor x y ∷ l) (add_front-
 
 -- ---- a first part
 -- what it leaves is added to what comes after it
-pub divide_front : (lower p q : List Bool) → length lower ≤ length q → divide (length p) lower (p ++ q) ≡ add_front (remainder lower p) q
+pub divide_front : (lower p q : List Bool) → length lower ≤ length q
+    → divide (length p) lower (p ++ q) ≡ add_front (remainder lower p) q
 divide_front lower p q h =
     let g = length lower in
     let a : List Bool = take g q in
@@ -50,7 +52,8 @@ remainder-append_long lower word more h =
     let short : length rest ≤ length more = omega (arith, length-remainder lower word) in
     ap₂ (λ n l. divide n lower l) (length-append word more) (append_assoc word more zeros)
     ∙ divide-add (length word) (length more) lower (word ++ (more ++ zeros))
-    ∙ ap (divide (length more) lower) (divide_front lower word (more ++ zeros) long ∙ add_front-append rest more zeros short)
+    ∙ ap (divide (length more) lower) (divide_front lower word (more ++ zeros) long
+    ∙ add_front-append rest more zeros short)
     ∙ ap (λ n. divide n lower (add_front rest more ++ zeros)) (sym (length-add_front rest more))
 
 -- ---- parts
@@ -64,12 +67,18 @@ remainder-zeros lower back n =
     ∙ ap (divide (length back) lower) (divide-zeros n lower (back ++ zeros))
 
 pub remainder-parts : (lower front back : List Bool)
-    → remainder lower (front ++ back) ≡ xors (remainder lower (front ++ replicate (length back) false)) (remainder lower back)
+    → remainder lower (front ++ back) ≡ xors (remainder lower (front ++ replicate (length back) false))
+    (remainder lower back)
 remainder-parts lower front back =
     let zeros : List Bool = replicate (length back) false in
     let size : length zeros ≡ length back = length-replicate (length back) false in
     let same : length (front ++ zeros) ≡ length (replicate (length front) false ++ back) =
-    omega (arith, length-append front zeros, length-append (replicate (length front) false) back, length-replicate (length front) false) in
+    omega (
+      arith,
+      length-append front zeros,
+      length-append (replicate (length front) false) back,
+      length-replicate (length front) false,
+    ) in
     ap (remainder lower) (behind_zeros front zeros back size refl)
     ∙ remainder-xors lower (front ++ zeros) (replicate (length front) false ++ back) same
     ∙ ap (xors (remainder lower (front ++ zeros))) (remainder-zeros lower back (length front))
@@ -86,7 +95,8 @@ pub rest_of-seed : (bs : List Bool) → rest_of bs ≡ remainder crc32 (seed ++ 
 unfolding rest_of seed
 rest_of-seed bs =
     let zeros : List Bool = replicate 32 false in
-    let long : length crc32 ≤ length (bs ++ zeros) = omega (arith, length-append bs zeros, length-replicate 32 false, length-crc32) in
+    let long : length crc32 ≤ length (bs ++ zeros) =
+    omega (arith, length-append bs zeros, length-replicate 32 false, length-crc32) in
     let front : divide 32 crc32 (seed ++ (bs ++ zeros)) ≡ add_front (replicate 32 true) (bs ++ zeros) =
     ap (λ n. divide n crc32 (seed ++ (bs ++ zeros))) (sym (length-bits 32 0x46af6449))
     ∙ divide_front crc32 seed (bs ++ zeros) long ∙ ap (λ l. add_front l (bs ++ zeros)) seed_leaves in

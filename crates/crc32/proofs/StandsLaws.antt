@@ -24,12 +24,14 @@ after_more : (order : BitOrder) (octets more : List ℕ)
     → remainder crc32 (seed ++ bits_in order octets ++ bits_in order more) ≡ rest_of (bits_in order (octets ++ more))
 after_more order octets more =
     ap (remainder crc32)
-    (append_assoc seed (bits_in order octets) (bits_in order more) ∙ ap (λ l. seed ++ l) (sym (bits_in-append order octets more)))
+    (append_assoc seed (bits_in order octets) (bits_in order more)
+    ∙ ap (λ l. seed ++ l) (sym (bits_in-append order octets more)))
     ∙ sym (rest_of-seed (bits_in order (octets ++ more)))
 
 pub stands_octet : (order : BitOrder) (tables : List (List ℕ)) (octets : List ℕ) (register octet : ℕ)
     → register < 2 ^ 32 → octet < 256 → IsTables order tables → Stands order octets register
-    → Stands order (octets ++ octet ∷ []) (bit_xor (register / 2 ^ 8) (entry_of tables 0 (bit_xor (register % 2 ^ 8) octet)))
+    → Stands order (octets ++ octet ∷ [])
+    (bit_xor (register / 2 ^ 8) (entry_of tables 0 (bit_xor (register % 2 ^ 8) octet)))
 stands_octet order tables octets register octet h small are s = record {
   left =
       octet_step order (slice_index_or tables 0 []) (seed ++ bits_in order octets) register octet h small
@@ -42,7 +44,8 @@ pub stands_word : (order : BitOrder) (tables : List (List ℕ)) (octets : List �
     → Stands order (octets ++ to_le_bytes w64 word) (entries_of tables (to_le_bytes w64 (bit_xor word register)))
 stands_word order tables octets register word h are s = record {
   left =
-      word_step order tables (seed ++ bits_in order octets) register word h are (s.left ∙ rest_of-seed (bits_in order octets))
+      word_step order tables (seed ++ bits_in order octets) register word h are (s.left
+      ∙ rest_of-seed (bits_in order octets))
       ∙ after_more order octets (to_le_bytes w64 word);
 }
 
@@ -67,4 +70,5 @@ check_of_register order octets register s =
     ∙ xors_comm (rest_of (bits_in order octets)) (replicate 32 true) in
     sym (map-ordered_twice order own (octets_below n))
     ∙ ap (map (ordered order))
-    (sym (octets_of-octet_bits (map (ordered order) own) (All-ordered order own (octets_below n))) ∙ ap (octets_of 4) made)
+    (sym (octets_of-octet_bits (map (ordered order) own) (All-ordered order own (octets_below n)))
+    ∙ ap (octets_of 4) made)

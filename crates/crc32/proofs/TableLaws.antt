@@ -31,7 +31,8 @@ record AreMade (order : BitOrder) (tables : List (List ℕ)) : Type 0 where
   pub next : map (λ k. map (zeros_more (slice_index_or tables 0 [])) (slice_index_or tables k [])) (range_with_len 0 7)
       ≡ map (λ k. slice_index_or tables k []) (range_with_len 1 7)
 
-first_is : (order : BitOrder) (tables : List (List ℕ)) → AreMade order tables → IsTableOf order 0 (slice_index_or tables 0 [])
+first_is : (order : BitOrder) (tables : List (List ℕ)) → AreMade order tables
+    → IsTableOf order 0 (slice_index_or tables 0 [])
 first_is order tables made =
     let table : List ℕ = slice_index_or tables 0 [] in
     let left : ℕ → List Bool = λ o. remainder crc32 (bits 8 (ordered order o)) in
@@ -63,7 +64,8 @@ next_is order tables k made h is =
     let zeros : List Bool = replicate (8 * k) false in
     let e : 8 * k + 8 ≡ 8 * suc k = omega arith in
     let same : map (zeros_more first) table ≡ slice_index_or tables (suc k) [] =
-    sym (get_or-map-range_with_len (λ j. map (zeros_more first) (slice_index_or tables j [])) 0 7 k k [] h (omega arith))
+    sym (get_or-map-range_with_len (λ j. map (zeros_more first) (slice_index_or tables j [])) 0 7 k k [] h
+    (omega arith))
     ∙ ap (λ l. get_or l k []) made.next
     ∙ get_or-map-range_with_len (λ j. slice_index_or tables j []) 1 7 k (suc k) [] h (omega arith) in
     record {
@@ -74,18 +76,23 @@ next_is order tables k made h is =
           let begun : List Bool = bits 8 (ordered order octet) in
           ap (λ l. register_bits order (slice_index l octet)) (sym same)
           ∙ ap (register_bits order) (get_or-map (zeros_more first) table octet 0 0 inside)
-          ∙ ap (λ n. register_bits order (bit_xor (entry / 2 ^ 8) (slice_index first n))) (sym (xor_zero_r (entry % 2 ^ 8)))
-          ∙ octet_step order first (begun ++ zeros) entry 0 (entry_below order tables k octet made (omega arith) inside) (omega arith)
+          ∙ ap (λ n. register_bits order (bit_xor (entry / 2 ^ 8) (slice_index first n)))
+          (sym (xor_zero_r (entry % 2 ^ 8)))
+          ∙ octet_step order first (begun ++ zeros) entry 0
+          (entry_below order tables k octet made (omega arith) inside) (omega arith)
           (first_is order tables made).entry (is.entry octet small)
           ∙ ap (remainder crc32)
           (append_assoc begun zeros (bits_in order (0 ∷ []))
           ∙ ap (λ l. begun ++ l)
-          (ap (λ l. zeros ++ l) (zero_octet order) ∙ replicate-append-replicate (8 * k) 8 false ∙ ap (λ n. replicate n false) e));
+          (ap (λ l. zeros ++ l) (zero_octet order) ∙ replicate-append-replicate (8 * k) 8 false
+          ∙ ap (λ n. replicate n false) e));
     }
 
-each_is : (order : BitOrder) (tables : List (List ℕ)) (k : ℕ) → AreMade order tables → k < 8 → IsTableOf order k (slice_index_or tables k [])
+each_is : (order : BitOrder) (tables : List (List ℕ)) (k : ℕ) → AreMade order tables → k < 8
+    → IsTableOf order k (slice_index_or tables k [])
 each_is order tables zero made h = first_is order tables made
-each_is order tables (suc k) made h = next_is order tables k made (omega arith) (each_is order tables k made (omega arith))
+each_is order tables (suc k) made h = next_is order tables k made (omega arith)
+    (each_is order tables k made (omega arith))
 
 are_tables : (order : BitOrder) (tables : List (List ℕ)) → AreMade order tables → IsTables order tables
 are_tables order tables made = record { entry = λ k octet h. (each_is order tables k made h).entry octet }
