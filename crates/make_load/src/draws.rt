@@ -1,5 +1,5 @@
 //! Draws: numbers from a state of 64 bits.
-ghost use Rattle.std.specs.Prelude.{◌≡◌, ◌<◌, IfOk, OnOk};
+ghost use Rattle.std.specs.Prelude.{◌≡◌, ◌<◌, length, IfOk, OnOk};
 ghost use Rattle.make_load.specs.Draws.{next, drawn, draws, after_draws};
 
 use session_model::{Delays, Octets};
@@ -7,14 +7,21 @@ use std::alloc::{AllocError, Global};
 
 /// A state from which numbers are drawn.
 #[derive(Clone, Copy, Debug)]
-pub(crate) struct Draws {
+pub struct Draws {
     /// The state after the last draw.
     pub state: u64,
 }
 
 impl Draws {
+    /// The draws that a number begins.
+    pub fn new(number: u64) -> Draws
+        ensures { result.state ≡ number }
+    {
+        Draws { state: number }
+    }
+
     /// The next number below a bound.
-    pub(crate) fn below(&mut self, bound: u64) -> u64
+    pub fn below(&mut self, bound: u64) -> u64
         requires { 0 < bound }
         ensures state { self.new.state ≡ next self.old.state }
         ensures drawn { result ≡ drawn (next self.old.state) bound }
@@ -36,6 +43,16 @@ impl Draws {
             octets.push(self.below(256) as u8)?;
         }
         Ok(Octets(octets))
+    }
+
+    /// Draws each of some octets.
+    pub fn fill(&mut self, octets: &mut [u8])
+        ensures octets { octets.new ≡ draws (length octets.old) 256 self.old.state }
+        ensures state { self.new.state ≡ after_draws (length octets.old) self.old.state }
+    {
+        for i in 0..octets.len() {
+            octets[i] = self.below(256) as u8;
+        }
     }
 
     /// The delays of a number of lines, in frames, up to 40.

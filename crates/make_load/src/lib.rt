@@ -5,4 +5,5 @@
 mod draws;
 mod load;
 
+pub use draws::Draws;
 pub use load::make;

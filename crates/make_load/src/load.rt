@@ -72,7 +72,7 @@ fn draw(alloc: Global, number: u64, lines: u8, ticks: u32) -> Result<Script, All
     requires { ticks ≤ 1000000 }
     ensures { IfOk result (λ script. script ≡ load number lines ticks) }
 {
-    let mut draws = Draws { state: number };
+    let mut draws = Draws::new(number);
     let delays = draws.delays(alloc, lines)?;
     let windows = no_windows(alloc, lines)?;
     let mut items = add_lines(alloc, lines)?;
