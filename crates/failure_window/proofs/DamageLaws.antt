@@ -1,5 +1,6 @@
 -- Which containers are damaged, and how.
-use Rattle.std.proofs.Common.{◌≡◌, ℕ, zero, suc, ◌+◌, ◌-◌, ◌<◌, ◌≤◌, ◌&&◌, nat_le, nat_lt, Bool, true, false, if◌then◌else◌, inl, inr, List, [], ◌∷◌, length, slice_index_or, refl, ◌∙◌, arith}
+use Rattle.std.proofs.Common.{◌≡◌, ℕ, zero, suc, ◌+◌, ◌-◌, ◌<◌, ◌≤◌, ◌&&◌, nat_le, nat_lt, Bool, true, false}
+use Rattle.std.proofs.Common.{if◌then◌else◌, inl, inr, List, [], ◌∷◌, length, slice_index_or, refl, ◌∙◌, arith}
 use Rattle.std.specs.Prelude.{Contains}
 use Rattle.std.proofs.lemmas.Bool.{cases_Bool}
 use Rattle.session_model.specs.declared.window.Window.{Window}
@@ -52,7 +53,8 @@ signed from [] k d are within = absurd (omega arith)
 signed from (window ∷ windows) zero d are within = are.1
 signed from (window ∷ windows) (suc k) d are within = signed window.end windows k d are.2 (omega arith)
 
-pub contained-fails : (windows : List Window) (window : Window) (t : ℕ) → AreWindows 0 windows → Contains windows window →
+pub contained-fails : (windows : List Window) (window : Window) (t : ℕ) → AreWindows 0 windows →
+    Contains windows window →
     window.first ≤ t → t < window.end - window.slip → carried windows t ≡ Fails
 contained-fails windows window t are (k, within, is) low high =
     let sign : window.slip + window.first < window.end = rw is at (signed 0 windows k window are within) in
@@ -61,7 +63,8 @@ contained-fails windows window t are (k, within, is) low high =
     let test : nat_lt (t + window.slip) window.end ≡ true = grind (arith, sign, high) in
     here ∙ rw test refl
 
-pub contained-vanishes : (windows : List Window) (window : Window) (t : ℕ) → AreWindows 0 windows → Contains windows window →
+pub contained-vanishes : (windows : List Window) (window : Window) (t : ℕ) → AreWindows 0 windows →
+    Contains windows window →
     window.end - window.slip ≤ t → t < window.end → carried windows t ≡ Vanishes
 contained-vanishes windows window t are (k, within, is) low high =
     let sign : window.slip + window.first < window.end = rw is at (signed 0 windows k window are within) in

@@ -1,5 +1,6 @@
 -- Lists without a fault.
-use Rattle.std.proofs.Common.{◌≡◌, ℕ, suc, ◌+◌, ◌-◌, ◌<◌, ◌≤◌, nat_le, nat_lt, true, false, inl, inr, List, [], ◌∷◌, length, drop, slice_index_or, Option, Some, None, refl, ◌∙◌, ap, arith}
+use Rattle.std.proofs.Common.{◌≡◌, ℕ, suc, ◌+◌, ◌-◌, ◌<◌, ◌≤◌, nat_le, nat_lt, true, false, inl, inr, List, [], ◌∷◌}
+use Rattle.std.proofs.Common.{length, drop, slice_index_or, Option, Some, None, refl, ◌∙◌, ap, arith}
 use Rattle.std.proofs.lemmas.Bool.{cases_lt}
 use Rattle.std.proofs.lemmas.List.{at_drop_more, at_drop_all}
 use Rattle.session_model.specs.declared.window.Window.{Window}
@@ -9,7 +10,8 @@ use Rattle.failure_window.specs.declared.fault.WindowFault.TheVariants.{Empty, O
 use Rattle.failure_window.specs.Fault.{fault_of, fault_or, fault_from}
 
 -- a window without a fault stands after the one before it and gives a sign
-fine : (i end : ℕ) (window : Window) → fault_of i end window ≡ None → (end ≤ window.first) × (window.slip + window.first < window.end)
+fine : (i end : ℕ) (window : Window) → fault_of i end window ≡ None → (end ≤ window.first) ×
+    (window.slip + window.first < window.end)
 fine i end window none =
     elim (cases_lt window.first window.end) [
       | inr empty ↦ absurd (let test : nat_le window.end window.first ≡ true = grind (arith, empty) in let e : Some (Empty i) ≡ None = rw test at none in cc)
@@ -26,7 +28,8 @@ fine i end window none =
           ]
     ]
 
-no_fault : (i end : ℕ) (window : Window) → end ≤ window.first → window.slip + window.first < window.end → fault_of i end window ≡ None
+no_fault : (i end : ℕ) (window : Window) → end ≤ window.first → window.slip + window.first < window.end →
+    fault_of i end window ≡ None
 no_fault i end window apart sign =
     let some : nat_le window.end window.first ≡ false = grind (arith, sign) in
     let other : nat_lt window.first end ≡ false = grind (arith, apart) in
@@ -48,15 +51,18 @@ none-are i end (window ∷ windows) none =
 pub are-none : (i end : ℕ) (windows : List Window) → AreWindows end windows → fault_from i end windows ≡ None
 unfolding fault_from AreWindows
 are-none i end [] are = refl
-are-none i end (window ∷ windows) are = rw (no_fault i end window are.0 are.1) (are-none (suc i) window.end windows are.2)
+are-none i end (window ∷ windows) are =
+    rw (no_fault i end window are.0 are.1) (are-none (suc i) window.end windows are.2)
 
 -- one window on: it has no fault, or its fault is the first one
-pub fault-more : (i end : ℕ) (windows : List Window) (d : Window) → i < length windows → fault_of i end (slice_index_or windows i d) ≡ None →
+pub fault-more : (i end : ℕ) (windows : List Window) (d : Window) → i < length windows →
+    fault_of i end (slice_index_or windows i d) ≡ None →
     fault_from i end (drop i windows) ≡ fault_from (i + 1) (slice_index_or windows i d).end (drop (i + 1) windows)
 unfolding fault_from
 fault-more i end windows d within none =
     at_drop_more (fault_from i end) windows i d within
-    ∙ rw none (ap (λ n. fault_from n (slice_index_or windows i d).end (drop (i + 1) windows)) (let e : suc i ≡ i + 1 = omega arith in e))
+    ∙ rw none (ap (λ n. fault_from n (slice_index_or windows i d).end (drop (i + 1) windows))
+    (let e : suc i ≡ i + 1 = omega arith in e))
 
 pub fault-here : (i end : ℕ) (windows : List Window) (d : Window) (fault : WindowFault) → i < length windows →
     fault_of i end (slice_index_or windows i d) ≡ Some fault → fault_from i end (drop i windows) ≡ Some fault

@@ -1,5 +1,6 @@
 -- Sums of slips over runs of windows each near the one before.
-use Rattle.std.proofs.Common.{◌≡◌, ℕ, ◌+◌, ◌<◌, ◌≤◌, max, nat_lt, Bool, true, false, if◌then◌else◌, ◌⊎◌, inl, inr, List, [], ◌∷◌, ◌++◌, length, drop, slice_index_or, fold, refl, sym, ◌∙◌, ap, arith}
+use Rattle.std.proofs.Common.{◌≡◌, ℕ, ◌+◌, ◌<◌, ◌≤◌, max, nat_lt, Bool, true, false, if◌then◌else◌, ◌⊎◌, inl, inr, List}
+use Rattle.std.proofs.Common.{[], ◌∷◌, ◌++◌, length, drop, slice_index_or, fold, refl, sym, ◌∙◌, ap, arith}
 use Rattle.std.specs.Prelude.{sum_by}
 use Rattle.std.proofs.lemmas.Bool.{cases_Bool, cases_lt}
 use Rattle.std.proofs.lemmas.List.{at_drop_more, at_drop_all}
@@ -30,7 +31,8 @@ unfolding slip_after
 later-most run end window windows = omega arith
 
 -- a run that goes on
-near-most : (so_far end : ℕ) (run later : List Window) → AreNear end run → sum_after so_far run ≤ slip_after so_far end (run ++ later)
+near-most : (so_far end : ℕ) (run later : List Window) → AreNear end run →
+    sum_after so_far run ≤ slip_after so_far end (run ++ later)
 unfolding AreNear
 near-most so_far end [] later near = run-most so_far end later
 near-most so_far end (window ∷ run) later near =
@@ -41,13 +43,16 @@ near-most so_far end (window ∷ run) later near =
 
 run_with-most : (so_far end : ℕ) (window : Window) → window.slip ≤ run_with so_far end window
 run_with-most so_far end window =
-    elim (cases_Bool (nat_lt window.first (end + 17))) [ inl near ↦ rw near (omega arith) | inr far ↦ rw far (omega arith) ]
+    elim (cases_Bool (nat_lt window.first (end + 17)))
+    [ inl near ↦ rw near (omega arith) | inr far ↦ rw far (omega arith) ]
 
 -- a run that begins
-run-first : (so_far end : ℕ) (run later : List Window) → IsRun run → sum_by (λ window. window.slip) run ≤ slip_after so_far end (run ++ later)
+run-first : (so_far end : ℕ) (run later : List Window) → IsRun run →
+    sum_by (λ window. window.slip) run ≤ slip_after so_far end (run ++ later)
 run-first so_far end [] later near = omega arith
 run-first so_far end (window ∷ run) later near =
-    let more = sum-grows (0 + window.slip) (run_with so_far end window) run (omega (arith, run_with-most so_far end window)) in
+    let more = sum-grows (0 + window.slip) (run_with so_far end window) run
+    (omega (arith, run_with-most so_far end window)) in
     let rest = near-most (run_with so_far end window) window.end run later near in
     omega (arith, more, rest, later-most so_far end window (run ++ later))
 
@@ -75,11 +80,13 @@ pub record Begins (greatest : ℕ) (windows : List Window) : Type 0 where
   pub sum : greatest ≡ sum_by (λ window. window.slip) run
 
 -- the run so far ends here with the greatest sum
-ends-here : (so_far end : ℕ) (windows : List Window) → slip_after so_far end windows ≡ so_far → GoesOn so_far end windows
+ends-here : (so_far end : ℕ) (windows : List Window) → slip_after so_far end windows ≡ so_far →
+    GoesOn so_far end windows
 unfolding AreNear
 ends-here so_far end windows same = record { run = []; later = windows; are = refl; near = tt; sum = same }
 
-one-more : (so_far end : ℕ) (window : Window) (windows : List Window) (near : Bool) → nat_lt window.first (end + 17) ≡ near →
+one-more : (so_far end : ℕ) (window : Window) (windows : List Window) (near : Bool) →
+    nat_lt window.first (end + 17) ≡ near →
     slip_after so_far end (window ∷ windows) ≡ slip_after (run_with so_far end window) window.end windows →
     GoesOn (if near then so_far + window.slip else window.slip) window.end windows →
     GoesOn so_far end (window ∷ windows) ⊎ Begins (slip_after so_far end (window ∷ windows)) (window ∷ windows)
@@ -97,10 +104,12 @@ one-more so_far end window windows false test same on = inr (record {
   later = on.later;
   are = ap (λ l. window ∷ l) on.are;
   near = on.near;
-  sum = same ∙ rw test (on.sum ∙ ap (λ a. sum_after a on.run) (let e : window.slip ≡ 0 + window.slip = omega arith in e));
+  sum = same ∙ rw test (on.sum ∙ ap (λ a. sum_after a on.run)
+      (let e : window.slip ≡ 0 + window.slip = omega arith in e));
 })
 
-pub greatest : (so_far end : ℕ) (windows : List Window) → GoesOn so_far end windows ⊎ Begins (slip_after so_far end windows) windows
+pub greatest : (so_far end : ℕ) (windows : List Window) →
+    GoesOn so_far end windows ⊎ Begins (slip_after so_far end windows) windows
 unfolding slip_after
 greatest so_far end [] = inl (ends-here so_far end [] refl)
 greatest so_far end (window ∷ windows) =
@@ -129,20 +138,31 @@ is-run end (window ∷ run) near = near.1
 
 pub slip-reached : (windows : List Window) → Begins (slip_of windows) windows
 slip-reached windows = elim (greatest 0 0 windows) [
-  | inl on ↦ record { before = []; run = on.run; later = on.later; are = on.are; near = is-run 0 on.run on.near; sum = on.sum }
+  | inl on ↦ record {
+    before = [];
+    run = on.run;
+    later = on.later;
+    are = on.are;
+    near = is-run 0 on.run on.near;
+    sum =
+        on.sum;
+  }
   | inr other ↦ other
 ]
 
 -- one window on
-pub slip-step : (run end most : ℕ) (windows : List Window) (i : ℕ) (d : Window) (next greatest : ℕ) → i < length windows → run ≤ most →
+pub slip-step : (run end most : ℕ) (windows : List Window) (i : ℕ) (d : Window) (next greatest : ℕ) →
+    i < length windows → run ≤ most →
     next ≡ run_with run end (slice_index_or windows i d) → greatest ≡ max next most →
-    max greatest (slip_after next (slice_index_or windows i d).end (drop (i + 1) windows)) ≡ max most (slip_after run end (drop i windows))
+    max greatest (slip_after next (slice_index_or windows i d).end (drop (i + 1) windows)) ≡ max most
+    (slip_after run end (drop i windows))
 unfolding slip_after
 slip-step run end most windows i d next greatest within less sum is =
     let window : Window = slice_index_or windows i d in
     let step = at_drop_more (slip_after run end) windows i d within in
     let first = run-most next window.end (drop (i + 1) windows) in
-    let same : slip_after (run_with run end window) window.end (drop (i + 1) windows) ≡ slip_after next window.end (drop (i + 1) windows) =
+    let same : slip_after (run_with run end window) window.end (drop (i + 1) windows) ≡ slip_after next window.end
+    (drop (i + 1) windows) =
     ap (λ n. slip_after n window.end (drop (i + 1) windows)) (sym sum) in
     omega (arith, step, first, same)
 
@@ -151,10 +171,13 @@ pub slip-end : (run end most : ℕ) (windows : List Window) (i : ℕ) → length
 unfolding slip_after
 slip-end run end most windows i past less = let last = at_drop_all (slip_after run end) windows i past in omega (arith, last)
 
-pub are-more : (end : ℕ) (windows : List Window) (i : ℕ) (d : Window) → i < length windows → AreWindows end (drop i windows) →
-    (end ≤ (slice_index_or windows i d).first) × ((slice_index_or windows i d).slip + (slice_index_or windows i d).first < (slice_index_or windows i d).end) ×
+pub are-more : (end : ℕ) (windows : List Window) (i : ℕ) (d : Window) → i < length windows →
+    AreWindows end (drop i windows) →
+    (end ≤ (slice_index_or windows i d).first) ×
+    ((slice_index_or windows i d).slip + (slice_index_or windows i d).first < (slice_index_or windows i d).end) ×
     AreWindows (slice_index_or windows i d).end (drop (i + 1) windows)
 unfolding AreWindows
 are-more end windows i d within are =
-    let next : drop i windows ≡ slice_index_or windows i d ∷ drop (i + 1) windows = at_drop_more (λ l. l) windows i d within in
+    let next : drop i windows ≡ slice_index_or windows i d ∷ drop (i + 1) windows =
+    at_drop_more (λ l. l) windows i d within in
     rw next at are

@@ -1,5 +1,6 @@
 -- What a window at the front of a list does to a container.
-use Rattle.std.proofs.Common.{◌≡◌, ℕ, zero, suc, ◌<◌, ◌≤◌, ◌&&◌, nat_le, nat_lt, true, false, List, [], ◌∷◌, length, drop, slice_get, slice_index_or, Some, None, refl, sym, ◌∙◌, ap, arith}
+use Rattle.std.proofs.Common.{◌≡◌, ℕ, zero, suc, ◌<◌, ◌≤◌, ◌&&◌, nat_le, nat_lt, true, false, List, [], ◌∷◌, length}
+use Rattle.std.proofs.Common.{drop, slice_get, slice_index_or, Some, None, refl, sym, ◌∙◌, ap, arith}
 use Rattle.session_model.specs.declared.window.Window.{Window}
 use Rattle.session_model.specs.declared.window.Carried.TheVariants.{Whole}
 use Rattle.session_model.specs.Damage.{carried_in, carried, AreWindows}
@@ -7,7 +8,8 @@ use Rattle.session_model.proofs.PathLaws.{carried-in, carried-before, carried-af
 use Rattle.failure_window.specs.Above.{IsFirstAbove}
 
 -- no window that begins later damages it
-pub carried-early : (from : ℕ) (windows : List Window) (n : ℕ) → AreWindows from windows → n < from → carried windows n ≡ Whole
+pub carried-early : (from : ℕ) (windows : List Window) (n : ℕ) → AreWindows from windows → n < from →
+    carried windows n ≡ Whole
 unfolding AreWindows carried
 carried-early from [] n are before = refl
 carried-early from (window ∷ windows) n are before =
@@ -16,7 +18,8 @@ carried-early from (window ∷ windows) n are before =
     carried-before window windows n (omega arith) ∙ carried-early window.end windows n are.2 (omega arith)
 
 -- the windows after the first ones begin after the end of the last of these
-pub are-drop : (from : ℕ) (windows : List Window) (i : ℕ) → AreWindows from windows → (end : ℕ) × AreWindows end (drop i windows)
+pub are-drop : (from : ℕ) (windows : List Window) (i : ℕ) → AreWindows from windows → (end : ℕ) ×
+    AreWindows end (drop i windows)
 unfolding AreWindows
 are-drop from windows zero are = (from, are)
 are-drop from [] (suc i) are = (from, are)
@@ -45,7 +48,8 @@ end-before from (window ∷ windows) (suc j) d are within =
     omega (arith, rest)
 
 -- their ends rise
-pub ends-rise : (from : ℕ) (windows : List Window) (i j : ℕ) (d : Window) → AreWindows from windows → i ≤ j → j < length windows →
+pub ends-rise : (from : ℕ) (windows : List Window) (i j : ℕ) (d : Window) → AreWindows from windows → i ≤ j →
+    j < length windows →
     (slice_index_or windows i d).end ≤ (slice_index_or windows j d).end
 unfolding AreWindows
 ends-rise from [] i j d are before within = absurd (omega arith)
@@ -57,12 +61,14 @@ ends-rise from (window ∷ windows) (suc i) (suc j) d are before within =
     ends-rise window.end windows i j d are.2 (omega arith) (omega arith)
 
 -- the first window that ends above a container says what comes of it
-pub first-ends : (windows : List Window) (n : ℕ) (window : Window) → IsFirstAbove n windows → Some window ≡ slice_get windows 0 → n < window.end
+pub first-ends : (windows : List Window) (n : ℕ) (window : Window) → IsFirstAbove n windows →
+    Some window ≡ slice_get windows 0 → n < window.end
 unfolding IsFirstAbove
 first-ends [] n window above is = absurd cc
 first-ends (own ∷ windows) n window above is = (let same : window ≡ own = cc in rw same above.0)
 
-pub first-in : (windows : List Window) (n : ℕ) (window : Window) → IsFirstAbove n windows → Some window ≡ slice_get windows 0 →
+pub first-in : (windows : List Window) (n : ℕ) (window : Window) → IsFirstAbove n windows →
+    Some window ≡ slice_get windows 0 →
     window.first ≤ n → carried windows n ≡ carried_in window n
 unfolding IsFirstAbove
 first-in [] n window above is low = absurd cc
@@ -72,7 +78,8 @@ first-in (own ∷ windows) n window above is low =
     let high = above.0 in
     carried-in own windows n from high ∙ ap (λ w. carried_in w n) (sym same)
 
-pub first-before : (windows : List Window) (n : ℕ) (window : Window) → IsFirstAbove n windows → Some window ≡ slice_get windows 0 →
+pub first-before : (windows : List Window) (n : ℕ) (window : Window) → IsFirstAbove n windows →
+    Some window ≡ slice_get windows 0 →
     n < window.first → Whole ≡ carried windows n
 unfolding IsFirstAbove
 first-before [] n window above is low = absurd cc
@@ -88,10 +95,12 @@ first-none [] n is = refl
 first-none (window ∷ windows) n is = absurd cc
 
 pub first-above : (from : ℕ) (windows : List Window) (n i : ℕ) → AreWindows from windows → i ≤ length windows →
-    ((k : ℕ) (d : Window) → i ≤ k → k < length windows → n < (slice_index_or windows k d).end) → IsFirstAbove n (drop i windows)
+    ((k : ℕ) (d : Window) → i ≤ k → k < length windows → n < (slice_index_or windows k d).end) →
+    IsFirstAbove n (drop i windows)
 unfolding AreWindows IsFirstAbove
 first-above from [] n zero are within above = tt
 first-above from [] n (suc i) are within above = tt
 first-above from (window ∷ windows) n zero are within above = (above 0 window (omega arith) (omega arith), are.2)
 first-above from (window ∷ windows) n (suc i) are within above =
-    first-above window.end windows n i are.2 (omega arith) (λ k d from within. above (suc k) d (omega arith) (omega arith))
+    first-above window.end windows n i are.2 (omega arith)
+    (λ k d from within. above (suc k) d (omega arith) (omega arith))

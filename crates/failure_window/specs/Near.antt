@@ -2,7 +2,8 @@
 use Rattle.std.specs.Prelude.{ℕ, ◌+◌, ◌<◌, List, [], ◌∷◌}
 use Rattle.session_model.specs.declared.window.Window.{Window}
 
--- windows each near the one before, where the first is near one that ends at this container: fewer than 17 containers lie between
+-- windows each near the one before, where the first is near one that ends at this container: fewer than 17 containers
+-- lie between
 unfoldable pub AreNear : ℕ → List Window → Type 0
 AreNear end [] = Unit {0}
 AreNear end (window ∷ windows) = (window.first < end + 17) × AreNear window.end windows

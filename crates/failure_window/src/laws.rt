@@ -7,13 +7,14 @@ ghost use Rattle.failure_window.specs.Near.{IsRun};
 
 use session_model::Carried;
 
-/// A list has no fault exactly where its windows stand in order, apart, and each of them gives a sign before containers vanish.
+/// A list has no fault exactly where its windows stand in order, apart, and each of them gives a sign before
+/// containers vanish.
 pub fn fault_law()
     ensures { (windows : List Window) → (window_fault windows ≡ None) ↔ AreWindows 0 windows }
 {}
 
-/// A container arrives exactly where no window names it. In a list without a fault the last `slip` containers of each window
-/// vanish, and those before them fail.
+/// A container arrives exactly where no window names it. In a list without a fault the last `slip` containers
+/// of each window vanish, and those before them fail.
 pub fn damage_law()
     ensures whole { (windows : List Window) (t : ℕ) →
         (carried windows t ≡ Carried.Whole) ↔ (is_damaged windows t ≡ false) }

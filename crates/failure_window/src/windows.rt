@@ -1,5 +1,6 @@
 //! A list of windows without a fault.
-ghost use Rattle.std.specs.Prelude.{◌≡◌, ◌+◌, ◌<◌, ◌≤◌, nat_lt, if◌then◌else◌, List, length, IfOk, IfSome, IfNone, IsOkUnless};
+ghost use Rattle.std.specs.Prelude.{◌≡◌, ◌+◌, ◌<◌, ◌≤◌, nat_lt, if◌then◌else◌, List, length, IfOk, IfSome, IfNone};
+ghost use Rattle.std.specs.Prelude.{IsOkUnless};
 ghost use Rattle.session_model.specs.declared.window.Window.{Window};
 ghost use Rattle.session_model.specs.Damage.{carried, carried_in, AreWindows, slip_of};
 ghost use Rattle.failure_window.specs.Above.{IsFirstAbove};
@@ -28,8 +29,8 @@ impl Model for Windows {
 }
 
 impl Windows {
-    /// The windows of a list, at most 256, or its first fault. They are tested in their order, each for Empty, then for Overlap,
-    /// then for SlipTooLong; memory is asked for after that.
+    /// The windows of a list, at most 256, or its first fault. They are tested in their order, each for
+    /// Empty, then for Overlap, then for SlipTooLong; memory is asked for after that.
     pub fn new(alloc: Global, list: &[Window]) -> Result<Windows, WindowFault>
         requires { length list.now ≤ 256 }
         ensures fault { IfSome (window_fault list.now) (λ fault. result ≡ Err fault) }
@@ -52,7 +53,8 @@ impl Windows {
         carried_at(&self.list, n)
     }
 
-    /// The slip of the line: the greatest number of containers that vanish over a run of windows each near the one before.
+    /// The slip of the line: the greatest number of containers that vanish over a run of windows each near
+    /// the one before.
     pub fn slip(&self) -> u32
         ensures slip { result ≡ slip_of self.now }
         ensures apart { AreWindows 0 self.now }
@@ -87,7 +89,8 @@ fn carried_by_first(list: &[Window], n: u32) -> Carried
     }
 }
 
-/// The slip of windows that stand in order, apart, and give a sign each: the greatest sum of slips over a run of near ones.
+/// The slip of windows that stand in order, apart, and give a sign each: the greatest sum of slips over a run
+/// of near ones.
 pub fn greatest_slip(list: &[Window]) -> u32
     requires { AreWindows 0 list.now }
     ensures { result ≡ slip_of list.now }

@@ -1,5 +1,6 @@
 -- More octets of an area in SYNC.
-use Rattle.std.proofs.Common.{◌≡◌, ℕ, ◌+◌, ◌-◌, ◌<◌, ◌≤◌, Bool, true, false, List, [], ◌∷◌, ◌++◌, length, take, drop, inl, inr, Some, sym, ◌∙◌, ap, subst, arith, append_assoc, length-append}
+use Rattle.std.proofs.Common.{◌≡◌, ℕ, ◌+◌, ◌-◌, ◌<◌, ◌≤◌, Bool, true, false, List, [], ◌∷◌, ◌++◌, length, take, drop}
+use Rattle.std.proofs.Common.{inl, inr, Some, sym, ◌∙◌, ap, subst, arith, append_assoc, length-append}
 use Rattle.std.proofs.lemmas.List.{append-nil, drop-append-le, drop-drop}
 use Rattle.gfp_scramble.specs.Descrambler.{Descrambling, IsKnown, unknown, Continues, DescramblesTo}
 use Rattle.gfp_scramble.specs.Descrambler as descrambler
@@ -19,7 +20,8 @@ use Rattle.gfp_delineate.specs.Receiver.{Progress, Follows, Headed, InSyncArea, 
 use Rattle.gfp_delineate.proofs.StandingLaws.{Becomes-area, Leaves-longer, Leaves-goes_on}
 use Rattle.gfp_delineate.proofs.Known.{outcomes_with, outcomes-area, nothing, window-none}
 use Rattle.gfp_delineate.proofs.Taking.{Takes, Adds, Taken, Takes-in}
-use Rattle.gfp_delineate.proofs.RunSteps.{to-header, to-area, to-passing, outcome_of-fitting, outcomes_with-push, joined-push}
+use Rattle.gfp_delineate.proofs.RunSteps.{to-header, to-area, to-passing, outcome_of-fitting, outcomes_with-push}
+use Rattle.gfp_delineate.proofs.RunSteps.{joined-push}
 
 -- with another descrambler and another area
 abbrev pub holding : Progress → Phase → Descrambling → List ℕ → Progress
@@ -44,121 +46,168 @@ unknown_within false octets (inl start) = absurd cc
 unknown_within false octets (inr enough) = enough
 
 -- a run with more octets of an area
-follows-more : (old : Progress) (first : Bool) (octets : List ℕ) (ended : List Run) (settled : Bool) (before : List (List ℕ)) (header come more : List ℕ) (phase : Phase) (next : Descrambling) (area : List ℕ) →
+follows-more : (old : Progress) (first : Bool) (octets : List ℕ) (ended : List Run) (settled : Bool)
+    (before : List (List ℕ)) (header come more : List ℕ) (phase : Phase) (next : Descrambling) (area : List ℕ) →
     Follows old first octets ended settled before (header ++ come) come → Continues old.descrambling next more →
-    Follows (holding old phase next area) first (octets ++ more) ended settled before (header ++ (come ++ more)) (come ++ more)
+    Follows (holding old phase next area) first (octets ++ more) ended settled before (header ++ (come ++ more))
+    (come ++ more)
 follows-more old first octets ended settled before header come more phase next area run passes = record {
-  leaves = subst (λ last. Leaves head head first (octets ++ more) ended (running settled before last)) (append_assoc header come more)
+  leaves = subst (λ last. Leaves head head first (octets ++ more) ended (running settled before last))
+      (append_assoc header come more)
       (Leaves-longer head head first octets ended (running settled before (header ++ come)) more run.leaves);
-  given = subst (λ all. descrambler.Stands next settled all) (append_assoc (joined before) come more) (passes settled (joined before ++ come) run.given);
+  given = subst (λ all. descrambler.Stands next settled all) (append_assoc (joined before) come more)
+      (passes settled (joined before ++ come) run.given);
   window = run.window;
 }
 
 -- a run whose area is whole
-follows-whole : (base : Progress) (first : Bool) (octets : List ℕ) (ended : List Run) (settled : Bool) (before : List (List ℕ)) (header area : List ℕ) → Headed header area 0 →
-    Follows base first octets ended settled before (header ++ area) area → Follows base first octets ended settled (before ++ area ∷ []) (drop (4 - 0) base.window) []
+follows-whole : (base : Progress) (first : Bool) (octets : List ℕ) (ended : List Run) (settled : Bool)
+    (before : List (List ℕ)) (header area : List ℕ) → Headed header area 0 →
+    Follows base first octets ended settled before (header ++ area) area →
+    Follows base first octets ended settled (before ++ area ∷ []) (drop (4 - 0) base.window) []
 follows-whole base first octets ended settled before header area headed run =
-    let found : head header ≡ Some (length area) = headed.found ∙ ap (λ n. Some n) (let e : length area + 0 ≡ length area = omega arith in e) in
+    let found : head header ≡ Some (length area) = headed.found
+    ∙ ap (λ n. Some n) (let e : length area + 0 ≡ length area = omega arith in e) in
     record {
-      leaves = subst (λ last. Leaves head head first octets ended (running settled (before ++ area ∷ []) last)) (sym (window-none base.window run.window))
-          (Leaves-goes_on head head first octets ended (running settled before (header ++ area)) (running settled (before ++ area ∷ []) []) run.leaves
+      leaves = subst (λ last. Leaves head head first octets ended (running settled (before ++ area ∷ []) last))
+          (sym (window-none base.window run.window))
+          (Leaves-goes_on head head first octets ended (running settled before (header ++ area))
+          (running settled (before ++ area ∷ []) []) run.leaves
           (Becomes-area head head settled before header area headed.size found));
-      given = subst (λ all. descrambler.Stands base.descrambling settled all) (sym (joined-push before area) ∙ sym (append-nil (joined (before ++ area ∷ [])))) run.given;
+      given = subst (λ all. descrambler.Stands base.descrambling settled all)
+          (sym (joined-push before area) ∙ sym (append-nil (joined (before ++ area ∷ [])))) run.given;
       window = run.window;
     }
 
 -- a header with more octets of its area
-headed-more : (header come more : List ℕ) (left rest : ℕ) → length more + rest ≡ left → Headed header come left → Headed header (come ++ more) rest
+headed-more : (header come more : List ℕ) (left rest : ℕ) → length more + rest ≡ left → Headed header come left →
+    Headed header (come ++ more) rest
 headed-more header come more left rest parts headed = record {
   size = headed.size;
-  found = headed.found ∙ ap (λ n. Some n) (let e : length come + left ≡ length (come ++ more) + rest = omega (arith, length-append come more, parts) in e);
+  found = headed.found ∙ ap (λ n. Some n)
+      (let e : length come + left ≡ length (come ++ more) + rest = omega (arith, length-append come more, parts) in e);
 }
 
 -- an area goes on, whatever its octets are
-area-goes_on : (old : Progress) (longest : ℕ) (first : Bool) (octets more : List ℕ) (left : ℕ) (ended : List Run) (settled : Bool) (before : List (List ℕ)) (header come : List ℕ) → length more < left → Headed header come left →
-    Follows old first octets ended settled before (header ++ come) come → outcomes longest first (octets ++ more) ≡ outcomes longest first octets ++ []
+area-goes_on : (old : Progress) (longest : ℕ) (first : Bool) (octets more : List ℕ) (left : ℕ) (ended : List Run)
+    (settled : Bool) (before : List (List ℕ)) (header come : List ℕ) → length more < left → Headed header come left →
+    Follows old first octets ended settled before (header ++ come) come →
+    outcomes longest first (octets ++ more) ≡ outcomes longest first octets ++ []
 area-goes_on old longest first octets more left ended settled before header come few headed run =
     nothing longest first octets more (outcomes_with longest ended settled before)
     (outcomes-area longest first octets ended settled before header come left headed (omega (arith, few)) run.leaves)
-    (outcomes-area longest first (octets ++ more) ended settled before header (come ++ more) (left - length more) (headed-more header come more left (left - length more) (omega (arith, few)) headed) (omega (arith, few))
-    (subst (λ last. Leaves head head first (octets ++ more) ended (running settled before last)) (append_assoc header come more)
+    (outcomes-area longest first (octets ++ more) ended settled before header (come ++ more) (left - length more)
+    (headed-more header come more left (left - length more) (omega (arith, few)) headed) (omega (arith, few))
+    (subst (λ last. Leaves head head first (octets ++ more) ended (running settled before last))
+    (append_assoc header come more)
     (Leaves-longer head head first octets ended (running settled before (header ++ come)) more run.leaves)))
 
-module _ (old : Progress) (longest : ℕ) (first : Bool) (octets more : List ℕ) (limit : old.longest ≡ longest) (left : ℕ) (next : Descrambling) where
+module _ (old : Progress) (longest : ℕ) (first : Bool) (octets more : List ℕ) (limit : old.longest ≡ longest) (left : ℕ)
+    (next : Descrambling) where
   -- an area is whole, whatever comes of it
-  whole-area : (area : List ℕ) (ended : List Run) (settled : Bool) (before : List (List ℕ)) (header come : List ℕ) (told : List Outcome) → length more ≡ left → 0 < left → Headed header come left →
+  whole-area : (area : List ℕ) (ended : List Run) (settled : Bool) (before : List (List ℕ)) (header come : List ℕ)
+      (told : List Outcome) → length more ≡ left → 0 < left → Headed header come left →
       Follows old first octets ended settled before (header ++ come) come → Continues old.descrambling next more →
-      outcome_of longest settled (length (joined before)) (drop (length (joined before)) (descrambled_octets (joined before ++ (come ++ more)))) ≡ told →
+      outcome_of longest settled (length (joined before))
+      (drop (length (joined before)) (descrambled_octets (joined before ++ (come ++ more)))) ≡ told →
       Taken (holding old (SyncHeader 0) next area) longest first octets more told
   whole-area area ended settled before header come told all part headed run passes outcome =
       let whole : List ℕ = come ++ more in
       let base : Progress = holding old (SyncHeader 0) next area in
       to-header base longest first octets more limit ended settled (before ++ whole ∷ []) told
-      (ap (λ l. l ++ told) (outcomes-area longest first octets ended settled before header come left headed part run.leaves) ∙ outcomes_with-push longest ended settled before whole told outcome)
+      (ap (λ l. l ++ told) (outcomes-area longest first octets ended settled before header come left headed part
+      run.leaves) ∙ outcomes_with-push longest ended settled before whole told outcome)
       0 (omega arith)
-      (follows-whole base first (octets ++ more) ended settled before header whole (headed-more header come more left 0 (omega (arith, all)) headed)
+      (follows-whole base first (octets ++ more) ended settled before header whole
+      (headed-more header come more left 0 (omega (arith, all)) headed)
       (follows-more old first octets ended settled before header come more (SyncHeader 0) next area run passes))
 
   -- ---- an area that is kept
-  module _ (plain : List ℕ) (is : InSyncArea left old first octets) (descrambles : Descrambles old.descrambling next more plain) where
+  module _ (plain : List ℕ) (is : InSyncArea left old first octets)
+      (descrambles : Descrambles old.descrambling next more plain) where
     -- what is kept
-    kept-more : old.area ++ plain ≡ drop (length (joined is.before)) (descrambled_octets (joined is.before ++ (is.come ++ more)))
+    kept-more : old.area ++ plain ≡ drop (length (joined is.before))
+        (descrambled_octets (joined is.before ++ (is.come ++ more)))
     kept-more =
         let before : List ℕ = joined is.before in
         let all : List ℕ = before ++ is.come in
         let size : length all ≡ length before + length is.come = length-append before is.come in
         ap (λ l. l ++ plain) is.kept
-        ∙ sym (drop-append-le (length before) (descrambled_octets all) plain (omega (arith, length-descrambled_octets all, size)))
+        ∙ sym (drop-append-le (length before) (descrambled_octets all) plain
+        (omega (arith, length-descrambled_octets all, size)))
         ∙ sym (drop_further (unknown is.settled) (length before) (descrambled_octets (all ++ more))
         (descrambled_octets all ++ plain)
         (unknown_within is.settled before is.known) (descrambles.answer is.settled all is.run.given))
         ∙ ap (λ l. drop (length before) (descrambled_octets l)) (append_assoc before is.come more)
 
-    keep-part : length more < left → Taken (holding old (SyncArea (left - length more)) next (old.area ++ plain)) longest first octets more []
+    keep-part : length more < left →
+        Taken (holding old (SyncArea (left - length more)) next (old.area ++ plain)) longest first octets more []
     keep-part few =
         let come : List ℕ = is.come ++ more in
-        to-area (holding old (SyncArea (left - length more)) next (old.area ++ plain)) longest first octets more limit is.ended is.settled is.before []
-        (append-nil (outcomes longest first octets) ∙ outcomes-area longest first octets is.ended is.settled is.before is.header is.come left is.headed is.part is.run.leaves)
-        is.header come (left - length more) (headed-more is.header is.come more left (left - length more) (omega (arith, few)) is.headed) (omega (arith, few))
+        to-area (holding old (SyncArea (left - length more)) next (old.area ++ plain)) longest first octets more limit
+        is.ended is.settled is.before []
+        (append-nil (outcomes longest first octets)
+        ∙ outcomes-area longest first octets is.ended is.settled is.before is.header is.come left is.headed is.part
+        is.run.leaves)
+        is.header come (left - length more)
+        (headed-more is.header is.come more left (left - length more) (omega (arith, few)) is.headed)
+        (omega (arith, few))
         (omega (arith, is.fits, few, length-append is.come more))
-        (follows-more old first octets is.ended is.settled is.before is.header is.come more (SyncArea (left - length more)) next (old.area ++ plain) is.run descrambles.stands)
+        (follows-more old first octets is.ended is.settled is.before is.header is.come more
+        (SyncArea (left - length more)) next (old.area ++ plain) is.run descrambles.stands)
         is.known kept-more
 
     -- what comes of it
     kept-outcome : length more ≡ left →
-        outcome_of longest is.settled (length (joined is.before)) (drop (length (joined is.before)) (descrambled_octets (joined is.before ++ (is.come ++ more))))
+        outcome_of longest is.settled (length (joined is.before))
+        (drop (length (joined is.before)) (descrambled_octets (joined is.before ++ (is.come ++ more))))
         ≡ outcome_by (type_fault (take 4 (old.area ++ plain))) (old.area ++ plain) ∷ []
     kept-outcome all =
         let area : List ℕ = old.area ++ plain in
         let whole : List ℕ = is.come ++ more in
-        let size : length area ≡ length whole = ap length kept-more ∙ length-descrambled_single (joined is.before) whole in
+        let size : length area ≡ length whole = ap length kept-more
+        ∙ length-descrambled_single (joined is.before) whole in
         ap (outcome_of longest is.settled (length (joined is.before))) (sym kept-more)
         ∙ outcome_of-fitting longest (length (joined is.before)) is.settled area is.known
-        (omega (arith, size, length-append is.come more, is.part, all)) (omega (arith, size, length-append is.come more, is.fits, is.part, all, limit))
+        (omega (arith, size, length-append is.come more, is.part, all))
+        (omega (arith, size, length-append is.come more, is.fits, is.part, all, limit))
 
-    keep-whole : (area : List ℕ) (told : List Outcome) → length more ≡ left → outcome_by (type_fault (take 4 (old.area ++ plain))) (old.area ++ plain) ∷ [] ≡ told →
+    keep-whole : (area : List ℕ) (told : List Outcome) → length more ≡ left →
+        outcome_by (type_fault (take 4 (old.area ++ plain))) (old.area ++ plain) ∷ [] ≡ told →
         Taken (holding old (SyncHeader 0) next area) longest first octets more told
     keep-whole area told all outcome =
-        whole-area area is.ended is.settled is.before is.header is.come told all is.part is.headed is.run descrambles.stands (kept-outcome all ∙ outcome)
+        whole-area area is.ended is.settled is.before is.header is.come told all is.part is.headed is.run
+        descrambles.stands (kept-outcome all ∙ outcome)
 
   -- ---- an area that is dropped
-  module _ (why : Why) (is : InSyncPassing left why old first octets) (passes : Continues old.descrambling next more) where
-    pass-part : length more < left → Taken (holding old (SyncPassing (left - length more) why) next old.area) longest first octets more []
-    pass-part few =
-        let come : List ℕ = is.come ++ more in
-        to-passing (holding old (SyncPassing (left - length more) why) next old.area) longest first octets more limit is.ended is.settled is.before []
-        (append-nil (outcomes longest first octets) ∙ outcomes-area longest first octets is.ended is.settled is.before is.header is.come left is.headed is.part is.run.leaves)
-        is.header come (left - length more) why (headed-more is.header is.come more left (left - length more) (omega (arith, few)) is.headed) (omega (arith, few))
-        (follows-more old first octets is.ended is.settled is.before is.header is.come more (SyncPassing (left - length more) why) next old.area is.run passes)
-        (λ area size. is.dropped area (omega (arith, size, few, length-append is.come more)))
+  module _ (why : Why) (is : InSyncPassing left why old first octets) (passes : Continues old.descrambling next more)
+    where
+      pass-part : length more < left →
+          Taken (holding old (SyncPassing (left - length more) why) next old.area) longest first octets more []
+      pass-part few =
+          let come : List ℕ = is.come ++ more in
+          to-passing (holding old (SyncPassing (left - length more) why) next old.area) longest first octets more limit
+          is.ended is.settled is.before []
+          (append-nil (outcomes longest first octets)
+          ∙ outcomes-area longest first octets is.ended is.settled is.before is.header is.come left is.headed is.part
+          is.run.leaves)
+          is.header come (left - length more) why
+          (headed-more is.header is.come more left (left - length more) (omega (arith, few)) is.headed)
+          (omega (arith, few))
+          (follows-more old first octets is.ended is.settled is.before is.header is.come more
+          (SyncPassing (left - length more) why) next old.area is.run passes)
+          (λ area size. is.dropped area (omega (arith, size, few, length-append is.come more)))
 
-    pass-whole : length more ≡ left → Taken (holding old (SyncHeader 0) next old.area) longest first octets more (dropping why ∷ [])
-    pass-whole all =
-        let whole : List ℕ = is.come ++ more in
-        let area : List ℕ = drop (length (joined is.before)) (descrambled_octets (joined is.before ++ whole)) in
-        let size : length area ≡ length is.come + left = omega (arith, length-descrambled_single (joined is.before) whole, length-append is.come more, all) in
-        whole-area old.area is.ended is.settled is.before is.header is.come (dropping why ∷ []) all is.part is.headed is.run passes
-        (ap (λ most. outcome_of most is.settled (length (joined is.before)) area) (sym limit) ∙ is.dropped area size)
+      pass-whole : length more ≡ left →
+          Taken (holding old (SyncHeader 0) next old.area) longest first octets more (dropping why ∷ [])
+      pass-whole all =
+          let whole : List ℕ = is.come ++ more in
+          let area : List ℕ = drop (length (joined is.before)) (descrambled_octets (joined is.before ++ whole)) in
+          let size : length area ≡ length is.come + left =
+          omega (arith, length-descrambled_single (joined is.before) whole, length-append is.come more, all) in
+          whole-area old.area is.ended is.settled is.before is.header is.come (dropping why ∷ []) all is.part is.headed
+          is.run passes
+          (ap (λ most. outcome_of most is.settled (length (joined is.before)) area) (sym limit) ∙ is.dropped area size)
 
 -- ---- the same for all octets that may have come
 module _ (old : Progress) (more : List ℕ) (left : ℕ) where
@@ -166,32 +215,43 @@ module _ (old : Progress) (more : List ℕ) (left : ℕ) where
   pub Adds-area : length more < left → old.phase ≡ SyncArea left → Adds old more []
   Adds-area few was = λ longest first octets at.
       let is : InSyncArea left old first octets = subst (λ phase. IsIn phase old first octets) was at.phase in
-      area-goes_on old longest first octets more left is.ended is.settled is.before is.header is.come few is.headed is.run
+      area-goes_on old longest first octets more left is.ended is.settled is.before is.header is.come few is.headed
+      is.run
 
   pub Adds-passing : (why : Why) → length more < left → old.phase ≡ SyncPassing left why → Adds old more []
   Adds-passing why few was = λ longest first octets at.
       let is : InSyncPassing left why old first octets = subst (λ phase. IsIn phase old first octets) was at.phase in
-      area-goes_on old longest first octets more left is.ended is.settled is.before is.header is.come few is.headed is.run
+      area-goes_on old longest first octets more left is.ended is.settled is.before is.header is.come few is.headed
+      is.run
 
-  module _ (next : Descrambling) (plain : List ℕ) (was : old.phase ≡ SyncArea left) (descrambles : Descrambles old.descrambling next more plain) where
-    pub Takes-keep-part : length more < left → Takes old (holding old (SyncArea (left - length more)) next (old.area ++ plain)) more []
+  module _ (next : Descrambling) (plain : List ℕ) (was : old.phase ≡ SyncArea left)
+      (descrambles : Descrambles old.descrambling next more plain) where
+    pub Takes-keep-part : length more < left →
+        Takes old (holding old (SyncArea (left - length more)) next (old.area ++ plain)) more []
     Takes-keep-part few =
         Takes-in old (holding old (SyncArea (left - length more)) next (old.area ++ plain)) more [] (SyncArea left) was
-        (λ longest first octets limit is. keep-part old longest first octets more limit left next plain is descrambles few)
+        (λ longest first octets limit is. keep-part old longest first octets more limit left next plain is descrambles
+        few)
 
-    pub Takes-keep-whole : (told : List Outcome) → length more ≡ left → outcome_by (type_fault (take 4 (old.area ++ plain))) (old.area ++ plain) ∷ [] ≡ told →
+    pub Takes-keep-whole : (told : List Outcome) → length more ≡ left →
+        outcome_by (type_fault (take 4 (old.area ++ plain))) (old.area ++ plain) ∷ [] ≡ told →
         Takes old (holding old (SyncHeader 0) next (old.area ++ plain)) more told
     Takes-keep-whole told all outcome =
         Takes-in old (holding old (SyncHeader 0) next (old.area ++ plain)) more told (SyncArea left) was
-        (λ longest first octets limit is. keep-whole old longest first octets more limit left next plain is descrambles (old.area ++ plain) told all outcome)
+        (λ longest first octets limit is. keep-whole old longest first octets more limit left next plain is descrambles
+        (old.area ++ plain) told all outcome)
 
-  module _ (next : Descrambling) (why : Why) (was : old.phase ≡ SyncPassing left why) (passes : Continues old.descrambling next more) where
-    pub Takes-pass-part : length more < left → Takes old (holding old (SyncPassing (left - length more) why) next old.area) more []
+  module _ (next : Descrambling) (why : Why) (was : old.phase ≡ SyncPassing left why)
+      (passes : Continues old.descrambling next more) where
+    pub Takes-pass-part : length more < left →
+        Takes old (holding old (SyncPassing (left - length more) why) next old.area) more []
     Takes-pass-part few =
-        Takes-in old (holding old (SyncPassing (left - length more) why) next old.area) more [] (SyncPassing left why) was
+        Takes-in old (holding old (SyncPassing (left - length more) why) next old.area) more []
+        (SyncPassing left why) was
         (λ longest first octets limit is. pass-part old longest first octets more limit left next why is passes few)
 
-    pub Takes-pass-whole : length more ≡ left → Takes old (holding old (SyncHeader 0) next old.area) more (dropping why ∷ [])
+    pub Takes-pass-whole : length more ≡ left →
+        Takes old (holding old (SyncHeader 0) next old.area) more (dropping why ∷ [])
     Takes-pass-whole all =
         Takes-in old (holding old (SyncHeader 0) next old.area) more (dropping why ∷ []) (SyncPassing left why) was
         (λ longest first octets limit is. pass-whole old longest first octets more limit left next why is passes all)

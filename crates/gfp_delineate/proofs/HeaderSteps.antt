@@ -1,5 +1,7 @@
 -- A header that confirms, or one in SYNC, is whole.
-use Rattle.std.proofs.Common.{◌≡◌, ℕ, zero, suc, ◌+◌, ◌-◌, ◌<◌, ◌≤◌, Bool, true, false, List, [], ◌∷◌, ◌++◌, length, drop, inl, inr, Some, None, refl, sym, ◌∙◌, ap, subst, arith, append_assoc, length-append, length-drop}
+use Rattle.std.proofs.Common.{◌≡◌, ℕ, zero, suc, ◌+◌, ◌-◌, ◌<◌, ◌≤◌, Bool, true, false, List, [], ◌∷◌, ◌++◌, length}
+use Rattle.std.proofs.Common.{drop, inl, inr, Some, None, refl, sym, ◌∙◌, ap, subst, arith, append_assoc, length-append}
+use Rattle.std.proofs.Common.{length-drop}
 use Rattle.std.specs.Prelude.{◌⊎◌}
 use Rattle.std.proofs.lemmas.List.{append-nil}
 use Rattle.gfp_scramble.specs.Descrambler.{Descrambling}
@@ -13,13 +15,16 @@ use Rattle.session_model.proofs.CoreLaws.{head-core_header}
 use Rattle.gfp_delineate.specs.declared.Phase.TheVariants.{Hunt, PresyncHeader, SyncHeader, SyncArea, SyncPassing}
 use Rattle.gfp_delineate.specs.LeftOpen.{searching, running, Leaves}
 use Rattle.gfp_delineate.specs.Receiver.{Progress, InPresyncHeader, InSyncHeader}
-use Rattle.gfp_delineate.proofs.StandingLaws.{Becomes-refused, Becomes-confirmed, Becomes-lost, Leaves-longer, Leaves-becomes, Leaves-goes_on}
+use Rattle.gfp_delineate.proofs.StandingLaws.{Becomes-refused, Becomes-confirmed, Becomes-lost, Leaves-longer}
+use Rattle.gfp_delineate.proofs.StandingLaws.{Leaves-becomes, Leaves-goes_on}
 use Rattle.gfp_delineate.proofs.OutcomeLaws.{run_outcomes-none, outcomes_of-push}
-use Rattle.gfp_delineate.proofs.Known.{outcomes_of, outcomes_with, outcomes-presync, outcomes-header, length-shifted, window-few, window-none}
+use Rattle.gfp_delineate.proofs.Known.{outcomes_of, outcomes_with, outcomes-presync, outcomes-header, length-shifted}
+use Rattle.gfp_delineate.proofs.Known.{window-few, window-none}
 use Rattle.gfp_delineate.proofs.Taking.{Takes, Taken, Takes-in, Takes-none, Takes-then}
 use Rattle.session_model.proofs.IdleLaws.{idle_header, idles, core_header-idle, idles-suc}
 use Rattle.gfp_delineate.proofs.SearchSteps.{in_phase, shifted, to-hunt}
-use Rattle.gfp_delineate.proofs.RunSteps.{followed, Knows, followed-idle, followed-unknown, followed-long, followed-kept, Takes-follow-part}
+use Rattle.gfp_delineate.proofs.RunSteps.{followed, Knows, followed-idle, followed-unknown, followed-long}
+use Rattle.gfp_delineate.proofs.RunSteps.{followed-kept, Takes-follow-part}
 
 -- four octets were no header, and the descrambler forgot
 abbrev pub lost : Progress → ℕ → Descrambling → Progress
@@ -35,41 +40,52 @@ pub record Heads (old : Progress) (longest : ℕ) (first : Bool) (octets more wi
   pub leaves : Leaves head head first (octets ++ more) ended (running settled before window)
   pub given : descrambler.Stands old.descrambling settled (joined before ++ [])
 
-module _ (old : Progress) (longest : ℕ) (first : Bool) (octets : List ℕ) (octet : ℕ) (limit : old.longest ≡ longest) where
+module _ (old : Progress) (longest : ℕ) (first : Bool) (octets : List ℕ) (octet : ℕ)
+    (limit : old.longest ≡ longest) where
   -- a search begins anew
-  lost-by : (ended : List Run) (forgot : Descrambling) → outcomes longest first octets ≡ outcomes_of longest ended → length (drop 1 old.window ++ octet ∷ []) ≡ 4 →
-      Leaves head head first (octets ++ octet ∷ []) ended (searching false (drop 1 (drop 1 old.window ++ octet ∷ []))) → descrambler.Stands forgot false [] → Taken (lost old octet forgot) longest first octets (octet ∷ []) []
+  lost-by : (ended : List Run) (forgot : Descrambling) → outcomes longest first octets ≡ outcomes_of longest ended →
+      length (drop 1 old.window ++ octet ∷ []) ≡ 4 →
+      Leaves head head first (octets ++ octet ∷ []) ended (searching false (drop 1 (drop 1 old.window ++ octet ∷ []))) →
+      descrambler.Stands forgot false [] → Taken (lost old octet forgot) longest first octets (octet ∷ []) []
   lost-by ended forgot was four leaves given =
-      to-hunt (lost old octet forgot) longest first octets (octet ∷ []) limit ended false was 3 (omega arith) (record { leaves = leaves; given = given; window = four })
+      to-hunt (lost old octet forgot) longest first octets (octet ∷ []) limit ended false was 3 (omega arith)
+      (record { leaves = leaves; given = given; window = four })
 
   -- PRESYNC
   module _ (is : InPresyncHeader 3 old first octets) where
-    presync-leaves : Leaves head head first (octets ++ octet ∷ []) is.ended (searching is.settled (is.header ++ (is.come ++ (drop 1 old.window ++ octet ∷ []))))
+    presync-leaves : Leaves head head first (octets ++ octet ∷ []) is.ended
+        (searching is.settled (is.header ++ (is.come ++ (drop 1 old.window ++ octet ∷ []))))
     presync-leaves =
         let last : List ℕ = drop (4 - 3) old.window in
         subst (λ last. Leaves head head first (octets ++ octet ∷ []) is.ended (searching is.settled last))
-        (append_assoc is.header (is.come ++ last) (octet ∷ []) ∙ ap (λ l. is.header ++ l) (append_assoc is.come last (octet ∷ [])))
-        (Leaves-longer head head first octets is.ended (searching is.settled (is.header ++ (is.come ++ last))) (octet ∷ []) is.search.leaves)
+        (append_assoc is.header (is.come ++ last) (octet ∷ [])
+        ∙ ap (λ l. is.header ++ l) (append_assoc is.come last (octet ∷ [])))
+        (Leaves-longer head head first octets is.ended (searching is.settled (is.header ++ (is.come ++ last)))
+        (octet ∷ []) is.search.leaves)
 
     presync-was : outcomes longest first octets ≡ outcomes_of longest is.ended
     presync-was =
         let last : List ℕ = drop (4 - 3) old.window in
-        outcomes-presync old longest first octets is.ended is.settled is.header (is.come ++ last) (length is.come + 0) is.headed.size is.headed.found
+        outcomes-presync old longest first octets is.ended is.settled is.header (is.come ++ last)
+        (length is.come + 0) is.headed.size is.headed.found
         (omega (arith, length-append is.come last, length-drop (4 - 3) old.window, is.search.window)) is.search
 
     presync-found : head is.header ≡ Some (length is.come)
     presync-found = is.headed.found ∙ ap (λ n. Some n) (let e : length is.come + 0 ≡ length is.come = omega arith in e)
 
-    confirm-lost : (forgot : Descrambling) → head (drop 1 old.window ++ octet ∷ []) ≡ None → descrambler.Stands forgot false [] → Taken (lost old octet forgot) longest first octets (octet ∷ []) []
+    confirm-lost : (forgot : Descrambling) → head (drop 1 old.window ++ octet ∷ []) ≡ None →
+        descrambler.Stands forgot false [] → Taken (lost old octet forgot) longest first octets (octet ∷ []) []
     confirm-lost forgot none given =
         let window : List ℕ = drop 1 old.window ++ octet ∷ [] in
         let four = length-shifted old.window is.search.window octet in
         lost-by is.ended forgot presync-was four
-        (Leaves-goes_on head head first (octets ++ octet ∷ []) is.ended (searching is.settled (is.header ++ (is.come ++ window))) (searching false (drop 1 window)) presync-leaves
+        (Leaves-goes_on head head first (octets ++ octet ∷ []) is.ended
+        (searching is.settled (is.header ++ (is.come ++ window))) (searching false (drop 1 window)) presync-leaves
         (Becomes-refused head head is.header is.come window is.headed.size is.settled presync-found four none))
         given
 
-    confirm-found : (pli : ℕ) → head (drop 1 old.window ++ octet ∷ []) ≡ Some pli → Heads old longest first octets (octet ∷ []) (drop 1 old.window ++ octet ∷ [])
+    confirm-found : (pli : ℕ) → head (drop 1 old.window ++ octet ∷ []) ≡ Some pli →
+        Heads old longest first octets (octet ∷ []) (drop 1 old.window ++ octet ∷ [])
     confirm-found pli found =
         let window : List ℕ = drop 1 old.window ++ octet ∷ [] in
         let four = length-shifted old.window is.search.window octet in
@@ -77,28 +93,38 @@ module _ (old : Progress) (longest : ℕ) (first : Bool) (octets : List ℕ) (oc
           ended = is.ended;
           settled = is.settled;
           before = [];
-          was = presync-was ∙ sym (append-nil (outcomes_of longest is.ended)) ∙ ap (λ l. outcomes_of longest is.ended ++ l) (sym (run_outcomes-none (client_outcome longest) is.settled));
+          was = presync-was ∙ sym (append-nil (outcomes_of longest is.ended))
+              ∙ ap (λ l. outcomes_of longest is.ended ++ l)
+              (sym (run_outcomes-none (client_outcome longest) is.settled));
           four = four;
-          leaves = Leaves-goes_on head head first (octets ++ octet ∷ []) is.ended (searching is.settled (is.header ++ (is.come ++ window))) (running is.settled [] window) presync-leaves
-              (Becomes-confirmed head head is.header is.come window is.headed.size is.settled pli presync-found four found);
+          leaves = Leaves-goes_on head head first (octets ++ octet ∷ []) is.ended
+              (searching is.settled (is.header ++ (is.come ++ window))) (running is.settled [] window) presync-leaves
+              (Becomes-confirmed head head is.header is.come window is.headed.size is.settled pli presync-found four
+              found);
           given = is.search.given;
         }
 
   -- SYNC
   module _ (is : InSyncHeader 3 old first octets) where
-    sync-leaves : Leaves head head first (octets ++ octet ∷ []) is.ended (running is.settled is.before (drop 1 old.window ++ octet ∷ []))
-    sync-leaves = Leaves-longer head head first octets is.ended (running is.settled is.before (drop (4 - 3) old.window)) (octet ∷ []) is.run.leaves
+    sync-leaves : Leaves head head first (octets ++ octet ∷ []) is.ended
+        (running is.settled is.before (drop 1 old.window ++ octet ∷ []))
+    sync-leaves = Leaves-longer head head first octets is.ended (running is.settled is.before (drop (4 - 3) old.window))
+        (octet ∷ []) is.run.leaves
 
     sync-was : outcomes longest first octets ≡ outcomes_with longest is.ended is.settled is.before
-    sync-was = outcomes-header longest first octets is.ended is.settled is.before (drop (4 - 3) old.window) (window-few old.window is.run.window 3 is.part) is.run.leaves
+    sync-was = outcomes-header longest first octets is.ended is.settled is.before (drop (4 - 3) old.window)
+        (window-few old.window is.run.window 3 is.part) is.run.leaves
 
-    follow-lost : (forgot : Descrambling) → head (drop 1 old.window ++ octet ∷ []) ≡ None → descrambler.Stands forgot false [] → Taken (lost old octet forgot) longest first octets (octet ∷ []) []
+    follow-lost : (forgot : Descrambling) → head (drop 1 old.window ++ octet ∷ []) ≡ None →
+        descrambler.Stands forgot false [] → Taken (lost old octet forgot) longest first octets (octet ∷ []) []
     follow-lost forgot none given =
         let window : List ℕ = drop 1 old.window ++ octet ∷ [] in
         let four = length-shifted old.window is.run.window octet in
         let run : Run = record { settled = is.settled; areas = is.before } in
-        lost-by (is.ended ++ run ∷ []) forgot (sync-was ∙ sym (outcomes_of-push (client_outcome longest) is.ended run)) four
-        (Leaves-becomes head head first (octets ++ octet ∷ []) is.ended (run ∷ []) (running is.settled is.before window) (searching false (drop 1 window)) sync-leaves
+        lost-by (is.ended ++ run ∷ []) forgot (sync-was ∙ sym (outcomes_of-push (client_outcome longest) is.ended run))
+        four
+        (Leaves-becomes head head first (octets ++ octet ∷ []) is.ended (run ∷ []) (running is.settled is.before window)
+        (searching false (drop 1 window)) sync-leaves
         (Becomes-lost head head is.settled is.before window four none))
         given
 
@@ -116,8 +142,10 @@ module _ (old : Progress) (longest : ℕ) (first : Bool) (octets : List ℕ) (oc
 -- ---- the same for all octets that may have come, where the fourth octet of a header is the next
 module _ (old : Progress) (octet : ℕ) (place : (old.phase ≡ PresyncHeader 3) ⊎ (old.phase ≡ SyncHeader 3)) where
   takes-by : (new : Progress) →
-      ((longest : ℕ) (first : Bool) (octets : List ℕ) → old.longest ≡ longest → InPresyncHeader 3 old first octets → Taken new longest first octets (octet ∷ []) []) →
-      ((longest : ℕ) (first : Bool) (octets : List ℕ) → old.longest ≡ longest → InSyncHeader 3 old first octets → Taken new longest first octets (octet ∷ []) []) →
+      ((longest : ℕ) (first : Bool) (octets : List ℕ) → old.longest ≡ longest → InPresyncHeader 3 old first octets →
+      Taken new longest first octets (octet ∷ []) []) →
+      ((longest : ℕ) (first : Bool) (octets : List ℕ) → old.longest ≡ longest → InSyncHeader 3 old first octets →
+      Taken new longest first octets (octet ∷ []) []) →
       Takes old new (octet ∷ []) []
   takes-by new presync sync = elim place [
     | inl was ↦ Takes-in old new (octet ∷ []) [] (PresyncHeader 3) was presync
@@ -125,43 +153,61 @@ module _ (old : Progress) (octet : ℕ) (place : (old.phase ≡ PresyncHeader 3)
   ]
 
   -- it is none
-  pub Takes-lost : (forgot : Descrambling) → head (drop 1 old.window ++ octet ∷ []) ≡ None → descrambler.Stands forgot false [] → Takes old (lost old octet forgot) (octet ∷ []) []
+  pub Takes-lost : (forgot : Descrambling) → head (drop 1 old.window ++ octet ∷ []) ≡ None →
+      descrambler.Stands forgot false [] → Takes old (lost old octet forgot) (octet ∷ []) []
   Takes-lost forgot none given =
-      takes-by (lost old octet forgot) (λ longest first octets limit is. confirm-lost old longest first octets octet limit is forgot none given)
+      takes-by (lost old octet forgot)
+      (λ longest first octets limit is. confirm-lost old longest first octets octet limit is forgot none given)
       (λ longest first octets limit is. follow-lost old longest first octets octet limit is forgot none given)
 
   -- it is one
   takes-found : (new : Progress) (pli : ℕ) → head (drop 1 old.window ++ octet ∷ []) ≡ Some pli →
-      ((longest : ℕ) (first : Bool) (octets : List ℕ) → old.longest ≡ longest → Heads old longest first octets (octet ∷ []) (drop 1 old.window ++ octet ∷ []) → Taken new longest first octets (octet ∷ []) []) →
+      ((longest : ℕ) (first : Bool) (octets : List ℕ) → old.longest ≡ longest →
+      Heads old longest first octets (octet ∷ []) (drop 1 old.window ++ octet ∷ []) →
+      Taken new longest first octets (octet ∷ []) []) →
       Takes old new (octet ∷ []) []
   takes-found new pli found taken =
-      takes-by new (λ longest first octets limit is. taken longest first octets limit (confirm-found old longest first octets octet limit is pli found))
-      (λ longest first octets limit is. taken longest first octets limit (follow-found old longest first octets octet limit is))
+      takes-by new (λ longest first octets limit is. taken longest first octets limit
+      (confirm-found old longest first octets octet limit is pli found))
+      (λ longest first octets limit is. taken longest first octets limit
+      (follow-found old longest first octets octet limit is))
 
-  pub Takes-idle : head (drop 1 old.window ++ octet ∷ []) ≡ Some 0 → Takes old (followed old (drop 1 old.window ++ octet ∷ []) (SyncHeader 0)) (octet ∷ []) []
+  pub Takes-idle : head (drop 1 old.window ++ octet ∷ []) ≡ Some 0 →
+      Takes old (followed old (drop 1 old.window ++ octet ∷ []) (SyncHeader 0)) (octet ∷ []) []
   Takes-idle found =
       let window : List ℕ = drop 1 old.window ++ octet ∷ [] in
       takes-found (followed old window (SyncHeader 0)) 0 found
-      (λ longest first octets limit is. followed-idle old longest first octets (octet ∷ []) limit is.ended is.settled is.before window is.was is.four is.leaves is.given window [] is.four found)
+      (λ longest first octets limit is. followed-idle old longest first octets
+      (octet ∷ []) limit is.ended is.settled is.before window is.was is.four is.leaves is.given window [] is.four
+      found)
 
   module _ (pli : ℕ) (found : head (drop 1 old.window ++ octet ∷ []) ≡ Some pli) where
-    pub Takes-unknown : 0 < pli → Knows false old.descrambling → Takes old (followed old (drop 1 old.window ++ octet ∷ []) (SyncPassing pli Unsettled)) (octet ∷ []) []
+    pub Takes-unknown : 0 < pli → Knows false old.descrambling →
+        Takes old (followed old (drop 1 old.window ++ octet ∷ []) (SyncPassing pli Unsettled)) (octet ∷ []) []
     Takes-unknown some knows =
         let window : List ℕ = drop 1 old.window ++ octet ∷ [] in
         takes-found (followed old window (SyncPassing pli Unsettled)) pli found
-        (λ longest first octets limit is. followed-unknown old longest first octets (octet ∷ []) limit is.ended is.settled is.before window is.was is.four is.leaves is.given pli some found knows)
+        (λ longest first octets limit is. followed-unknown old longest first octets
+        (octet ∷ []) limit is.ended is.settled is.before window is.was is.four is.leaves is.given pli some found
+        knows)
 
-    pub Takes-long : old.longest + 4 < pli → Knows true old.descrambling → Takes old (followed old (drop 1 old.window ++ octet ∷ []) (SyncPassing pli (TooLong pli))) (octet ∷ []) []
+    pub Takes-long : old.longest + 4 < pli → Knows true old.descrambling →
+        Takes old (followed old (drop 1 old.window ++ octet ∷ []) (SyncPassing pli (TooLong pli))) (octet ∷ []) []
     Takes-long long knows =
         let window : List ℕ = drop 1 old.window ++ octet ∷ [] in
         takes-found (followed old window (SyncPassing pli (TooLong pli))) pli found
-        (λ longest first octets limit is. followed-long old longest first octets (octet ∷ []) limit is.ended is.settled is.before window is.was is.four is.leaves is.given pli long found knows)
+        (λ longest first octets limit is. followed-long old longest first octets
+        (octet ∷ []) limit is.ended is.settled is.before window is.was is.four is.leaves is.given pli long found
+        knows)
 
-    pub Takes-kept : 0 < pli → pli ≤ old.longest + 4 → Knows true old.descrambling → Takes old (followed old (drop 1 old.window ++ octet ∷ []) (SyncArea pli)) (octet ∷ []) []
+    pub Takes-kept : 0 < pli → pli ≤ old.longest + 4 → Knows true old.descrambling →
+        Takes old (followed old (drop 1 old.window ++ octet ∷ []) (SyncArea pli)) (octet ∷ []) []
     Takes-kept some fits knows =
         let window : List ℕ = drop 1 old.window ++ octet ∷ [] in
         takes-found (followed old window (SyncArea pli)) pli found
-        (λ longest first octets limit is. followed-kept old longest first octets (octet ∷ []) limit is.ended is.settled is.before window is.was is.four is.leaves is.given pli some fits found knows)
+        (λ longest first octets limit is. followed-kept old longest first octets
+        (octet ∷ []) limit is.ended is.settled is.before window is.was is.four is.leaves is.given pli some fits
+        found knows)
 
 -- ---- more octets of headers in SYNC
 -- three octets of one
@@ -170,19 +216,24 @@ pub Takes-three : (old : Progress) (a b c : ℕ) → old.phase ≡ SyncHeader 0 
 Takes-three old a b c was =
     let one : Progress = shifted old a (SyncHeader 1) in
     let two : Progress = shifted one b (SyncHeader 2) in
-    Takes-then old one (shifted two c (SyncHeader 3)) (a ∷ []) (b ∷ c ∷ []) [] (Takes-follow-part old a 0 (omega arith) was)
-    (Takes-then one two (shifted two c (SyncHeader 3)) (b ∷ []) (c ∷ []) [] (Takes-follow-part one b 1 (omega arith) refl) (Takes-follow-part two c 2 (omega arith) refl))
+    Takes-then old one (shifted two c (SyncHeader 3)) (a ∷ []) (b ∷ c ∷ []) []
+    (Takes-follow-part old a 0 (omega arith) was)
+    (Takes-then one two (shifted two c (SyncHeader 3)) (b ∷ []) (c ∷ []) []
+    (Takes-follow-part one b 1 (omega arith) refl) (Takes-follow-part two c 2 (omega arith) refl))
 
 -- headers of idles
 module _ (old : Progress) (was : old.phase ≡ SyncHeader 0) where
-  one-idle : (longest : ℕ) (first : Bool) (octets : List ℕ) → old.longest ≡ longest → InSyncHeader 0 old first octets → Taken (in_phase old (SyncHeader 0)) longest first octets idle_header []
+  one-idle : (longest : ℕ) (first : Bool) (octets : List ℕ) → old.longest ≡ longest → InSyncHeader 0 old first octets →
+      Taken (in_phase old (SyncHeader 0)) longest first octets idle_header []
   one-idle longest first octets limit is =
       let last : List ℕ = drop (4 - 0) old.window in
       let none : last ≡ [] = window-none old.window is.run.window in
       followed-idle old longest first octets idle_header limit is.ended is.settled is.before idle_header
-      (outcomes-header longest first octets is.ended is.settled is.before last (window-few old.window is.run.window 0 is.part) is.run.leaves)
+      (outcomes-header longest first octets is.ended is.settled is.before last
+      (window-few old.window is.run.window 0 is.part) is.run.leaves)
       refl
-      (subst (λ l. Leaves head head first (octets ++ idle_header) is.ended (running is.settled is.before (l ++ idle_header))) none
+      (subst (λ l. Leaves head head first (octets ++ idle_header) is.ended
+      (running is.settled is.before (l ++ idle_header))) none
       (Leaves-longer head head first octets is.ended (running is.settled is.before last) idle_header is.run.leaves))
       is.run.given old.window old.area is.run.window
       (ap head (sym core_header-idle) ∙ head-core_header 0 (omega arith, inl refl))
@@ -194,4 +245,5 @@ module _ (old : Progress) (was : old.phase ≡ SyncHeader 0) where
 
   pub Takes-idles : (n : ℕ) → Takes old old (idles n) []
   Takes-idles zero = Takes-none old
-  Takes-idles (suc n) = subst (λ more. Takes old old more []) (sym (idles-suc n)) (Takes-then old old old idle_header (idles n) [] takes-one (Takes-idles n))
+  Takes-idles (suc n) = subst (λ more. Takes old old more []) (sym (idles-suc n))
+      (Takes-then old old old idle_header (idles n) [] takes-one (Takes-idles n))

@@ -1,5 +1,6 @@
 -- G.7041, frame delineation: what a receiver knows of the octets of a segment that have come.
-use Rattle.std.specs.Prelude.{◌≡◌, ℕ, ◌+◌, ◌-◌, ◌^◌, ◌<◌, ◌≤◌, ◌&&◌, nat_le, Bool, true, List, [], ◌∷◌, ◌++◌, length, map, drop, All, Option, Some, None, if◌then◌else◌}
+use Rattle.std.specs.Prelude.{◌≡◌, ℕ, ◌+◌, ◌-◌, ◌^◌, ◌<◌, ◌≤◌, ◌&&◌, nat_le, Bool, true, List, [], ◌∷◌, ◌++◌, length}
+use Rattle.std.specs.Prelude.{map, drop, All, Option, Some, None, if◌then◌else◌}
 use Rattle.std.specs.Option.{option_to_list}
 use Rattle.gfp_scramble.specs.Descrambler.{Descrambling, IsKnown}
 use Rattle.gfp_scramble.specs.Descrambler as descrambler
@@ -10,7 +11,8 @@ use Rattle.session_model.specs.Piece.{joined}
 use Rattle.session_model.specs.Run.{Run}
 use Rattle.session_model.specs.Outcome.{Outcome, delivery, dropping, outcome_of, outcomes}
 use Rattle.gfp_delineate.specs.declared.Phase.{Phase}
-use Rattle.gfp_delineate.specs.declared.Phase.TheVariants.{Hunt, PresyncArea, PresyncHeader, SyncHeader, SyncArea, SyncPassing}
+use Rattle.gfp_delineate.specs.declared.Phase.TheVariants.{Hunt, PresyncArea, PresyncHeader, SyncHeader, SyncArea}
+use Rattle.gfp_delineate.specs.declared.Phase.TheVariants.{SyncPassing}
 use Rattle.gfp_delineate.specs.declared.Step.{Step}
 use Rattle.gfp_delineate.specs.declared.Step.TheVariants.{Nothing, Frame, Dropped}
 use Rattle.gfp_delineate.specs.LeftOpen.{searching, running, Leaves}
@@ -19,7 +21,8 @@ use Rattle.gfp_delineate.specs.LeftOpen.{searching, running, Leaves}
 abbrev pub most : ℕ
 most = 65531
 
--- how far a receiver is: the most octets of a frame that it delivers, its phase, the last four octets that may be of a header,
+-- how far a receiver is: the most octets of a frame that it delivers, its phase, the last four octets that may be of a
+-- header,
 -- its descrambler, and the descrambled octets of an area that it keeps
 pub record Progress : Type 0 where
   pub longest : ℕ
@@ -28,7 +31,8 @@ pub record Progress : Type 0 where
   pub descrambling : Descrambling
   pub area : List ℕ
 
--- what a receiver knows: how far it is, and whether the last octet that it was given completed the frame in the area that it keeps
+-- what a receiver knows: how far it is, and whether the last octet that it was given completed the frame in the area
+-- that it keeps
 pub record Receiver : Type 0 where
   pub progress : Progress
   pub holds : Bool
@@ -61,14 +65,17 @@ told_outcomes receiver step = outcomes_told (frame_of receiver) step
 
 -- ---- how far it is with the octets of a segment
 -- HUNT and PRESYNC: these runs ended, a search goes on in the last octets, and the descrambler has none of the next run
-pub record Searches (progress : Progress) (first : Bool) (octets : List ℕ) (ended : List Run) (settled : Bool) (last : List ℕ) : Type 0 where
+pub record Searches (progress : Progress) (first : Bool) (octets : List ℕ) (ended : List Run) (settled : Bool)
+    (last : List ℕ) : Type 0 where
   pub leaves : Leaves head head first octets ended (searching settled last)
   pub given : descrambler.Stands progress.descrambling settled []
   pub window : length progress.window ≡ 4
 
--- SYNC: these runs ended, a run with these areas goes on in the last octets, and the descrambler has its areas and these octets
+-- SYNC: these runs ended, a run with these areas goes on in the last octets, and the descrambler has its areas and
+-- these octets
 -- of the next one
-pub record Follows (progress : Progress) (first : Bool) (octets : List ℕ) (ended : List Run) (settled : Bool) (before : List (List ℕ)) (last come : List ℕ) : Type 0 where
+pub record Follows (progress : Progress) (first : Bool) (octets : List ℕ) (ended : List Run) (settled : Bool)
+    (before : List (List ℕ)) (last come : List ℕ) : Type 0 where
   pub leaves : Leaves head head first octets ended (running settled before last)
   pub given : descrambler.Stands progress.descrambling settled (joined before ++ come)
   pub window : length progress.window ≡ 4
@@ -137,7 +144,8 @@ pub record InSyncPassing (left : ℕ) (why : Why) (progress : Progress) (first :
   pub headed : Headed header come left
   pub part : 0 < left
   pub run : Follows progress first octets ended settled before (header ++ come) come
-  pub dropped : (area : List ℕ) → length area ≡ length come + left → outcome_of progress.longest settled (length (joined before)) area ≡ dropping why ∷ []
+  pub dropped : (area : List ℕ) → length area ≡ length come + left →
+      outcome_of progress.longest settled (length (joined before)) area ≡ dropping why ∷ []
 
 -- what is known in a phase
 abbrev pub IsIn : Phase → Progress → Bool → List ℕ → Type 0
@@ -164,11 +172,13 @@ Stands receiver longest octets = StandsIn receiver longest true octets
 
 -- whatever octets of a segment came before, these came after them
 abbrev pub Advances : Receiver → Receiver → List ℕ → Type 0
-Advances was now more = (longest : ℕ) (first : Bool) (octets : List ℕ) → StandsIn was longest first octets → StandsIn now longest first (octets ++ more)
+Advances was now more = (longest : ℕ) (first : Bool) (octets : List ℕ) → StandsIn was longest first octets →
+    StandsIn now longest first (octets ++ more)
 
 -- whatever octets of a segment came before, these bring these outcomes after them
 abbrev pub Brings : Receiver → List ℕ → List Outcome → Type 0
-Brings was more come = (longest : ℕ) (first : Bool) (octets : List ℕ) → StandsIn was longest first octets → outcomes longest first (octets ++ more) ≡ outcomes longest first octets ++ come
+Brings was more come = (longest : ℕ) (first : Bool) (octets : List ℕ) → StandsIn was longest first octets →
+    outcomes longest first (octets ++ more) ≡ outcomes longest first octets ++ come
 
 -- a frame that may be sent to a receiver which delivers frames of at most a number of octets
 pub record IsClientFrame (longest : ℕ) (frame : List ℕ) : Type 0 where

@@ -1,18 +1,21 @@
 //! Delineation: the frames that are found in a stream of GFP frames (G.7041), from any place of it on.
 //!
-//! It is the receiver of one stream. It keeps one frame at a time, and neither joins rows of octets nor knows why the stream breaks.
-//! `Delineator` is the place to begin: `feed` and `byte` take octets, `frame` is the frame that they completed, and `broken` begins a
-//! new segment. `delivery_law` says what comes of a stream that is taken from its start.
+//! It is the receiver of one stream. It keeps one frame at a time, and neither joins rows of octets nor knows
+//! why the stream breaks. `Delineator` is the place to begin: `feed` and `byte` take octets, `frame` is the
+//! frame that they completed, and `broken` begins a new segment. `delivery_law` says what comes of a stream
+//! that is taken from its start.
 #![tactic(auto)]
 
-ghost use Rattle.std.specs.Prelude.{◌≡◌, ◌≢◌, ℕ, ◌+◌, ◌-◌, ◌<◌, ◌≤◌, ◌↔◌, Bool, true, false, List, [], ◌∷◌, ◌++◌, length, take, All, IfOk, IfSome, IfNone, IsSome, IsTrue};
+ghost use Rattle.std.specs.Prelude.{◌≡◌, ◌≢◌, ℕ, ◌+◌, ◌-◌, ◌<◌, ◌≤◌, ◌↔◌, Bool, true, false, List, [], ◌∷◌, ◌++◌};
+ghost use Rattle.std.specs.Prelude.{length, take, All, IfOk, IfSome, IfNone, IsSome, IsTrue};
 ghost use Rattle.session_model.specs.Core.{core_header};
 ghost use Rattle.session_model.specs.Piece.{stream_of, opening, frames_by};
 ghost use Rattle.session_model.specs.Run.{is_sync};
 ghost use Rattle.session_model.specs.Outcome.{outcomes};
 ghost use Rattle.session_model.specs.Delivery.{delivered};
 ghost use Rattle.gfp_delineate.specs.Repeated.{idles_from};
-ghost use Rattle.gfp_delineate.specs.Receiver.{most, StandsIn, Advances, Brings, frame_of, header_begun, told_outcomes, IsClientFrame};
+ghost use Rattle.gfp_delineate.specs.Receiver.{most, StandsIn, Advances, Brings, frame_of, header_begun, told_outcomes};
+ghost use Rattle.gfp_delineate.specs.Receiver.{IsClientFrame};
 
 mod octets;
 mod steps;
@@ -90,7 +93,8 @@ impl Model for Delineator {
 }
 
 impl Delineator {
-    /// A receiver of a stream of which nothing has come. It has room for one frame of `max` octets, the most that it delivers.
+    /// A receiver of a stream of which nothing has come. It has room for one frame of `max` octets, the most
+    /// that it delivers.
     pub fn new(alloc: Global, max: u16) -> Result<Delineator, AllocError>
         requires { max ≤ most }
         ensures { IfOk result (λ delineator. StandsIn delineator max true []) }
@@ -120,8 +124,8 @@ impl Delineator {
         step
     }
 
-    /// Takes octets as `byte` does, up to and including the first at which it answers other than `Nothing`, or all of them. The
-    /// answer is their number, and that step or `Nothing`.
+    /// Takes octets as `byte` does, up to and including the first at which it answers other than `Nothing`,
+    /// or all of them. The answer is their number, and that step or `Nothing`.
     pub fn feed(&mut self, piece: &[u8]) -> (usize, Step)
         ensures within { result.0 ≤ length piece.now }
         ensures none { (result.0 ≡ 0) ↔ (length piece.now ≡ 0) }
@@ -192,8 +196,8 @@ impl Delineator {
     }
 }
 
-/// The two ends fit together: of each first part of a stream in which all frames wait from the start, the frames delivered
-/// are those whose piece ends in it.
+/// The two ends fit together: of each first part of a stream in which all frames wait from the start, the
+/// frames delivered are those whose piece ends in it.
 pub fn delivery_law()
     ensures { (longest : ℕ) (frames : List (List ℕ)) (idles place : ℕ) →
         longest ≤ most → All (IsClientFrame longest) frames →

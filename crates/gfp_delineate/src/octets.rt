@@ -1,6 +1,7 @@
 //! Octets of a piece that are taken in one go.
 
-ghost use Rattle.std.specs.Prelude.{◌≡◌, ◌≢◌, ℕ, ◌+◌, ◌-◌, ◌*◌, ◌<◌, ◌≤◌, true, ◌∷◌, [], ◌++◌, length, take, drop, replicate, vec_len};
+ghost use Rattle.std.specs.Prelude.{◌≡◌, ◌≢◌, ℕ, ◌+◌, ◌-◌, ◌*◌, ◌<◌, ◌≤◌, true, ◌∷◌, [], ◌++◌, length, take, drop};
+ghost use Rattle.std.specs.Prelude.{replicate, vec_len};
 ghost use Rattle.std.specs.Vec.{vec_capacity};
 ghost use Rattle.std.specs.Int.{to_le_bytes, w64};
 ghost use Rattle.gfp_scramble.specs.Descrambler.{Continues, DescramblesTo};

@@ -1,6 +1,7 @@
 //! The steps of a receiver: what it takes of a piece in one go.
 
-ghost use Rattle.std.specs.Prelude.{◌≡◌, ◌≢◌, ℕ, ◌+◌, ◌-◌, ◌<◌, ◌≤◌, ◌⊎◌, List, [], ◌∷◌, ◌++◌, length, take, drop, Some};
+ghost use Rattle.std.specs.Prelude.{◌≡◌, ◌≢◌, ℕ, ◌+◌, ◌-◌, ◌<◌, ◌≤◌, ◌⊎◌, List, [], ◌∷◌, ◌++◌, length, take, drop};
+ghost use Rattle.std.specs.Prelude.{Some};
 ghost use Rattle.session_model.specs.TypeHeader.{type_fault};
 ghost use Rattle.session_model.specs.Outcome.{outcome_by};
 ghost use Rattle.gfp_delineate.specs.Receiver.{Advances, Brings, outcomes_told};
@@ -168,8 +169,8 @@ impl Delineator {
         self.phase = Phase::SyncHeader { have: 3 };
     }
 
-    /// The last octet of a header that confirms, or of one in SYNC. Where it is no header, the run or the search for one begins
-    /// anew, one octet after its first.
+    /// The last octet of a header that confirms, or of one in SYNC. Where it is no header, the run or the
+    /// search for one begins anew, one octet after its first.
     fn take_header(&mut self, octet: u8)
         requires { (self.old.progress.phase ≡ Phase.PresyncHeader 3)
             ⊎ (self.old.progress.phase ≡ Phase.SyncHeader 3) }

@@ -1,7 +1,9 @@
 -- Idle frames, one after another, and what stands after them.
-use Rattle.std.proofs.Common.{◌≡◌, ℕ, zero, suc, ◌+◌, ◌-◌, ◌*◌, ◌/◌, ◌%◌, ◌<◌, List, [], ◌∷◌, ◌++◌, length, take, drop, refl, sym, ◌∙◌, ap, ap₂, arith, append_assoc, length-append, inl, inr}
+use Rattle.std.proofs.Common.{◌≡◌, ℕ, zero, suc, ◌+◌, ◌-◌, ◌*◌, ◌/◌, ◌%◌, ◌<◌, List, [], ◌∷◌, ◌++◌, length, take, drop}
+use Rattle.std.proofs.Common.{refl, sym, ◌∙◌, ap, ap₂, arith, append_assoc, length-append, inl, inr}
 use Rattle.std.proofs.lemmas.Bool.{cases_lt}
-use Rattle.std.proofs.lemmas.List.{append-nil, take_at, drop_at, take-append-drop, take-append-le, drop-append-le, take_all, drop_all, length-drop}
+use Rattle.std.proofs.lemmas.List.{append-nil, take_at, drop_at, take-append-drop, take-append-le, drop-append-le}
+use Rattle.std.proofs.lemmas.List.{take_all, drop_all, length-drop}
 use Rattle.remainder.specs.Bits.{octets_of}
 use Rattle.session_model.specs.Scramble.{scrambled_octets}
 use Rattle.session_model.specs.Core.{core_header}
@@ -19,7 +21,13 @@ idles-front n = ap (λ l. l ++ idles n) (append-nil (core_header 0))
 
 length-idles : (n : ℕ) → length (idles n) ≡ 4 * n
 length-idles zero = refl
-length-idles (suc n) = omega (arith, ap length (idles-front n), length-append (core_header 0) (idles n), length-core_header 0, length-idles n)
+length-idles (suc n) = omega (
+  arith,
+  ap length (idles-front n),
+  length-append (core_header 0) (idles n),
+  length-core_header 0,
+  length-idles n,
+)
 
 -- those of a and b more
 idles-add : (a b : ℕ) → idles (a + b) ≡ idles a ++ idles b
@@ -47,7 +55,8 @@ idles-sixteen i octets are =
     ∙ sym (idles-add (16 * i) 16)
     ∙ (let e : 16 * i + 16 ≡ 16 * (i + 1) = omega arith in ap idles e)
 
-pub idles-rest : (n : ℕ) (octets : List ℕ) → octets ≡ idles (16 * (n / 16)) → octets ++ take (4 * (n % 16)) (repeated 16) ≡ idles n
+pub idles-rest : (n : ℕ) (octets : List ℕ) → octets ≡ idles (16 * (n / 16)) →
+    octets ++ take (4 * (n % 16)) (repeated 16) ≡ idles n
 idles-rest n octets are =
     let rest : ℕ = n % 16 in
     let split : 16 ≡ rest + (16 - rest) = omega arith in
@@ -61,26 +70,44 @@ idles-rest n octets are =
 -- the two idles at the start, and no octets of areas
 pub two_idles : stream_of (idle ∷ idle ∷ []) ≡ (idle_header ++ idle_header) ++ scrambled_octets []
 unfolding cut octets_of
-two_idles = idles-front 1 ∙ ap (λ l. core_header 0 ++ l) (idles-front 0 ∙ append-nil (core_header 0)) ∙ ap (λ l. l ++ l) core_header-idle
+two_idles = idles-front 1 ∙ ap (λ l. core_header 0 ++ l) (idles-front 0 ∙ append-nil (core_header 0))
+    ∙ ap (λ l. l ++ l) core_header-idle
 
 -- octets of idles are written, where no frame waits; of the last idle fewer than four octets are left
-pub idles_written : (n : ℕ) (s t : Sender) (queue : Held) (stream : Stream) (place : ℕ) (octets head : List ℕ) → Stands s queue stream place
-    → head_of s ≡ [] → queue.begun ≡ [] → queue.waiting ≡ [] → idles n ≡ octets ++ head → head_of t ≡ head → length head < 4 → 0 < length octets → t.scrambler ≡ s.scrambler
+pub idles_written : (n : ℕ) (s t : Sender) (queue : Held) (stream : Stream) (place : ℕ) (octets head : List ℕ) →
+    Stands s queue stream place
+    → head_of s ≡ [] → queue.begun ≡ [] → queue.waiting ≡ [] → idles n ≡ octets ++ head → head_of t ≡ head →
+    length head < 4 → 0 < length octets → t.scrambler ≡ s.scrambler
     → HasWritten t queue stream place octets
-idles_written zero s t queue stream place octets head stands done begun waits are left few some scrambler = absurd (omega (arith, ap length are, length-append octets head))
+idles_written zero s t queue stream place octets head stands done begun waits are left few some scrambler =
+    absurd (omega (arith, ap length are, length-append octets head))
 idles_written (suc n) s t queue stream place octets head stands done begun waits are left few some scrambler =
     let core = core_header 0 in
     let four = length-core_header 0 in
     let split : core ++ idles n ≡ octets ++ head = sym (idles-front n) ∙ are in
-    let sizes : 4 + 4 * n ≡ length octets + length head = omega (arith, ap length split, length-append core (idles n), length-append octets head, four, length-idles n) in
+    let sizes : 4 + 4 * n ≡ length octets + length head =
+    omega (
+      arith,
+      ap length split,
+      length-append core (idles n),
+      length-append octets head,
+      four,
+      length-idles n,
+    ) in
     elim (cases_lt 4 (length octets)) [
       | inl more ↦
-          let front : take 4 octets ≡ core = sym (take-append-le 4 octets head (omega arith)) ∙ ap (take 4) (sym split) ∙ take_at core (idles n) 4 four in
-          let rest : idles n ≡ drop 4 octets ++ head = sym (drop_at core (idles n) 4 four) ∙ ap (drop 4) split ∙ drop-append-le 4 octets head (omega arith) in
-          let both : core ++ drop 4 octets ≡ octets = ap (λ l. l ++ drop 4 octets) (sym front) ∙ take-append-drop 4 octets in
+          let front : take 4 octets ≡ core = sym (take-append-le 4 octets head (omega arith)) ∙ ap (take 4) (sym split)
+          ∙ take_at core (idles n) 4 four in
+          let rest : idles n ≡ drop 4 octets ++ head = sym (drop_at core (idles n) 4 four) ∙ ap (drop 4) split
+          ∙ drop-append-le 4 octets head (omega arith) in
+          let both : core ++ drop 4 octets ≡ octets = ap (λ l. l ++ drop 4 octets) (sym front)
+          ∙ take-append-drop 4 octets in
           let one : HasWritten s queue stream place core =
-          idle_written s s queue stream place 4 core stands done begun waits (omega arith) (omega arith) (sym (take_all 4 core (omega arith))) (done ∙ sym (drop_all 4 core (omega arith))) refl in
-          let others = idles_written n s t queue (reached (place + length core) stream) (place + length core) (drop 4 octets) head one.stands done begun waits rest left few (omega (arith, length-drop 4 octets)) scrambler in
+          idle_written s s queue stream place 4 core stands done begun waits (omega arith) (omega arith)
+          (sym (take_all 4 core (omega arith))) (done ∙ sym (drop_all 4 core (omega arith))) refl in
+          let others = idles_written n s t queue (reached (place + length core) stream) (place + length core)
+          (drop 4 octets) head one.stands done begun waits rest left few
+          (omega (arith, length-drop 4 octets)) scrambler in
           rw both at (written-both s t queue queue stream place core (drop 4 octets) one others)
       | inr less ↦
           let last : n ≡ 0 = omega arith in

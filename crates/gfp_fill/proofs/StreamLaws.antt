@@ -1,5 +1,6 @@
 -- Laws of the pieces that come next: how they follow one another, and what their stream keeps.
-use Rattle.std.proofs.Common.{◌≡◌, ℕ, zero, suc, ◌+◌, ◌-◌, ◌≤◌, List, [], ◌∷◌, ◌++◌, length, map, take, drop, replicate, refl, sym, ap, ap₂, ◌∙◌, arith, append_assoc}
+use Rattle.std.proofs.Common.{◌≡◌, ℕ, zero, suc, ◌+◌, ◌-◌, ◌≤◌, List, [], ◌∷◌, ◌++◌, length, map, take, drop, replicate}
+use Rattle.std.proofs.Common.{refl, sym, ap, ap₂, ◌∙◌, arith, append_assoc}
 use Rattle.std.proofs.lemmas.List.{append-nil, drop_all, replicate-append-replicate, take_all, take-append-le}
 use Rattle.session_model.specs.Piece.{Piece, idle, client, area_of, joined, stream_of, opening}
 use Rattle.session_model.proofs.StreamLaws.{stream_behind, stream_of-append}
@@ -15,12 +16,15 @@ pub next_pieces-zero : (waiting : List (List ℕ)) → next_pieces 0 waiting ≡
 next_pieces-zero waiting = ap (λ k. replicate k idle) (let e : 0 - length waiting ≡ 0 = omega arith in e)
 
 -- the first frame that waits comes next
-next_pieces-cons : (n : ℕ) (frame : List ℕ) (waiting : List (List ℕ)) → next_pieces (suc n) (frame ∷ waiting) ≡ client frame ∷ next_pieces n waiting
+next_pieces-cons : (n : ℕ) (frame : List ℕ) (waiting : List (List ℕ)) →
+    next_pieces (suc n) (frame ∷ waiting) ≡ client frame ∷ next_pieces n waiting
 next_pieces-cons n frame waiting =
-    ap (λ k. client frame ∷ map client (take n waiting) ++ replicate k idle) (let e : suc n - suc (length waiting) ≡ n - length waiting = omega arith in e)
+    ap (λ k. client frame ∷ map client (take n waiting) ++ replicate k idle)
+    (let e : suc n - suc (length waiting) ≡ n - length waiting = omega arith in e)
 
 -- further pieces come after those before them
-pub next_pieces-add : (n k : ℕ) (waiting : List (List ℕ)) → next_pieces (n + k) waiting ≡ next_pieces n waiting ++ next_pieces k (drop n waiting)
+pub next_pieces-add : (n k : ℕ) (waiting : List (List ℕ)) →
+    next_pieces (n + k) waiting ≡ next_pieces n waiting ++ next_pieces k (drop n waiting)
 next_pieces-add zero k waiting =
     let none = next_pieces-zero waiting in
     let sum : 0 + k ≡ k = omega arith in
@@ -32,44 +36,59 @@ next_pieces-add (suc n) k (frame ∷ waiting) =
     let sum : suc n + k ≡ suc (n + k) = omega arith in
     let rest = next_pieces-add n k waiting in
     ap (λ m. next_pieces m (frame ∷ waiting)) sum ∙ next_pieces-cons (n + k) frame waiting
-    ∙ ap (λ ps. client frame ∷ ps) rest ∙ ap (λ ps. ps ++ next_pieces k (drop n waiting)) (sym (next_pieces-cons n frame waiting))
+    ∙ ap (λ ps. client frame ∷ ps) rest
+    ∙ ap (λ ps. ps ++ next_pieces k (drop n waiting)) (sym (next_pieces-cons n frame waiting))
 
 -- all frames that wait, and then so many idles
-next_pieces-all : (waiting : List (List ℕ)) (idles : ℕ) → next_pieces (length waiting + idles) waiting ≡ map client waiting ++ replicate idles idle
+next_pieces-all : (waiting : List (List ℕ)) (idles : ℕ) →
+    next_pieces (length waiting + idles) waiting ≡ map client waiting ++ replicate idles idle
 next_pieces-all waiting idles =
     let front = take_all (length waiting + idles) waiting (omega arith) in
     let rest : length waiting + idles - length waiting ≡ idles = omega arith in
     cc
 
 -- the stream in which all frames wait from the start
-pub opening-next_pieces : (frames : List (List ℕ)) (idles : ℕ) → opening frames idles ≡ (idle ∷ idle ∷ []) ++ next_pieces (length frames + idles) frames
+pub opening-next_pieces : (frames : List (List ℕ)) (idles : ℕ) →
+    opening frames idles ≡ (idle ∷ idle ∷ []) ++ next_pieces (length frames + idles) frames
 opening-next_pieces frames idles = ap (λ ps. idle ∷ idle ∷ ps) (sym (next_pieces-all frames idles))
 
 -- more pieces leave the octets of those before as they are
-pub take-stream_of : (n : ℕ) (pieces more : List Piece) → n ≤ length (stream_of pieces) → take n (stream_of (pieces ++ more)) ≡ take n (stream_of pieces)
+pub take-stream_of : (n : ℕ) (pieces more : List Piece) → n ≤ length (stream_of pieces) →
+    take n (stream_of (pieces ++ more)) ≡ take n (stream_of pieces)
 take-stream_of n pieces more within =
-    ap (λ octets. take n octets) (stream_of-append pieces more) ∙ take-append-le n (stream_of pieces) (stream_behind (joined (map area_of pieces)) more) within
+    ap (λ octets. take n octets) (stream_of-append pieces more)
+    ∙ take-append-le n (stream_of pieces) (stream_behind (joined (map area_of pieces)) more) within
 
 -- pieces that are begun one by one
-begun_of : (n : ℕ) (waiting : List (List ℕ)) (pieces : List Piece) → begun n (record { pieces = pieces; waiting = waiting }) ≡ record { pieces = pieces ++ next_pieces n waiting; waiting = drop n waiting }
+begun_of : (n : ℕ) (waiting : List (List ℕ)) (pieces : List Piece) →
+    begun n (record { pieces = pieces; waiting = waiting })
+    ≡ record { pieces = pieces ++ next_pieces n waiting; waiting = drop n waiting }
 unfolding begun
 begun_of zero waiting pieces =
-    let none : pieces ++ next_pieces 0 waiting ≡ pieces = ap (λ ps. pieces ++ ps) (next_pieces-zero waiting) ∙ append-nil pieces in
+    let none : pieces ++ next_pieces 0 waiting ≡ pieces = ap (λ ps. pieces ++ ps) (next_pieces-zero waiting)
+    ∙ append-nil pieces in
     ap (λ ps. record { pieces = ps; waiting = waiting }) (sym none)
 begun_of (suc n) [] pieces =
     let one : (pieces ++ idle ∷ []) ++ next_pieces n [] ≡ pieces ++ next_pieces (suc n) [] =
-    append_assoc pieces (idle ∷ []) (next_pieces n []) ∙ ap (λ ps. pieces ++ ps) (ap (λ ps. idle ∷ ps) (next_pieces-nil n) ∙ sym (next_pieces-nil (suc n))) in
-    begun_of n [] (pieces ++ idle ∷ []) ∙ ap₂ (λ ps ws. record { pieces = ps; waiting = ws }) one (drop_all n [] (omega arith) ∙ sym (drop_all (suc n) [] (omega arith)))
+    append_assoc pieces (idle ∷ []) (next_pieces n [])
+    ∙ ap (λ ps. pieces ++ ps) (ap (λ ps. idle ∷ ps) (next_pieces-nil n) ∙ sym (next_pieces-nil (suc n))) in
+    begun_of n [] (pieces ++ idle ∷ [])
+    ∙ ap₂ (λ ps ws. record { pieces = ps; waiting = ws }) one
+    (drop_all n [] (omega arith) ∙ sym (drop_all (suc n) [] (omega arith)))
 begun_of (suc n) (frame ∷ waiting) pieces =
     let one : (pieces ++ client frame ∷ []) ++ next_pieces n waiting ≡ pieces ++ next_pieces (suc n) (frame ∷ waiting) =
-    append_assoc pieces (client frame ∷ []) (next_pieces n waiting) ∙ ap (λ ps. pieces ++ ps) (sym (next_pieces-cons n frame waiting)) in
+    append_assoc pieces (client frame ∷ []) (next_pieces n waiting)
+    ∙ ap (λ ps. pieces ++ ps) (sym (next_pieces-cons n frame waiting)) in
     begun_of n waiting (pieces ++ client frame ∷ []) ∙ ap (λ ps. record { pieces = ps; waiting = drop n waiting }) one
 
-pub begun-next_pieces : (n : ℕ) (stream : Stream) → begun n stream ≡ record { pieces = stream.pieces ++ next_pieces n stream.waiting; waiting = drop n stream.waiting }
+pub begun-next_pieces : (n : ℕ) (stream : Stream) →
+    begun n stream ≡ record { pieces = stream.pieces ++ next_pieces n stream.waiting; waiting = drop n stream.waiting }
 begun-next_pieces n stream = begun_of n stream.waiting stream.pieces
 
 -- where all frames wait from the start, they are those of the opening
-pub begun-opening : (frames : List (List ℕ)) (idles : ℕ) → begun (length frames + idles) (unsent frames) ≡ record { pieces = opening frames idles; waiting = [] }
+pub begun-opening : (frames : List (List ℕ)) (idles : ℕ) →
+    begun (length frames + idles) (unsent frames) ≡ record { pieces = opening frames idles; waiting = [] }
 begun-opening frames idles =
     begun-next_pieces (length frames + idles) (unsent frames)
-    ∙ ap₂ (λ ps ws. record { pieces = ps; waiting = ws }) (sym (opening-next_pieces frames idles)) (drop_all (length frames + idles) frames (omega arith))
+    ∙ ap₂ (λ ps ws. record { pieces = ps; waiting = ws }) (sym (opening-next_pieces frames idles))
+    (drop_all (length frames + idles) frames (omega arith))

@@ -1,7 +1,9 @@
 -- What one step of a fill does to what stands, and how steps follow one another.
-use Rattle.std.proofs.Common.{◌≡◌, ℕ, ◌+◌, ◌<◌, ◌≤◌, List, [], ◌∷◌, ◌++◌, length, map, take, drop, refl, sym, ap, ap₂, subst, ◌∙◌, arith, append_assoc, length-append, length-take-le, length-drop}
+use Rattle.std.proofs.Common.{◌≡◌, ℕ, ◌+◌, ◌<◌, ◌≤◌, List, [], ◌∷◌, ◌++◌, length, map, take, drop, refl, sym, ap, ap₂}
+use Rattle.std.proofs.Common.{subst, ◌∙◌, arith, append_assoc, length-append, length-take-le, length-drop}
 use Rattle.std.proofs.Math.Seq.{take-add, take-append-add}
-use Rattle.std.proofs.lemmas.List.{append-nil, map-append, take_at, drop_at, drop_all, take-append-drop, take-append-le, drop-append-le, drop-drop}
+use Rattle.std.proofs.lemmas.List.{append-nil, map-append, take_at, drop_at, drop_all, take-append-drop, take-append-le}
+use Rattle.std.proofs.lemmas.List.{drop-append-le, drop-drop}
 use Rattle.std.proofs.lemmas.List.Sums.{sum-map}
 use Rattle.session_model.specs.Scramble.{scrambled_octets}
 use Rattle.session_model.specs.Core.{core_header}
@@ -54,10 +56,12 @@ one_queue sender queue other stream place one two =
 -- ---- octets of pieces that are begun are written
 part_written : (stream : Stream) (place n : ℕ) (sender : Sender) (queue : Held) (rest octets : List ℕ)
     → place ≤ size stream.pieces → drop place (stream_of stream.pieces) ≡ rest → n ≤ length rest → octets ≡ take n rest
-    → (place + n ≤ size stream.pieces → Stands sender queue stream (place + n)) → HasWritten sender queue stream place octets
+    → (place + n ≤ size stream.pieces → Stands sender queue stream (place + n)) →
+    HasWritten sender queue stream place octets
 part_written stream place n sender queue rest octets within is fits part stands =
     let count : length octets ≡ n = ap length part ∙ length-take-le n rest fits in
-    let reach : place + n ≤ size stream.pieces = omega (arith, ap length is, length-drop place (stream_of stream.pieces), long stream.pieces) in
+    let reach : place + n ≤ size stream.pieces =
+    omega (arith, ap length is, length-drop place (stream_of stream.pieces), long stream.pieces) in
     let same : reached (place + n) stream ≡ stream = reaching-here (place + n) (place + n) stream reach in
     record {
       stands = rw (count, same) (stands reach);
@@ -65,12 +69,14 @@ part_written stream place n sender queue rest octets within is fits part stands 
     }
 
 -- octets of headers
-pub head_written : (s t : Sender) (queue : Held) (stream : Stream) (place n : ℕ) (octets : List ℕ) → Stands s queue stream place
+pub head_written : (s t : Sender) (queue : Held) (stream : Stream) (place n : ℕ) (octets : List ℕ) →
+    Stands s queue stream place
     → n ≤ length (head_of s) → octets ≡ take n (head_of s) → head_of t ≡ drop n (head_of s) → t.scrambler ≡ s.scrambler
     → HasWritten t queue stream place octets
 head_written s t queue stream place n octets stands fits part head scrambler =
     let area : List ℕ = drop (length stands.given) (scrambled_octets (stands.given ++ queue.begun)) in
-    part_written stream place n t queue (head_of s ++ area) octets stands.within stands.rest (omega (arith, length-append (head_of s) area))
+    part_written stream place n t queue (head_of s ++ area) octets stands.within stands.rest
+    (omega (arith, length-append (head_of s) area))
     (part ∙ sym (take-append-le n (head_of s) area fits))
     (λ reach. record {
       waits = stands.waits;
@@ -78,25 +84,38 @@ head_written s t queue stream place n octets stands fits part head scrambler =
       given = stands.given;
       scrambled = subst (λ scrambling. HasScrambled scrambling stands.given) (sym scrambler) stands.scrambled;
       areas = stands.areas;
-      rest = sym (drop-drop n place (stream_of stream.pieces)) ∙ ap (drop n) stands.rest ∙ drop-append-le n (head_of s) area fits ∙ ap (λ l. l ++ area) (sym head);
+      rest = sym (drop-drop n place (stream_of stream.pieces)) ∙ ap (drop n) stands.rest
+          ∙ drop-append-le n (head_of s) area fits ∙ ap (λ l. l ++ area) (sym head);
     })
 
 -- octets that are scrambled in two parts
 two_parts : (given first rest octets : List ℕ) → scrambled_octets (given ++ first) ≡ scrambled_octets given ++ octets
-    → drop (length given) (scrambled_octets (given ++ (first ++ rest))) ≡ octets ++ drop (length (given ++ first)) (scrambled_octets ((given ++ first) ++ rest))
+    → drop (length given) (scrambled_octets (given ++ (first ++ rest))) ≡ octets ++ drop (length (given ++ first))
+    (scrambled_octets ((given ++ first) ++ rest))
 two_parts given first rest octets is =
     let more : List ℕ = drop (length (given ++ first)) (scrambled_octets ((given ++ first) ++ rest)) in
     ap (λ l. drop (length given) (scrambled_octets l)) (sym (append_assoc given first rest))
-    ∙ ap (drop (length given)) (scrambled_octets-append (given ++ first) rest ∙ ap (λ l. l ++ more) is ∙ append_assoc (scrambled_octets given) octets more)
+    ∙ ap (drop (length given)) (scrambled_octets-append (given ++ first) rest ∙ ap (λ l. l ++ more) is
+    ∙ append_assoc (scrambled_octets given) octets more)
     ∙ drop_at (scrambled_octets given) (octets ++ more) (length given) (length-scrambled_octets given)
 
-as_many : (given first octets : List ℕ) → scrambled_octets (given ++ first) ≡ scrambled_octets given ++ octets → length octets ≡ length first
+as_many : (given first octets : List ℕ) → scrambled_octets (given ++ first) ≡ scrambled_octets given ++ octets →
+    length octets ≡ length first
 as_many given first octets is =
-    omega (arith, ap length is, length-append (scrambled_octets given) octets, length-scrambled_octets (given ++ first), length-scrambled_octets given, length-append given first)
+    omega (
+      arith,
+      ap length is,
+      length-append (scrambled_octets given) octets,
+      length-scrambled_octets (given ++ first),
+      length-scrambled_octets given,
+      length-append given first,
+    )
 
 -- octets of the frame that is being sent
-pub frame_written : (s t : Sender) (queue rest : Held) (stream : Stream) (place n : ℕ) (octets : List ℕ) → Stands s queue stream place
-    → head_of s ≡ [] → head_of t ≡ [] → n ≤ length queue.begun → rest.begun ≡ drop n queue.begun → rest.waiting ≡ queue.waiting
+pub frame_written : (s t : Sender) (queue rest : Held) (stream : Stream) (place n : ℕ) (octets : List ℕ) →
+    Stands s queue stream place
+    → head_of s ≡ [] → head_of t ≡ [] → n ≤ length queue.begun → rest.begun ≡ drop n queue.begun →
+    rest.waiting ≡ queue.waiting
     → ScramblesTo s.scrambler (take n queue.begun) octets → Continues s.scrambler t.scrambler (take n queue.begun)
     → HasWritten t rest stream place octets
 frame_written s t queue rest stream place n octets stands none done fits left waits scrambled continues =
@@ -108,53 +127,71 @@ frame_written s t queue rest stream place n octets stands none done fits left wa
     let more : List ℕ = drop (length (given ++ first)) (scrambled_octets ((given ++ first) ++ drop n queue.begun)) in
     let all : drop place (stream_of stream.pieces) ≡ octets ++ more =
     stands.rest ∙ ap (λ head. head ++ drop (length given) (scrambled_octets (given ++ queue.begun))) none
-    ∙ ap (λ l. drop (length given) (scrambled_octets (given ++ l))) (sym both) ∙ two_parts given first (drop n queue.begun) octets is in
-    part_written stream place n t rest (octets ++ more) octets stands.within all (omega (arith, length-append octets more))
+    ∙ ap (λ l. drop (length given) (scrambled_octets (given ++ l))) (sym both)
+    ∙ two_parts given first (drop n queue.begun) octets is in
+    part_written stream place n t rest (octets ++ more) octets stands.within all
+    (omega (arith, length-append octets more))
     (sym (take_at octets more n count))
     (λ reach. record {
       waits = waits ∙ stands.waits;
       within = reach;
       given = given ++ first;
       scrambled = continues given stands.scrambled;
-      areas = stands.areas ∙ ap (λ l. given ++ l) (sym both) ∙ sym (append_assoc given first (drop n queue.begun)) ∙ ap (λ l. (given ++ first) ++ l) (sym left);
+      areas = stands.areas ∙ ap (λ l. given ++ l) (sym both) ∙ sym (append_assoc given first (drop n queue.begun))
+          ∙ ap (λ l. (given ++ first) ++ l) (sym left);
       rest = sym (drop-drop n place (stream_of stream.pieces)) ∙ ap (drop n) all ∙ drop_at octets more n count
-          ∙ ap₂ (λ head l. head ++ drop (length (given ++ first)) (scrambled_octets ((given ++ first) ++ l))) (sym done) (sym left);
+          ∙ ap₂ (λ head l. head ++ drop (length (given ++ first)) (scrambled_octets ((given ++ first) ++ l))) (sym done)
+          (sym left);
     })
 
 -- ---- the next piece is begun
 -- the areas of pieces with one more
-areas-push : (pieces : List Piece) (piece : Piece) → joined (map area_of (pieces ++ piece ∷ [])) ≡ joined (map area_of pieces) ++ area_of piece
+areas-push : (pieces : List Piece) (piece : Piece) →
+    joined (map area_of (pieces ++ piece ∷ [])) ≡ joined (map area_of pieces) ++ area_of piece
 areas-push pieces piece =
     ap joined (map-append area_of pieces (piece ∷ [])) ∙ joined-append (map area_of pieces) (area_of piece ∷ [])
     ∙ ap (λ l. joined (map area_of pieces) ++ l) (append-nil (area_of piece))
 
 -- where all octets of the pieces are written, the place is at the end of the stream
-all_written : (s : Sender) (queue : Held) (stream : Stream) (place : ℕ) → Stands s queue stream place → head_of s ≡ [] → queue.begun ≡ [] → place ≡ size stream.pieces
+all_written : (s : Sender) (queue : Held) (stream : Stream) (place : ℕ) → Stands s queue stream place → head_of s ≡ [] →
+    queue.begun ≡ [] → place ≡ size stream.pieces
 all_written s queue stream place stands head begun =
     let given = stands.given in
     let none : drop place (stream_of stream.pieces) ≡ [] =
-    stands.rest ∙ ap₂ (λ h l. h ++ drop (length given) (scrambled_octets (given ++ l))) head begun ∙ ap (λ l. drop (length given) (scrambled_octets l)) (append-nil given)
+    stands.rest ∙ ap₂ (λ h l. h ++ drop (length given) (scrambled_octets (given ++ l))) head begun
+    ∙ ap (λ l. drop (length given) (scrambled_octets l)) (append-nil given)
     ∙ drop_all (length given) (scrambled_octets given) (omega (arith, length-scrambled_octets given)) in
     omega (arith, ap length none, length-drop place (stream_of stream.pieces), long stream.pieces, stands.within)
 
 -- the areas that were given are those of the pieces
-all_given : (s : Sender) (queue : Held) (stream : Stream) (place : ℕ) → (stands : Stands s queue stream place) → queue.begun ≡ [] → joined (map area_of stream.pieces) ≡ stands.given
+all_given : (s : Sender) (queue : Held) (stream : Stream) (place : ℕ) → (stands : Stands s queue stream place) →
+    queue.begun ≡ [] → joined (map area_of stream.pieces) ≡ stands.given
 all_given s queue stream place stands begun = stands.areas ∙ ap (λ l. stands.given ++ l) begun ∙ append-nil stands.given
 
 -- the octets of one more piece
 one_more : (pieces : List Piece) (piece : Piece) (given : List ℕ) → joined (map area_of pieces) ≡ given
-    → drop (size pieces) (stream_of (pieces ++ piece ∷ [])) ≡ core_header (length (area_of piece)) ++ drop (length given) (scrambled_octets (given ++ area_of piece))
+    → drop (size pieces) (stream_of (pieces ++ piece ∷ [])) ≡ core_header (length (area_of piece)) ++ drop
+    (length given) (scrambled_octets (given ++ area_of piece))
 one_more pieces piece given is =
-    let octets : List ℕ = core_header (length (area_of piece)) ++ drop (length (joined (map area_of pieces))) (scrambled_octets (joined (map area_of pieces) ++ area_of piece)) in
-    ap (drop (size pieces)) (stream_of-push pieces piece) ∙ drop_at (stream_of pieces) octets (size pieces) (long pieces)
+    let octets : List ℕ = core_header (length (area_of piece)) ++ drop (length (joined (map area_of pieces)))
+    (scrambled_octets (joined (map area_of pieces) ++ area_of piece)) in
+    ap (drop (size pieces)) (stream_of-push pieces piece)
+    ∙ drop_at (stream_of pieces) octets (size pieces) (long pieces)
     ∙ ap (λ l. core_header (length (area_of piece)) ++ drop (length l) (scrambled_octets (l ++ area_of piece))) is
 
 grows : (pieces : List Piece) (piece : Piece) → size pieces ≤ size (pieces ++ piece ∷ [])
 grows pieces piece =
-    omega (arith, long pieces, long (pieces ++ piece ∷ []), ap length (stream_of-append pieces (piece ∷ [])), length-append (stream_of pieces) (stream_behind (joined (map area_of pieces)) (piece ∷ [])))
+    omega (
+      arith,
+      long pieces,
+      long (pieces ++ piece ∷ []),
+      ap length (stream_of-append pieces (piece ∷ [])),
+      length-append (stream_of pieces) (stream_behind (joined (map area_of pieces)) (piece ∷ [])),
+    )
 
 -- a frame
-client_at : (s t : Sender) (queue rest : Held) (stream : Stream) (place : ℕ) → (stands : Stands s queue stream place) → head_of s ≡ [] → queue.begun ≡ []
+client_at : (s t : Sender) (queue rest : Held) (stream : Stream) (place : ℕ) → (stands : Stands s queue stream place) →
+    head_of s ≡ [] → queue.begun ≡ []
     → stream.waiting ≡ rest.begun ∷ rest.waiting → take 4 (head_of t) ≡ core_header (4 + length rest.begun)
     → ScramblesTo s.scrambler type_header (drop 4 (head_of t)) → Continues s.scrambler t.scrambler type_header
     → Stands t rest (record { pieces = stream.pieces ++ client rest.begun ∷ []; waiting = rest.waiting }) place
@@ -171,14 +208,19 @@ client_at s t queue rest stream place stands head begun waits core scrambled con
       within = omega (arith, grows pieces (client frame));
       given = given ++ type_header;
       scrambled = continues given stands.scrambled;
-      areas = areas-push pieces (client frame) ∙ ap (λ l. l ++ (type_header ++ frame)) area ∙ sym (append_assoc given type_header frame);
-      rest = ap (λ p. drop p (stream_of (pieces ++ client frame ∷ []))) place_is ∙ one_more pieces (client frame) given area
-          ∙ ap₂ ◌++◌ (ap core_header size ∙ sym core) (two_parts given type_header frame (drop 4 (head_of t)) (scrambled given stands.scrambled))
-          ∙ sym (append_assoc (take 4 (head_of t)) (drop 4 (head_of t)) more) ∙ ap (λ l. l ++ more) (take-append-drop 4 (head_of t));
+      areas = areas-push pieces (client frame) ∙ ap (λ l. l ++ (type_header ++ frame)) area
+          ∙ sym (append_assoc given type_header frame);
+      rest = ap (λ p. drop p (stream_of (pieces ++ client frame ∷ []))) place_is
+          ∙ one_more pieces (client frame) given area
+          ∙ ap₂ ◌++◌ (ap core_header size ∙ sym core)
+          (two_parts given type_header frame (drop 4 (head_of t)) (scrambled given stands.scrambled))
+          ∙ sym (append_assoc (take 4 (head_of t)) (drop 4 (head_of t)) more)
+          ∙ ap (λ l. l ++ more) (take-append-drop 4 (head_of t));
     }
 
 -- an idle
-idle_at : (s t : Sender) (queue : Held) (stream : Stream) (place : ℕ) → (stands : Stands s queue stream place) → head_of s ≡ [] → queue.begun ≡ []
+idle_at : (s t : Sender) (queue : Held) (stream : Stream) (place : ℕ) → (stands : Stands s queue stream place) →
+    head_of s ≡ [] → queue.begun ≡ []
     → queue.waiting ≡ [] → head_of t ≡ core_header 0 → t.scrambler ≡ s.scrambler
     → Stands t queue (record { pieces = stream.pieces ++ idle ∷ []; waiting = [] }) place
 idle_at s t queue stream place stands head begun waits core scrambler =
@@ -197,36 +239,48 @@ idle_at s t queue stream place stands head begun waits core scrambler =
     }
 
 -- what is written after a piece that was begun
-next_written : (sender : Sender) (queue : Held) (stream : Stream) (place : ℕ) (octets : List ℕ) → place ≡ size stream.pieces → 0 < length octets
-    → HasWritten sender queue (next_by stream.waiting stream.pieces) place octets → HasWritten sender queue stream place octets
+next_written : (sender : Sender) (queue : Held) (stream : Stream) (place : ℕ) (octets : List ℕ) →
+    place ≡ size stream.pieces → 0 < length octets
+    → HasWritten sender queue (next_by stream.waiting stream.pieces) place octets →
+    HasWritten sender queue stream place octets
 next_written sender queue stream place octets end some written =
-    let same : reached (place + length octets) stream ≡ reached (place + length octets) (next_by stream.waiting stream.pieces) = reached-next (place + length octets) stream (omega arith) in
+    let same : reached (place + length octets) stream ≡ reached (place + length octets)
+    (next_by stream.waiting stream.pieces) = reached-next (place + length octets) stream (omega arith) in
     record { stands = rw same written.stands; next = rw same written.next }
 
 -- the headers of a frame that waits, and octets of them
-pub client_written : (s b t : Sender) (queue rest : Held) (stream : Stream) (place n : ℕ) (octets : List ℕ) → Stands s queue stream place → head_of s ≡ [] → queue.begun ≡ []
+pub client_written : (s b t : Sender) (queue rest : Held) (stream : Stream) (place n : ℕ) (octets : List ℕ) →
+    Stands s queue stream place → head_of s ≡ [] → queue.begun ≡ []
     → queue.waiting ≡ rest.begun ∷ rest.waiting → take 4 (head_of b) ≡ core_header (4 + length rest.begun)
     → ScramblesTo s.scrambler type_header (drop 4 (head_of b)) → Continues s.scrambler b.scrambler type_header
-    → 0 < n → n ≤ length (head_of b) → octets ≡ take n (head_of b) → head_of t ≡ drop n (head_of b) → t.scrambler ≡ b.scrambler
+    → 0 < n → n ≤ length (head_of b) → octets ≡ take n (head_of b) → head_of t ≡ drop n (head_of b) →
+    t.scrambler ≡ b.scrambler
     → HasWritten t rest stream place octets
-client_written s b t queue rest stream place n octets stands head begun waits core scrambled continues some fits part left scrambler =
+client_written s b t queue rest stream place n octets stands head begun waits core scrambled continues some fits part
+    left scrambler =
     let front : stream.waiting ≡ rest.begun ∷ rest.waiting = sym stands.waits ∙ waits in
     let count : length octets ≡ n = ap length part ∙ length-take-le n (head_of b) fits in
-    let next : next_by stream.waiting stream.pieces ≡ record { pieces = stream.pieces ++ client rest.begun ∷ []; waiting = rest.waiting } = ap (λ l. next_by l stream.pieces) front in
+    let next : next_by stream.waiting stream.pieces
+    ≡ record { pieces = stream.pieces ++ client rest.begun ∷ []; waiting = rest.waiting } =
+    ap (λ l. next_by l stream.pieces) front in
     next_written t rest stream place octets (all_written s queue stream place stands head begun) (omega arith)
     (rw next
-    (head_written b t rest (record { pieces = stream.pieces ++ client rest.begun ∷ []; waiting = rest.waiting }) place n octets
+    (head_written b t rest (record { pieces = stream.pieces ++ client rest.begun ∷ []; waiting = rest.waiting }) place n
+    octets
     (client_at s b queue rest stream place stands head begun front core scrambled continues) fits part left scrambler))
 
 -- an idle, where none waits, and octets of it
-pub idle_written : (s t : Sender) (queue : Held) (stream : Stream) (place n : ℕ) (octets : List ℕ) → Stands s queue stream place → head_of s ≡ [] → queue.begun ≡ []
-    → queue.waiting ≡ [] → 0 < n → n ≤ length (core_header 0) → octets ≡ take n (core_header 0) → head_of t ≡ drop n (core_header 0) → t.scrambler ≡ s.scrambler
+pub idle_written : (s t : Sender) (queue : Held) (stream : Stream) (place n : ℕ) (octets : List ℕ) →
+    Stands s queue stream place → head_of s ≡ [] → queue.begun ≡ []
+    → queue.waiting ≡ [] → 0 < n → n ≤ length (core_header 0) → octets ≡ take n (core_header 0) →
+    head_of t ≡ drop n (core_header 0) → t.scrambler ≡ s.scrambler
     → HasWritten t queue stream place octets
 idle_written s t queue stream place n octets stands head begun waits some fits part left scrambler =
     let b : Sender = record { headers = core_header 0; sent = 0; scrambler = s.scrambler } in
     let front : stream.waiting ≡ [] = sym stands.waits ∙ waits in
     let count : length octets ≡ n = ap length part ∙ length-take-le n (core_header 0) fits in
-    let next : next_by stream.waiting stream.pieces ≡ record { pieces = stream.pieces ++ idle ∷ []; waiting = [] } = ap (λ l. next_by l stream.pieces) front in
+    let next : next_by stream.waiting stream.pieces ≡ record { pieces = stream.pieces ++ idle ∷ []; waiting = [] } =
+    ap (λ l. next_by l stream.pieces) front in
     next_written t queue stream place octets (all_written s queue stream place stands head begun) (omega arith)
     (rw next
     (head_written b t queue (record { pieces = stream.pieces ++ idle ∷ []; waiting = [] }) place n octets
@@ -234,13 +288,16 @@ idle_written s t queue stream place n octets stands head begun waits some fits p
 
 -- ---- steps, one after another
 -- octets in the first part of a list
-within-append : (n k : ℕ) (octets more : List ℕ) → n + k ≤ length octets → take k (drop n (octets ++ more)) ≡ take k (drop n octets)
+within-append : (n k : ℕ) (octets more : List ℕ) → n + k ≤ length octets →
+    take k (drop n (octets ++ more)) ≡ take k (drop n octets)
 within-append n k octets more within =
-    ap (take k) (drop-append-le n octets more (omega arith)) ∙ take-append-le k (drop n octets) more (omega (arith, length-drop n octets))
+    ap (take k) (drop-append-le n octets more (omega arith))
+    ∙ take-append-le k (drop n octets) more (omega (arith, length-drop n octets))
 
 -- octets that are written stand in the stream of a later place
 still_next : (stream : Stream) (place n later : ℕ) → place + n ≤ later
-    → take n (drop place (stream_of (reached later stream).pieces)) ≡ take n (drop place (stream_of (reached (place + n) stream).pieces))
+    → take n (drop place (stream_of (reached later stream).pieces)) ≡ take n
+    (drop place (stream_of (reached (place + n) stream).pieces))
 still_next stream place n later more =
     let sooner = reached (place + n) stream in
     let fewest = reached-fewest later sooner in
@@ -248,19 +305,25 @@ still_next stream place n later more =
     ap (λ s. take n (drop place (stream_of s.pieces))) (sym (reached-join (place + n) later stream more))
     ∙ ap (λ l. take n (drop place (stream_of l))) fewest.follow
     ∙ ap (λ l. take n (drop place l)) (stream_of-append sooner.pieces fewest.more)
-    ∙ within-append place n (stream_of sooner.pieces) (stream_behind (joined (map area_of sooner.pieces)) fewest.more) (omega (arith, long sooner.pieces))
+    ∙ within-append place n (stream_of sooner.pieces) (stream_behind (joined (map area_of sooner.pieces)) fewest.more)
+    (omega (arith, long sooner.pieces))
 
-pub written-both : (s t : Sender) (queue rest : Held) (stream : Stream) (place : ℕ) (first more : List ℕ) → HasWritten s queue stream place first
-    → HasWritten t rest (reached (place + length first) stream) (place + length first) more → HasWritten t rest stream place (first ++ more)
+pub written-both : (s t : Sender) (queue rest : Held) (stream : Stream) (place : ℕ) (first more : List ℕ) →
+    HasWritten s queue stream place first
+    → HasWritten t rest (reached (place + length first) stream) (place + length first) more →
+    HasWritten t rest stream place (first ++ more)
 written-both s t queue rest stream place first more one other =
     let a = length first in
     let b = length more in
     let count : place + length (first ++ more) ≡ place + a + b = omega (arith, length-append first more) in
     let size : length (first ++ more) ≡ a + b = length-append first more in
-    let same : reached (place + a + b) (reached (place + a) stream) ≡ reached (place + a + b) stream = reached-join (place + a) (place + a + b) stream (omega arith) in
+    let same : reached (place + a + b) (reached (place + a) stream) ≡ reached (place + a + b) stream =
+    reached-join (place + a) (place + a + b) stream (omega arith) in
     let octets : List ℕ = stream_of (reached (place + a + b) stream).pieces in
-    let front : first ≡ take a (drop place octets) = one.next ∙ sym (still_next stream place a (place + a + b) (omega arith)) in
-    let back : more ≡ take b (drop (place + a) octets) = other.next ∙ ap (λ s. take b (drop (place + a) (stream_of s.pieces))) same in
+    let front : first ≡ take a (drop place octets) = one.next
+    ∙ sym (still_next stream place a (place + a + b) (omega arith)) in
+    let back : more ≡ take b (drop (place + a) octets) = other.next
+    ∙ ap (λ s. take b (drop (place + a) (stream_of s.pieces))) same in
     let cut : take (a + b) (drop place octets) ≡ take a (drop place octets) ++ take b (drop (place + a) octets) =
     take-add a b (drop place octets) ∙ ap (λ l. take a (drop place octets) ++ take b l) (drop-drop a place octets) in
     record {
@@ -269,13 +332,15 @@ written-both s t queue rest stream place first more one other =
     }
 
 -- nothing is written
-pub written-none : (s : Sender) (queue : Held) (stream : Stream) (place : ℕ) → Stands s queue stream place → HasWritten s queue stream place []
+pub written-none : (s : Sender) (queue : Held) (stream : Stream) (place : ℕ) → Stands s queue stream place →
+    HasWritten s queue stream place []
 written-none s queue stream place stands =
     part_written stream place 0 s queue (drop place (stream_of stream.pieces)) [] stands.within refl (omega arith) refl
     (λ reach. let same : place + 0 ≡ place = omega arith in rw same stands)
 
 -- what stands in the first part of a slice after a part of it was written
-pub take-written : (at n : ℕ) (out part back : List ℕ) → at ≤ length out → n ≤ length part → take (at + n) (take at out ++ (part ++ back)) ≡ take at out ++ take n part
+pub take-written : (at n : ℕ) (out part back : List ℕ) → at ≤ length out → n ≤ length part →
+    take (at + n) (take at out ++ (part ++ back)) ≡ take at out ++ take n part
 take-written at n out part back within some =
     let front = length-take-le at out within in
     ap (λ k. take (k + n) (take at out ++ (part ++ back))) (sym front) ∙ take-append-add (take at out) (part ++ back) n

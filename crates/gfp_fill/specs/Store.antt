@@ -1,4 +1,5 @@
--- How the frames are kept: buffers with a frame that waits, spare ones, and the one of the frame that is being sent. The first two
+-- How the frames are kept: buffers with a frame that waits, spare ones, and the one of the frame that is being sent.
+-- The first two
 -- are together as many as may wait, and each has room for any frame.
 use Rattle.std.specs.Prelude.{◌≡◌, ℕ, ◌+◌, ◌≤◌, Vec, All, vec_len}
 use Rattle.std.specs.Vec.{vec_capacity}
@@ -17,7 +18,8 @@ abbrev pub HoldsFrame : Vec ℕ Global → Type 0
 HoldsFrame buffer = IsFrameLength (vec_len buffer) × HasRoom buffer
 
 -- what is true of the buffers of a queue
-pub record IsStore (waiting : VecDeque (Vec ℕ Global) Global) (spare : Vec (Vec ℕ Global) Global) (begun : Vec ℕ Global) : Type 0 where
+pub record IsStore (waiting : VecDeque (Vec ℕ Global) Global) (spare : Vec (Vec ℕ Global) Global)
+    (begun : Vec ℕ Global) : Type 0 where
   pub count : deque_len waiting + vec_len spare ≡ most_waiting
   pub places : most_waiting ≤ deque_capacity waiting
   pub spares : most_waiting ≤ vec_capacity spare

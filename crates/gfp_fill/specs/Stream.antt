@@ -24,7 +24,8 @@ pub record Sender : Type 0 where
 abbrev pub head_of : Sender → List ℕ
 head_of sender = drop sender.sent sender.headers
 
--- of a stream, the octets before a place are written: what is left of its pieces are octets of headers, and then those of the
+-- of a stream, the octets before a place are written: what is left of its pieces are octets of headers, and then those
+-- of the
 -- frame that is being sent, scrambled after the octets of areas that were given to the scrambler
 pub record Stands (sender : Sender) (queue : Held) (stream : Stream) (place : ℕ) : Type 0 where
   pub waits : queue.waiting ≡ stream.waiting
@@ -32,11 +33,13 @@ pub record Stands (sender : Sender) (queue : Held) (stream : Stream) (place : �
   pub given : List ℕ
   pub scrambled : HasScrambled sender.scrambler given
   pub areas : joined (map area_of stream.pieces) ≡ given ++ queue.begun
-  pub rest : drop place (stream_of stream.pieces) ≡ head_of sender ++ drop (length given) (scrambled_octets (given ++ queue.begun))
+  pub rest : drop place (stream_of stream.pieces) ≡ head_of sender ++ drop (length given)
+      (scrambled_octets (given ++ queue.begun))
 
 -- these octets are the next ones of a stream, and no piece is begun that they don't need
 abbrev pub AreNext : Stream → ℕ → List ℕ → Type 0
-AreNext stream place octets = octets ≡ take (length octets) (drop place (stream_of (reached (place + length octets) stream).pieces))
+AreNext stream place octets = octets ≡ take (length octets)
+    (drop place (stream_of (reached (place + length octets) stream).pieces))
 
 -- what stands after octets of a stream that are the next ones
 pub record HasWritten (sender : Sender) (queue : Held) (stream : Stream) (place : ℕ) (octets : List ℕ) : Type 0 where
@@ -45,4 +48,5 @@ pub record HasWritten (sender : Sender) (queue : Held) (stream : Stream) (place 
 
 -- whatever stream stood before, its next octets are written
 abbrev pub Writes : Sender → Held → Sender → Held → List ℕ → Type 0
-Writes before queue after rest octets = (stream : Stream) (place : ℕ) → Stands before queue stream place → HasWritten after rest stream place octets
+Writes before queue after rest octets = (stream : Stream) (place : ℕ) → Stands before queue stream place →
+    HasWritten after rest stream place octets

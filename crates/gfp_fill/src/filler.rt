@@ -1,6 +1,7 @@
 //! The stream of GFP frames, octet by octet.
 
-ghost use Rattle.std.specs.Prelude.{◌≡◌, ℕ, ◌+◌, ◌*◌, ◌/◌, ◌<◌, ◌≤◌, List, [], ◌∷◌, ◌++◌, length, min, take, drop, replicate};
+ghost use Rattle.std.specs.Prelude.{◌≡◌, ℕ, ◌+◌, ◌*◌, ◌/◌, ◌<◌, ◌≤◌, List, [], ◌∷◌, ◌++◌, length, min, take, drop};
+ghost use Rattle.std.specs.Prelude.{replicate};
 ghost use Rattle.std.specs.List.{flat_map};
 ghost use Rattle.session_model.specs.Core.{core_header};
 ghost use Rattle.session_model.specs.TypeHeader.{type_header};
@@ -35,9 +36,9 @@ const IDLE_OCTETS: [u8; CORE_HEADER * IDLES] = [
     0xb6, 0xab, 0x31, 0xe0, 0xb6, 0xab, 0x31, 0xe0, 0xb6, 0xab, 0x31, 0xe0, 0xb6, 0xab, 0x31, 0xe0,
 ];
 
-/// Writes the stream of GFP frames: two idle frames, and then each frame that waits, or an idle frame where none does. The
-/// payload areas are scrambled as one list, and the core headers are not. A frame is sent from the buffer in which it waited, so a
-/// `Filler` belongs to one `FrameQueue`.
+/// Writes the stream of GFP frames: two idle frames, and then each frame that waits, or an idle frame where
+/// none does. The payload areas are scrambled as one list, and the core headers are not. A frame is sent from
+/// the buffer in which it waited, so a `Filler` belongs to one `FrameQueue`.
 #[derive(Clone, Copy)]
 pub struct Filler {
     scrambler: Scrambler,
@@ -71,8 +72,9 @@ impl Filler {
         }
     }
 
-    /// Writes the next `out.len()` octets of the stream. A frame stops waiting when its first octet is written. The queue is
-    /// that of the calls before: with one that doesn't hold the frame that is being sent the filler stands nowhere.
+    /// Writes the next `out.len()` octets of the stream. A frame stops waiting when its first octet is
+    /// written. The queue is that of the calls before: with one that doesn't hold the frame that is being
+    /// sent the filler stands nowhere.
     pub fn fill(&mut self, waiting: &mut FrameQueue, out: &mut [u8])
         ensures stands { (stream : Stream) (place : ℕ) → Stands self.old waiting.old stream place →
             let further = place + length out.old in
@@ -139,7 +141,8 @@ impl Filler {
         n
     }
 
-    // Writes as many octets of the frame that is being sent as aren't written and `out` has room for, and says how many.
+    // Writes as many octets of the frame that is being sent as aren't written and `out` has room for, and
+    // says how many.
     fn send_frame(&mut self, waiting: &mut FrameQueue, out: &mut [u8]) -> usize
         ensures count { result ≡ min (length waiting.old.begun) (length out.old) }
         ensures octets { let octets = take result waiting.old.begun in

@@ -1,6 +1,7 @@
-//! The frames that wait, and the stream of GFP frames that is made of them. It knows nothing of rows, lines or time: the caller says
-//! how many octets come next, and offers frames between. Begin with `FrameQueue` and `Filler`; what is promised of the two together is
-//! `Stands` in `specs/Stream.antt`, over the streams of session_model's `specs/Client.antt`.
+//! The frames that wait, and the stream of GFP frames that is made of them. It knows nothing of rows, lines
+//! or time: the caller says how many octets come next, and offers frames between. Begin with `FrameQueue` and
+//! `Filler`; what is promised of the two together is `Stands` in `specs/Stream.antt`, over the streams of
+//! session_model's `specs/Client.antt`.
 #![tactic(auto)]
 
 ghost use Rattle.std.specs.Prelude.{◌≡◌, ℕ, ◌+◌, ◌≤◌, List, [], ◌++◌, length, take, drop};
@@ -17,9 +18,10 @@ pub use filler::Filler;
 pub use queue::{FrameQueue, MAX_FRAME, MAX_WAITING, MIN_FRAME};
 pub use session_model::AcceptFault;
 
-/// The pieces of a stream that reaches a place are the fewest, a place can be reached in parts, and octets that are written stand
-/// in each longer stream. Where all frames wait from the start, the pieces are those of the opening. For a filler and a place in a
-/// stream there is one queue with which it stands there: that which holds the frame that it is sending.
+/// The pieces of a stream that reaches a place are the fewest, a place can be reached in parts, and octets
+/// that are written stand in each longer stream. Where all frames wait from the start, the pieces are those
+/// of the opening. For a filler and a place in a stream there is one queue with which it stands there: that
+/// which holds the frame that it is sending.
 pub fn filling_law()
     ensures fewest { (place : ℕ) (stream : Stream) →
         IsFewest stream.pieces place (reached place stream).pieces }

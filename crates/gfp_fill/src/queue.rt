@@ -1,6 +1,7 @@
 //! The frames that wait, in buffers that are taken once.
 
-ghost use Rattle.std.specs.Prelude.{◌≡◌, ℕ, ◌+◌, ◌<◌, ◌≤◌, ◌↔◌, List, [], ◌∷◌, ◌++◌, length, min, take, drop, IsOk, IfOk, OnOk, OnErr, IfSome, IfNone, vec_len};
+ghost use Rattle.std.specs.Prelude.{◌≡◌, ℕ, ◌+◌, ◌<◌, ◌≤◌, ◌↔◌, List, [], ◌∷◌, ◌++◌, length, min, take, drop, IsOk};
+ghost use Rattle.std.specs.Prelude.{IfOk, OnOk, OnErr, IfSome, IfNone, vec_len};
 ghost use Rattle.std.specs.Result.{result_err};
 ghost use Rattle.std.specs.Vec.{vec_capacity};
 ghost use Rattle.std.specs.VecDeque.{deque_len, deque_capacity};
@@ -146,7 +147,8 @@ impl FrameQueue {
         self.begun.len() - self.sent
     }
 
-    // Copies as many octets of the frame that is being sent as aren't written and `out` has room for, and says how many.
+    // Copies as many octets of the frame that is being sent as aren't written and `out` has room for, and
+    // says how many.
     #[inline]
     pub(crate) fn send(&mut self, out: &mut [u8]) -> usize
         ensures count { result ≡ min (length self.old.begun) (length out.old) }

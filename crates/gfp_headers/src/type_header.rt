@@ -15,8 +15,8 @@ pub fn type_bytes() -> [u8; 4]
     [0x00, 0x01, 0x10, 0x21]
 }
 
-/// Whether these octets are the type header of an Ethernet frame, and what is wrong with them where they are not: the check
-/// (tHEC), or else the first field that differs.
+/// Whether these octets are the type header of an Ethernet frame, and what is wrong with them where they are
+/// not: the check (tHEC), or else the first field that differs.
 #[inline]
 pub fn read_type(octets: &[u8; 4]) -> Result<(), TypeFault>
     ensures value { MatchOption (type_fault octets.now) (result ≡ Ok tt)

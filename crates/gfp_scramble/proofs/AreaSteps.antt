@@ -3,9 +3,11 @@
 use Rattle.std.proofs.Math.Seq.{take-add}
 use Rattle.std.proofs.lemmas.Slice.{take-put_mid, drop-put_mid}
 use borrow.Rule.Slice.PartMut.{put_mid}
-use Rattle.std.proofs.Common.{◌≡◌, ℕ, ◌+◌, ◌-◌, ◌*◌, ◌/◌, ◌<◌, ◌≤◌, List, [], ◌∷◌, ◌++◌, length, take, drop, set, get_or, sym, ap, ◌∙◌, arith, append_assoc, length-append}
+use Rattle.std.proofs.Common.{◌≡◌, ℕ, ◌+◌, ◌-◌, ◌*◌, ◌/◌, ◌<◌, ◌≤◌, List, [], ◌∷◌, ◌++◌, length, take, drop, set}
+use Rattle.std.proofs.Common.{get_or, sym, ap, ◌∙◌, arith, append_assoc, length-append}
 use Rattle.gfp_scramble.proofs.SettlingLaws.{drop_alike}
-use Rattle.std.proofs.lemmas.List.{take_all, take_more, take_more_set, drop_more, drop-set-lt, drop-drop, length-take, length-drop}
+use Rattle.std.proofs.lemmas.List.{take_all, take_more, take_more_set, drop_more, drop-set-lt, drop-drop, length-take}
+use Rattle.std.proofs.lemmas.List.{length-drop}
 
 -- octets behind two lists that agree
 front_longer : (n u : ℕ) (f : List ℕ → List ℕ) → ((l : List ℕ) → length (f l) ≡ length l) →
@@ -27,7 +29,8 @@ front_longer n u f same octets was area more size front =
     )) front
     ∙ ap (drop u) (append_assoc (f octets) (take n area) more)
 
-module _ (i : ℕ) (was area : List ℕ) (fits : i < length was) (size : length area ≡ length was) (back : drop i area ≡ drop i was) where
+module _ (i : ℕ) (was area : List ℕ) (fits : i < length was) (size : length area ≡ length was)
+    (back : drop i area ≡ drop i was) where
   octet_same : get_or area i 0 ≡ get_or was i 0
   octet_same =
       let within : i < length area = omega arith in
@@ -60,9 +63,11 @@ module _ (i : ℕ) (was area : List ℕ) (fits : i < length was) (size : length 
       ∙ ap (λ l. drop u (f octets ++ l)) (sym (take_more_set area i x (omega arith)))
 
 -- eight more octets, where `piece` stands for them now
-module _ (i : ℕ) (was area piece : List ℕ) (fits : i < length was / 8) (size : length area ≡ length was) (back : drop (8 * i) area ≡ drop (8 * i) was)
+module _ (i : ℕ) (was area piece : List ℕ) (fits : i < length was / 8) (size : length area ≡ length was)
+    (back : drop (8 * i) area ≡ drop (8 * i) was)
     (eight : length piece ≡ length (take (8 * i + 8 - 8 * i) (drop (8 * i) area))) where
-  pub given_eight : (octets : List ℕ) → (octets ++ take (8 * i) was) ++ take (8 * i + 8 - 8 * i) (drop (8 * i) area) ≡ octets ++ take (8 * (i + 1)) was
+  pub given_eight : (octets : List ℕ) →
+      (octets ++ take (8 * i) was) ++ take (8 * i + 8 - 8 * i) (drop (8 * i) area) ≡ octets ++ take (8 * (i + 1)) was
   given_eight octets =
       append_assoc octets (take (8 * i) was) (take (8 * i + 8 - 8 * i) (drop (8 * i) area))
       ∙ ap (λ l. octets ++ l)

@@ -1,5 +1,6 @@
 -- A descrambler that forgot what was before stands as one that was settled does after six other octets.
-use Rattle.std.proofs.Common.{◌≡◌, ℕ, zero, suc, ◌+◌, ◌*◌, Bool, true, false, List, [], ◌∷◌, ◌++◌, length, drop, replicate, refl, sym, ◌∙◌, ap, ap₂, arith, append_assoc, length-append}
+use Rattle.std.proofs.Common.{◌≡◌, ℕ, zero, suc, ◌+◌, ◌*◌, Bool, true, false, List, [], ◌∷◌, ◌++◌, length, drop}
+use Rattle.std.proofs.Common.{replicate, refl, sym, ◌∙◌, ap, ap₂, arith, append_assoc, length-append}
 use Rattle.std.proofs.lemmas.List.{length-replicate, drop-append-le}
 use Rattle.std.proofs.Math.Seq.{drop-append-add}
 use Rattle.remainder.specs.Bits.{octet_bits, octets_of}
@@ -41,7 +42,8 @@ module _ (last : List Bool) (octets : List ℕ) where
       let whole : (zeros ++ five) ++ (before ++ own) ≡ zeros ++ octet_bits (six ++ octets) =
       append_assoc zeros five (before ++ own)
       ∙ ap (λ l. zeros ++ l)
-      (sym (append_assoc five before own) ∙ ap (λ l. l ++ own) (sym bits_before) ∙ sym (octet_bits-append six octets)) in
+      (sym (append_assoc five before own) ∙ ap (λ l. l ++ own) (sym bits_before) ∙ sym (octet_bits-append six octets))
+      in
       record {
         before = zeros;
         size = length-replicate 43 false;

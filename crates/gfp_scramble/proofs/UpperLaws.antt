@@ -1,5 +1,6 @@
 -- The register of the scrambler in the upper bits of a word.
-use Rattle.std.proofs.Common.{◌≡◌, ℕ, ◌+◌, ◌*◌, ◌/◌, ◌%◌, ◌^◌, ◌<◌, List, [], ◌∷◌, ◌++◌, bit_xor, subst, sym, ◌∙◌, ap, arith}
+use Rattle.std.proofs.Common.{◌≡◌, ℕ, ◌+◌, ◌*◌, ◌/◌, ◌%◌, ◌^◌, ◌<◌, List, [], ◌∷◌, ◌++◌, bit_xor, subst, sym, ◌∙◌, ap}
+use Rattle.std.proofs.Common.{arith}
 use Rattle.std.specs.Int.{bytes_high_first}
 use Rattle.std.proofs.lemmas.Nat.{shr-shr, shl-shr}
 use Rattle.remainder.specs.Bits.{bits}
@@ -9,7 +10,8 @@ use Rattle.gfp_scramble.proofs.RegisterLaws.{combined_below}
 use Rattle.gfp_scramble.proofs.ScramblerSteps.{stands-more, answer-more}
 use Rattle.gfp_scramble.proofs.WordSteps.{word-stands, word-answer, result_of}
 
-module _ (last : ℕ) (small : last / 2 ^ 21 < 2 ^ 43) (whole : last / 2 ^ 21 * 2 ^ 21 ≡ last) (octets : List ℕ) (stands : Stands (record { last = bits 43 (last / 2 ^ 21) }) octets) where
+module _ (last : ℕ) (small : last / 2 ^ 21 < 2 ^ 43) (whole : last / 2 ^ 21 * 2 ^ 21 ≡ last) (octets : List ℕ)
+    (stands : Stands (record { last = bits 43 (last / 2 ^ 21) }) octets) where
   module _ (o : ℕ) (h : o < 2 ^ 8) where
     same : bit_xor o (last / 2 ^ 21 / 2 ^ 35) ≡ bit_xor o (last / 2 ^ 56)
     same = ap (bit_xor o) (shr-shr last 21 35)
@@ -20,12 +22,16 @@ module _ (last : ℕ) (small : last / 2 ^ 21 < 2 ^ 43) (whole : last / 2 ^ 21 * 
     moved : (x : ℕ) → last / 2 ^ 21 % 2 ^ 35 * 2 ^ 8 + x ≡ (last % 2 ^ 56 * 256 + x * 2 ^ 21) / 2 ^ 21
     moved x = omega (arith, whole)
 
-    pub upper_octet-answer : scrambled_octets (octets ++ o ∷ []) ≡ scrambled_octets octets ++ bit_xor o (last / 2 ^ 56) ∷ []
-    upper_octet-answer = answer-more (last / 2 ^ 21) o octets stands below ∙ ap (λ x. scrambled_octets octets ++ x ∷ []) same
+    pub upper_octet-answer : scrambled_octets (octets ++ o ∷ []) ≡ scrambled_octets octets ++ bit_xor o
+        (last / 2 ^ 56) ∷ []
+    upper_octet-answer = answer-more (last / 2 ^ 21) o octets stands below
+        ∙ ap (λ x. scrambled_octets octets ++ x ∷ []) same
 
-    pub upper_octet-stands : (x : ℕ) → x ≡ bit_xor o (last / 2 ^ 56) → Stands (record { last = bits 43 ((last % 2 ^ 56 * 256 + x * 2 ^ 21) / 2 ^ 21) }) (octets ++ o ∷ [])
+    pub upper_octet-stands : (x : ℕ) → x ≡ bit_xor o (last / 2 ^ 56) →
+        Stands (record { last = bits 43 ((last % 2 ^ 56 * 256 + x * 2 ^ 21) / 2 ^ 21) }) (octets ++ o ∷ [])
     upper_octet-stands x e =
-        subst (λ v. Stands (record { last = bits 43 v }) (octets ++ o ∷ [])) (ap (λ y. last / 2 ^ 21 % 2 ^ 35 * 2 ^ 8 + y) (same ∙ sym e) ∙ moved x)
+        subst (λ v. Stands (record { last = bits 43 v }) (octets ++ o ∷ []))
+        (ap (λ y. last / 2 ^ 21 % 2 ^ 35 * 2 ^ 8 + y) (same ∙ sym e) ∙ moved x)
         (stands-more (last / 2 ^ 21) o octets stands below)
 
   module _ (w : ℕ) (h : w < 2 ^ 64) where
@@ -35,10 +41,14 @@ module _ (last : ℕ) (small : last / 2 ^ 21 < 2 ^ 43) (whole : last / 2 ^ 21 * 
     is_result : result_of (last / 2 ^ 21) w ≡ word_result
     is_result = ap (λ l. bit_xor (bit_xor w l) (bit_xor w l / 2 ^ 43)) whole
 
-    pub upper_word-answer : scrambled_octets (octets ++ bytes_high_first 8 w) ≡ scrambled_octets octets ++ bytes_high_first 8 word_result
-    upper_word-answer = word-answer (last / 2 ^ 21) w small h octets stands ∙ ap (λ v. scrambled_octets octets ++ bytes_high_first 8 v) is_result
+    pub upper_word-answer : scrambled_octets (octets ++ bytes_high_first 8 w)
+        ≡ scrambled_octets octets ++ bytes_high_first 8 word_result
+    upper_word-answer = word-answer (last / 2 ^ 21) w small h octets stands
+        ∙ ap (λ v. scrambled_octets octets ++ bytes_high_first 8 v) is_result
 
-    pub upper_word-stands : Stands (record { last = bits 43 (word_result % 2 ^ 43 * 2 ^ 21 / 2 ^ 21) }) (octets ++ bytes_high_first 8 w)
+    pub upper_word-stands : Stands (record { last = bits 43 (word_result % 2 ^ 43 * 2 ^ 21 / 2 ^ 21) })
+        (octets ++ bytes_high_first 8 w)
     upper_word-stands =
-        subst (λ v. Stands (record { last = bits 43 v }) (octets ++ bytes_high_first 8 w)) (ap (λ v. v % 2 ^ 43) is_result ∙ sym (shl-shr (word_result % 2 ^ 43) 21))
+        subst (λ v. Stands (record { last = bits 43 v }) (octets ++ bytes_high_first 8 w))
+        (ap (λ v. v % 2 ^ 43) is_result ∙ sym (shl-shr (word_result % 2 ^ 43) 21))
         (word-stands (last / 2 ^ 21) w small h octets stands)

@@ -1,15 +1,19 @@
--- A word through the scrambler and the descrambler: with n = a + b places between the bits that are combined, and a register of as
+-- A word through the scrambler and the descrambler: with n = a + b places between the bits that are combined, and a
+-- register of as
 -- many bits, a word has a bits more.
-use Rattle.std.proofs.Common.{◌≡◌, ℕ, zero, suc, ◌+◌, ◌*◌, ◌/◌, ◌%◌, ◌^◌, ◌<◌, Bool, false, List, ◌++◌, length, drop, replicate, bit_xor, refl, sym, ◌∙◌, ap, ap₂, arith, append_assoc}
+use Rattle.std.proofs.Common.{◌≡◌, ℕ, zero, suc, ◌+◌, ◌*◌, ◌/◌, ◌%◌, ◌^◌, ◌<◌, Bool, false, List, ◌++◌, length, drop}
+use Rattle.std.proofs.Common.{replicate, bit_xor, refl, sym, ◌∙◌, ap, ap₂, arith, append_assoc}
 use Rattle.std.specs.Int.{bytes_high_first}
 use Rattle.std.specs.Int.Bits.{xor_zero_r}
 use Rattle.std.proofs.lemmas.List.{drop_at, length-append}
 use Rattle.std.proofs.lemmas.Nat.{shr-shr, shr_high, shr_split, xor_shr, xor_block, xor_lt, pow_pos}
 use Rattle.remainder.specs.Bits.{bits, octets_of, xors}
 use Rattle.remainder.proofs.BitLaws.{length-bits, bits-add, bits_low, bits-mod, bits-xor}
-use Rattle.remainder.proofs.OctetLaws.{octets_of-append, octets_of-octet_bits, bytes_high_first_below, octet_bits-bytes_high_first}
+use Rattle.remainder.proofs.OctetLaws.{octets_of-append, octets_of-octet_bits, bytes_high_first_below}
+use Rattle.remainder.proofs.OctetLaws.{octet_bits-bytes_high_first}
 use Rattle.session_model.specs.Scramble.{scramble_on}
-use Rattle.session_model.proofs.ScrambleLaws.{scramble_on-append, scramble_on-short, xors-longer, descramble, descramble-append}
+use Rattle.session_model.proofs.ScrambleLaws.{scramble_on-append, scramble_on-short, xors-longer, descramble}
+use Rattle.session_model.proofs.ScrambleLaws.{descramble-append}
 use Rattle.gfp_scramble.proofs.RegisterLaws.{window, window-append}
 
 -- nothing is left above the bits
@@ -19,8 +23,10 @@ nothing_above k x h = (let e : x ≡ 0 * 2 ^ k + x = omega arith in ap (λ m. m 
 -- a word below 2 ^ (n + a) without its lower a bits
 upper_below : (n a w : ℕ) → w < 2 ^ (n + a) → w / 2 ^ a < 2 ^ n
 upper_below n a w h =
-    let none : w / 2 ^ a / 2 ^ n ≡ 0 = shr-shr w a n ∙ (let e : a + n ≡ n + a = omega arith in ap (λ k. w / 2 ^ k) e) ∙ nothing_above (n + a) w h in
-    let all : 0 * 2 ^ n + w / 2 ^ a % 2 ^ n ≡ w / 2 ^ a = ap (λ m. m * 2 ^ n + w / 2 ^ a % 2 ^ n) (sym none) ∙ shr_split (w / 2 ^ a) n in
+    let none : w / 2 ^ a / 2 ^ n ≡ 0 = shr-shr w a n ∙ (let e : a + n ≡ n + a = omega arith in ap (λ k. w / 2 ^ k) e)
+    ∙ nothing_above (n + a) w h in
+    let all : 0 * 2 ^ n + w / 2 ^ a % 2 ^ n ≡ w / 2 ^ a = ap (λ m. m * 2 ^ n + w / 2 ^ a % 2 ^ n) (sym none)
+    ∙ shr_split (w / 2 ^ a) n in
     omega (arith, all, pow_pos n)
 
 -- a word with its bits in the other order of the parts
@@ -45,7 +51,8 @@ pub word_descrambled : (a n r w : ℕ) (s : List Bool) → w < 2 ^ (n + a) → b
 word_descrambled a n r w s h stands =
     let upper = w / 2 ^ n in
     let all = bits (n + a) w in
-    let below : upper < 2 ^ a = upper_below a n w (let e : 2 ^ (n + a) ≡ 2 ^ (a + n) = ap (λ k. 2 ^ k) (omega arith) in rw e at h) in
+    let below : upper < 2 ^ a = upper_below a n w
+    (let e : 2 ^ (n + a) ≡ 2 ^ (a + n) = ap (λ k. 2 ^ k) (omega arith) in rw e at h) in
     let back : bits (n + a) (r * 2 ^ a + upper) ≡ bits n r ++ bits a upper =
     bits-add n a (r * 2 ^ a + upper) ∙ ap₂ ◌++◌ (ap (bits n) (shr_high r a upper below)) (bits_low a r upper) in
     descramble-append n s all
@@ -53,7 +60,8 @@ word_descrambled a n r w s h stands =
     (ap₂ (λ l m. xors all (l ++ m)) (sym stands) (parts a n w)
     ∙ ap (xors all) (sym (append_assoc (bits n r) (bits a upper) (bits n w)))
     ∙ ap (λ l. xors all (l ++ bits n w)) (sym back)
-    ∙ xors-longer all (bits (n + a) (r * 2 ^ a + upper)) (bits n w) (omega (arith, length-bits (n + a) w, length-bits (n + a) (r * 2 ^ a + upper)))
+    ∙ xors-longer all (bits (n + a) (r * 2 ^ a + upper)) (bits n w)
+    (omega (arith, length-bits (n + a) w, length-bits (n + a) (r * 2 ^ a + upper)))
     ∙ sym (bits-xor (n + a) w (r * 2 ^ a + upper)))
 
 -- ---- scrambling
@@ -85,7 +93,8 @@ module _ (a b r w : ℕ) (small : r < 2 ^ (a + b)) (h : w < 2 ^ (a + b + a)) whe
 
   v_upper : v / 2 ^ a ≡ x
   v_upper =
-      let none : x / 2 ^ b / 2 ^ a ≡ 0 = shr-shr x b a ∙ (let e : b + a ≡ a + b = omega arith in ap (λ k. x / 2 ^ k) e) ∙ nothing_above (a + b) x x_below in
+      let none : x / 2 ^ b / 2 ^ a ≡ 0 = shr-shr x b a ∙ (let e : b + a ≡ a + b = omega arith in ap (λ k. x / 2 ^ k) e)
+      ∙ nothing_above (a + b) x x_below in
       xor_shr t (t / 2 ^ (a + b)) a ∙ ap₂ bit_xor t_upper (ap (λ m. m / 2 ^ a) t_top ∙ none) ∙ xor_zero_r x
 
   v_lower : bits a v ≡ xors (bits a w) (bits a (x / 2 ^ b))
@@ -114,7 +123,8 @@ module _ (a b r w : ℕ) (small : r < 2 ^ (a + b)) (h : w < 2 ^ (a + b + a)) whe
       ∙ ap (λ l. scramble_on n l back) first
       ∙ scramble_on-short n more back (omega (arith, length-bits a w))
       ∙ ap (λ l. more ++ xors back l) (last ∙ bits-add a b x)
-      ∙ ap (λ l. more ++ l) (xors-longer back (bits a (x / 2 ^ b)) (bits b x) (omega (arith, length-bits a w, length-bits a (x / 2 ^ b))) ∙ sym v_lower)
+      ∙ ap (λ l. more ++ l) (xors-longer back (bits a (x / 2 ^ b)) (bits b x)
+      (omega (arith, length-bits a w, length-bits a (x / 2 ^ b))) ∙ sym v_lower)
       ∙ append_assoc s (bits n x) (bits a v)
       ∙ ap (λ m. s ++ (bits n m ++ bits a v)) (sym v_upper)
       ∙ ap (λ l. s ++ l) (sym (bits-add n a v))
@@ -125,10 +135,13 @@ length-bytes zero n = refl
 length-bytes (suc count) n = ap suc (length-bytes count n)
 
 -- so many more octets, from their bits
-pub more_octets : (count : ℕ) (octets : List ℕ) (w v : ℕ) (all front : List Bool) → length front ≡ 8 * length octets → all ≡ front ++ bits (8 * count) v →
-    octets_of (length (octets ++ bytes_high_first count w)) all ≡ octets_of (length octets) front ++ bytes_high_first count v
+pub more_octets : (count : ℕ) (octets : List ℕ) (w v : ℕ) (all front : List Bool) → length front ≡ 8 * length octets →
+    all ≡ front ++ bits (8 * count) v →
+    octets_of (length (octets ++ bytes_high_first count w)) all ≡ octets_of (length octets) front ++ bytes_high_first
+    count v
 more_octets count octets w v all front size e =
-    ap₂ octets_of (length-append octets (bytes_high_first count w) ∙ ap (λ k. length octets + k) (length-bytes count w)) e
+    ap₂ octets_of (length-append octets (bytes_high_first count w) ∙ ap (λ k. length octets + k) (length-bytes count w))
+    e
     ∙ octets_of-append (length octets) count front (bits (8 * count) v) size
     ∙ ap (λ l. octets_of (length octets) front ++ l)
     (ap₂ octets_of (sym (length-bytes count v)) (sym (octet_bits-bytes_high_first count v))

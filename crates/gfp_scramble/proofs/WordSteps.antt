@@ -1,5 +1,6 @@
 -- A word through the scrambler and the descrambler, as octets.
-use Rattle.std.proofs.Common.{◌≡◌, ℕ, ◌+◌, ◌*◌, ◌/◌, ◌%◌, ◌^◌, ◌<◌, ◌≤◌, min, Bool, true, false, List, [], ◌++◌, length, drop, replicate, bit_xor, refl, sym, ◌∙◌, ap, arith}
+use Rattle.std.proofs.Common.{◌≡◌, ℕ, ◌+◌, ◌*◌, ◌/◌, ◌%◌, ◌^◌, ◌<◌, ◌≤◌, min, Bool, true, false, List, [], ◌++◌, length}
+use Rattle.std.proofs.Common.{drop, replicate, bit_xor, refl, sym, ◌∙◌, ap, arith}
 use Rattle.std.specs.Prelude.{if◌then◌else◌}
 use Rattle.std.specs.Int.{bytes_high_first}
 use Rattle.std.proofs.lemmas.List.{length-append}
@@ -17,18 +18,23 @@ abbrev pub result_of : ℕ → ℕ → ℕ
 result_of r w = bit_xor (bit_xor w (r * 2 ^ 21)) (bit_xor w (r * 2 ^ 21) / 2 ^ 43)
 
 word_bits : (octets : List ℕ) (w : ℕ) → octet_bits (octets ++ bytes_high_first 8 w) ≡ octet_bits octets ++ bits 64 w
-word_bits octets w = octet_bits-append octets (bytes_high_first 8 w) ∙ ap (λ l. octet_bits octets ++ l) (octet_bits-bytes_high_first 8 w)
+word_bits octets w = octet_bits-append octets (bytes_high_first 8 w)
+    ∙ ap (λ l. octet_bits octets ++ l) (octet_bits-bytes_high_first 8 w)
 
-module _ (r w : ℕ) (small : r < 2 ^ 43) (h : w < 2 ^ 64) (octets : List ℕ) (stands : Stands (record { last = bits 43 r }) octets) where
-  more : scrambled (octet_bits (octets ++ bytes_high_first 8 w)) ≡ scrambled (octet_bits octets) ++ bits 64 (result_of r w)
+module _ (r w : ℕ) (small : r < 2 ^ 43) (h : w < 2 ^ 64) (octets : List ℕ)
+    (stands : Stands (record { last = bits 43 r }) octets) where
+  more : scrambled (octet_bits (octets ++ bytes_high_first 8 w)) ≡ scrambled (octet_bits octets) ++ bits 64
+      (result_of r w)
   more =
       ap scrambled (word_bits octets w)
       ∙ scramble_on-append 43 [] (octet_bits octets) (bits 64 w)
       ∙ word_scrambled 21 22 r w small h (scrambled (octet_bits octets)) stands.last
 
-  pub word-answer : scrambled_octets (octets ++ bytes_high_first 8 w) ≡ scrambled_octets octets ++ bytes_high_first 8 (result_of r w)
+  pub word-answer : scrambled_octets (octets ++ bytes_high_first 8 w) ≡ scrambled_octets octets ++ bytes_high_first 8
+      (result_of r w)
   word-answer =
-      more_octets 8 octets w (result_of r w) (scrambled (octet_bits (octets ++ bytes_high_first 8 w))) (scrambled (octet_bits octets))
+      more_octets 8 octets w (result_of r w) (scrambled (octet_bits (octets ++ bytes_high_first 8 w)))
+      (scrambled (octet_bits octets))
       (length-scrambled (octet_bits octets) ∙ length-octet_bits octets) more
 
   pub word-stands : Stands (record { last = bits 43 (result_of r w % 2 ^ 43) }) (octets ++ bytes_high_first 8 w)
@@ -58,7 +64,8 @@ back-answer r w given h octets stands =
 
 module _ (r w given : ℕ) (h : w < 2 ^ 64) (settled : Bool) (octets : List ℕ)
     (stands : StandsBack (record { last = bits 43 r; given = given }) settled octets) where
-  pub back-stands : StandsBack (record { last = bits 43 (w % 2 ^ 43); given = 6 }) settled (octets ++ bytes_high_first 8 w)
+  pub back-stands : StandsBack (record { last = bits 43 (w % 2 ^ 43); given = 6 }) settled
+      (octets ++ bytes_high_first 8 w)
   back-stands =
       let all : List ℕ = octets ++ bytes_high_first 8 w in
       record {
@@ -69,5 +76,6 @@ module _ (r w given : ℕ) (h : w < 2 ^ 64) (settled : Bool) (octets : List ℕ)
             word_register 21 43 r w stands.before (octet_bits octets) (last-octets r given settled octets stands)
             ∙ ap (window stands.before) (sym (word_bits octets w))
             ∙ ap (λ n. drop n (stands.before ++ octet_bits all)) (length-octet_bits all);
-        given = given-full settled (length all) (omega (arith, length-append octets (bytes_high_first 8 w), length-bytes 8 w));
+        given = given-full settled (length all)
+            (omega (arith, length-append octets (bytes_high_first 8 w), length-bytes 8 w));
       }

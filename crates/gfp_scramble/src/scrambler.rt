@@ -9,7 +9,8 @@ use std::marker::Model;
 /// Scrambles a list of octets, in pieces of any length.
 #[derive(Clone, Copy, Debug)]
 pub struct Scrambler {
-    // The last 43 scrambled bits, in the upper bits of a word: the chain from word to word is two operations shorter so.
+    // The last 43 scrambled bits, in the upper bits of a word: the chain from word to word is two operations
+    // shorter so.
     last: u64,
 }
 

@@ -8,9 +8,11 @@ use Rattle.h4_multiframe.specs.declared.State.TheVariants.{Unlocked, Begun, Lock
 abbrev pub IsLast : List (Option ℕ) → ℕ → Type 0
 IsLast cells place = place + 1 ≡ length cells
 
--- unlocked: the last cell, if there is one, is out of step, and no cell can be in step from it; begun: it is out of step, and
+-- unlocked: the last cell, if there is one, is out of step, and no cell can be in step from it; begun: it is out of
+-- step, and
 -- a good one with MFI1 0; locked: it is in step, and has this number
 abbrev pub Stands : State → List (Option ℕ) → Type 0
 Stands Unlocked cells = (place : ℕ) → IsLast cells place → IsOutOfStep cells place × (HasMfi1 cells place 0 → ⊥)
-Stands (Begun octet) cells = (place : ℕ) × IsLast cells place × IsOutOfStep cells place × (slice_get cells place ≡ Some (Some octet)) × (octet % 16 ≡ 0)
+Stands (Begun octet) cells = (place : ℕ) × IsLast cells place × IsOutOfStep cells place ×
+    (slice_get cells place ≡ Some (Some octet)) × (octet % 16 ≡ 0)
 Stands (Locked number) cells = (place : ℕ) × IsLast cells place × HasNumber cells place number

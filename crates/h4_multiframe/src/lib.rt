@@ -1,6 +1,6 @@
-//! The multiframe of virtual concatenation (G.707): the H4 octet of a frame, and the lock of a line on the octets that come. Begin
-//! with `h4` and `MfiLock`. Numbers are known modulo 4,096 here; which frame of all a cell has is not said, nor what a packet
-//! says.
+//! The multiframe of virtual concatenation (G.707): the H4 octet of a frame, and the lock of a line on the
+//! octets that come. Begin with `h4` and `MfiLock`. Numbers are known modulo 4,096 here; which frame of all a
+//! cell has is not said, nor what a packet says.
 #![tactic(auto)]
 
 ghost use Rattle.std.specs.Prelude.{◌≡◌, ℕ, ◌+◌, ◌*◌, ◌%◌, ◌<◌, List, [], ◌∷◌, ◌++◌, length, Option, Some, None};

@@ -1,5 +1,6 @@
 -- The check octet by octet, with no table: what an octet leaves is made by shifts.
-use Rattle.std.proofs.Common.{◌≡◌, ℕ, ◌*◌, ◌/◌, ◌%◌, ◌<◌, List, [], ◌∷◌, ◌++◌, map, bit_xor, get_or, slice_index, w16, refl, sym, ◌∙◌, ap, arith}
+use Rattle.std.proofs.Common.{◌≡◌, ℕ, ◌*◌, ◌/◌, ◌%◌, ◌<◌, List, [], ◌∷◌, ◌++◌, map, bit_xor, get_or, slice_index, w16}
+use Rattle.std.proofs.Common.{refl, sym, ◌∙◌, ap, arith}
 use Rattle.std.specs.List.{range_with_len}
 use Rattle.std.proofs.lemmas.List.FromFn.{get_or-map-range_with_len}
 use Rattle.std.specs.Int.{to_be_bytes}
@@ -16,7 +17,8 @@ folded o = bit_xor o (o / 16)
 abbrev pub left_of : ℕ → ℕ
 left_of o = bit_xor (bit_xor (folded o % 16 * 4096) (folded o * 32)) (folded o)
 
-all_octets : map (λ o. bits 16 (left_of o)) (range_with_len 0 256) ≡ map (λ o. remainder crc16 (bits 8 o)) (range_with_len 0 256)
+all_octets : map (λ o. bits 16 (left_of o)) (range_with_len 0 256) ≡ map (λ o. remainder crc16 (bits 8 o))
+    (range_with_len 0 256)
 unfolding bits divide add_front
 all_octets = refl
 

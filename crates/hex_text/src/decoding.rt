@@ -1,6 +1,7 @@
 //! Text to octets.
 
-ghost use Rattle.std.specs.Prelude.{◌≡◌, ◌≢◌, ℕ, ◌+◌, ◌*◌, ◌/◌, ◌<◌, ◌≤◌, List, ◌++◌, length, Bool, true, false, Result, Ok, OnOk, OnErr, vec_len, slice_index};
+ghost use Rattle.std.specs.Prelude.{◌≡◌, ◌≢◌, ℕ, ◌+◌, ◌*◌, ◌/◌, ◌<◌, ◌≤◌, List, ◌++◌, length, Bool, true, false};
+ghost use Rattle.std.specs.Prelude.{Result, Ok, OnOk, OnErr, vec_len, slice_index};
 ghost use Rattle.std.specs.Vec.{vec_capacity};
 ghost use Rattle.hex.specs.Hex.{decode_of};
 
@@ -14,8 +15,8 @@ const PAIRS: usize = 16;
 #[derive(Clone, Copy, Debug, PartialEq, Eq)]
 pub struct NotHex;
 
-/// Appends the octets that a text says, in digits of either case. Where it says none, the octets stay as they were. There has to be
-/// room for half as many octets as the text has characters.
+/// Appends the octets that a text says, in digits of either case. Where it says none, the octets stay as they
+/// were. There has to be room for half as many octets as the text has characters.
 pub fn decode_into(text: &[u8], octets: &mut Vec<u8>) -> Result<(), NotHex>
     requires room { vec_len octets.old + length text.now / 2 ≤ vec_capacity octets.old }
     ensures ok { OnOk result ((bytes : List ℕ) × (decode_of text.now ≡ Ok bytes)
@@ -41,8 +42,8 @@ pub fn decode_into(text: &[u8], octets: &mut Vec<u8>) -> Result<(), NotHex>
     }
 }
 
-// Writes the octets that pairs of digits say, and says whether all were digits. The test comes once, after the last pair, so that
-// nothing stands between the pairs.
+// Writes the octets that pairs of digits say, and says whether all were digits. The test comes once, after
+// the last pair, so that nothing stands between the pairs.
 fn decode(text: &[u8], octets: &mut [u8]) -> bool
     requires { length text.now ≡ 2 * length octets.old }
     ensures yes { result ≡ true → decode_of text.now ≡ Ok octets.new }

@@ -1,6 +1,6 @@
-//! Octets to hexadecimal text and back, by loops that a compiler can make vectors of: for long lines, where the crate `hex` takes
-//! several times as long. What a text says is as that crate has it, in either case of letters. It tells no wrong digit's place.
-//! Begin with `encode` and `decode_into`.
+//! Octets to hexadecimal text and back, by loops that a compiler can make vectors of: for long lines, where
+//! the crate `hex` takes several times as long. What a text says is as that crate has it, in either case of
+//! letters. It tells no wrong digit's place. Begin with `encode` and `decode_into`.
 #![tactic(auto)]
 
 mod decoding;

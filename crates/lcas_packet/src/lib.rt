@@ -1,17 +1,19 @@
-//! Reads the sixteen nibbles of a control packet (LCAS, G.7042). The packet, its nibbles as they are sent and the definitions stand
-//! in session_model; begin with `read`. Where a packet stands among the H4 octets of a line is not said here.
+//! Reads the sixteen nibbles of a control packet (LCAS, G.7042). The packet, its nibbles as they are sent and
+//! the definitions stand in session_model; begin with `read`. Where a packet stands among the H4 octets of a
+//! line is not said here.
 #![tactic(auto)]
 
 ghost use Rattle.std.specs.Prelude.{◌≡◌, ◌≢◌, ℕ, ◌%◌, ◌==◌, ◌<◌, ◌↔◌, List, length, All, IsOk, IsSome, IfOk, None};
 ghost use Rattle.vc_cell.specs.Code.{ctrl_of};
-ghost use Rattle.session_model.specs.Packet.{IsPacket, packet_nibbles, covered_nibbles, octet_at, bit_at, said_check, found_check, said_code, packet_of, cleared_nibbles, read_of};
+ghost use Rattle.session_model.specs.Packet.{IsPacket, packet_nibbles, covered_nibbles, octet_at, bit_at, said_check};
+ghost use Rattle.session_model.specs.Packet.{found_check, said_code, packet_of, cleared_nibbles, read_of};
 
 pub use session_model::{Packet, PacketFault};
 use vc_bits::{crc8, join_nibbles};
 use vc_cell::Ctrl;
 
-/// Reads sixteen nibbles. The reserved nibbles and the upper bits of those that hold one bit are covered by the check and
-/// otherwise ignored.
+/// Reads sixteen nibbles. The reserved nibbles and the upper bits of those that hold one bit are covered by
+/// the check and otherwise ignored.
 pub fn read(nibbles: &[u8; 16]) -> Result<Packet, PacketFault>
     requires { All (λ nibble. nibble < 16) nibbles.now }
     ensures value { result ≡ read_of nibbles.now }
@@ -41,8 +43,8 @@ pub fn read(nibbles: &[u8; 16]) -> Result<Packet, PacketFault>
     }
 }
 
-/// What is read of any list of numbers: what is sent is read back, and a list of which a packet is read is sixteen nibbles with a
-/// right check, which are those of the packet apart from the ignored bits.
+/// What is read of any list of numbers: what is sent is read back, and a list of which a packet is read is
+/// sixteen nibbles with a right check, which are those of the packet apart from the ignored bits.
 pub fn packet_law()
     ensures back { (packet : Packet) → IsPacket packet →
         read_of (packet_nibbles packet) ≡ Ok packet }

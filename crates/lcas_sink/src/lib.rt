@@ -1,11 +1,13 @@
-//! The sink's side of LCAS (G.7042): what it tells the source of the control packets that it read. Begin with `SinkTable`. Which
-//! packets are read, and which rows of payload are whole by them, is not said here.
+//! The sink's side of LCAS (G.7042): what it tells the source of the control packets that it read. Begin with
+//! `SinkTable`. Which packets are read, and which rows of payload are whole by them, is not said here.
 #![tactic(auto)]
 
-ghost use Rattle.std.specs.Prelude.{◌≡◌, ℕ, ◌+◌, ◌*◌, ◌<◌, ◌≤◌, [], ◌∷◌, ◌++◌, List, length, not, if◌then◌else◌, Option};
+ghost use Rattle.std.specs.Prelude.{◌≡◌, ℕ, ◌+◌, ◌*◌, ◌<◌, ◌≤◌, [], ◌∷◌, ◌++◌, List, length, not, if◌then◌else◌};
+ghost use Rattle.std.specs.Prelude.{Option};
 ghost use Rattle.std.specs.List.{list_any};
 ghost use Rattle.session_model.specs.declared.packet.Packet.{Packet as PacketData};
-ghost use Rattle.session_model.specs.ReturnPacket.{Row, leader, ack_by, is_member, says_at, status_of, mst_of, return_of, state_next, sink_state};
+ghost use Rattle.session_model.specs.ReturnPacket.{Row, leader, ack_by, is_member, says_at, status_of, mst_of};
+ghost use Rattle.session_model.specs.ReturnPacket.{return_of, state_next, sink_state};
 ghost use Rattle.lcas_sink.specs.Stands.{Stands, state_at, state_after};
 
 use session_model::Packet;
@@ -56,9 +58,9 @@ impl SinkTable {
         }
     }
 
-    /// Takes the next row: of each line the packet that was read, or none. Gives the return packet that tells of it: the change bit
-    /// of the last packet that was read, taken from the least line of its row, and the statuses of one of sixteen groups of eight
-    /// sequence numbers, each group in its turn.
+    /// Takes the next row: of each line the packet that was read, or none. Gives the return packet that tells
+    /// of it: the change bit of the last packet that was read, taken from the least line of its row, and the
+    /// statuses of one of sixteen groups of eight sequence numbers, each group in its turn.
     pub fn packet_row(&mut self, row: &[Option<Packet>]) -> Packet
         requires few { self.old.taken < 4294967295 }
         requires lines { length row.now ≡ self.old.lines }
@@ -85,8 +87,8 @@ impl SinkTable {
         }
     }
 
-    /// The state of a line: idle at first and after a packet that says IDLE; fine after another packet; failed where its packet
-    /// could not be read, unless it is idle.
+    /// The state of a line: idle at first and after a packet that says IDLE; fine after another packet;
+    /// failed where its packet could not be read, unless it is idle.
     pub fn state(&self, line: u8) -> SinkState
         ensures { (rows : List Row) → Stands self.now rows → result ≡ sink_state rows line }
     {
@@ -161,7 +163,8 @@ fn is_member(ctrl: Ctrl) -> bool
     !matches!(ctrl, Ctrl::Idle)
 }
 
-/// The octet of the eight statuses from a sequence number on: OK is 0, and the first one stands in the most significant bit.
+/// The octet of the eight statuses from a sequence number on: OK is 0, and the first one stands in the most
+/// significant bit.
 fn member_status(row: &[Option<Packet>], first: u8) -> u8
     requires { first ≤ 248 }
     ensures { result ≡ mst_of row.now first }

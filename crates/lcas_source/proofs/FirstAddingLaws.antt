@@ -1,5 +1,8 @@
--- An exchange looks at the first line in ADD: what it makes, told by the place of that line and of the one that is taken out.
-use Rattle.std.proofs.Common.{◌≡◌, ℕ, suc, ◌+◌, ◌-◌, ◌<◌, ◌≤◌, not, Bool, true, false, cond, nat_lt, List, [], ◌∷◌, ◌++◌, take, drop, length, min, Option, Some, None, option_map, position, slice_index_or, refl, sym, ◌∙◌, ap, subst, append_assoc, add-one, arith}
+-- An exchange looks at the first line in ADD: what it makes, told by the place of that line and of the one that is
+-- taken out.
+use Rattle.std.proofs.Common.{◌≡◌, ℕ, suc, ◌+◌, ◌-◌, ◌<◌, ◌≤◌, not, Bool, true, false, cond, nat_lt, List, [], ◌∷◌}
+use Rattle.std.proofs.Common.{◌++◌, take, drop, length, min, Option, Some, None, option_map, position, slice_index_or}
+use Rattle.std.proofs.Common.{refl, sym, ◌∙◌, ap, subst, append_assoc, add-one, arith}
 use Rattle.std.specs.Prelude.{insert, remove}
 use Rattle.std.specs.List.{prefix_len}
 use Rattle.std.proofs.Math.Seq.{drop-cons, take-append_seam, drop-append_seam}
@@ -39,12 +42,14 @@ exchange-pass : (kept : ℕ → Option Bool) (sq : ℕ) (member : Member) (order
 unfolding exchange
 exchange-pass kept sq member order e = rw e refl
 
-exchange-here : (kept : ℕ → Option Bool) (sq : ℕ) (member : Member) (order : List Member) → is_adding member ≡ true → is_fail (kept sq) ≡ true →
+exchange-here : (kept : ℕ → Option Bool) (sq : ℕ) (member : Member) (order : List Member) → is_adding member ≡ true →
+    is_fail (kept sq) ≡ true →
     exchange kept sq (member ∷ order) ≡ option_map (λ found. found.0 ∷ member ∷ found.1) (take_out kept (sq + 1) order)
 unfolding exchange
 exchange-here kept sq member order adds fails = rw (adds, fails) refl
 
-exchange-not : (kept : ℕ → Option Bool) (sq : ℕ) (member : Member) (order : List Member) → is_adding member ≡ true → is_fail (kept sq) ≡ false →
+exchange-not : (kept : ℕ → Option Bool) (sq : ℕ) (member : Member) (order : List Member) → is_adding member ≡ true →
+    is_fail (kept sq) ≡ false →
     exchange kept sq (member ∷ order) ≡ None
 unfolding exchange
 exchange-not kept sq member order adds fails = rw (adds, fails) refl
@@ -54,11 +59,14 @@ unfolding exchange
 exchange-none kept sq = refl
 
 exchange-front : (kept : ℕ → Option Bool) (base : ℕ) (order : List Member) →
-    exchange kept base order ≡ after_front (take (prefix_len is_other order) order) (exchange kept (base + prefix_len is_other order) (drop (prefix_len is_other order) order))
+    exchange kept base order ≡ after_front (take (prefix_len is_other order) order)
+    (exchange kept (base + prefix_len is_other order) (drop (prefix_len is_other order) order))
 exchange-front kept base [] = let e : base + 0 ≡ base = omega arith in rw e (after_front-nothing (exchange kept base []))
 exchange-front kept base (member ∷ order) =
     elim (is_other member) as (λ b. is_other member ≡ b → exchange kept base (member ∷ order)
-    ≡ after_front (take (cond b (1 + prefix_len is_other order) 0) (member ∷ order)) (exchange kept (base + cond b (1 + prefix_len is_other order) 0) (drop (cond b (1 + prefix_len is_other order) 0) (member ∷ order)))) [
+    ≡ after_front (take (cond b (1 + prefix_len is_other order) 0) (member ∷ order))
+    (exchange kept (base + cond b (1 + prefix_len is_other order) 0)
+    (drop (cond b (1 + prefix_len is_other order) 0) (member ∷ order)))) [
       | true ↦ λ e.
           let n = prefix_len is_other order in
           let one : 1 + n ≡ suc n = omega arith in
@@ -89,11 +97,16 @@ position-finds : (kept : ℕ → Option Bool) (order : List Member) → Finds ke
 position-finds kept order =
     let n = prefix_len is_other order in
     let zero_first : 0 + n ≡ n = omega arith in
-    let front : exchange kept 0 order ≡ after_front (take n order) (exchange kept n (drop n order)) = rw zero_first at (exchange-front kept 0 order) in
+    let front : exchange kept 0 order ≡ after_front (take n order) (exchange kept n (drop n order)) =
+    rw zero_first at (exchange-front kept 0 order) in
     elim (nat_lt n (length order)) as (λ b. nat_lt n (length order) ≡ b → Finds kept order (cond b (Some n) None)) [
       | true ↦ λ e.
           let inside = lt-of_test n (length order) e in
-          record { inside = inside; adds = λ member. not_false _ (prefix_len_stops is_other order member inside); front = front }
+          record {
+            inside = inside;
+            adds = λ member. not_false _ (prefix_len_stops is_other order member inside);
+            front = front;
+          }
       | false ↦ λ e.
           let all = le-of_test n (length order) e in
           front ∙ ap (after_front (take n order)) (ap (exchange kept n) (drop_all n order all) ∙ exchange-none kept n)
@@ -104,58 +117,78 @@ rest-at : (order : List Member) (first : ℕ) (member : Member) → first < leng
     drop first order ≡ slice_index_or order first member ∷ drop (first + 1) order
 rest-at order first member inside = rw add-one (drop-cons order first member inside)
 
-pub finds-no_fail : (kept : ℕ → Option Bool) (order : List Member) (first : ℕ) (member : Member) → IsFirstAdding kept order first → is_fail (kept first) ≡ false →
+pub finds-no_fail : (kept : ℕ → Option Bool) (order : List Member) (first : ℕ) (member : Member) →
+    IsFirstAdding kept order first → is_fail (kept first) ≡ false →
     exchange kept 0 order ≡ None
 finds-no_fail kept order first member finds known =
     finds.front ∙ ap (after_front (take first order))
-    (ap (exchange kept first) (rest-at order first member finds.inside) ∙ exchange-not kept first _ _ (finds.adds member) known)
+    (ap (exchange kept first) (rest-at order first member finds.inside)
+    ∙ exchange-not kept first _ _ (finds.adds member) known)
 
-exchange-found : (kept : ℕ → Option Bool) (order : List Member) (first : ℕ) (member : Member) (found : Option (Member × List Member)) →
-    IsFirstAdding kept order first → is_fail (kept first) ≡ true → take_out kept (first + 1) (drop (first + 1) order) ≡ found →
-    exchange kept 0 order ≡ after_front (take first order) (option_map (λ found. found.0 ∷ slice_index_or order first member ∷ found.1) found)
+exchange-found : (kept : ℕ → Option Bool) (order : List Member) (first : ℕ) (member : Member)
+    (found : Option (Member × List Member)) →
+    IsFirstAdding kept order first → is_fail (kept first) ≡ true →
+    take_out kept (first + 1) (drop (first + 1) order) ≡ found →
+    exchange kept 0 order ≡ after_front (take first order)
+    (option_map (λ found. found.0 ∷ slice_index_or order first member ∷ found.1) found)
 exchange-found kept order first member found finds fails found_is =
     finds.front ∙ ap (after_front (take first order))
-    (ap (exchange kept first) (rest-at order first member finds.inside) ∙ exchange-here kept first _ _ (finds.adds member) fails
+    (ap (exchange kept first) (rest-at order first member finds.inside)
+    ∙ exchange-here kept first _ _ (finds.adds member) fails
     ∙ ap (option_map (λ found. found.0 ∷ slice_index_or order first member ∷ found.1)) found_is)
 
-pub finds-no_later : (kept : ℕ → Option Bool) (order : List Member) (first : ℕ) (member : Member) → IsFirstAdding kept order first → is_fail (kept first) ≡ true →
+pub finds-no_later : (kept : ℕ → Option Bool) (order : List Member) (first : ℕ) (member : Member) →
+    IsFirstAdding kept order first → is_fail (kept first) ≡ true →
     take_out kept (first + 1) (drop (first + 1) order) ≡ None → exchange kept 0 order ≡ None
 finds-no_later kept order first member finds fails none = exchange-found kept order first member None finds fails none
 
 -- a member is removed, and inserted at an earlier place
 moved : (order : List Member) (first later : ℕ) (member : Member) → first + 1 ≤ later → later < length order →
     insert (remove order later) first (slice_index_or order later member)
-    ≡ take first order ++ slice_index_or order later member ∷ slice_index_or order first member ∷ (take (later - (first + 1)) (drop (first + 1) order) ++ drop (later + 1) order)
+    ≡ take first order ++ slice_index_or order later member ∷ slice_index_or order first member ∷
+    (take (later - (first + 1)) (drop (first + 1) order) ++ drop (later + 1) order)
 moved order first later member before inside =
     let x = slice_index_or order first member in
     let y = slice_index_or order later member in
     let middle = take (later - (first + 1)) (drop (first + 1) order) in
     let back = drop (later + 1) order in
     let whole : first + (later - first) ≡ later = omega arith in
-    let size : length (take later order) ≡ later = length-take later order ∙ (let e : min later (length order) ≡ later = omega arith in e) in
-    let first_size : length (take first order) ≡ first = length-take first order ∙ (let e : min first (length order) ≡ first = omega arith in e) in
+    let size : length (take later order) ≡ later = length-take later order
+    ∙ (let e : min later (length order) ≡ later = omega arith in e) in
+    let first_size : length (take first order) ≡ first = length-take first order
+    ∙ (let e : min first (length order) ≡ first = omega arith in e) in
     let steps : later - first ≡ suc (later - (first + 1)) = omega arith in
     let short : first ≤ length (take later order) = omega arith in
     let front : take first (take later order) ≡ take first order =
-    sym (take-append-le first (take later order) (drop later order) short) ∙ ap (take first) (take-append-drop later order) in
+    sym (take-append-le first (take later order) (drop later order) short)
+    ∙ ap (take first) (take-append-drop later order) in
     let rest : drop first (take later order) ≡ x ∷ middle =
     ap (λ n. drop first (take n order)) (sym whole) ∙ drop-take first (later - first) order
-    ∙ ap (take (later - first)) (rest-at order first member (omega arith)) ∙ ap (λ n. take n (x ∷ drop (first + 1) order)) steps in
+    ∙ ap (take (later - first)) (rest-at order first member (omega arith))
+    ∙ ap (λ n. take n (x ∷ drop (first + 1) order)) steps in
     let before_it : take later order ≡ take first order ++ x ∷ middle =
-    sym (take-append-drop first (take later order)) ∙ ap (λ f. f ++ drop first (take later order)) front ∙ ap (λ r. take first order ++ r) rest in
+    sym (take-append-drop first (take later order)) ∙ ap (λ f. f ++ drop first (take later order)) front
+    ∙ ap (λ r. take first order ++ r) rest in
     let others : remove order later ≡ take first order ++ (x ∷ middle ++ back) =
-    ap (λ front. front ++ drop (suc later) order) before_it ∙ append_assoc (take first order) (x ∷ middle) (drop (suc later) order)
+    ap (λ front. front ++ drop (suc later) order) before_it
+    ∙ append_assoc (take first order) (x ∷ middle) (drop (suc later) order)
     ∙ ap (λ n. take first order ++ (x ∷ middle ++ drop n order)) (let e : suc later ≡ later + 1 = omega arith in e) in
     ap (λ zs. insert zs first y) others
-    ∙ ap (λ n. take n (take first order ++ (x ∷ middle ++ back)) ++ y ∷ drop n (take first order ++ (x ∷ middle ++ back))) (sym first_size)
-    ∙ ap (λ front. front ++ y ∷ drop (length (take first order)) (take first order ++ (x ∷ middle ++ back))) (take-append_seam (take first order) (x ∷ middle ++ back))
+    ∙ ap (λ n. take n (take first order ++ (x ∷ middle ++ back)) ++ y ∷ drop n
+    (take first order ++ (x ∷ middle ++ back))) (sym first_size)
+    ∙ ap (λ front. front ++ y ∷ drop (length (take first order)) (take first order ++ (x ∷ middle ++ back)))
+    (take-append_seam (take first order) (x ∷ middle ++ back))
     ∙ ap (λ back. take first order ++ y ∷ back) (drop-append_seam (take first order) (x ∷ middle ++ back))
 
-pub finds-later : (kept : ℕ → Option Bool) (order : List Member) (first later : ℕ) (member : Member) → IsFirstAdding kept order first → is_fail (kept first) ≡ true →
-    first + 1 ≤ later → later < length order → take_out kept (first + 1) (drop (first + 1) order) ≡ taken_out order (first + 1) later member →
+pub finds-later : (kept : ℕ → Option Bool) (order : List Member) (first later : ℕ) (member : Member) →
+    IsFirstAdding kept order first → is_fail (kept first) ≡ true →
+    first + 1 ≤ later → later < length order →
+    take_out kept (first + 1) (drop (first + 1) order) ≡ taken_out order (first + 1) later member →
     exchange kept 0 order ≡ Some (insert (remove order later) first (slice_index_or order later member))
 finds-later kept order first later member finds fails before inside found =
-    exchange-found kept order first member _ finds fails found ∙ ap Some (sym (moved order first later member before inside))
+    exchange-found kept order first member _ finds fails found
+    ∙ ap Some (sym (moved order first later member before inside))
 
-pub finds : (kept : ℕ → Option Bool) (order : List Member) (found : Option ℕ) → position is_adding order ≡ found → Finds kept order found
+pub finds : (kept : ℕ → Option Bool) (order : List Member) (found : Option ℕ) → position is_adding order ≡ found →
+    Finds kept order found
 finds kept order found e = subst (Finds kept order) e (position-finds kept order)

@@ -1,5 +1,6 @@
 -- A list that is rewritten from its front on, place by place, as a recursion that counts the places along gives it.
-use Rattle.std.proofs.Common.{◌≡◌, ℕ, ◌+◌, ◌<◌, ◌≤◌, List, [], ◌∷◌, ◌++◌, length, take, drop, slice_index_or, slice_set, sym, ◌∙◌, ap, append_assoc, add-one, arith}
+use Rattle.std.proofs.Common.{◌≡◌, ℕ, ◌+◌, ◌<◌, ◌≤◌, List, [], ◌∷◌, ◌++◌, length, take, drop, slice_index_or, slice_set}
+use Rattle.std.proofs.Common.{sym, ◌∙◌, ap, append_assoc, add-one, arith}
 use Rattle.std.proofs.Math.Seq.{drop-cons}
 use Rattle.std.proofs.lemmas.List.{take_more_set, drop-set-lt, drop_all, set-get_or, take-append-drop}
 
@@ -13,12 +14,14 @@ pub front-written : {X : Type 0} (rewrite : ℕ → List X → List X) (i : ℕ)
     IsRewriting rewrite i xs whole → IsRewriting rewrite (i + 1) (slice_set xs i y) whole
 front-written rewrite i xs whole x y h step so_far =
     let rest : drop i xs ≡ slice_index_or xs i x ∷ drop (i + 1) xs = rw add-one (drop-cons xs i x h) in
-    rw (take_more_set xs i y h, drop-set-lt (i + 1) xs i y (omega arith), append_assoc) (ap (λ tail. take i xs ++ tail) (sym step ∙ ap (rewrite i) (sym rest)) ∙ so_far)
+    rw (take_more_set xs i y h, drop-set-lt (i + 1) xs i y (omega arith), append_assoc)
+    (ap (λ tail. take i xs ++ tail) (sym step ∙ ap (rewrite i) (sym rest)) ∙ so_far)
 
 -- the rest stays as it is
 pub front-stops : {X : Type 0} (rewrite : ℕ → List X → List X) (i : ℕ) (xs whole : List X) →
     rewrite i (drop i xs) ≡ drop i xs → IsRewriting rewrite i xs whole → xs ≡ whole
-front-stops rewrite i xs whole stays so_far = sym (take-append-drop i xs) ∙ ap (λ tail. take i xs ++ tail) (sym stays) ∙ so_far
+front-stops rewrite i xs whole stays so_far = sym (take-append-drop i xs) ∙ ap (λ tail. take i xs ++ tail) (sym stays)
+    ∙ so_far
 
 -- all places are rewritten
 pub front-ends : {X : Type 0} (rewrite : ℕ → List X → List X) (i : ℕ) (xs whole : List X) → length xs ≤ i →

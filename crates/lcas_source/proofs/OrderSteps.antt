@@ -9,12 +9,14 @@ pub admit-other : (kept : ℕ → Option Bool) (sq : ℕ) (member : Member) (ord
 unfolding admit
 admit-other kept sq member order other = rw other refl
 
-pub admit-confirmed : (kept : ℕ → Option Bool) (sq : ℕ) (member : Member) (order : List Member) → is_adding member ≡ true → is_ok (kept sq) ≡ true →
+pub admit-confirmed : (kept : ℕ → Option Bool) (sq : ℕ) (member : Member) (order : List Member) →
+    is_adding member ≡ true → is_ok (kept sq) ≡ true →
     admit kept sq (member ∷ order) ≡ in_use member ∷ admit kept (sq + 1) order
 unfolding admit
 admit-confirmed kept sq member order adding ok = rw (adding, ok) refl
 
-pub admit-open : (kept : ℕ → Option Bool) (sq : ℕ) (member : Member) (order : List Member) → is_adding member ≡ true → is_ok (kept sq) ≡ false →
+pub admit-open : (kept : ℕ → Option Bool) (sq : ℕ) (member : Member) (order : List Member) → is_adding member ≡ true →
+    is_ok (kept sq) ≡ false →
     admit kept sq (member ∷ order) ≡ member ∷ order
 unfolding admit
 admit-open kept sq member order adding lacks = rw (adding, lacks) refl
@@ -24,7 +26,8 @@ unfolding admit
 admit-none kept sq = refl
 
 pub turned-first : (kept : ℕ → Option Bool) (sq : ℕ) (member : Member) (order : List Member) →
-    turned kept sq (member ∷ order) ≡ record { line = member.line; standing = turn (kept sq) member.standing } ∷ turned kept (sq + 1) order
+    turned kept sq (member ∷ order) ≡ record { line = member.line; standing = turn (kept sq) member.standing } ∷ turned
+    kept (sq + 1) order
 unfolding turned
 turned-first kept sq member order = refl
 

@@ -4,4 +4,5 @@ use Rattle.session_model.specs.declared.table.Member.{Member}
 
 -- the member at a place, or this one where there is none, and the others from an earlier place on
 abbrev pub taken_out : List Member → ℕ → ℕ → Member → Option (Member × List Member)
-taken_out order from place member = Some (slice_index_or order place member, take (place - from) (drop from order) ++ drop (place + 1) order)
+taken_out order from place member =
+    Some (slice_index_or order place member, take (place - from) (drop from order) ++ drop (place + 1) order)

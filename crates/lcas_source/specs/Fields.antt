@@ -20,7 +20,8 @@ course_in lines table planned pending taken steps = record {
 unfoldable pub none_planned : List Bool
 none_planned = replicate 128 false
 
--- what is true of the fields: the counts are no greater than the number of steps, no line stands twice in the order, and the bits
+-- what is true of the fields: the counts are no greater than the number of steps, no line stands twice in the order,
+-- and the bits
 -- are those from the packet of the last step on
 pub record IsTable (course : Course) (group : List Bool) : Type 0 where
   pub lines : course.lines ≤ 128

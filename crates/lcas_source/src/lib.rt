@@ -1,6 +1,7 @@
-//! The source's side of LCAS (G.7042): which lines of a group are members, and what the source tells of each. Begin with
-//! `SourceTable`. It makes one decision step after the other; when a step is made, and what a line carries, is not said here. The
-//! rules by which a line is added, removed, passed over and brought forward are this project's own.
+//! The source's side of LCAS (G.7042): which lines of a group are members, and what the source tells of each.
+//! Begin with `SourceTable`. It makes one decision step after the other; when a step is made, and what a line
+//! carries, is not said here. The rules by which a line is added, removed, passed over and brought forward
+//! are this project's own.
 #![tactic(auto)]
 
 ghost use Rattle.std.specs.Prelude.{◌≡◌, ℕ, ◌+◌, ◌-◌, ◌<◌, [], ◌∷◌, ◌++◌, true, List, Option, length};
@@ -18,15 +19,15 @@ mod source_table;
 pub use session_model::{CommandFault, SourceState};
 pub use source_table::SourceTable;
 
-/// A table over a list of calls is the course of that list: before the first one it is the course of none, and each further call
-/// makes of it what it makes of the course.
+/// A table over a list of calls is the course of that list: before the first one it is the course of none,
+/// and each further call makes of it what it makes of the course.
 pub fn calls_law()
     ensures { (lines : ℕ) (calls : List Call) (call : Call) →
         course_of lines (calls ++ call ∷ []) ≡ called (course_of lines calls) call }
 {}
 
-/// The calls of a scenario, with any return cells, lead to the scenario's own source: so what a table is after a list of calls is
-/// what a session's definitions say.
+/// The calls of a scenario, with any return cells, lead to the scenario's own source: so what a table is
+/// after a list of calls is what a session's definitions say.
 pub fn course_law()
     ensures source { (scenario : Scenario) (cells : List (Option Told)) (j : ℕ) →
         (course_of (length scenario.windows) (calls_before scenario cells j)).source
@@ -38,7 +39,8 @@ pub fn course_law()
         (course_of (length scenario.windows) (calls_before scenario cells j)).steps ≡ j }
 {}
 
-/// The bit of a group is 1 in the first fifteen packets, and then the sum modulo 2 of the bits fifteen and fourteen packets before.
+/// The bit of a group is 1 in the first fifteen packets, and then the sum modulo 2 of the bits fifteen and
+/// fourteen packets before.
 pub fn group_bit_law()
     ensures first { (k : ℕ) → k < 15 → group_bit k ≡ true }
     ensures later { (k : ℕ) → group_bit (k + 15) ≡ xor (group_bit k) (group_bit (k + 1)) }

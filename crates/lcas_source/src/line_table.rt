@@ -1,10 +1,12 @@
 //! The lines that have a sequence number, and what a decision step does with them.
 
-ghost use Rattle.std.specs.Prelude.{◌≡◌, ◌+◌, ◌/◌, ◌%◌, ◌^◌, ◌==◌, ◌<◌, ◌≤◌, ◌&&◌, not, length, count_by, map, filter, drop, position, Some, None, IfSome, IfNone};
+ghost use Rattle.std.specs.Prelude.{◌≡◌, ◌+◌, ◌/◌, ◌%◌, ◌^◌, ◌==◌, ◌<◌, ◌≤◌, ◌&&◌, not, length, count_by, map, filter};
+ghost use Rattle.std.specs.Prelude.{drop, position, Some, None, IfSome, IfNone};
 ghost use Rattle.std.specs.List.{list_any};
 ghost use Rattle.std.specs.Bool.{OnTrue, OnFalse};
 ghost use Rattle.session_model.specs.declared.table.Member.{Member};
-ghost use Rattle.session_model.specs.Table.{is_adding, is_normal, is_ok, is_fail, admit, turn, turned, take_out, exchange, kept_in, keep, none_kept};
+ghost use Rattle.session_model.specs.Table.{is_adding, is_normal, is_ok, is_fail, admit, turn, turned, take_out};
+ghost use Rattle.session_model.specs.Table.{exchange, kept_in, keep, none_kept};
 ghost use Rattle.session_model.specs.Told.{oks_in};
 ghost use Rattle.session_model.specs.Forward.{place_in, ctrl_by, state_by, state_without, state_in};
 ghost use Rattle.lcas_source.specs.Exchange.{taken_out};
@@ -48,7 +50,8 @@ impl Model for LineTable {
 impl LineTable {
     ghost use Rattle.session_model.specs.declared.table.Command.{Command};
     ghost use Rattle.session_model.specs.declared.table.Command.TheVariants.{Add as add, Remove as remove};
-    ghost use Rattle.session_model.specs.Table.{first_table, changed, heard, told_on, carried_out, exchange, exchanged, kept_of};
+    ghost use Rattle.session_model.specs.Table.{first_table, changed, heard, told_on, carried_out, exchange, exchanged};
+    ghost use Rattle.session_model.specs.Table.{kept_of};
     ghost use Rattle.session_model.specs.Told.{told_by};
     ghost use Rattle.session_model.specs.Table.{active};
     ghost use Rattle.session_model.specs.Forward.{place_in, state_of};
@@ -372,8 +375,8 @@ fn status_at(mst: u8, bit: u32) -> Option<bool>
     Some((mst >> bit) % 2 == 0)
 }
 
-/// Where the first line in ADD has FAIL and a later one has OK, the first such later line is taken out and put before it. Says
-/// whether there was such a line.
+/// Where the first line in ADD has FAIL and a later one has OK, the first such later line is taken out and
+/// put before it. Says whether there was such a line.
 fn exchange(members: &mut ArrayVec<Member, LINES>, statuses: &Statuses) -> bool
     ensures made { OnTrue result (exchange (kept_in statuses.now) 0 members.old.items
         ≡ Some members.new.items) }

@@ -1,6 +1,7 @@
 //! The table of a source: what an operator asks for, the decision steps, and what the source tells of each line.
 
-ghost use Rattle.std.specs.Prelude.{◌≡◌, ℕ, ◌+◌, ◌-◌, ◌%◌, ◌<◌, ◌≤◌, [], ◌∷◌, ◌++◌, List, length, Some, OnErr, All, nat_lt, option_map};
+ghost use Rattle.std.specs.Prelude.{◌≡◌, ℕ, ◌+◌, ◌-◌, ◌%◌, ◌<◌, ◌≤◌, [], ◌∷◌, ◌++◌, List, length, Some, OnErr, All};
+ghost use Rattle.std.specs.Prelude.{nat_lt, option_map};
 ghost use Rattle.std.specs.Bool.{OnTrue};
 ghost use Rattle.std.specs.List.{list_all};
 ghost use Rattle.session_model.specs.declared.table.Command.{Command as CommandData};
@@ -26,8 +27,8 @@ use vc_cell::BackCell;
 /// The most commands that wait.
 const PENDING: usize = 64;
 
-/// The table of the lines of a group at its source (G.7042): what an operator asked for, which lines have a sequence number, and
-/// what the sink said of them.
+/// The table of the lines of a group at its source (G.7042): what an operator asked for, which lines have a
+/// sequence number, and what the sink said of them.
 #[derive(Drop)]
 pub struct SourceTable {
     lines: u8,
@@ -90,8 +91,8 @@ impl SourceTable {
         self.ask(Command::Remove(line))
     }
 
-    /// Makes a decision step, which takes a return cell, if one is due. The cell's number is that of the cells that earlier steps
-    /// took, lost ones included; one that holds no packet counts as lost.
+    /// Makes a decision step, which takes a return cell, if one is due. The cell's number is that of the
+    /// cells that earlier steps took, lost ones included; one that holds no packet counts as lost.
     pub fn decide(&mut self, back: Option<BackCell>)
         requires { self.old.steps < 4294967295 }
         ensures { self.new ≡ called self.old (decides (option_map told_in back)) }

@@ -1,5 +1,6 @@
 -- End is among the cells of a path exactly where its carry was made.
-use Rattle.std.proofs.Common.{◌≡◌, ℕ, zero, suc, ◌-◌, ◌<◌, ◌≤◌, List, [], ◌∷◌, ◌++◌, length, take, get_or, slice_index_or, refl, ◌∙◌, ap, arith, length-append}
+use Rattle.std.proofs.Common.{◌≡◌, ℕ, zero, suc, ◌-◌, ◌<◌, ◌≤◌, List, [], ◌∷◌, ◌++◌, length, take, get_or}
+use Rattle.std.proofs.Common.{slice_index_or, refl, ◌∙◌, ap, arith, length-append}
 use Rattle.std.specs.Prelude.{Contains}
 use Rattle.std.proofs.lemmas.Bool.{le-ltb, lt-ltb}
 use Rattle.std.proofs.lemmas.List.{append-nil, get_or-append_right}
@@ -14,7 +15,8 @@ use Rattle.session_model.specs.Path.{cells_of, path, cells}
 NoEnd : List Cell → Type 0
 NoEnd cells = (k : ℕ) → k < length cells → slice_index_or cells k End ≡ End → ⊥
 
-no_end-more : (fate : Carried) (container : Container) (rest : List Cell) → NoEnd rest → NoEnd (cells_of fate container ++ rest)
+no_end-more : (fate : Carried) (container : Container) (rest : List Cell) → NoEnd rest →
+    NoEnd (cells_of fate container ++ rest)
 unfolding NoEnd
 no_end-more Whole container rest none zero within is = cc
 no_end-more Whole container rest none (suc k) within is = none k (omega arith) is
@@ -26,7 +28,8 @@ path-no_end : (carries : ℕ → Carried) (n : ℕ) (containers : List Container
 unfolding path NoEnd
 path-no_end carries n [] k within is = omega arith
 path-no_end carries n (container ∷ containers) k within is =
-    unfold NoEnd in no_end-more (carries n) container (path carries (suc n) containers) (path-no_end carries (suc n) containers) k within is
+    unfold NoEnd in no_end-more (carries n) container (path carries (suc n) containers)
+    (path-no_end carries (suc n) containers) k within is
 
 pub end-given : (carries : ℕ → Carried) (delay total : ℕ) (containers : List Container) (i : ℕ) → total < i - delay →
     Contains (cells carries delay total containers i) End

@@ -6,7 +6,8 @@ use Rattle.session_model.specs.declared.window.Window.{Window}
 use Rattle.session_model.specs.Damage.{carried}
 use Rattle.session_model.specs.Path.{cells}
 
--- what a line holds: its delay in containers, its windows and how many containers it carries in all; the containers that are on
+-- what a line holds: its delay in containers, its windows and how many containers it carries in all; the containers
+-- that are on
 -- their way, and how often it was pushed and flushed
 pub record Line : Type 0 where
   pub delay : ℕ
@@ -16,7 +17,8 @@ pub record Line : Type 0 where
   pub pushed : ℕ
   pub flushed : ℕ
 
--- the calls on a line: at first its delay, its windows and how many containers it carries in all, then a push for each of these
+-- the calls on a line: at first its delay, its windows and how many containers it carries in all, then a push for each
+-- of these
 -- containers, and flushes
 pub record Calls : Type 0 where
   pub delay : ℕ
@@ -83,7 +85,8 @@ pub record Stored : Type 0 where
 abbrev pub stored : List Container → ℕ → ℕ → Stored
 stored items capacity spare = record { items = items; capacity = capacity; spare = spare }
 
--- what is true of the parts of a line: as many containers are on their way as were pushed and not let go, there is a spare place for
+-- what is true of the parts of a line: as many containers are on their way as were pushed and not let go, there is a
+-- spare place for
 -- each that fills the delay, and no flush comes before the last push
 pub record IsLine (store : Stored) (delay total pushed flushed : ℕ) : Type 0 where
   pub room : store.capacity ≡ delay

@@ -6,8 +6,8 @@ ghost use Rattle.session_model.specs.Path.{cells_of, cells};
 
 use vc_cell::Cell;
 
-/// Carry `i` gives nothing before the delay is filled, then what comes of container `i - delay`, then the end, and then nothing.
-/// Containers that are pushed later change no earlier carry.
+/// Carry `i` gives nothing before the delay is filled, then what comes of container `i - delay`, then the
+/// end, and then nothing. Containers that are pushed later change no earlier carry.
 pub fn carry_law()
     ensures filling { (carries : ℕ → Carried) (delay total i : ℕ) (containers : List Container) →
         i < delay → cells carries delay total containers (suc i)

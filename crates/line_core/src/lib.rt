@@ -1,6 +1,6 @@
-//! The path of a member: a line that carries container after container with a delay, and fails in the windows that are declared
-//! for it. What it gives is, carry by carry, the list of cells of its path. It makes no containers and numbers none: the source
-//! does the one, `line_reader` the other. Begin with `LineCore`.
+//! The path of a member: a line that carries container after container with a delay, and fails in the windows
+//! that are declared for it. What it gives is, carry by carry, the list of cells of its path. It makes no
+//! containers and numbers none: the source does the one, `line_reader` the other. Begin with `LineCore`.
 #![tactic(auto)]
 
 mod carry;

@@ -2,7 +2,8 @@
 ghost use Rattle.std.specs.Prelude.{◌≡◌, ◌≢◌, ◌-◌, ◌<◌, ◌≤◌, ◌↔◌, ◌++◌, IfOk, IfSome, IfNone, IsTrue, Contains};
 ghost use Rattle.session_model.specs.Damage.{carried};
 ghost use Rattle.line_core.specs.Carry.{carry_cells, out_cells};
-ghost use Rattle.line_core.specs.Line.{Line, IsLine, Calls, opened, and_push, and_flush, path_cells, Stands, Counts, IsEnded};
+ghost use Rattle.line_core.specs.Line.{Line, IsLine, Calls, opened, and_push, and_flush, path_cells, Stands, Counts};
+ghost use Rattle.line_core.specs.Line.{IsEnded};
 
 use crate::carry::{CarrySign, Out};
 use crate::store::Store;
@@ -12,8 +13,8 @@ use std::alloc::{AllocError, Global};
 use std::marker::Model;
 use vc_cell::{Cell, Container, HeldContainer, PAYLOAD};
 
-/// A line: containers are pushed into it one by one, and after the last of them it is flushed. Each push and each flush is a
-/// carry, which gives a cell or nothing. Only the making of a line takes memory.
+/// A line: containers are pushed into it one by one, and after the last of them it is flushed. Each push and
+/// each flush is a carry, which gives a cell or nothing. Only the making of a line takes memory.
 #[derive(Drop)]
 pub struct LineCore {
     windows: Windows,
@@ -40,8 +41,8 @@ impl Model for LineCore {
 }
 
 impl LineCore {
-    /// A line with a delay in containers, and with room for as many; with its windows; and with the number of containers that
-    /// it will carry in all.
+    /// A line with a delay in containers, and with room for as many; with its windows; and with the number of
+    /// containers that it will carry in all.
     pub fn new(
         alloc: Global,
         delay: u16,
@@ -73,7 +74,8 @@ impl LineCore {
         self.push_from(&c, &mut place).out(&place)
     }
 
-    /// Carries a container on as `push` does, and writes the container of a good cell to `out`, which else stays as it was.
+    /// Carries a container on as `push` does, and writes the container of a good cell to `out`, which else
+    /// stays as it was.
     pub fn push_from(&mut self, container: &Container, out: &mut Container) -> CarrySign
         requires { self.old.pushed < self.old.total }
         ensures stands { (calls : Calls) → Stands self.old calls →
@@ -95,8 +97,8 @@ impl LineCore {
         }
     }
 
-    /// Carries a container on as `push_from` does, but takes its box, and gives that of a good cell's container. Another box lies in
-    /// `container` afterwards.
+    /// Carries a container on as `push_from` does, but takes its box, and gives that of a good cell's
+    /// container. Another box lies in `container` afterwards.
     pub fn push_box(
         &mut self,
         container: &mut Box<HeldContainer>,
@@ -122,8 +124,8 @@ impl LineCore {
         }
     }
 
-    /// Makes a carry once all containers were pushed, and gives the cell that comes out, if any. After the cell of the last
-    /// container one carry gives the end.
+    /// Makes a carry once all containers were pushed, and gives the cell that comes out, if any. After the
+    /// cell of the last container one carry gives the end.
     pub fn flush(&mut self) -> Out
         requires pushed { self.old.pushed ≡ self.old.total }
         requires runs { self.old.flushed ≤ self.old.delay }

@@ -1,5 +1,6 @@
 //! The containers on their way, oldest first, and what comes of the oldest.
-ghost use Rattle.std.specs.Prelude.{◌≡◌, ◌≢◌, ◌+◌, ◌-◌, ◌<◌, ◌≤◌, ◌==◌, min, [], ◌∷◌, ◌++◌, length, drop, slice_get, Some, IfOk};
+ghost use Rattle.std.specs.Prelude.{◌≡◌, ◌≢◌, ◌+◌, ◌-◌, ◌<◌, ◌≤◌, ◌==◌, min, [], ◌∷◌, ◌++◌, length, drop, slice_get};
+ghost use Rattle.std.specs.Prelude.{Some, IfOk};
 ghost use Rattle.vc_cell.specs.declared.Container.{Container};
 ghost use Rattle.session_model.specs.Path.{cells_of};
 ghost use Rattle.line_core.specs.Carry.{carry_cells, carry_for};
@@ -13,7 +14,8 @@ use std::marker::Model;
 use std::mem;
 use vc_cell::{Container, HeldContainer};
 
-/// The containers on their way: as many as the delay, once it is filled. Each lies in a box, so that it is never moved itself.
+/// The containers on their way: as many as the delay, once it is filled. Each lies in a box, so that it is
+/// never moved itself.
 #[derive(Drop)]
 pub(crate) struct Store {
     kept: HeapCircularBuffer<Box<HeldContainer>>,
@@ -130,7 +132,8 @@ impl Store {
         go_by(fate, oldest.container(), out)
     }
 
-    /// Puts a container into a full store, and takes the oldest out: that is the container itself where the store has no place.
+    /// Puts a container into a full store, and takes the oldest out: that is the container itself where the
+    /// store has no place.
     pub(crate) fn pass(
         &mut self,
         fate: Carried,
@@ -153,8 +156,8 @@ impl Store {
         carry
     }
 
-    /// Puts a container into a full store and takes the oldest out as `pass` does, but takes its box, and gives that of the oldest,
-    /// where it comes whole. Another box lies in `container` afterwards.
+    /// Puts a container into a full store and takes the oldest out as `pass` does, but takes its box, and
+    /// gives that of the oldest, where it comes whole. Another box lies in `container` afterwards.
     pub(crate) fn pass_box(
         &mut self,
         fate: Carried,

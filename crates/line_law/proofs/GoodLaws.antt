@@ -1,5 +1,6 @@
 -- Which frames a line that has locked tells, over what comes of each container.
-use Rattle.std.proofs.Common.{◌≡◌, ℕ, zero, suc, ◌+◌, ◌-◌, ◌*◌, ◌%◌, ◌<◌, ◌≤◌, nat_le, Bool, true, false, ◌&&◌, if◌then◌else◌, inl, inr, refl, sym, subst, arith}
+use Rattle.std.proofs.Common.{◌≡◌, ℕ, zero, suc, ◌+◌, ◌-◌, ◌*◌, ◌%◌, ◌<◌, ◌≤◌, nat_le, Bool, true, false, ◌&&◌}
+use Rattle.std.proofs.Common.{if◌then◌else◌, inl, inr, refl, sym, subst, arith}
 use Rattle.std.proofs.lemmas.Bool.{cases_lt, cases_eq, cases_Bool, le-leb, leb-true, false_from_ne_true}
 use Rattle.session_model.specs.declared.window.Carried.{Carried}
 use Rattle.session_model.specs.declared.window.Carried.TheVariants.{Whole, Fails, Vanishes}
@@ -18,20 +19,27 @@ and-right false b e = absurd (let f : false ≡ true = e in cc)
 abbrev pub AreWhole : (ℕ → Carried) → ℕ → ℕ → Type 0
 AreWhole carries from to = (k : ℕ) → from ≤ k → k < to → is_whole (carries k) ≡ true
 
-pub are_whole-each : (carries : ℕ → Carried) (from count : ℕ) → are_whole carries from count ≡ true → AreWhole carries from (from + count)
+pub are_whole-each : (carries : ℕ → Carried) (from count : ℕ) → are_whole carries from count ≡ true →
+    AreWhole carries from (from + count)
 unfolding are_whole
 are_whole-each carries from zero e k low high = absurd (omega arith)
 are_whole-each carries from (suc count) e k low high =
     elim (cases_eq k (from + count)) [
-      | inl last ↦ subst (λ k. is_whole (carries k) ≡ true) (sym last) (and-right (are_whole carries from count) (is_whole (carries (from + count))) e)
-      | inr other ↦ are_whole-each carries from count (and-left (are_whole carries from count) (is_whole (carries (from + count))) e) k low (omega arith)
+      | inl last ↦ subst (λ k. is_whole (carries k) ≡ true) (sym last)
+          (and-right (are_whole carries from count) (is_whole (carries (from + count))) e)
+      | inr other ↦ are_whole-each carries from count
+          (and-left (are_whole carries from count) (is_whole (carries (from + count))) e) k low (omega arith)
     ]
 
-pub each-are_whole : (carries : ℕ → Carried) (from count : ℕ) → AreWhole carries from (from + count) → are_whole carries from count ≡ true
+pub each-are_whole : (carries : ℕ → Carried) (from count : ℕ) → AreWhole carries from (from + count) →
+    are_whole carries from count ≡ true
 unfolding are_whole
 each-are_whole carries from zero each = refl
 each-are_whole carries from (suc count) each =
-    rw (each-are_whole carries from count (λ k low high. each k low (omega arith)), each (from + count) (omega arith) (omega arith)) refl
+    rw (
+      each-are_whole carries from count (λ k low high. each k low (omega arith)),
+      each (from + count) (omega arith) (omega arith),
+    ) refl
 
 -- ---- locked after n containers, and good at one
 pub record IsLocked (carries : ℕ → Carried) (n : ℕ) : Type 0 where
@@ -47,7 +55,9 @@ is_good-IsGood carries t e =
     let from : ℕ = lock_of t in
     let two : 2 ≤ t = leb-true 2 t (and-left (nat_le 2 t) (are_whole carries from (t + 1 - from)) e) in
     let below : from + (t + 1 - from) ≡ t + 1 = omega arith in
-    let each : AreWhole carries from (from + (t + 1 - from)) = are_whole-each carries from (t + 1 - from) (and-right (nat_le 2 t) (are_whole carries from (t + 1 - from)) e) in
+    let each : AreWhole carries from (from + (t + 1 - from)) =
+    are_whole-each carries from (t + 1 - from)
+    (and-right (nat_le 2 t) (are_whole carries from (t + 1 - from)) e) in
     record {
       locked = record { two = two; whole = λ k low high. each k low (omega arith) };
       whole = each t (omega arith) (omega arith);
@@ -99,7 +109,8 @@ lock_same : (k : ℕ) → (k % 16 ≡ 0 → ⊥) → (1 ≤ k) × (lock_of (suc 
 lock_same k other = (omega arith, omega arith)
 
 -- it was locked before, unless the container before has MFI1 0
-pub IsLocked-earlier : (carries : ℕ → Carried) (k : ℕ) → (k % 16 ≡ 0 → ⊥) → IsLocked carries (suc (suc k)) → IsLocked carries (suc k)
+pub IsLocked-earlier : (carries : ℕ → Carried) (k : ℕ) → (k % 16 ≡ 0 → ⊥) → IsLocked carries (suc (suc k)) →
+    IsLocked carries (suc k)
 IsLocked-earlier carries k other locked =
     let same = lock_same k other in
     record { two = omega (arith, same.0); whole = λ j low high. locked.whole j (omega (arith, same.1)) (omega arith) }
@@ -108,7 +119,8 @@ lock_here : (k : ℕ) → k % 16 ≡ 0 → lock_of (suc (suc k)) ≡ k
 lock_here k h = omega arith
 
 -- the first two of a multiframe lock
-pub IsLocked-two : (carries : ℕ → Carried) (k : ℕ) → k % 16 ≡ 0 → is_whole (carries k) ≡ true → is_whole (carries (suc k)) ≡ true → IsLocked carries (suc (suc k))
+pub IsLocked-two : (carries : ℕ → Carried) (k : ℕ) → k % 16 ≡ 0 → is_whole (carries k) ≡ true →
+    is_whole (carries (suc k)) ≡ true → IsLocked carries (suc (suc k))
 IsLocked-two carries k h first second =
     let here = lock_here k h in
     record {
@@ -116,7 +128,8 @@ IsLocked-two carries k h first second =
       whole = λ j low high.
           elim (cases_eq j k) [
             | inl same ↦ subst (λ j. is_whole (carries j) ≡ true) (sym same) first
-            | inr other ↦ subst (λ j. is_whole (carries j) ≡ true) (let e : suc k ≡ j = omega (arith, here, low, high, other) in e) second
+            | inr other ↦ subst (λ j. is_whole (carries j) ≡ true)
+                (let e : suc k ≡ j = omega (arith, here, low, high, other) in e) second
           ];
     }
 
@@ -174,7 +187,8 @@ lost carries (suc n) = if nat_le 17 (steady carries (suc n)) then 0 else lost ca
 multiframe : (k t : ℕ) → 16 * k + 8 ≤ t → t < 16 * k + 24 → 16 * k ≤ lock_of t
 multiframe k t low high = omega arith
 
-pub readable-good : (carries : ℕ → Carried) (k : ℕ) → is_readable carries k ≡ true → (t : ℕ) → 16 * k + 8 ≤ t → t < 16 * k + 24 → is_good carries t ≡ true
+pub readable-good : (carries : ℕ → Carried) (k : ℕ) → is_readable carries k ≡ true → (t : ℕ) → 16 * k + 8 ≤ t →
+    t < 16 * k + 24 → is_good carries t ≡ true
 readable-good carries k readable t low high =
     let each = are_whole-each carries (16 * k) 24 readable in
     let from = multiframe k t low high in
@@ -189,10 +203,13 @@ middle k = omega arith
 final : (k : ℕ) → lock_of (16 * k + 23) ≡ 16 * k + 16
 final k = omega arith
 
-pub good-readable : (carries : ℕ → Carried) (k : ℕ) → ((t : ℕ) → 16 * k + 8 ≤ t → t < 16 * k + 24 → is_good carries t ≡ true) → is_readable carries k ≡ true
+pub good-readable : (carries : ℕ → Carried) (k : ℕ) →
+    ((t : ℕ) → 16 * k + 8 ≤ t → t < 16 * k + 24 → is_good carries t ≡ true) → is_readable carries k ≡ true
 good-readable carries k all =
-    let first : IsGood carries (16 * k + 17) = is_good-IsGood carries (16 * k + 17) (all (16 * k + 17) (omega arith) (omega arith)) in
-    let last : IsGood carries (16 * k + 23) = is_good-IsGood carries (16 * k + 23) (all (16 * k + 23) (omega arith) (omega arith)) in
+    let first : IsGood carries (16 * k + 17) =
+    is_good-IsGood carries (16 * k + 17) (all (16 * k + 17) (omega arith) (omega arith)) in
+    let last : IsGood carries (16 * k + 23) =
+    is_good-IsGood carries (16 * k + 23) (all (16 * k + 23) (omega arith) (omega arith)) in
     let begins = middle k in
     let goes_on = final k in
     each-are_whole carries (16 * k) 24 (λ j low high.
@@ -201,6 +218,7 @@ good-readable carries k all =
       | inr late ↦
           elim (cases_lt j (16 * k + 23)) [
             | inl inside ↦ last.locked.whole j (omega arith) inside
-            | inr ends ↦ subst (λ j. is_whole (carries j) ≡ true) (let e : 16 * k + 23 ≡ j = omega arith in e) last.whole
+            | inr ends ↦ subst (λ j. is_whole (carries j) ≡ true) (let e : 16 * k + 23 ≡ j = omega arith in e)
+                last.whole
           ]
     ])

@@ -6,21 +6,31 @@ use Rattle.session_model.specs.Damage.{carried, slip_after, AreWindows}
 use Rattle.session_model.specs.Path.{path}
 use Rattle.session_model.specs.Number.{read_on}
 use Rattle.session_model.specs.Line.{HasPlace, AreSent}
-use Rattle.line_law.specs.Worked.{container, containers, window, two_windows, three_windows, IsMet, AreSummed, AreSeventeen}
+use Rattle.line_law.specs.Worked.{container, containers, window, two_windows, three_windows, IsMet, AreSummed}
+use Rattle.line_law.specs.Worked.{AreSeventeen}
 
 container_place : (n : ℕ) → HasPlace n (container n).h4
 unfolding container
 container_place n =
     elim (cases_eq (n % 16) 1) [
-      | inl first ↦ rw (eq-eqb (n % 16) 1 first) (record { small = omega arith; mfi1 = omega arith; upper = λ e. absurd (omega arith); lower = λ e. omega arith })
-      | inr other ↦ rw (ne_eqb (n % 16) 1 other) (record { small = omega arith; mfi1 = omega arith; upper = λ e. omega arith; lower = λ e. absurd (other e) })
+      | inl first ↦ rw (eq-eqb (n % 16) 1 first)
+          (record {
+            small = omega arith;
+            mfi1 = omega arith;
+            upper = λ e. absurd (omega arith);
+            lower =
+                λ e. omega arith;
+          })
+      | inr other ↦ rw (ne_eqb (n % 16) 1 other)
+          (record { small = omega arith; mfi1 = omega arith; upper = λ e. omega arith; lower = λ e. absurd (other e) })
     ]
 
 containers-at : (n count k : ℕ) (c : Container) → slice_get (containers n count) k ≡ Some c → c ≡ container (n + k)
 unfolding containers
 containers-at n zero k c e = absurd cc
 containers-at n (suc count) zero c e = let e : c ≡ container n = cc in e ∙ ap container (let e : n ≡ n + 0 = omega arith in e)
-containers-at n (suc count) (suc k) c e = containers-at (suc n) count k c e ∙ ap container (let e : suc n + k ≡ n + suc k = omega arith in e)
+containers-at n (suc count) (suc k) c e = containers-at (suc n) count k c e
+    ∙ ap container (let e : suc n + k ≡ n + suc k = omega arith in e)
 
 are_sent : (count : ℕ) → AreSent (containers 0 count)
 are_sent count n c here =
@@ -29,7 +39,12 @@ are_sent count n c here =
 
 pub is_met : IsMet
 unfolding two_windows window slip_after AreWindows
-is_met count = record { apart = (omega arith, omega arith, (omega arith, omega arith, tt)); slip = omega arith; sent = are_sent count }
+is_met count = record {
+  apart = (omega arith, omega arith, (omega arith, omega arith, tt));
+  slip = omega arith;
+  sent =
+      are_sent count;
+}
 
 pub are_summed : AreSummed
 unfolding three_windows window slip_after carried path container containers read_on

@@ -1,5 +1,6 @@
 -- What the cells of a line with failures tell of its containers.
-use Rattle.std.specs.Prelude.{◌≡◌, ◌↔◌, true, ℕ, ◌+◌, ◌*◌, ◌%◌, ◌<◌, ◌≤◌, List, ◌∷◌, ◌++◌, length, take, slice_get, Option, Some, None, IsSome, if◌then◌else◌}
+use Rattle.std.specs.Prelude.{◌≡◌, ◌↔◌, true, ℕ, ◌+◌, ◌*◌, ◌%◌, ◌<◌, ◌≤◌, List, ◌∷◌, ◌++◌, length, take, slice_get}
+use Rattle.std.specs.Prelude.{Option, Some, None, IsSome, if◌then◌else◌}
 use Rattle.std.specs.Result.{result_ok}
 use Rattle.vc_cell.specs.declared.Container.{Container}
 use Rattle.vc_cell.specs.declared.Cell.{Cell}
@@ -37,14 +38,16 @@ pub record IsCellOf (windows : List Window) (containers : List Container) (told 
   pub whole : carried windows n ≡ Whole
   pub before : take i told ≡ path (carried windows) 0 (take n containers)
 
--- a cell that comes while the line is locked is that of the container with its number, which is how many numbers are decided before it
+-- a cell that comes while the line is locked is that of the container with its number, which is how many numbers are
+-- decided before it
 abbrev pub AreAt : Type 0
 AreAt = (windows : List Window) (containers : List Container) (delay carries i : ℕ) →
     IsLine windows containers → IsAt (signs_of (line_cells windows containers delay carries)) i →
     IsCellOf windows containers (line_cells windows containers delay carries) i
     (dec_of (line_cells windows containers delay carries) i)
 
--- where the containers before a whole one leave the line locked, they decide just their own numbers, and its MFI1 is the one that is due
+-- where the containers before a whole one leave the line locked, they decide just their own numbers, and its MFI1 is
+-- the one that is due
 abbrev pub AreInStep : Type 0
 AreInStep = (windows : List Window) (containers : List Container) (n mfi1 : ℕ) (container : Container) →
     IsLine windows containers → slice_get containers n ≡ Some container → carried windows n ≡ Whole →
@@ -54,7 +57,8 @@ AreInStep = (windows : List Window) (containers : List Container) (n mfi1 : ℕ)
 
 -- a locked line never meets another MFI1 than the one that is due, wherever the cells of the line are cut
 abbrev pub AreExpected : Type 0
-AreExpected = (windows : List Window) (containers : List Container) (before after : List Cell) (mfi1 : ℕ) (container : Container) →
+AreExpected = (windows : List Window) (containers : List Container) (before after : List Cell) (mfi1 : ℕ)
+    (container : Container) →
     IsLine windows containers → path (carried windows) 0 containers ≡ before ++ Good container ∷ after →
     (reading_of before).lock ≡ locked mfi1 → container.h4 % 16 ≡ (mfi1 + 1) % 16
 

@@ -11,7 +11,8 @@ AreAtSights = (signs : List (Option ℕ)) (place : ℕ) → (slice_get (sights s
 -- a cell locks the line, with the number that MFI2 says at the cell before it and at this one
 abbrev pub LocksAs : List (Option ℕ) → ℕ → ℕ → Type 0
 LocksAs signs place number =
-    Locks signs place × (before : ℕ) × (mfi2 : ℕ) × (before + 1 ≡ place) × HasMfi2 signs before mfi2 × (number ≡ 16 * mfi2 + 1)
+    Locks signs place × (before : ℕ) × (mfi2 : ℕ) × (before + 1 ≡ place) × HasMfi2 signs before mfi2 ×
+    (number ≡ 16 * mfi2 + 1)
 
 abbrev pub AreLockingSights : Type 0
 AreLockingSights = (signs : List (Option ℕ)) (place number : ℕ) →

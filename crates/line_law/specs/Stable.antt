@@ -21,4 +21,5 @@ OctetsStay = (cells more : List Cell) (from count : ℕ) →
 -- the cells of fewer carries are a prefix of those of more
 abbrev pub CellsStay : Type 0
 CellsStay = (carries : ℕ → Carried) (delay : ℕ) (containers : List Container) (i j : ℕ) → i ≤ j →
-    (more : List Cell) × (cells carries delay (length containers) containers j ≡ cells carries delay (length containers) containers i ++ more)
+    (more : List Cell) × (cells carries delay (length containers) containers j ≡ cells carries delay
+    (length containers) containers i ++ more)

@@ -1,10 +1,12 @@
-//! Laws of the numbers of a line's cells: that they are the numbers of its containers, although cells vanish and a number is sent
-//! modulo 4,096. It has no code of its own: each function is a theorem of the definitions in `session_model`, which is its contract.
-//! Begin with `numbering_law`; `reading_law` says that those definitions are what G.707 words, and `stable_law` that more cells
-//! change nothing of what is decided.
+//! Laws of the numbers of a line's cells: that they are the numbers of its containers, although cells vanish
+//! and a number is sent modulo 4,096. It has no code of its own: each function is a theorem of the
+//! definitions in `session_model`, which is its contract. Begin with `numbering_law`; `reading_law` says that
+//! those definitions are what G.707 words, and `stable_law` that more cells change nothing of what is
+//! decided.
 #![tactic(auto)]
 
-ghost use Rattle.line_law.specs.Numbering.{AreNumbered, AreAt, AreInStep, AreExpected, ArePackets, AreReadable, AreRead};
+ghost use Rattle.line_law.specs.Numbering.{AreNumbered, AreAt, AreInStep, AreExpected, ArePackets, AreReadable};
+ghost use Rattle.line_law.specs.Numbering.{AreRead};
 ghost use Rattle.line_law.specs.Wording.{IsWorded, IsOnlyCount, AreWhole, AreDecided, EndDecides};
 ghost use Rattle.line_law.specs.Sights.{AreAtSights, AreLockingSights, AreUnknownSights};
 ghost use Rattle.line_law.specs.Stable.{VerdictsStay, OctetsStay, CellsStay};
@@ -49,8 +51,8 @@ pub fn stable_law()
     ensures returns { ReturnsStay }
 {}
 
-/// There are lines as the law asks for. Of near windows the slips have to be summed, and windows are near up to sixteen whole
-/// containers.
+/// There are lines as the law asks for. Of near windows the slips have to be summed, and windows are near up
+/// to sixteen whole containers.
 pub fn worked_law()
     ensures met { IsMet }
     ensures summed { AreSummed }

@@ -1,5 +1,6 @@
 -- What the lock of a line says of a cell is what the recursion over cells says of it.
-use Rattle.std.proofs.Common.{◌≡◌, ℕ, zero, suc, ◌+◌, ◌-◌, ◌*◌, ◌%◌, List, [], ◌∷◌, ◌++◌, length, replicate, Option, Some, None, refl, ◌∙◌, ap, subst, arith}
+use Rattle.std.proofs.Common.{◌≡◌, ℕ, zero, suc, ◌+◌, ◌-◌, ◌*◌, ◌%◌, List, [], ◌∷◌, ◌++◌, length, replicate, Option}
+use Rattle.std.proofs.Common.{Some, None, refl, ◌∙◌, ap, subst, arith}
 use Rattle.std.proofs.lemmas.List.{map-append}
 use Rattle.vc_bits.specs.Lock.{HasMfi2}
 use Rattle.vc_bits.proofs.LockLaws.{HasMfi2_only, IsFirstStep_only}
@@ -9,7 +10,8 @@ use Rattle.vc_cell.specs.declared.Cell.TheVariants.{Good, Fail, End}
 use Rattle.h4_multiframe.specs.declared.Place.{Place}
 use Rattle.h4_multiframe.specs.declared.Place.TheVariants.{Unknown, Locks as LocksAnswer, At}
 use Rattle.h4_multiframe.specs.Place.{IsPlace}
-use Rattle.session_model.specs.Number.{unlocked, Sight, unknown, locks, at, sight_of, ahead, verdicts_by, Reading, read_at, read_on, reading_of}
+use Rattle.session_model.specs.Number.{unlocked, Sight, unknown, locks, at, sight_of, ahead, verdicts_by, Reading}
+use Rattle.session_model.specs.Number.{read_at, read_on, reading_of}
 use Rattle.session_model.specs.Sign.{sign_of, signs_of, HasNoEnd}
 use Rattle.line_law.proofs.SightLaws.{IsSight, sight-is}
 use Rattle.line_law.proofs.RunLaws.{read_on-append}
@@ -21,10 +23,12 @@ verdicts_for Unknown d c = None ∷ []
 verdicts_for (LocksAnswer number) d c = replicate (suc (ahead d number)) None
 verdicts_for (At number) d c = Some c ∷ []
 
-ahead-modulo : (d m n from place before : ℕ) → from ≡ before → before + 1 ≡ place → n ≡ (16 * m + (place - from)) % 4096 → ahead d (16 * m + 1) ≡ ahead d n
+ahead-modulo : (d m n from place before : ℕ) → from ≡ before → before + 1 ≡ place →
+    n ≡ (16 * m + (place - from)) % 4096 → ahead d (16 * m + 1) ≡ ahead d n
 ahead-modulo d m n from place before same next e = omega arith
 
-same-verdicts : (signs : List (Option ℕ)) (i : ℕ) (answer : Place) (sight : Sight) (d : ℕ) (c : Container) → IsPlace signs i answer → IsSight signs i sight → verdicts_by sight d c ≡ verdicts_for answer d c
+same-verdicts : (signs : List (Option ℕ)) (i : ℕ) (answer : Place) (sight : Sight) (d : ℕ) (c : Container) →
+    IsPlace signs i answer → IsSight signs i sight → verdicts_by sight d c ≡ verdicts_for answer d c
 same-verdicts signs i Unknown unknown d c p q = refl
 same-verdicts signs i Unknown (locks m) d c p q = absurd (p q.0.0 q.0.1.in_step)
 same-verdicts signs i Unknown at d c p q = absurd (p q.0 q.1.in_step)
@@ -47,7 +51,8 @@ same-verdicts signs i (At n) (locks m) d c p q =
 same-verdicts signs i (At n) at d c p q = refl
 
 -- ---- one cell more
-read-next : (cells : List Cell) (cell : Cell) → reading_of (cells ++ cell ∷ []) ≡ read_at (reading_of cells).lock (reading_of cells).verdicts cell
+read-next : (cells : List Cell) (cell : Cell) →
+    reading_of (cells ++ cell ∷ []) ≡ read_at (reading_of cells).lock (reading_of cells).verdicts cell
 unfolding read_on
 read-next cells cell = read_on-append (record { lock = unlocked; verdicts = [] }) cells (cell ∷ [])
 
@@ -60,15 +65,21 @@ no_end-next [] cell more other (suc i) e = absurd cc
 no_end-next (x ∷ xs) cell more other zero e = more 0 e
 no_end-next (x ∷ xs) cell more other (suc i) e = no_end-next xs cell (λ i e. more (suc i) e) other i e
 
-pub good-next : (cells : List Cell) (c : Container) (answer : Place) → HasNoEnd cells → IsPlace (signs_of cells ++ Some c.h4 ∷ []) (length (signs_of cells)) answer →
-    (reading_of (cells ++ Good c ∷ [])).verdicts ≡ (reading_of cells).verdicts ++ verdicts_for answer (length (reading_of cells).verdicts) c
+pub good-next : (cells : List Cell) (c : Container) (answer : Place) → HasNoEnd cells →
+    IsPlace (signs_of cells ++ Some c.h4 ∷ []) (length (signs_of cells)) answer →
+    (reading_of (cells ++ Good c ∷ [])).verdicts ≡ (reading_of cells).verdicts ++ verdicts_for answer
+    (length (reading_of cells).verdicts) c
 good-next cells c answer more is =
     let r : Reading = reading_of cells in
     let signs = signs_of cells in
     ap (λ r. r.verdicts) (read-next cells (Good c))
     ∙ good-verdicts cells more r.lock r.verdicts signs c (stands-of cells more)
-    ∙ ap (λ l. r.verdicts ++ l) (same-verdicts (signs ++ Some c.h4 ∷ []) (length signs) answer (sight_of r.lock c.h4) (length r.verdicts) c is (sight-is r.lock signs c.h4 (stands-of cells more)))
+    ∙ ap (λ l. r.verdicts ++ l) (same-verdicts (signs ++ Some c.h4 ∷ []) (length signs) answer (sight_of r.lock c.h4)
+    (length r.verdicts) c is (sight-is r.lock signs c.h4 (stands-of cells more)))
 
-pub fail-next : (cells : List Cell) → HasNoEnd cells → (reading_of (cells ++ Fail ∷ [])).verdicts ≡ (reading_of cells).verdicts ++ None ∷ []
+pub fail-next : (cells : List Cell) → HasNoEnd cells →
+    (reading_of (cells ++ Fail ∷ [])).verdicts ≡ (reading_of cells).verdicts ++ None ∷ []
 fail-next cells more =
-    ap (λ r. r.verdicts) (read-next cells Fail) ∙ fail-verdicts cells more (reading_of cells).lock (reading_of cells).verdicts (signs_of cells) (stands-of cells more)
+    ap (λ r. r.verdicts) (read-next cells Fail)
+    ∙ fail-verdicts cells more (reading_of cells).lock (reading_of cells).verdicts (signs_of cells)
+    (stands-of cells more)

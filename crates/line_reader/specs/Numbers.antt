@@ -1,5 +1,6 @@
 -- What is kept of the numbers of a line.
-use Rattle.std.specs.Prelude.{◌≡◌, ℕ, ◌%◌, ◌≤◌, ◌==◌, ◌&&◌, not, Bool, true, false, List, [], ◌∷◌, ◌++◌, length, replicate, Option, Some, None}
+use Rattle.std.specs.Prelude.{◌≡◌, ℕ, ◌%◌, ◌≤◌, ◌==◌, ◌&&◌, not, Bool, true, false, List, [], ◌∷◌, ◌++◌, length}
+use Rattle.std.specs.Prelude.{replicate, Option, Some, None}
 use Rattle.vc_cell.specs.declared.Container.{Container}
 use Rattle.vc_cell.specs.declared.Cell.{Cell}
 use Rattle.h4_multiframe.specs.declared.MfiLock.{MfiLock}
@@ -7,7 +8,8 @@ use Rattle.h4_multiframe.specs.Stands.{Stands as LockStands}
 use Rattle.session_model.specs.Number.{over, reading_of}
 use Rattle.session_model.specs.Sign.{signs_of, HasNoEnd}
 
--- the lock of the line; the next number, modulo 4096; what is decided and was not passed: a count of bad numbers, and then one that is
+-- the lock of the line; the next number, modulo 4096; what is decided and was not passed: a count of bad numbers, and
+-- then one that is
 -- whole or not; and whether End came
 pub record Numbers : Type 0 where
   pub lock : MfiLock
@@ -40,4 +42,5 @@ pub record Stands (numbers : Numbers) (place : Container) (cells : List Cell) (t
   pub passed : List (Option Container)
   pub verdicts : (reading_of cells).verdicts ≡ passed ++ left_of numbers place
   pub runs : numbers.ended ≡ false → HasNoEnd cells × LockStands numbers.lock (signs_of cells) × (length passed ≡ t)
-  pub over : numbers.ended ≡ true → ((reading_of cells).lock ≡ over) × (left_of numbers place ≡ []) × (length passed ≤ t)
+  pub over : numbers.ended ≡ true → ((reading_of cells).lock ≡ over) × (left_of numbers place ≡ []) ×
+      (length passed ≤ t)

@@ -1,6 +1,7 @@
 //! The numbers of a line's cells, whose containers lie elsewhere.
 
-ghost use Rattle.std.specs.Prelude.{◌≡◌, ℕ, ◌+◌, ◌<◌, List, [], ◌∷◌, ◌++◌, Option, IfSome, IfNone, IsTrue, IsFalse, ◌↔◌, option_map};
+ghost use Rattle.std.specs.Prelude.{◌≡◌, ℕ, ◌+◌, ◌<◌, List, [], ◌∷◌, ◌++◌, Option, IfSome, IfNone, IsTrue, IsFalse};
+ghost use Rattle.std.specs.Prelude.{◌↔◌, option_map};
 ghost use Rattle.vc_cell.specs.declared.Container.{Container};
 ghost use Rattle.vc_cell.specs.declared.Cell.{Cell};
 ghost use Rattle.session_model.specs.Number.{ahead, verdict};
@@ -16,8 +17,8 @@ use vc_cell::{Container, HeldContainer};
 /// How many numbers the multiframe tells apart.
 const NUMBERS: u16 = 4096;
 
-/// The numbers of a line. What its last cell decided is kept until it was passed: a count of bad numbers, or one whole number, whose
-/// container the caller keeps in a place.
+/// The numbers of a line. What its last cell decided is kept until it was passed: a count of bad numbers, or
+/// one whole number, whose container the caller keeps in a place.
 #[derive(Clone, Copy)]
 pub struct LineNumbers {
     lock: MfiLock,
@@ -64,8 +65,8 @@ impl LineNumbers {
         }
     }
 
-    /// Takes the next cell, once each decided number was passed. Where the cell has a number of its own, which is then whole, its
-    /// container is copied into `place`.
+    /// Takes the next cell, once each decided number was passed. Where the cell has a number of its own,
+    /// which is then whole, its container is copied into `place`.
     pub fn cell(&mut self, cell: CellRef<'_>, place: &mut Container)
         requires open { IsOpen self.old }
         ensures stands { (cells : List Cell) (t : ℕ) → Stands self.old place.old cells t →
@@ -82,8 +83,8 @@ impl LineNumbers {
         }
     }
 
-    /// Takes the next cell as `cell` does, but changes the boxes where the container of a good cell is whole. What lies in
-    /// `container` afterwards says nothing.
+    /// Takes the next cell as `cell` does, but changes the boxes where the container of a good cell is whole.
+    /// What lies in `container` afterwards says nothing.
     pub fn cell_boxed(
         &mut self,
         sign: CellSign,

@@ -68,7 +68,8 @@ impl LineReader {
         self.numbers.cell(c, &mut self.place);
     }
 
-    /// What is said of number `t`, the next one that was not passed, or `None` where the cells that came don't decide it.
+    /// What is said of number `t`, the next one that was not passed, or `None` where the cells that came
+    /// don't decide it.
     pub fn verdict(&self, t: u64) -> Option<Verdict<'_>>
         ensures told { (cells : List Cell) → ReaderStands self.now cells t →
             verdict cells t ≡ option_map told_by result }

@@ -4,5 +4,7 @@ use Rattle.std.proofs.lemmas.List.{append-nil}
 use Rattle.std.proofs.lemmas.List.Concat.{flat_map-append}
 use Rattle.session_model.specs.Segment.{StreamRow, octets_of_rows}
 
-pub octets-push : (rows : List StreamRow) (row : StreamRow) → octets_of_rows (rows ++ row ∷ []) ≡ octets_of_rows rows ++ row.octets
-octets-push rows row = flat_map-append (λ (row : StreamRow). row.octets) rows (row ∷ []) ∙ ap (λ l. octets_of_rows rows ++ l) (append-nil row.octets)
+pub octets-push : (rows : List StreamRow) (row : StreamRow) →
+    octets_of_rows (rows ++ row ∷ []) ≡ octets_of_rows rows ++ row.octets
+octets-push rows row = flat_map-append (λ (row : StreamRow). row.octets) rows (row ∷ [])
+    ∙ ap (λ l. octets_of_rows rows ++ l) (append-nil row.octets)

@@ -10,7 +10,8 @@ use Rattle.loss_law.proofs.ExtentLaws.{IsBetween, extents-between, frames_to}
 abbrev pub all_frames : List Extent → List (List ℕ)
 all_frames all = map (λ (e : Extent). e.frame) all
 
-pub frames_to-first : (place start : ℕ) (pieces : List Piece) → (count : ℕ) × (frames_to place (extents start pieces) ≡ take count (all_frames (extents start pieces)))
+pub frames_to-first : (place start : ℕ) (pieces : List Piece) → (count : ℕ) ×
+    (frames_to place (extents start pieces) ≡ take count (all_frames (extents start pieces)))
 unfolding extents
 frames_to-first place start [] = (0, refl)
 frames_to-first place start (idle ∷ pieces) = frames_to-first place (start + size_of idle) pieces
@@ -22,9 +23,15 @@ frames_to-first place start (client frame ∷ pieces) =
       | inl later ↦ (
         0,
         ap all_frames (filter-skip (is_carried place) e rest (lt-leb next place later)
-            ∙ filter-none (is_carried place) rest (All-weaker (IsBetween next (next + length (stream_of pieces))) (λ f. is_carried place f ≡ false) (λ f is. lt-leb f.to place (omega (arith, is.lower, is.size, later))) rest (extents-between next pieces))),
+            ∙ filter-none (is_carried place) rest
+            (All-weaker (IsBetween next (next + length (stream_of pieces))) (λ f. is_carried place f ≡ false)
+            (λ f is. lt-leb f.to place (omega (arith, is.lower, is.size, later))) rest
+            (extents-between next pieces))),
       )
       | inr by ↦ (
-          let further = frames_to-first place next pieces in
-          (suc further.0, ap all_frames (filter-keep (is_carried place) e rest (le-leb next place by)) ∙ ap (λ l. frame ∷ l) further.1))
+          let further = frames_to-first place next pieces in (
+            suc further.0,
+            ap all_frames (filter-keep (is_carried place) e rest (le-leb next place by))
+                ∙ ap (λ l. frame ∷ l) further.1,
+          ))
     ]

@@ -1,12 +1,14 @@
 -- Where each row is whole there is one segment.
-use Rattle.std.proofs.Common.{◌≡◌, ℕ, ◌≤◌, true, List, [], ◌∷◌, ◌++◌, length, take, All, refl, sym, ◌∙◌, ap, append_assoc}
+use Rattle.std.proofs.Common.{◌≡◌, ℕ, ◌≤◌, true, List, [], ◌∷◌, ◌++◌, length, take, All, refl, sym, ◌∙◌, ap}
+use Rattle.std.proofs.Common.{append_assoc}
 use Rattle.std.specs.List.{flat_map}
 use Rattle.std.proofs.lemmas.List.{append-nil, take_at}
 use Rattle.std.proofs.lemmas.List.Elements.{All-head, All-tail, All-weaker}
 use Rattle.session_model.specs.Piece.{Piece, idle, frames_by}
 use Rattle.session_model.specs.Delivery.{delivered}
 use Rattle.gfp_delineate.proofs.Delivery.{IsSendable, delivered-stream}
-use Rattle.session_model.specs.Segment.{StreamRow, Segments, no_rows, longer, row_by, segments_on, segments, segment_frames, deliver, octets_of_rows}
+use Rattle.session_model.specs.Segment.{StreamRow, Segments, no_rows, longer, row_by, segments_on, segments}
+use Rattle.session_model.specs.Segment.{segment_frames, deliver, octets_of_rows}
 use Rattle.loss_law.specs.Carried.{CarriesStream, IsSentPiece}
 use Rattle.loss_law.proofs.KeptLaws.{sendable_of}
 

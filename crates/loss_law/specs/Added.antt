@@ -11,7 +11,8 @@ frames_in longest first octets = flat_map frame_in (outcomes longest first octet
 
 -- those that more octets add
 abbrev pub next_frames : ℕ → Bool → List ℕ → List ℕ → List (List ℕ)
-next_frames longest first octets more = drop (length (frames_in longest first octets)) (frames_in longest first (octets ++ more))
+next_frames longest first octets more =
+    drop (length (frames_in longest first octets)) (frames_in longest first (octets ++ more))
 
 -- the frames that a row adds
 abbrev pub added : ℕ → List StreamRow → StreamRow → List (List ℕ)

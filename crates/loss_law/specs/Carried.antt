@@ -9,7 +9,8 @@ pub record CarriesStream (rows : List StreamRow) (pieces : List Piece) : Type 0 
   pub rest : List ℕ
   pub stream : stream_of pieces ≡ octets_of_rows rows ++ rest
 
--- a frame that may be sent: it isn't longer than a receiver takes, and its area has six octets at least, so that one settles the
+-- a frame that may be sent: it isn't longer than a receiver takes, and its area has six octets at least, so that one
+-- settles the
 -- descrambler
 pub record IsSentFrame (longest : ℕ) (frame : List ℕ) : Type 0 where
   pub most : length frame ≤ longest

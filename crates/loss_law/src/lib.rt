@@ -1,8 +1,10 @@
-//! The laws of losses: which frames come through a stream that comes in rows, of which some aren't whole. There is no code here.
-//! Begin at `loss_law`, which is of any stream and rows; `session_loss_law` and `hitless_law` say it of a session.
+//! The laws of losses: which frames come through a stream that comes in rows, of which some aren't whole.
+//! There is no code here. Begin at `loss_law`, which is of any stream and rows; `session_loss_law` and
+//! `hitless_law` say it of a session.
 #![tactic(auto)]
 
-ghost use Rattle.std.specs.Prelude.{◌≡◌, ℕ, suc, ◌≤◌, ◌<◌, ◌↔◌, Bool, true, false, List, [], ◌∷◌, ◌++◌, length, map, take, drop, All, Option, Some};
+ghost use Rattle.std.specs.Prelude.{◌≡◌, ℕ, suc, ◌≤◌, ◌<◌, ◌↔◌, Bool, true, false, List, [], ◌∷◌, ◌++◌, length, map};
+ghost use Rattle.std.specs.Prelude.{take, drop, All, Option, Some};
 ghost use Rattle.session_model.specs.Hunt.{Confirmed, hunt};
 ghost use Rattle.session_model.specs.Piece.{Piece, idle, frames_by};
 ghost use Rattle.session_model.specs.Scenario.{Scenario};
@@ -11,14 +13,16 @@ ghost use Rattle.session_model.specs.Client.{place_of, stream_before};
 ghost use Rattle.session_model.specs.Journal.{frames_before};
 ghost use Rattle.session_model.specs.SessionRows.{is_whole_row};
 ghost use Rattle.session_model.specs.Segment.{StreamRow, segments, deliver, octets_of_rows};
-ghost use Rattle.session_model.specs.Loss.{Extent, extents, confirmed_in, Lost, is_frame_lost, IsPlaceOfPiece, TrueStarts, frames_kept};
+ghost use Rattle.session_model.specs.Loss.{Extent, extents, confirmed_in, Lost, is_frame_lost, IsPlaceOfPiece};
+ghost use Rattle.session_model.specs.Loss.{TrueStarts, frames_kept};
 ghost use Rattle.session_model.specs.SessionStream.{rows_of};
 ghost use Rattle.loss_law.specs.Carried.{CarriesStream, IsSentPiece, AreOctets, IsUndamaged};
-ghost use Rattle.loss_law.specs.Worked.{worked_pieces, worked_rows, kept_frame, places_of, ends_of, worked_places, worked_ends, worked_confirmed, worked_lost};
+ghost use Rattle.loss_law.specs.Worked.{worked_pieces, worked_rows, kept_frame, places_of, ends_of, worked_places};
+ghost use Rattle.loss_law.specs.Worked.{worked_ends, worked_confirmed, worked_lost};
 ghost use Rattle.session_model.specs.Limits.{longest_frame};
 
-/// Where each place that is confirmed first after a break is that of a piece, the frames delivered are those that the rows carry and
-/// that aren't lost: nothing is altered or invented.
+/// Where each place that is confirmed first after a break is that of a piece, the frames delivered are those
+/// that the rows carry and that aren't lost: nothing is altered or invented.
 pub fn loss_law()
     ensures { (longest : ℕ) (pieces : List Piece) (rows : List StreamRow) →
         longest ≤ 65531 → All (IsSentPiece longest) pieces → CarriesStream rows (idle ∷ idle ∷ pieces) →
@@ -54,9 +58,10 @@ pub fn grow_law()
         ++ drop (length (deliver longest rows)) (deliver longest (rows ++ more)) }
 {}
 
-/// In a session, of any number of rows: they carry the first octets of its stream, whose client frames are the accepted ones but those
-/// that wait; and where each place that is confirmed first after a break is that of a piece, the frames delivered are the accepted
-/// frames that the rows carry and that aren't lost. That is so where each row that isn't whole ends at the place of a piece.
+/// In a session, of any number of rows: they carry the first octets of its stream, whose client frames are
+/// the accepted ones but those that wait; and where each place that is confirmed first after a break is that
+/// of a piece, the frames delivered are the accepted frames that the rows carry and that aren't lost. That is
+/// so where each row that isn't whole ends at the place of a piece.
 pub fn session_loss_law()
     ensures accepted { (scenario : Scenario) (cells : List (Option Told)) (n : ℕ) →
         map (λ (e : Extent). e.frame) (extents 0 (stream_before scenario cells n).pieces)
@@ -76,8 +81,9 @@ pub fn session_loss_law()
         TrueStarts (stream_before scenario cells n).pieces (rows_of scenario cells t) }
 {}
 
-/// A session in which no line fails loses no frame, whatever lines are added and removed: each row is whole, and the frames delivered
-/// are those whose piece ends in the rows taken, which are the first of the accepted ones.
+/// A session in which no line fails loses no frame, whatever lines are added and removed: each row is whole,
+/// and the frames delivered are those whose piece ends in the rows taken, which are the first of the accepted
+/// ones.
 pub fn hitless_law()
     ensures whole { (scenario : Scenario) (cells : List (Option Told)) (t : ℕ) →
         IsUndamaged scenario → is_whole_row scenario cells t ≡ true }
@@ -91,9 +97,10 @@ pub fn hitless_law()
         ≡ take (length (deliver longest_frame (rows_of scenario cells t))) (frames_before scenario cells n) }
 {}
 
-/// A worked stream, computed, in which a frame is lost in each of the four ways: the rows that aren't whole cut the first frame off and
-/// the fifth; the second begins before the place that is confirmed next; the third settles the descrambler; the fourth is delivered; and
-/// behind the second break nothing is confirmed before the sixth has ended. What is confirmed is the place of a piece.
+/// A worked stream, computed, in which a frame is lost in each of the four ways: the rows that aren't whole
+/// cut the first frame off and the fifth; the second begins before the place that is confirmed next; the
+/// third settles the descrambler; the fourth is delivered; and behind the second break nothing is confirmed
+/// before the sixth has ended. What is confirmed is the place of a piece.
 pub fn worked_law()
     ensures places { places_of (extents 0 worked_pieces) ≡ worked_places }
     ensures segments { ends_of (segments worked_rows) ≡ worked_ends }

@@ -30,7 +30,8 @@ additions lines = map addition (range_with_len 0 lines)
 -- a number of frames, each due eight ticks after the one before it
 unfoldable pub frames : ℕ → ℕ → ℕ → List Item
 frames zero due state = []
-frames (suc count) due state = record { due = due; kind = Frame (frame_of state) } ∷ frames count (due + 8) (after_frame state)
+frames (suc count) due state = record { due = due; kind = Frame (frame_of state) } ∷ frames count (due + 8)
+    (after_frame state)
 
 -- how many there are: one for each eight ticks that are begun
 abbrev pub frame_count : ℕ → ℕ

@@ -93,9 +93,9 @@ fn draw(alloc: Global, number: u64, lines: u8, ticks: u32) -> Result<Script, All
     })
 }
 
-/// The script that is drawn from a number, for 1 to 64 lines and 1 to 1,000,000 ticks: VC-4, rings of 64 cells, a lag of 4 packets, no
-/// failures and no event lines. Each line has a delay of up to 40 frames and is added at once. A frame of 64 to 1,518 octets is due at
-/// each eighth tick from 0 on.
+/// The script that is drawn from a number, for 1 to 64 lines and 1 to 1,000,000 ticks: VC-4, rings of 64
+/// cells, a lag of 4 packets, no failures and no event lines. Each line has a delay of up to 40 frames and is
+/// added at once. A frame of 64 to 1,518 octets is due at each eighth tick from 0 on.
 #[tactic(auto, using(crate::proofs::LoadLaws::is_valid))]
 pub fn make(alloc: Global, number: u64, lines: u8, ticks: u32) -> Result<Script, AllocError>
     requires lines { IsWithin 1 64 lines }

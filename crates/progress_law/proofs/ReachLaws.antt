@@ -1,5 +1,6 @@
 -- What is reached by events, by event lines and by drains.
-use Rattle.std.proofs.Common.{◌≡◌, ℕ, zero, suc, ◌<◌, nat_le, inl, inr, List, [], ◌∷◌, ◌++◌, replicate, refl, sym, ◌∙◌, ap}
+use Rattle.std.proofs.Common.{◌≡◌, ℕ, zero, suc, ◌<◌, nat_le, inl, inr, List, [], ◌∷◌, ◌++◌, replicate, refl, sym, ◌∙◌}
+use Rattle.std.proofs.Common.{ap}
 use Rattle.std.specs.List.{flat_map}
 use Rattle.std.proofs.lemmas.Bool.{cases_Bool}
 use Rattle.session_model.specs.declared.script.EventLine.{EventLine}
@@ -40,7 +41,8 @@ Leads-drain zero plan s = Leads-same plan s
 Leads-drain (suc k) plan s =
     elim (cases_Bool (nat_le plan.ticks s.rows)) [
       | inl e ↦ rw e (Leads-same plan s)
-      | inr e ↦ rw e (Leads-then plan s (run plan s (round plan)) (drain k plan (run plan s (round plan))) (round plan, refl) (Leads-drain k plan (run plan s (round plan))))
+      | inr e ↦ rw e (Leads-then plan s (run plan s (round plan)) (drain k plan (run plan s (round plan)))
+          (round plan, refl) (Leads-drain k plan (run plan s (round plan))))
     ]
 
 Leads-line : (plan : Plan) (s : Counts) (line : EventLine) → Leads plan s (run_line plan s line)
@@ -57,15 +59,18 @@ Leads-lines : (plan : Plan) (s : Counts) (lines : List EventLine) → Leads plan
 unfolding run_lines
 Leads-lines plan s [] = Leads-same plan s
 Leads-lines plan s (line ∷ lines) =
-    Leads-then plan s (run_line plan s line) (run_lines plan (run_line plan s line) lines) (Leads-line plan s line) (Leads-lines plan (run_line plan s line) lines)
+    Leads-then plan s (run_line plan s line) (run_lines plan (run_line plan s line) lines) (Leads-line plan s line)
+    (Leads-lines plan (run_line plan s line) lines)
 
 pub walked-reached : (plan : Plan) (lines : List EventLine) → IsReached plan (walked plan lines)
 walked-reached plan [] = Leads-drain (bound plan) plan (begin plan)
 walked-reached plan (line ∷ lines) = Leads-lines plan (begin plan) (line ∷ lines)
 
 -- ---- some event is progress
-pub reached-progress : (plan : Plan) (s : Counts) → IsPlan plan → IsReached plan s → s.rows < plan.ticks → SomeProgress plan s
+pub reached-progress : (plan : Plan) (s : Counts) → IsPlan plan → IsReached plan s → s.rows < plan.ticks →
+    SomeProgress plan s
 reached-progress plan s is there open_ =
     let found = reached-moves plan s is there open_ in
-    let beside = each-map (LineFits plan.ticks plan.ring s.ticks s.rows) (λ path line. Unit {0}) plan.paths s.lines (λ path line fits. tt) (reached-fits plan s is there).lines in
+    let beside = each-map (LineFits plan.ticks plan.ring s.ticks s.rows) (λ path line. Unit {0}) plan.paths s.lines
+    (λ path line fits. tt) (reached-fits plan s is there).lines in
     (found.0, found.1.1, is_progress plan s found.0 beside found.2)

@@ -1,9 +1,13 @@
 -- What each event does: it moves and keeps the bounds, or changes nothing and stands for a cause.
-use Rattle.std.proofs.Common.{◌≡◌, ℕ, suc, ◌+◌, ◌-◌, ◌*◌, ◌%◌, ◌<◌, ◌≤◌, ◌==◌, ◌&&◌, nat_le, nat_lt, Bool, true, false, ◌⊎◌, inl, inr, List, [], ◌∷◌, slice_get, slice_set, Option, Some, None, refl, sym, ◌∙◌, subst, arith}
+use Rattle.std.proofs.Common.{◌≡◌, ℕ, suc, ◌+◌, ◌-◌, ◌*◌, ◌%◌, ◌<◌, ◌≤◌, ◌==◌, ◌&&◌, nat_le, nat_lt, Bool, true, false}
+use Rattle.std.proofs.Common.{◌⊎◌, inl, inr, List, [], ◌∷◌, slice_get, slice_set, Option, Some, None, refl, sym, ◌∙◌}
+use Rattle.std.proofs.Common.{subst, arith}
 use Rattle.std.proofs.lemmas.Bool.{leb-true, leb-false, ltb-true, ltb-false, cases_Bool, cases_lt, eqb-true, and_parts}
 use Rattle.std.proofs.lemmas.Option.{slice_get_within}
 use Rattle.session_model.specs.Scenario.{packets_in}
-use Rattle.session_model.specs.Counts.{frame_dues, command_dues, LinePath, LineCounts, Plan, Counts, in_send, in_receive, in_return, in_inbox, used_in, land_due, accept, command, held, full, is_missing, tick_full, tick_held, tick, carry_on, carry_at, carry, back}
+use Rattle.session_model.specs.Counts.{frame_dues, command_dues, LinePath, LineCounts, Plan, Counts, in_send}
+use Rattle.session_model.specs.Counts.{in_receive, in_return, in_inbox, used_in, land_due, accept, command, held, full}
+use Rattle.session_model.specs.Counts.{is_missing, tick_full, tick_held, tick, carry_on, carry_at, carry, back}
 use Rattle.progress_law.specs.Progress.{IsPath, IsSound, IsPlanOf, Each, LineFits, Fits, made}
 use Rattle.progress_law.proofs.EachLaws.{each-with, each-at, each-set, sum-set}
 
@@ -14,7 +18,9 @@ Kept plan s Why next = ((next ≡ s) × Why) ⊎ (Fits plan next × (made s < ma
 abbrev pub NotLanded : ℕ → Option ℕ → Type 0
 NotLanded ticks due = (d : ℕ) → due ≡ Some d → ticks < d
 
-land-kept : (plan : Plan) (s next : Counts) (ticks : ℕ) (due : Option ℕ) → ((d : ℕ) → due ≡ Some d → Fits plan next × (made s < made next)) → Kept plan s (NotLanded ticks due) (land_due ticks due s next).counts
+land-kept : (plan : Plan) (s next : Counts) (ticks : ℕ) (due : Option ℕ) →
+    ((d : ℕ) → due ≡ Some d → Fits plan next × (made s < made next)) →
+    Kept plan s (NotLanded ticks due) (land_due ticks due s next).counts
 land-kept plan s next ticks None moves = inl (refl, λ d e. absurd cc)
 land-kept plan s next ticks (Some due) moves =
     elim (cases_Bool (nat_lt ticks due)) [
@@ -22,17 +28,44 @@ land-kept plan s next ticks (Some due) moves =
       | inr e ↦ rw e (inr (moves due refl))
     ]
 
-pub accept-kept : (plan : Plan) (s : Counts) → Fits plan s → Kept plan s (NotLanded s.ticks (slice_get (frame_dues plan.items) s.frames)) (accept plan s).counts
+pub accept-kept : (plan : Plan) (s : Counts) → Fits plan s →
+    Kept plan s (NotLanded s.ticks (slice_get (frame_dues plan.items) s.frames)) (accept plan s).counts
 accept-kept plan s fits =
     land-kept plan s (record s { frames = s.frames + 1 }) s.ticks (slice_get (frame_dues plan.items) s.frames) (λ d e.
-    let within = slice_get_within (frame_dues plan.items) s.frames d e in
-    (record { ticks = fits.ticks; rows = fits.rows; frames = omega (arith, within); commands = fits.commands; lines = fits.lines; backs = fits.backs; returns = fits.returns; used = fits.used }, omega arith))
+    let within = slice_get_within (frame_dues plan.items) s.frames d e in (
+      record {
+        ticks = fits.ticks;
+        rows = fits.rows;
+        frames = omega (arith, within);
+        commands = fits.commands;
+        lines =
+            fits.lines;
+        backs = fits.backs;
+        returns = fits.returns;
+        used = fits.used;
+      },
+      omega arith,
+    ))
 
-pub command-kept : (plan : Plan) (s : Counts) → Fits plan s → Kept plan s (NotLanded s.ticks (slice_get (command_dues plan.items) s.commands)) (command plan s).counts
+pub command-kept : (plan : Plan) (s : Counts) → Fits plan s →
+    Kept plan s (NotLanded s.ticks (slice_get (command_dues plan.items) s.commands)) (command plan s).counts
 command-kept plan s fits =
-    land-kept plan s (record s { commands = s.commands + 1 }) s.ticks (slice_get (command_dues plan.items) s.commands) (λ d e.
-    let within = slice_get_within (command_dues plan.items) s.commands d e in
-    (record { ticks = fits.ticks; rows = fits.rows; frames = fits.frames; commands = omega (arith, within); lines = fits.lines; backs = fits.backs; returns = fits.returns; used = fits.used }, omega arith))
+    land-kept plan s (record s { commands = s.commands + 1 }) s.ticks (slice_get (command_dues plan.items) s.commands)
+    (λ d e.
+    let within = slice_get_within (command_dues plan.items) s.commands d e in (
+      record {
+        ticks = fits.ticks;
+        rows = fits.rows;
+        frames = fits.frames;
+        commands = omega (arith, within);
+        lines =
+            fits.lines;
+        backs = fits.backs;
+        returns = fits.returns;
+        used = fits.used;
+      },
+      omega arith,
+    ))
 
 -- ---- Back
 pub back-kept : (plan : Plan) (s : Counts) → Fits plan s → Kept plan s (packets_in s.rows ≤ s.backs) (back s).counts
@@ -41,7 +74,20 @@ back-kept plan s fits =
     elim (cases_Bool (nat_le (in_return s) 0)) [
       | inl e ↦ rw e (inl (refl, let none = leb-true (in_return s) 0 e in omega (arith, none)))
       | inr e ↦ rw e (let some = leb-false (in_return s) 0 e in
-          inr (record { ticks = fits.ticks; rows = fits.rows; frames = fits.frames; commands = fits.commands; lines = fits.lines; backs = omega (arith, some); returns = omega (arith, returns); used = omega (arith, used) }, omega arith))
+          inr (
+            record {
+              ticks = fits.ticks;
+              rows = fits.rows;
+              frames = fits.frames;
+              commands = fits.commands;
+              lines =
+                  fits.lines;
+              backs = omega (arith, some);
+              returns = omega (arith, returns);
+              used = omega (arith, used);
+            },
+            omega arith,
+          ))
     ]
 
 -- ---- Tick
@@ -67,7 +113,9 @@ missing-true plan s e =
     }
 
 -- where no cell is missing, one more tick uses none that isn't there
-used-more : (lag ticks backs : ℕ) → used_in lag ticks ≤ backs → nat_le (16 * lag + 8) ticks && ticks % 16 == 8 && nat_le (backs - used_in lag ticks) 0 ≡ false → used_in lag (ticks + 1) ≤ backs
+used-more : (lag ticks backs : ℕ) → used_in lag ticks ≤ backs →
+    nat_le (16 * lag + 8) ticks && ticks % 16 == 8 && nat_le (backs - used_in lag ticks) 0 ≡ false →
+    used_in lag (ticks + 1) ≤ backs
 used-more lag ticks backs used e =
     elim (cases_Bool (nat_le (16 * lag + 8) ticks)) [
       | inr early ↦ let h = leb-false (16 * lag + 8) ticks early in omega (arith, h)
@@ -86,7 +134,8 @@ used-more lag ticks backs used e =
       ]
     ]
 
-none-full : (total ring ticks rows m : ℕ) (paths : List LinePath) (lines : List LineCounts) → full total ticks m lines ≡ None →
+none-full : (total ring ticks rows m : ℕ) (paths : List LinePath) (lines : List LineCounts) →
+    full total ticks m lines ≡ None →
     Each (LineFits total ring ticks rows) paths lines → Each (LineFits total ring (ticks + 1) rows) paths lines
 unfolding Each full
 none-full total ring ticks rows m [] [] none h = tt
@@ -99,7 +148,14 @@ none-full total ring ticks rows m (path ∷ paths) (line ∷ lines) none h =
           let room = leb-false 32 (in_send total ticks line) e in
           let fits : LineFits total ring ticks rows path line = h.0 in
           let sent = fits.sent in (
-            record { carries = fits.carries; sent = omega (arith, sent); send = omega (arith, room); pops = fits.pops; receive = fits.receive; decides = fits.decides },
+            record {
+              carries = fits.carries;
+              sent = omega (arith, sent);
+              send = omega (arith, room);
+              pops = fits.pops;
+              receive = fits.receive;
+              decides = fits.decides;
+            },
             none-full total ring ticks rows (suc m) paths lines (rw e at none) h.1,
           )
     ]
@@ -111,7 +167,8 @@ tick-kept plan s fits =
       | inr e ↦ rw e (by-held (held s.ticks s.frames s.commands 0 plan.items) refl (leb-false plan.ticks s.ticks e))
     ]
   where
-    by-full : (found : Option ℕ) → full plan.ticks s.ticks 0 s.lines ≡ found → s.ticks < plan.ticks → Kept plan s (TickWhy plan s) (tick_full found plan s).counts
+    by-full : (found : Option ℕ) → full plan.ticks s.ticks 0 s.lines ≡ found → s.ticks < plan.ticks →
+        Kept plan s (TickWhy plan s) (tick_full found plan s).counts
     by-full (Some line) is open_ = inl (refl, fills line is)
     by-full None is open_ =
         elim (cases_Bool (is_missing plan s)) [
@@ -131,7 +188,8 @@ tick-kept plan s fits =
           ))
         ]
 
-    by-held : (found : Option ℕ) → held s.ticks s.frames s.commands 0 plan.items ≡ found → s.ticks < plan.ticks → Kept plan s (TickWhy plan s) (tick_held found plan s).counts
+    by-held : (found : Option ℕ) → held s.ticks s.frames s.commands 0 plan.items ≡ found → s.ticks < plan.ticks →
+        Kept plan s (TickWhy plan s) (tick_held found plan s).counts
     by-held (Some item) is open_ = inl (refl, waits item is)
     by-held None is open_ = by-full (full plan.ticks s.ticks 0 s.lines) refl open_
 
@@ -142,10 +200,13 @@ pub data CarryWhy (plan : Plan) (s : Counts) (path : LinePath) (line : LineCount
   fills : plan.ring ≤ in_receive path line → CarryWhy plan s path line
 
 abbrev pub NoCarry : Plan → Counts → ℕ → Type 0
-NoCarry plan s m = (path : LinePath) (line : LineCounts) → slice_get plan.paths m ≡ Some path → slice_get s.lines m ≡ Some line → CarryWhy plan s path line
+NoCarry plan s m = (path : LinePath) (line : LineCounts) → slice_get plan.paths m ≡ Some path →
+    slice_get s.lines m ≡ Some line → CarryWhy plan s path line
 
-carried-fits : (total ring ticks rows slip : ℕ) (path : LinePath) (line : LineCounts) → IsPath total slip path → LineFits total ring ticks rows path line →
-    line.carried ≤ total + path.delay → (line.carried < total → line.carried < ticks) → path.given line.carried < line.popped + ring →
+carried-fits : (total ring ticks rows slip : ℕ) (path : LinePath) (line : LineCounts) → IsPath total slip path →
+    LineFits total ring ticks rows path line →
+    line.carried ≤ total + path.delay → (line.carried < total → line.carried < ticks) →
+    path.given line.carried < line.popped + ring →
     LineFits total ring ticks rows path (record line { carried = line.carried + 1 })
 carried-fits total ring ticks rows slip path line is fits more sends room =
     let one = is.one line.carried more in
@@ -159,14 +220,19 @@ carried-fits total ring ticks rows slip path line is fits more sends room =
       decides = fits.decides;
     }
 
-module _ (slow fast slip : ℕ) (plan : Plan) (s : Counts) (is : IsPlanOf slow fast slip plan) (fits : Fits plan s) (m : ℕ) where
-  carried : (path : LinePath) (line : LineCounts) → slice_get plan.paths m ≡ Some path → slice_get s.lines m ≡ Some line →
-      line.carried ≤ plan.ticks + path.delay → (line.carried < plan.ticks → line.carried < s.ticks) → path.given line.carried < line.popped + plan.ring →
+module _ (slow fast slip : ℕ) (plan : Plan) (s : Counts) (is : IsPlanOf slow fast slip plan) (fits : Fits plan s)
+    (m : ℕ) where
+  carried : (path : LinePath) (line : LineCounts) → slice_get plan.paths m ≡ Some path →
+      slice_get s.lines m ≡ Some line →
+      line.carried ≤ plan.ticks + path.delay → (line.carried < plan.ticks → line.carried < s.ticks) →
+      path.given line.carried < line.popped + plan.ring →
       Fits plan (record s { lines = slice_set s.lines m (record line { carried = line.carried + 1 }) })
       × (made s < made (record s { lines = slice_set s.lines m (record line { carried = line.carried + 1 }) }))
   carried path line p l more sends room =
-      let both = each-at (λ path line. IsSound plan.ticks slow fast slip path × LineFits plan.ticks plan.ring s.ticks s.rows path line) plan.paths s.lines m path line
-      (each-with (IsSound plan.ticks slow fast slip) (LineFits plan.ticks plan.ring s.ticks s.rows) plan.paths s.lines is.paths fits.lines) p l in
+      let both = each-at (λ path line. IsSound plan.ticks slow fast slip path ×
+      LineFits plan.ticks plan.ring s.ticks s.rows path line) plan.paths s.lines m path line
+      (each-with (IsSound plan.ticks slow fast slip) (LineFits plan.ticks plan.ring s.ticks s.rows) plan.paths s.lines
+      is.paths fits.lines) p l in
       let sound : IsSound plan.ticks slow fast slip path = both.0 in
       let new = carried-fits plan.ticks plan.ring s.ticks s.rows slip path line sound.is_path both.1 more sends room in
       let sum = sum-set s.lines m line (record line { carried = line.carried + 1 }) l refl refl in (
@@ -175,7 +241,8 @@ module _ (slow fast slip : ℕ) (plan : Plan) (s : Counts) (is : IsPlanOf slow f
           rows = fits.rows;
           frames = fits.frames;
           commands = fits.commands;
-          lines = each-set (LineFits plan.ticks plan.ring s.ticks s.rows) plan.paths s.lines m path (record line { carried = line.carried + 1 }) fits.lines p new;
+          lines = each-set (LineFits plan.ticks plan.ring s.ticks s.rows) plan.paths s.lines m path
+              (record line { carried = line.carried + 1 }) fits.lines p new;
           backs = fits.backs;
           returns = fits.returns;
           used = fits.used;
@@ -183,20 +250,26 @@ module _ (slow fast slip : ℕ) (plan : Plan) (s : Counts) (is : IsPlanOf slow f
         omega (arith, sum),
       )
 
-  why : (path other : LinePath) (line that : LineCounts) → Some path ≡ Some other → Some line ≡ Some that → CarryWhy plan s path line → CarryWhy plan s other that
+  why : (path other : LinePath) (line that : LineCounts) → Some path ≡ Some other → Some line ≡ Some that →
+      CarryWhy plan s path line → CarryWhy plan s other that
   why path other line that p l w =
       let e : path ≡ other = cc in let f : line ≡ that = cc in
       subst (λ line. CarryWhy plan s other line) f (subst (λ path. CarryWhy plan s path line) e w)
 
-  on : (path : LinePath) (line : LineCounts) → slice_get plan.paths m ≡ Some path → slice_get s.lines m ≡ Some line → Kept plan s (CarryWhy plan s path line) (carry_on plan s m path line).counts
+  on : (path : LinePath) (line : LineCounts) → slice_get plan.paths m ≡ Some path → slice_get s.lines m ≡ Some line →
+      Kept plan s (CarryWhy plan s path line) (carry_on plan s m path line).counts
   on path line p l =
       elim (cases_Bool (nat_lt (plan.ticks + path.delay) line.carried)) [
         | inl e ↦ rw e (inl (refl, ended (ltb-true (plan.ticks + path.delay) line.carried e)))
         | inr e ↦ let more = ltb-false (plan.ticks + path.delay) line.carried e in
             rw e (elim (cases_Bool (nat_lt line.carried plan.ticks && nat_le (in_send plan.ticks s.ticks line) 0)) [
               | inl f ↦
-                  let open_ = ltb-true line.carried plan.ticks (and_parts (nat_lt line.carried plan.ticks) (nat_le (in_send plan.ticks s.ticks line) 0) f).0 in
-                  let none = leb-true (in_send plan.ticks s.ticks line) 0 (and_parts (nat_lt line.carried plan.ticks) (nat_le (in_send plan.ticks s.ticks line) 0) f).1 in
+                  let open_ = ltb-true line.carried plan.ticks
+                  (and_parts (nat_lt line.carried plan.ticks) (nat_le (in_send plan.ticks s.ticks line) 0) f).0
+                  in
+                  let none = leb-true (in_send plan.ticks s.ticks line) 0
+                  (and_parts (nat_lt line.carried plan.ticks) (nat_le (in_send plan.ticks s.ticks line) 0) f).1
+                  in
                   rw f (inl (refl, empty open_ (omega (arith, open_, none))))
               | inr f ↦ rw f (elim (cases_Bool (nat_le plan.ring (in_receive path line))) [
                 | inl g ↦ rw g (inl (refl, fills (leb-true plan.ring (in_receive path line) g)))
@@ -206,7 +279,9 @@ module _ (slow fast slip : ℕ) (plan : Plan) (s : Counts) (is : IsPlanOf slow f
             ])
       ]
     where
-      sends : (line : LineCounts) → line.carried < plan.ticks → (nat_lt line.carried plan.ticks && nat_le (in_send plan.ticks s.ticks line) 0) ≡ false → line.carried < s.ticks
+      sends : (line : LineCounts) → line.carried < plan.ticks →
+          (nat_lt line.carried plan.ticks && nat_le (in_send plan.ticks s.ticks line) 0) ≡ false →
+          line.carried < s.ticks
       sends line open_ f = elim (cases_Bool (nat_le (in_send plan.ticks s.ticks line) 0)) [
         | inl none ↦ let less : nat_lt line.carried plan.ticks ≡ true = grind (arith, open_) in absurd (let g : true ≡ false = rw (less, none) at f in cc)
         | inr some ↦ let h = leb-false (in_send plan.ticks s.ticks line) 0 some in omega (arith, h, open_)
@@ -215,7 +290,8 @@ module _ (slow fast slip : ℕ) (plan : Plan) (s : Counts) (is : IsPlanOf slow f
   pub carry-kept : Kept plan s (NoCarry plan s m) (carry plan s m).counts
   carry-kept = by (slice_get plan.paths m) (slice_get s.lines m) refl refl
     where
-      by : (path : Option LinePath) (line : Option LineCounts) → slice_get plan.paths m ≡ path → slice_get s.lines m ≡ line → Kept plan s (NoCarry plan s m) (carry_at plan s m path line).counts
+      by : (path : Option LinePath) (line : Option LineCounts) → slice_get plan.paths m ≡ path →
+          slice_get s.lines m ≡ line → Kept plan s (NoCarry plan s m) (carry_at plan s m path line).counts
       by (Some path) (Some line) p l = elim (on path line p l) [
         | inl same ↦ inl (same.0, λ other that q k. why path other line that (sym p ∙ q) (sym l ∙ k) same.1)
         | inr more ↦ inr more

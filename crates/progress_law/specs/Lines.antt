@@ -14,7 +14,8 @@ use Rattle.session_model.specs.Plan.{all_cells, path_of, FitsRing, FitsLag}
 -- the numbers below those decided have a verdict by the first y cells, and no others
 abbrev pub IsDecided : (ℕ → Carried) → ℕ → List Container → ℕ → ℕ → Type 0
 IsDecided carries delay containers y t =
-    IsSome (verdict (take y (all_cells carries delay containers)) t) ↔ (t < (path_of carries delay containers).decided y)
+    IsSome (verdict (take y (all_cells carries delay containers)) t) ↔
+    (t < (path_of carries delay containers).decided y)
 
 -- each line has a delay, and is sent a container for each tick, whose H4 octets say its place
 unfoldable pub AreSentBy : ℕ → List (List Window) → List ℕ → List (List Container) → Type 0

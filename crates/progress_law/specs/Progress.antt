@@ -1,16 +1,20 @@
--- That a walk in numbers is never stuck: what is asked of its lines, within which bounds its counts stay, and what progress is.
-use Rattle.std.specs.Prelude.{◌≡◌, ◌⊎◌, ℕ, suc, ◌+◌, ◌-◌, ◌*◌, ◌<◌, ◌≤◌, min, List, [], ◌∷◌, length, sum_by, Option, Some, None, IfSome}
+-- That a walk in numbers is never stuck: what is asked of its lines, within which bounds its counts stay, and what
+-- progress is.
+use Rattle.std.specs.Prelude.{◌≡◌, ◌⊎◌, ℕ, suc, ◌+◌, ◌-◌, ◌*◌, ◌<◌, ◌≤◌, min, List, [], ◌∷◌, length, sum_by, Option}
+use Rattle.std.specs.Prelude.{Some, None, IfSome}
 use Rattle.std.specs.List.Sorted.{IsNonDecreasing}
 use Rattle.session_model.specs.declared.walk.Event.{Event}
 use Rattle.session_model.specs.declared.walk.Event.TheVariants.{Accept, Command, Tick, Carry, Back, Take}
 use Rattle.session_model.specs.Scenario.{packets_in}
-use Rattle.session_model.specs.Counts.{frame_dues, command_dues, LinePath, Plan, LineCounts, Counts, used_in, step, run, begin}
+use Rattle.session_model.specs.Counts.{frame_dues, command_dues, LinePath, Plan, LineCounts, Counts, used_in, step, run}
+use Rattle.session_model.specs.Counts.{begin}
 
 -- ---- what is asked of a plan
 -- a line that has some slip: its cells are never further after its containers than the slip, beyond the delay
 pub record IsPath (total slip : ℕ) (path : LinePath) : Type 0 where
   -- a carry gives one cell, or none
-  pub one : (x : ℕ) → x ≤ total + path.delay → (path.given x ≤ path.given (x + 1)) × (path.given (x + 1) ≤ path.given x + 1)
+  pub one : (x : ℕ) → x ≤ total + path.delay → (path.given x ≤ path.given (x + 1)) ×
+      (path.given (x + 1) ≤ path.given x + 1)
   -- the cells given so far decide all numbers but those of the slip
   pub late : (x : ℕ) → x ≤ total + path.delay → x ≤ path.decided (path.given x) + slip + path.delay
   -- all cells decide all numbers
@@ -34,7 +38,8 @@ pub record IsSound (total slow fast slip : ℕ) (path : LinePath) : Type 0 where
   pub most : path.delay ≤ slow
   pub least : fast ≤ path.delay
 
--- the due ticks of frames never fall, nor those of commands; the greatest and the least delay, the greatest slip and the lag fit the
+-- the due ticks of frames never fall, nor those of commands; the greatest and the least delay, the greatest slip and
+-- the lag fit the
 -- rings
 pub record IsPlanOf (slow fast slip : ℕ) (plan : Plan) : Type 0 where
   pub some : 0 < length plan.paths
@@ -59,7 +64,8 @@ Each P [] (line ∷ lines) = ⊥
 Each P (path ∷ paths) [] = ⊥
 Each P (path ∷ paths) (line ∷ lines) = P path line × Each P paths lines
 
--- a line within its bounds: no more is carried than there is, its rings hold no more than they may, no row is taken that it
+-- a line within its bounds: no more is carried than there is, its rings hold no more than they may, no row is taken
+-- that it
 -- doesn't decide
 pub record LineFits (total ring ticks rows : ℕ) (path : LinePath) (line : LineCounts) : Type 0 where
   pub carries : line.carried ≤ total + path.delay + 1

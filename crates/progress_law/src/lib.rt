@@ -1,5 +1,6 @@
-//! The law that a walk of a session is never stuck, in numbers: how many ticks, items, carries, cells, rows and return packets there
-//! are. There is no code here, and nothing is said of what a cell or a row holds. Begin at `progress_law`.
+//! The law that a walk of a session is never stuck, in numbers: how many ticks, items, carries, cells, rows
+//! and return packets there are. There is no code here, and nothing is said of what a cell or a row holds.
+//! Begin at `progress_law`.
 #![tactic(auto)]
 
 ghost use Rattle.std.specs.Prelude.{◌≡◌, ℕ, ◌<◌, ◌≤◌, [], List, length, replicate, Option, Some};
@@ -12,7 +13,8 @@ ghost use Rattle.session_model.specs.declared.script.EventLine.{EventLine};
 ghost use Rattle.session_model.specs.declared.walk.Event.{Event};
 ghost use Rattle.session_model.specs.declared.walk.Event.TheVariants.{Accept, Tick, Carry, Back, Take};
 ghost use Rattle.session_model.specs.declared.walk.StallCause.{StallCause};
-ghost use Rattle.session_model.specs.declared.walk.StallCause.TheVariants.{NotDue, Held, TxFull, BackMissing, RxFull, BackEmpty, Waiting};
+ghost use Rattle.session_model.specs.declared.walk.StallCause.TheVariants.{NotDue, Held, TxFull, BackMissing, RxFull};
+ghost use Rattle.session_model.specs.declared.walk.StallCause.TheVariants.{BackEmpty, Waiting};
 ghost use Rattle.session_model.specs.Damage.{carried, slip_of};
 ghost use Rattle.session_model.specs.Line.{IsLine};
 ghost use Rattle.session_model.specs.Counts.{Plan, Counts, in_inbox, step, drain, bound, walked};
@@ -21,10 +23,11 @@ ghost use Rattle.progress_law.specs.Progress.{IsPath, IsPlan, Fits, IsReached, C
 ghost use Rattle.progress_law.specs.Lines.{IsDecided, CanRun};
 ghost use Rattle.progress_law.specs.Worked.{one_line, two_items, cause_after, one_carried, all_done};
 
-/// Where delays, slips and lag fit the rings, and after any list of events: the counts are within their bounds; the inbox holds no
-/// more return packets than the lag; where rows are left, some event moves, or a Take pops a cell; and rounds end with all rows taken,
-/// within a bound. A stalled event changes nothing, but that a Take keeps the cells which it popped. What event lines and drains lead
-/// to, a list of events leads to.
+/// Where delays, slips and lag fit the rings, and after any list of events: the counts are within their
+/// bounds; the inbox holds no more return packets than the lag; where rows are left, some event moves, or a
+/// Take pops a cell; and rounds end with all rows taken, within a bound. A stalled event changes nothing, but
+/// that a Take keeps the cells which it popped. What event lines and drains lead to, a list of events leads
+/// to.
 pub fn progress_law()
     ensures within { (plan : Plan) (s : Counts) → IsPlan plan → IsReached plan s → Fits plan s }
     ensures inbox { (plan : Plan) (s : Counts) → IsPlan plan → IsReached plan s →
@@ -38,8 +41,9 @@ pub fn progress_law()
     ensures lines { (plan : Plan) (lines : List EventLine) → IsReached plan (walked plan lines) }
 {}
 
-/// The lines of a script in numbers. What their cells decide is what has a verdict; with the slip of its windows a line is a path of
-/// the law above; and delays, slips and a lag that pass the tests of a script are all that its walk needs.
+/// The lines of a script in numbers. What their cells decide is what has a verdict; with the slip of its
+/// windows a line is a path of the law above; and delays, slips and a lag that pass the tests of a script are
+/// all that its walk needs.
 pub fn line_law()
     ensures decided { (carries : ℕ → Carried) (containers : List Container) (delay y t : ℕ) →
         t < length containers → IsDecided carries delay containers y t }

@@ -8,9 +8,11 @@ use Rattle.line_law.proofs.OctetLaws.{octets_stay}
 use Rattle.realign_core.specs.Begun.{Begun, HasNibbles}
 
 -- a cell changes nothing of numbers that were passed
-pub nibbles-stay : (begun : Begun) (numbers : Numbers) (place : Container) (own more : List Cell) (t : ℕ) → Stands numbers place own t → HasNibbles begun own t → HasNibbles begun (own ++ more) t
+pub nibbles-stay : (begun : Begun) (numbers : Numbers) (place : Container) (own more : List Cell) (t : ℕ) →
+    Stands numbers place own t → HasNibbles begun own t → HasNibbles begun (own ++ more) t
 nibbles-stay begun numbers place own more t stands has = record {
   early = has.early;
   part = λ k j e some most.
-      octets_stay own more (16 * k + 8) j (λ s low high. passed-decided numbers place own t s stands (omega arith)) ∙ has.part k j e some most;
+      octets_stay own more (16 * k + 8) j (λ s low high. passed-decided numbers place own t s stands (omega arith))
+      ∙ has.part k j e some most;
 }

@@ -1,5 +1,6 @@
 -- The nibbles of a packet of a line that has begun.
-use Rattle.std.specs.Prelude.{◌≡◌, ℕ, ◌+◌, ◌-◌, ◌*◌, ◌/◌, ◌<◌, ◌≤◌, nat_lt, Bool, false, List, take, Option, Some, None, if◌then◌else◌}
+use Rattle.std.specs.Prelude.{◌≡◌, ℕ, ◌+◌, ◌-◌, ◌*◌, ◌/◌, ◌<◌, ◌≤◌, nat_lt, Bool, false, List, take, Option, Some, None}
+use Rattle.std.specs.Prelude.{if◌then◌else◌}
 use Rattle.vc_cell.specs.declared.Cell.{Cell}
 use Rattle.session_model.specs.declared.packet.Packet.{Packet}
 use Rattle.session_model.specs.MemberPacket.{uppers}
@@ -10,7 +11,8 @@ pub record Begun : Type 0 where
   pub nibbles : List ℕ
   pub whole : Bool
 
--- t numbers of these cells were passed: the last j of them are the first j of packet k. No packet has begun before number 8
+-- t numbers of these cells were passed: the last j of them are the first j of packet k. No packet has begun before
+-- number 8
 pub record HasNibbles (begun : Begun) (own : List Cell) (t : ℕ) : Type 0 where
   pub early : t ≤ 8 → begun.whole ≡ false
   pub part : (k j : ℕ) → t ≡ 16 * k + 8 + j → 0 < j → j ≤ 16 →

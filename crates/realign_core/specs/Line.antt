@@ -9,7 +9,8 @@ pub record Line : Type 0 where
   pub numbers : Numbers
   pub begun : Begun
 
--- these cells of the line came, and t numbers were passed; the container of the next one lies in a place, where it is whole
+-- these cells of the line came, and t numbers were passed; the container of the next one lies in a place, where it is
+-- whole
 pub record LineStands (line : Line) (place : Container) (own : List Cell) (t : ℕ) : Type 0 where
   pub numbers : Stands line.numbers place own t
   pub nibbles : HasNibbles line.begun own t

@@ -1,6 +1,7 @@
 //! All lines of a group.
 
-ghost use Rattle.std.specs.Prelude.{◌≡◌, ℕ, ◌+◌, ◌%◌, ◌<◌, ◌≤◌, List, [], length, replicate, slice_get, slice_set, Some, None, IfOk};
+ghost use Rattle.std.specs.Prelude.{◌≡◌, ℕ, ◌+◌, ◌%◌, ◌<◌, ◌≤◌, List, [], length, replicate, slice_get, slice_set};
+ghost use Rattle.std.specs.Prelude.{Some, None, IfOk};
 ghost use Rattle.vc_cell.specs.declared.Container.{Container};
 ghost use Rattle.vc_cell.specs.declared.Cell.{Cell};
 ghost use Rattle.vc_cell.specs.Held.{held};
@@ -9,7 +10,8 @@ ghost use Rattle.session_model.specs.Rows.{governing, first_open};
 ghost use Rattle.line_reader.specs.Told.{cell_of, cell_with, told_by};
 ghost use Rattle.line_reader.specs.Numbers.{IsOpen};
 ghost use Rattle.realign_core.specs.Line.{Line};
-ghost use Rattle.realign_core.specs.Gather.{Stands, line_count, IsOpenAt, AreDecided, decided_lines, open_line, waiting_of, Allows, with_cell};
+ghost use Rattle.realign_core.specs.Gather.{Stands, line_count, IsOpenAt, AreDecided, decided_lines, open_line};
+ghost use Rattle.realign_core.specs.Gather.{waiting_of, Allows, with_cell};
 ghost use Rattle.realign_core.specs.Loops.{AreNew, ArePassed, AreRead};
 
 use crate::RowAnswer;
@@ -93,7 +95,8 @@ impl RowGather {
         self.offer_from(line, cell_ref(&cell));
     }
 
-    /// Takes the next cell as `offer` does, from where its container lies. Its payload is copied once, and only where it is whole.
+    /// Takes the next cell as `offer` does, from where its container lies. Its payload is copied once, and
+    /// only where it is whole.
     pub fn offer_from(&mut self, line: u8, cell: CellRef<'_>)
         requires line { line < line_count self.old }
         requires open { IsOpenAt self.old line }
@@ -107,8 +110,8 @@ impl RowGather {
         self.decided = decided_after(&self.lines, m, self.decided);
     }
 
-    /// Takes the next cell as `offer` does, but changes the boxes where the container of a good cell is whole, and copies nothing.
-    /// What lies in `container` afterwards says nothing.
+    /// Takes the next cell as `offer` does, but changes the boxes where the container of a good cell is
+    /// whole, and copies nothing. What lies in `container` afterwards says nothing.
     pub fn offer_boxed(&mut self, line: u8, sign: CellSign, container: &mut Box<HeldContainer>)
         requires line { line < line_count self.old }
         requires open { IsOpenAt self.old line }
@@ -133,8 +136,8 @@ impl RowGather {
         self.lines[m].verdict(self.places[m].container())
     }
 
-    /// The containers of the lines on which the next row is decided as whole, each at the place of its line. What stands at the other
-    /// places says nothing.
+    /// The containers of the lines on which the next row is decided as whole, each at the place of its line.
+    /// What stands at the other places says nothing.
     pub fn containers(&self) -> &[Box<HeldContainer>]
         ensures lines { length result.now ≡ line_count self.now }
         ensures whole { (cells : List (List Cell)) (m : ℕ) (own : List Cell) (found : Container) →
@@ -163,8 +166,8 @@ impl RowGather {
         self.rows += 1;
     }
 
-    /// The packets that govern the next row, by line: those read with the last packet row that was passed, and none before the first.
-    /// A line has none where it has no packet that can be read.
+    /// The packets that govern the next row, by line: those read with the last packet row that was passed,
+    /// and none before the first. A line has none where it has no packet that can be read.
     pub fn packets(&self) -> &[Option<Packet>]
         ensures lines { length result.now ≡ line_count self.now }
         ensures governing { (cells : List (List Cell)) → Stands self.now cells →

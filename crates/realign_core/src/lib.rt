@@ -1,5 +1,6 @@
-//! Realignment: the rows of a group, number by number over all its lines, and the control packets that its lines carry (G.707,
-//! G.7042). Whether a row is whole, and what it gives, is not said here. Begin with `RowGather`.
+//! Realignment: the rows of a group, number by number over all its lines, and the control packets that its
+//! lines carry (G.707, G.7042). Whether a row is whole, and what it gives, is not said here. Begin with
+//! `RowGather`.
 #![tactic(auto)]
 
 mod gather;

@@ -1,5 +1,7 @@
 -- Numbers and their bits.
-use Rattle.std.proofs.Common.{◌≡◌, ℕ, zero, suc, ◌+◌, ◌*◌, ◌/◌, ◌%◌, ◌^◌, ◌<◌, ◌==◌, Bool, true, false, if◌then◌else◌, List, [], ◌∷◌, ◌++◌, length, replicate, bit_xor, refl, sym, ◌∙◌, ap, ap₂, arith, append_assoc, append-nil, add-suc, add-zero, add-one, div-one, pow-suc, mod-eq_of_lt}
+use Rattle.std.proofs.Common.{◌≡◌, ℕ, zero, suc, ◌+◌, ◌*◌, ◌/◌, ◌%◌, ◌^◌, ◌<◌, ◌==◌, Bool, true, false, if◌then◌else◌}
+use Rattle.std.proofs.Common.{List, [], ◌∷◌, ◌++◌, length, replicate, bit_xor, refl, sym, ◌∙◌, ap, ap₂, arith}
+use Rattle.std.proofs.Common.{append_assoc, append-nil, add-suc, add-zero, add-one, div-one, pow-suc, mod-eq_of_lt}
 use Rattle.std.proofs.lemmas.List.{length-append, replicate_more}
 use Rattle.std.proofs.lemmas.Nat.{shr-shr, shr_split, mod-pow-add, xor_shr, xor_mod, shr_high}
 use Rattle.remainder.specs.Bits.{bits, number_behind, number, xor, xors}
@@ -57,7 +59,8 @@ bits-xor (suc k) a b =
     ap₂ (λ m p. bits k m ++ p ∷ []) (xor_shr a b 1)
     (ap (λ m. m == 1) (xor_mod a b 1) ∙ xor_of_bits (a % 2) (b % 2) (omega arith) (omega arith))
     ∙ ap (λ l. l ++ xor (a % 2 == 1) (b % 2 == 1) ∷ []) (bits-xor k (a / 2) (b / 2))
-    ∙ sym (xors-append (bits k (a / 2)) (bits k (b / 2)) ((a % 2 == 1) ∷ []) ((b % 2 == 1) ∷ []) (length-bits k (a / 2) ∙ sym (length-bits k (b / 2))))
+    ∙ sym (xors-append (bits k (a / 2)) (bits k (b / 2)) ((a % 2 == 1) ∷ []) ((b % 2 == 1) ∷ [])
+    (length-bits k (a / 2) ∙ sym (length-bits k (b / 2))))
 
 pub bits-zero : (k : ℕ) → bits k 0 ≡ replicate k false
 unfolding bits
@@ -66,7 +69,8 @@ bits-zero (suc k) = ap (λ l. l ++ false ∷ []) (bits-zero k) ∙ replicate_mor
 
 -- ---- numbers back from bits
 -- one more bit, the lowest
-pub number_behind-append : (n : ℕ) (front back : List Bool) → number_behind n (front ++ back) ≡ number_behind (number_behind n front) back
+pub number_behind-append : (n : ℕ) (front back : List Bool) →
+    number_behind n (front ++ back) ≡ number_behind (number_behind n front) back
 unfolding number_behind
 number_behind-append n [] back = refl
 number_behind-append n (b ∷ front) back = number_behind-append (2 * n + (if b then 1 else 0)) front back

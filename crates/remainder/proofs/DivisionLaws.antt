@@ -1,5 +1,6 @@
 -- Long division, step by step: it is linear, and it takes a product to nothing.
-use Rattle.std.proofs.Common.{◌≡◌, ℕ, zero, suc, ◌+◌, ◌-◌, ◌≤◌, Bool, true, false, List, [], ◌∷◌, ◌++◌, length, replicate, refl, sym, ◌∙◌, ap, ap₂, arith, zero-add, suc-add}
+use Rattle.std.proofs.Common.{◌≡◌, ℕ, zero, suc, ◌+◌, ◌-◌, ◌≤◌, Bool, true, false, List, [], ◌∷◌, ◌++◌, length}
+use Rattle.std.proofs.Common.{replicate, refl, sym, ◌∙◌, ap, ap₂, arith, zero-add, suc-add}
 use Rattle.std.proofs.lemmas.List.{length-replicate}
 use Rattle.remainder.specs.Bits.{xor, xors}
 use Rattle.remainder.specs.Remainder.{add_front, times, divide}
@@ -33,9 +34,11 @@ add_front-xors_right front p q =
 -- what is added on both sides is gone
 pub add_front_both : (front p q : List Bool) → xors (add_front front p) (add_front front q) ≡ xors p q
 add_front_both front p q =
-    sym (add_front-xors front p (add_front front q)) ∙ ap (add_front front) (sym (add_front-xors_right front p q)) ∙ add_front_twice front (xors p q)
+    sym (add_front-xors front p (add_front front q)) ∙ ap (add_front front) (sym (add_front-xors_right front p q))
+    ∙ add_front_twice front (xors p q)
 
-pub add_front-append : (front p q : List Bool) → length front ≤ length p → add_front front (p ++ q) ≡ add_front front p ++ q
+pub add_front-append : (front p q : List Bool) → length front ≤ length p →
+    add_front front (p ++ q) ≡ add_front front p ++ q
 unfolding add_front
 add_front-append [] p q h = refl
 add_front-append (a ∷ front) [] q h = absurd (omega arith)
@@ -47,7 +50,8 @@ unfolding divide
 divide-nil zero lower = refl
 divide-nil (suc k) lower = refl
 
-pub divide-xors : (k : ℕ) (lower p q : List Bool) → divide k lower (xors p q) ≡ xors (divide k lower p) (divide k lower q)
+pub divide-xors : (k : ℕ) (lower p q : List Bool) →
+    divide k lower (xors p q) ≡ xors (divide k lower p) (divide k lower q)
 unfolding divide xors
 divide-xors zero lower p q = refl
 divide-xors (suc k) lower [] q = refl
@@ -80,7 +84,8 @@ length-divide (suc k) lower (true ∷ p) = let e = length-divide k lower (add_fr
 length-divide (suc k) lower (false ∷ p) = let e = length-divide k lower p in omega arith
 
 -- what stands behind the part that is divided stays
-pub divide-append : (k : ℕ) (lower p q : List Bool) → k + length lower ≤ length p → divide k lower (p ++ q) ≡ divide k lower p ++ q
+pub divide-append : (k : ℕ) (lower p q : List Bool) → k + length lower ≤ length p →
+    divide k lower (p ++ q) ≡ divide k lower p ++ q
 unfolding divide
 divide-append zero lower p q h = refl
 divide-append (suc k) lower [] q h = absurd (omega arith)
@@ -99,7 +104,8 @@ length-times lower (false ∷ q) = let e = length-times lower q in omega (arith,
 pub divide-times : (lower q : List Bool) → divide (length q) lower (times lower q) ≡ replicate (length lower) false
 unfolding divide times add_front
 divide-times lower [] = refl
-divide-times lower (true ∷ q) = ap (divide (length q) lower) (add_front_twice lower (times lower q)) ∙ divide-times lower q
+divide-times lower (true ∷ q) = ap (divide (length q) lower) (add_front_twice lower (times lower q))
+    ∙ divide-times lower q
 divide-times lower (false ∷ q) = divide-times lower q
 
 -- a list is what is left of it, and a product
@@ -110,7 +116,12 @@ pub record Divided (k : ℕ) (lower p : List Bool) : Type 0 where
 
 pub divided : (k : ℕ) (lower p : List Bool) → length p ≡ k + length lower → Divided k lower p
 unfolding divide times add_front xors
-divided zero lower p h = record { quotient = []; size = refl; sum = sym (xors-zeros_right (length lower) p (omega arith)) }
+divided zero lower p h = record {
+  quotient = [];
+  size = refl;
+  sum =
+      sym (xors-zeros_right (length lower) p (omega arith));
+}
 divided (suc k) lower [] h = absurd (omega arith)
 divided (suc k) lower (true ∷ p) h =
     let e : length (add_front lower p) ≡ k + length lower = omega (arith, length-add_front lower p) in
@@ -118,7 +129,8 @@ divided (suc k) lower (true ∷ p) h =
     record {
       quotient = true ∷ d.quotient;
       size = ap suc d.size;
-      sum = ap (λ z. true ∷ z) (sym (add_front_twice lower p) ∙ ap (add_front lower) d.sum ∙ add_front-xors_right lower _ (times lower d.quotient));
+      sum = ap (λ z. true ∷ z) (sym (add_front_twice lower p) ∙ ap (add_front lower) d.sum
+          ∙ add_front-xors_right lower _ (times lower d.quotient));
     }
 divided (suc k) lower (false ∷ p) h =
     let d = divided k lower p (omega arith) in

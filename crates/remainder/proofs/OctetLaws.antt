@@ -1,6 +1,9 @@
 -- Octets and their bits.
-use Rattle.std.proofs.Common.{◌≡◌, ℕ, zero, suc, ◌+◌, ◌*◌, ◌/◌, ◌%◌, ◌^◌, ◌<◌, ◌≤◌, Bool, List, [], ◌∷◌, ◌++◌, length, take, drop, All, bit_xor, refl, sym, ◌∙◌, ap, ap₂, arith, suc-add, zero-add, div-one, pow-suc, mod-eq_of_lt, pow_mono, lt_of_lt_of_le}
-use Rattle.std.proofs.lemmas.List.{length-append, length-take, length-drop, take_at, drop_at, take-append-drop, take-append-le, drop-append-le}
+use Rattle.std.proofs.Common.{◌≡◌, ℕ, zero, suc, ◌+◌, ◌*◌, ◌/◌, ◌%◌, ◌^◌, ◌<◌, ◌≤◌, Bool, List, [], ◌∷◌, ◌++◌, length}
+use Rattle.std.proofs.Common.{take, drop, All, bit_xor, refl, sym, ◌∙◌, ap, ap₂, arith, suc-add, zero-add, div-one}
+use Rattle.std.proofs.Common.{pow-suc, mod-eq_of_lt, pow_mono, lt_of_lt_of_le}
+use Rattle.std.proofs.lemmas.List.{length-append, length-take, length-drop, take_at, drop_at, take-append-drop}
+use Rattle.std.proofs.lemmas.List.{take-append-le, drop-append-le}
 use Rattle.std.specs.Int.{byte_at, bytes_high_first}
 use Rattle.std.proofs.lemmas.Nat.{pow-add}
 use Rattle.std.proofs.lemmas.List.Elements.{All-nil, All-cons, All-head, All-tail}
@@ -29,13 +32,16 @@ octets_of_below (suc count) bs =
     All-cons (λ o. o < 256) (number (take 8 bs)) (octets_of count (drop 8 bs))
     (lt_of_lt_of_le (number_below (take 8 bs)) (pow_mono short)) (octets_of_below count (drop 8 bs))
 
-pub octets_of-octet_bits : (octets : List ℕ) → All (λ o. o < 256) octets → octets_of (length octets) (octet_bits octets) ≡ octets
+pub octets_of-octet_bits : (octets : List ℕ) → All (λ o. o < 256) octets →
+    octets_of (length octets) (octet_bits octets) ≡ octets
 unfolding octets_of
 octets_of-octet_bits [] h = refl
 octets_of-octet_bits (o ∷ octets) h =
     ap₂ ◌∷◌
-    (ap number (take_at (bits 8 o) (octet_bits octets) 8 (length-bits 8 o)) ∙ number-bits 8 o ∙ mod-eq_of_lt (All-head (λ y. y < 256) o octets h))
-    (ap (octets_of (length octets)) (drop_at (bits 8 o) (octet_bits octets) 8 (length-bits 8 o)) ∙ octets_of-octet_bits octets (All-tail (λ y. y < 256) o octets h))
+    (ap number (take_at (bits 8 o) (octet_bits octets) 8 (length-bits 8 o)) ∙ number-bits 8 o
+    ∙ mod-eq_of_lt (All-head (λ y. y < 256) o octets h))
+    (ap (octets_of (length octets)) (drop_at (bits 8 o) (octet_bits octets) 8 (length-bits 8 o))
+    ∙ octets_of-octet_bits octets (All-tail (λ y. y < 256) o octets h))
 
 pub octet_bits-octets_of : (count : ℕ) (bs : List Bool) → length bs ≡ 8 * count → octet_bits (octets_of count bs) ≡ bs
 unfolding octets_of
@@ -48,7 +54,8 @@ octet_bits-octets_of (suc count) bs h =
     (octet_bits-octets_of count (drop 8 bs) (omega (arith, length-drop 8 bs)))
     ∙ take-append-drop 8 bs
 
-pub octets_of-append : (a b : ℕ) (front back : List Bool) → length front ≡ 8 * a → octets_of (a + b) (front ++ back) ≡ octets_of a front ++ octets_of b back
+pub octets_of-append : (a b : ℕ) (front back : List Bool) → length front ≡ 8 * a →
+    octets_of (a + b) (front ++ back) ≡ octets_of a front ++ octets_of b back
 unfolding octets_of
 octets_of-append zero b [] back h = rw zero-add refl
 octets_of-append zero b (x ∷ front) back h = absurd (omega arith)
@@ -56,7 +63,8 @@ octets_of-append (suc a) b front back h =
     let long : 8 ≤ length front = omega arith in
     rw suc-add (ap₂ (λ l m. number l ∷ m)
     (take-append-le 8 front back long)
-    (ap (octets_of (a + b)) (drop-append-le 8 front back long) ∙ octets_of-append a b (drop 8 front) back (omega (arith, length-drop 8 front))))
+    (ap (octets_of (a + b)) (drop-append-le 8 front back long)
+    ∙ octets_of-append a b (drop 8 front) back (omega (arith, length-drop 8 front))))
 
 pow_of_octets : (k : ℕ) → 256 ^ k ≡ 2 ^ (8 * k)
 pow_of_octets zero = refl
@@ -73,7 +81,8 @@ pub bytes_high_first_below : (count n : ℕ) → All (λ o. o < 256) (bytes_high
 bytes_high_first_below zero n = All-nil (λ o. o < 256)
 bytes_high_first_below (suc zero) n = All-cons (λ o. o < 256) (n % 256) [] (omega arith) (bytes_high_first_below zero n)
 bytes_high_first_below (suc (suc count)) n =
-    All-cons (λ o. o < 256) (n / 256 ^ suc count % 256) (bytes_high_first (suc count) n) (omega arith) (bytes_high_first_below (suc count) n)
+    All-cons (λ o. o < 256) (n / 256 ^ suc count % 256) (bytes_high_first (suc count) n) (omega arith)
+    (bytes_high_first_below (suc count) n)
 
 -- their bits
 pub octet_bits-bytes_high_first : (count n : ℕ) → octet_bits (bytes_high_first count n) ≡ bits (8 * count) n

@@ -1,5 +1,7 @@
 -- One step of division with a table, and a table by its entries.
-use Rattle.std.proofs.Common.{◌≡◌, ℕ, ◌+◌, ◌-◌, ◌*◌, ◌/◌, ◌%◌, ◌^◌, ◌<◌, ◌≤◌, Bool, true, false, List, [], ◌++◌, length, take, drop, replicate, map, bit_xor, slice_index, get_or, nat_lt, ltb-true, sym, ◌∙◌, ap, ap₂, subst, arith, add_comm, add-zero}
+use Rattle.std.proofs.Common.{◌≡◌, ℕ, ◌+◌, ◌-◌, ◌*◌, ◌/◌, ◌%◌, ◌^◌, ◌<◌, ◌≤◌, Bool, true, false, List, [], ◌++◌, length}
+use Rattle.std.proofs.Common.{take, drop, replicate, map, bit_xor, slice_index, get_or, nat_lt, ltb-true, sym, ◌∙◌, ap}
+use Rattle.std.proofs.Common.{ap₂, subst, arith, add_comm, add-zero}
 use Rattle.std.specs.List.{list_all, range_with_len}
 use Rattle.std.proofs.lemmas.List.{take_at, drop_at, length-map, get_or-map}
 use Rattle.std.proofs.lemmas.List.Concat.{flat_map-append}
@@ -23,7 +25,8 @@ shifted m k n =
     (ap (bits m) (sym (add-zero (n % 2 ^ k * 2 ^ m))) ∙ bits_low m (n % 2 ^ k) 0 ∙ bits-zero m))
 
 -- m more bits behind a word: what the register's upper bits and they leave, and its lower bits
-pub step : (m k : ℕ) (lower word : List Bool) (register more entry : ℕ) → length lower ≡ m + k → bits (m + k) register ≡ remainder lower word →
+pub step : (m k : ℕ) (lower word : List Bool) (register more entry : ℕ) → length lower ≡ m + k →
+    bits (m + k) register ≡ remainder lower word →
     bits (m + k) entry ≡ remainder lower (bits m (bit_xor (register / 2 ^ k) more)) →
     bits (m + k) (bit_xor (register % 2 ^ k * 2 ^ m) entry) ≡ remainder lower (word ++ bits m more)
 step m k lower word register more entry size stands left =
@@ -42,10 +45,12 @@ step m k lower word register more entry size stands left =
 
 -- a table is right if its entries are, one by one: for a table that is written out, both sides compute
 pub IsTable-from_entries : (lower : List Bool) (table : List ℕ) →
-    map (bits (length lower)) table ≡ map (λ nibble. remainder lower (bits 4 nibble)) (range_with_len 0 16) → IsTable lower table
+    map (bits (length lower)) table ≡ map (λ nibble. remainder lower (bits 4 nibble)) (range_with_len 0 16) →
+    IsTable lower table
 IsTable-from_entries lower table same =
     let whole : length table ≡ 16 =
-    sym (length-map table (bits (length lower))) ∙ ap length same ∙ length-map-range_with_len (λ nibble. remainder lower (bits 4 nibble)) 0 16 in
+    sym (length-map table (bits (length lower))) ∙ ap length same
+    ∙ length-map-range_with_len (λ nibble. remainder lower (bits 4 nibble)) 0 16 in
     record {
       entry = λ nibble h.
           let inside : nibble < length table = omega arith in
@@ -60,38 +65,50 @@ upper_below degree register least h =
     let e : degree ≡ 4 + (degree - 4) = omega arith in
     shr_below register 4 (degree - 4) (subst (λ n. register < 2 ^ n) e h)
 
-pub index_below : (degree register nibble : ℕ) → 4 ≤ degree → register < 2 ^ degree → nibble < 2 ^ 4 → bit_xor (register / 2 ^ (degree - 4)) nibble < 16
-index_below degree register nibble least h small = xor_lt 4 (register / 2 ^ (degree - 4)) nibble (upper_below degree register least h) small
+pub index_below : (degree register nibble : ℕ) → 4 ≤ degree → register < 2 ^ degree → nibble < 2 ^ 4 →
+    bit_xor (register / 2 ^ (degree - 4)) nibble < 16
+index_below degree register nibble least h small =
+    xor_lt 4 (register / 2 ^ (degree - 4)) nibble (upper_below degree register least h) small
 
-shifted_register : (degree register : ℕ) → 4 ≤ degree → degree ≤ 32 → register % (1 * 2 ^ (degree - 4) % 2 ^ 32) * 16 % 2 ^ 32 ≡ register % 2 ^ (degree - 4) * 2 ^ 4
+shifted_register : (degree register : ℕ) → 4 ≤ degree → degree ≤ 32 →
+    register % (1 * 2 ^ (degree - 4) % 2 ^ 32) * 16 % 2 ^ 32 ≡ register % 2 ^ (degree - 4) * 2 ^ 4
 shifted_register degree register least most =
-    let below : register % 2 ^ (degree - 4) < 2 ^ (degree - 4) = mod_below register (2 ^ (degree - 4)) (pow_pos (degree - 4)) in
+    let below : register % 2 ^ (degree - 4) < 2 ^ (degree - 4) =
+    mod_below register (2 ^ (degree - 4)) (pow_pos (degree - 4)) in
     let narrow : degree - 4 < 32 = omega arith in
     ap (λ n. register % n * 16 % 2 ^ 32) (one_shl (degree - 4) 32 narrow)
     ∙ shl_whole (register % 2 ^ (degree - 4)) (degree - 4) 4 32 below (omega arith)
 
 -- what the code computes, with no shift that loses bits
 pub computed : (degree register nibble given : ℕ) (table : List ℕ) → 4 ≤ degree → degree ≤ 32 → given ≡ nibble →
-    bit_xor (register % (1 * 2 ^ (degree - 4) % 2 ^ 32) * 16 % 2 ^ 32) (slice_index table (bit_xor (register / 2 ^ (degree - 4)) given))
+    bit_xor (register % (1 * 2 ^ (degree - 4) % 2 ^ 32) * 16 % 2 ^ 32)
+    (slice_index table (bit_xor (register / 2 ^ (degree - 4)) given))
     ≡ bit_xor (register % 2 ^ (degree - 4) * 2 ^ 4) (slice_index table (bit_xor (register / 2 ^ (degree - 4)) nibble))
 computed degree register nibble given table least most same =
-    ap₂ (λ a b. bit_xor a (slice_index table (bit_xor (register / 2 ^ (degree - 4)) b))) (shifted_register degree register least most) same
+    ap₂ (λ a b. bit_xor a (slice_index table (bit_xor (register / 2 ^ (degree - 4)) b)))
+    (shifted_register degree register least most) same
 
-pub result_below : (degree register nibble : ℕ) (table : List ℕ) → 4 ≤ degree → register < 2 ^ degree → nibble < 2 ^ 4 → length table ≡ 16 →
+pub result_below : (degree register nibble : ℕ) (table : List ℕ) → 4 ≤ degree → register < 2 ^ degree → nibble < 2 ^ 4 →
+    length table ≡ 16 →
     list_all (λ entry. nat_lt entry (2 ^ degree)) table ≡ true →
-    bit_xor (register % 2 ^ (degree - 4) * 2 ^ 4) (slice_index table (bit_xor (register / 2 ^ (degree - 4)) nibble)) < 2 ^ degree
+    bit_xor (register % 2 ^ (degree - 4) * 2 ^ 4) (slice_index table (bit_xor (register / 2 ^ (degree - 4)) nibble)) < 2
+    ^ degree
 result_below degree register nibble table least h small whole all =
     let index = bit_xor (register / 2 ^ (degree - 4)) nibble in
     let inside : index < length table = omega (arith, index_below degree register nibble least h small, whole) in
-    let below : register % 2 ^ (degree - 4) < 2 ^ (degree - 4) = mod_below register (2 ^ (degree - 4)) (pow_pos (degree - 4)) in
+    let below : register % 2 ^ (degree - 4) < 2 ^ (degree - 4) =
+    mod_below register (2 ^ (degree - 4)) (pow_pos (degree - 4)) in
     let e : degree - 4 + 4 ≡ degree = omega arith in
     xor_lt degree (register % 2 ^ (degree - 4) * 2 ^ 4) (slice_index table index)
-    (subst (λ n. register % 2 ^ (degree - 4) * 2 ^ 4 < 2 ^ n) e (shl_below (register % 2 ^ (degree - 4)) (degree - 4) 4 below))
+    (subst (λ n. register % 2 ^ (degree - 4) * 2 ^ 4 < 2 ^ n) e
+    (shl_below (register % 2 ^ (degree - 4)) (degree - 4) 4 below))
     (ltb-true _ _ (AllPass-from_list_all (λ entry. nat_lt entry (2 ^ degree)) table all index 0 inside))
 
-pub nibble_step : (degree : ℕ) (lower word : List Bool) (table : List ℕ) (register nibble : ℕ) → 4 ≤ degree → register < 2 ^ degree → nibble < 2 ^ 4 →
+pub nibble_step : (degree : ℕ) (lower word : List Bool) (table : List ℕ) (register nibble : ℕ) → 4 ≤ degree →
+    register < 2 ^ degree → nibble < 2 ^ 4 →
     length lower ≡ degree → IsTable lower table → bits degree register ≡ remainder lower word →
-    bits degree (bit_xor (register % 2 ^ (degree - 4) * 2 ^ 4) (slice_index table (bit_xor (register / 2 ^ (degree - 4)) nibble))) ≡ remainder lower (word ++ bits 4 nibble)
+    bits degree (bit_xor (register % 2 ^ (degree - 4) * 2 ^ 4)
+    (slice_index table (bit_xor (register / 2 ^ (degree - 4)) nibble))) ≡ remainder lower (word ++ bits 4 nibble)
 nibble_step degree lower word table register nibble least h small size is_table stands =
     let e : degree ≡ 4 + (degree - 4) = omega arith in
     let index = bit_xor (register / 2 ^ (degree - 4)) nibble in
@@ -99,4 +116,5 @@ nibble_step degree lower word table register nibble least h small size is_table 
     let left : bits degree entry ≡ remainder lower (bits 4 index) =
     ap (λ n. bits n entry) (sym size) ∙ is_table.entry index (index_below degree register nibble least h small) in
     ap (λ n. bits n (bit_xor (register % 2 ^ (degree - 4) * 2 ^ 4) entry)) e
-    ∙ step 4 (degree - 4) lower word register nibble entry (size ∙ e) (ap (λ n. bits n register) (sym e) ∙ stands) (ap (λ n. bits n entry) (sym e) ∙ left)
+    ∙ step 4 (degree - 4) lower word register nibble entry (size ∙ e) (ap (λ n. bits n register) (sym e) ∙ stands)
+    (ap (λ n. bits n entry) (sym e) ∙ left)

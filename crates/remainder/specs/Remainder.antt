@@ -1,6 +1,7 @@
 -- Polynomials over 0 and 1 as lists of bits, the highest power first. A generator of degree g is given by its
 -- g lower bits, since its highest bit is 1.
-use Rattle.std.specs.Prelude.{◌≡◌, ℕ, zero, suc, Bool, true, false, if◌then◌else◌, List, [], ◌∷◌, ◌++◌, length, replicate}
+use Rattle.std.specs.Prelude.{◌≡◌, ℕ, zero, suc, Bool, true, false, if◌then◌else◌, List, [], ◌∷◌, ◌++◌, length}
+use Rattle.std.specs.Prelude.{replicate}
 use Rattle.remainder.specs.Bits.{xor}
 
 -- a list with bits added at its front

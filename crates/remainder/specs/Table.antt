@@ -10,4 +10,5 @@ nibble_bits nibbles = flat_map (bits 4) nibbles
 
 -- a table has the remainder of each nibble
 pub record IsTable (lower : List Bool) (table : List ℕ) : Type 0 where
-  pub entry : (nibble : ℕ) → nibble < 16 → bits (length lower) (slice_index table nibble) ≡ remainder lower (bits 4 nibble)
+  pub entry : (nibble : ℕ) → nibble < 16 →
+      bits (length lower) (slice_index table nibble) ≡ remainder lower (bits 4 nibble)

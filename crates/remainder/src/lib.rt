@@ -1,6 +1,6 @@
-//! Remainders of polynomials over 0 and 1, of which checks such as a CRC are made. The remainder of a word is what a
-//! generator leaves of it, and of as many zeros behind it as the generator's degree. It is computed nibble by nibble, with a
-//! table of what each nibble leaves.
+//! Remainders of polynomials over 0 and 1, of which checks such as a CRC are made. The remainder of a word is
+//! what a generator leaves of it, and of as many zeros behind it as the generator's degree. It is computed
+//! nibble by nibble, with a table of what each nibble leaves.
 #![tactic(auto)]
 
 ghost use Rattle.std.specs.Prelude.{◌≡◌, Bool, List};

@@ -1,4 +1,5 @@
--- The text of a session's report: a line for each frame that is delivered, a line for each item that is refused, and a line of totals.
+-- The text of a session's report: a line for each frame that is delivered, a line for each item that is refused, and a
+-- line of totals.
 -- Each line ends with LF, and numbers are in decimal digits without leading zeros. These texts are this project's own.
 use Rattle.std.specs.Prelude.{ℕ, List, ◌++◌, codes, decimal}
 use Rattle.std.specs.List.{flat_map}
@@ -43,5 +44,7 @@ refused_text item why = codes "refused " ++ decimal item ++ codes " " ++ refusal
 -- the line of totals
 abbrev pub total_text : Totals → List ℕ
 total_text totals =
-    codes "total ticks " ++ decimal totals.ticks ++ codes " taken " ++ decimal totals.taken ++ codes " frames " ++ decimal totals.frames
-    ++ codes " commands " ++ decimal totals.commands ++ codes " refused " ++ decimal totals.refused ++ codes " got " ++ decimal totals.got ++ codes "\n"
+    codes "total ticks " ++ decimal totals.ticks ++ codes " taken " ++ decimal totals.taken ++ codes " frames " ++
+    decimal totals.frames
+    ++ codes " commands " ++ decimal totals.commands ++ codes " refused " ++ decimal totals.refused ++ codes " got " ++
+    decimal totals.got ++ codes "\n"

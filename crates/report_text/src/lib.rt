@@ -1,7 +1,9 @@
-//! The lines of text that a session's report is made of: one for each delivered frame, one for each refused item, and one of totals.
+//! The lines of text that a session's report is made of: one for each delivered frame, one for each refused
+//! item, and one of totals.
 //!
-//! Each line is put together at the front of a slice that the caller gives, and nothing is written to an output here. Begin with
-//! `got_line`, `refused_line` and `total_line`; `LineCursor` puts any line together, and is there for the texts of other crates too.
+//! Each line is put together at the front of a slice that the caller gives, and nothing is written to an
+//! output here. Begin with `got_line`, `refused_line` and `total_line`; `LineCursor` puts any line together,
+//! and is there for the texts of other crates too.
 #![tactic(auto)]
 
 mod line;

@@ -1,5 +1,6 @@
 -- What a sink has got of the lines of a session, and what it makes of it.
-use Rattle.std.specs.Prelude.{◌≡◌, ℕ, ◌+◌, ◌-◌, ◌*◌, ◌/◌, ◌<◌, ◌≤◌, nat_lt, if◌then◌else◌, List, [], map, length, slice_get, slice_index, Option, Some, None}
+use Rattle.std.specs.Prelude.{◌≡◌, ℕ, ◌+◌, ◌-◌, ◌*◌, ◌/◌, ◌<◌, ◌≤◌, nat_lt, if◌then◌else◌, List, [], map, length}
+use Rattle.std.specs.Prelude.{slice_get, slice_index, Option, Some, None}
 use Rattle.vc_cell.specs.declared.Container.{Container}
 use Rattle.vc_cell.specs.declared.Cell.{Cell}
 use Rattle.session_model.specs.Damage.{is_good}
@@ -14,8 +15,10 @@ use Rattle.session_model.specs.Payload.{payload_of}
 abbrev pub HasPackets : Scenario → List (Option Told) → List (List Cell) → ℕ → Type 0
 HasPackets scenario returns cells k = (j : ℕ) → j ≤ k → read_packets cells j ≡ packets_of scenario returns j
 
--- the cells of the lines tell row t: the packets that govern it, and of each line the container that it sent, where that is good
-pub record TellsRow (scenario : Scenario) (returns : List (Option Told)) (sent : ℕ → Container) (cells : List (List Cell)) (t : ℕ) : Type 0 where
+-- the cells of the lines tell row t: the packets that govern it, and of each line the container that it sent, where
+-- that is good
+pub record TellsRow (scenario : Scenario) (returns : List (Option Told)) (sent : ℕ → Container)
+    (cells : List (List Cell)) (t : ℕ) : Type 0 where
   pub packets : 24 ≤ t → read_packets cells ((t - 24) / 16) ≡ packets_of scenario returns ((t - 24) / 16)
   pub containers : (line : ℕ) → line < length scenario.windows →
       container_on (slice_get cells line) t ≡ (if is_good (carried_by scenario line) t then Some (sent line) else None)
@@ -28,7 +31,8 @@ row_octets scenario returns sent t =
 
 -- octets are dealt to containers in turn: of x containers, container r has octet p x + r at place p
 abbrev pub AreDealt : (ℕ → ℕ) → List Container → ℕ → Type 0
-AreDealt octet containers size = (r p : ℕ) (container : Container) → slice_get containers r ≡ Some container → p < size →
+AreDealt octet containers size = (r p : ℕ) (container : Container) → slice_get containers r ≡ Some container →
+    p < size →
     slice_index container.payload p ≡ octet (p * length containers + r)
 
 -- the lines that carry payload in row t have its octets, dealt in the order of their SQ

@@ -1,4 +1,5 @@
--- Worked rows, computed: five lines, of which lines 3, 0, 2 and 1 have SQ 0 to 3 in NORM, DNU, NORM and ADD, and line 4 is IDLE.
+-- Worked rows, computed: five lines, of which lines 3, 0, 2 and 1 have SQ 0 to 3 in NORM, DNU, NORM and ADD, and line 4
+-- is IDLE.
 use Rattle.std.specs.Prelude.{ℕ, ◌==◌, not, Bool, true, List, [], ◌∷◌, map, None}
 use Rattle.vc_cell.specs.declared.Ctrl.{Ctrl}
 use Rattle.session_model.specs.declared.table.Standing.TheVariants.{Add as adding, Norm as normal, Dnu as unused}

@@ -1,9 +1,10 @@
-//! The laws of the rows of a session: that a sink, which counts the active packets that it reads, finds whole the very rows that the
-//! source's table and the failures make whole, and says the return packets that the definition of a session says. There is no code
-//! here. Begin at `row_law`.
+//! The laws of the rows of a session: that a sink, which counts the active packets that it reads, finds whole
+//! the very rows that the source's table and the failures make whole, and says the return packets that the
+//! definition of a session says. There is no code here. Begin at `row_law`.
 #![tactic(auto)]
 
-ghost use Rattle.std.specs.Prelude.{◌≡◌, ℕ, ◌*◌, ◌≤◌, Bool, true, List, [], ◌∷◌, length, map, if◌then◌else◌, Option, Some, None, is_some};
+ghost use Rattle.std.specs.Prelude.{◌≡◌, ℕ, ◌*◌, ◌≤◌, Bool, true, List, [], ◌∷◌, length, map, if◌then◌else◌, Option};
+ghost use Rattle.std.specs.Prelude.{Some, None, is_some};
 ghost use Rattle.std.specs.List.{list_all, range_with_len};
 ghost use Rattle.vc_cell.specs.declared.BackCell.TheVariants.{Packet as Nibbles};
 ghost use Rattle.vc_cell.specs.declared.Cell.{Cell};
@@ -22,9 +23,10 @@ ghost use Rattle.session_model.specs.Payload.{payload_of};
 ghost use Rattle.row_law.specs.Received.{HasPackets, TellsRow, row_octets, AreDealt, IsDealtRow};
 ghost use Rattle.row_law.specs.Worked.{sent, active_read, all_but};
 
-/// A row is whole by the packets that the sink reads exactly where it is by the source's table and the failures, and then it gives the
-/// octets of the lines that carry payload, in the order of their SQ: those of the stream that the frame carries, where they were dealt
-/// to the lines so. Joining gives back what was dealt.
+/// A row is whole by the packets that the sink reads exactly where it is by the source's table and the
+/// failures, and then it gives the octets of the lines that carry payload, in the order of their SQ: those of
+/// the stream that the frame carries, where they were dealt to the lines so. Joining gives back what was
+/// dealt.
 pub fn row_law()
     ensures active { (scenario : Scenario) (returns : List (Option Told)) (k : ℕ)
         (readable : ℕ → Bool) → length scenario.windows ≤ 128 →
@@ -45,8 +47,8 @@ pub fn row_law()
         carried_row containers size ≡ map octet (range_with_len 0 (size * length containers)) }
 {}
 
-/// What the return packet that a sink makes of its cells tells the source, and what its nibbles tell, is what the definition of a
-/// session says.
+/// What the return packet that a sink makes of its cells tells the source, and what its nibbles tell, is what
+/// the definition of a session says.
 pub fn return_law()
     ensures told { (scenario : Scenario) (returns : List (Option Told)) (cells : List (List Cell))
         (k : ℕ) → HasPackets scenario returns cells k →

@@ -1,5 +1,6 @@
 -- Lists that grow by what lands at each step.
-use Rattle.std.proofs.Common.{◌≡◌, ◌≤◌, ◌<◌, ℕ, zero, suc, true, false, if◌then◌else◌, Bool, inl, inr, List, [], ◌∷◌, ◌++◌, filter, refl, sym, ◌∙◌, ap, arith}
+use Rattle.std.proofs.Common.{◌≡◌, ◌≤◌, ◌<◌, ℕ, zero, suc, true, false, if◌then◌else◌, Bool, inl, inr, List, [], ◌∷◌}
+use Rattle.std.proofs.Common.{◌++◌, filter, refl, sym, ◌∙◌, ap, arith}
 use Rattle.std.specs.Bool.{⊤}
 use Rattle.std.specs.List.Sorted.{IsNonDecreasingBy}
 use Rattle.std.proofs.lemmas.Bool.{cases_lt, cases_Bool}
@@ -23,18 +24,21 @@ filter-all : {X : Type 0} (test : X → Bool) (xs : List X) → Passes test xs �
 filter-all test [] passes = refl
 filter-all test (x ∷ xs) passes = let first = passes.0 in rw first (ap (λ rest. x ∷ rest) (filter-all test xs passes.1))
 
-filter-none : {X : Type 0} (test other : X → Bool) (xs : List X) → ((x : X) → other x ≡ true → test x ≡ false) → Passes other xs → filter test xs ≡ []
+filter-none : {X : Type 0} (test other : X → Bool) (xs : List X) → ((x : X) → other x ≡ true → test x ≡ false) →
+    Passes other xs → filter test xs ≡ []
 filter-none test other [] apart passes = refl
 filter-none test other (x ∷ xs) apart passes = let first = apart x passes.0 in rw first (filter-none test other xs apart passes.1)
 
--- ---- a list that grows at each step by elements which pass the test of that step, where no element passes the tests of two steps
+-- ---- a list that grows at each step by elements which pass the test of that step, where no element passes the tests
+-- of two steps
 pub record Grows {X : Type 0} (at : ℕ → X → Bool) (come all : ℕ → List X) : Type 0 where
   pub start : all zero ≡ []
   pub next : (n : ℕ) → all (suc n) ≡ all n ++ come n
   pub passes : (n : ℕ) → Passes (at n) (come n)
   pub apart : (i j : ℕ) (x : X) → (i ≡ j → ⊥) → at j x ≡ true → at i x ≡ false
 
-filter-later : {X : Type 0} (at : ℕ → X → Bool) (come all : ℕ → List X) → Grows at come all → (n i : ℕ) → n ≤ i → filter (at i) (all n) ≡ []
+filter-later : {X : Type 0} (at : ℕ → X → Bool) (come all : ℕ → List X) → Grows at come all → (n i : ℕ) → n ≤ i →
+    filter (at i) (all n) ≡ []
 filter-later at come all grows zero i high = ap (filter (at i)) grows.start
 filter-later at come all grows (suc n) i high =
     ap (filter (at i)) (grows.next n) ∙ filter-append (at i) (all n) (come n)
@@ -42,13 +46,15 @@ filter-later at come all grows (suc n) i high =
     ∙ filter-none (at i) (at n) (come n) (λ x. grows.apart i n x (λ e. omega arith)) (grows.passes n)
 
 -- each step's elements can be found again
-pub filter-there : {X : Type 0} (at : ℕ → X → Bool) (come all : ℕ → List X) → Grows at come all → (n i : ℕ) → i < n → filter (at i) (all n) ≡ come i
+pub filter-there : {X : Type 0} (at : ℕ → X → Bool) (come all : ℕ → List X) → Grows at come all → (n i : ℕ) → i < n →
+    filter (at i) (all n) ≡ come i
 filter-there at come all grows zero i low = absurd (omega arith)
 filter-there at come all grows (suc n) i low =
     ap (filter (at i)) (grows.next n) ∙ filter-append (at i) (all n) (come n)
     ∙ elim (cases_lt i n) [
       | inl before ↦
-          ap (λ back. filter (at i) (all n) ++ back) (filter-none (at i) (at n) (come n) (λ x. grows.apart i n x (λ e. omega arith)) (grows.passes n))
+          ap (λ back. filter (at i) (all n) ++ back)
+          (filter-none (at i) (at n) (come n) (λ x. grows.apart i n x (λ e. omega arith)) (grows.passes n))
           ∙ append-nil (filter (at i) (all n)) ∙ filter-there at come all grows n i before
       | inr last ↦
           let same : n ≡ i = omega arith in
@@ -61,12 +67,14 @@ abbrev pub IsFrom : {X : Type 0} → (X → ℕ) → ℕ → List X → Type 0
 IsFrom due from [] = ⊤
 IsFrom due from (x ∷ xs) = (from ≤ due x) × IsFrom due (due x) xs
 
-IsFrom-rest : {X : Type 0} (due : X → ℕ) (x : X) (xs : List X) → IsNonDecreasingBy due (x ∷ xs) → IsNonDecreasingBy due xs
+IsFrom-rest : {X : Type 0} (due : X → ℕ) (x : X) (xs : List X) → IsNonDecreasingBy due (x ∷ xs) →
+    IsNonDecreasingBy due xs
 IsFrom-rest due x xs sorted i j d low high = sorted (suc i) (suc j) d (omega arith) (omega arith)
 
 IsFrom-first : {X : Type 0} (due : X → ℕ) (x : X) (xs : List X) → IsNonDecreasingBy due (x ∷ xs) → IsFrom due (due x) xs
 IsFrom-first due x [] sorted = tt
-IsFrom-first due x (y ∷ xs) sorted = (sorted zero (suc zero) x (omega arith) (omega arith), IsFrom-first due y xs (IsFrom-rest due x (y ∷ xs) sorted))
+IsFrom-first due x (y ∷ xs) sorted =
+    (sorted zero (suc zero) x (omega arith) (omega arith), IsFrom-first due y xs (IsFrom-rest due x (y ∷ xs) sorted))
 
 IsFrom-start : {X : Type 0} (due : X → ℕ) (xs : List X) → IsNonDecreasingBy due xs → IsFrom due zero xs
 IsFrom-start due [] sorted = tt
@@ -78,12 +86,15 @@ pub record IsStep {X : Type 0} (due : X → ℕ) (come now next : X → Bool) : 
   pub fresh : (x : X) → come x ≡ false → now x ≡ next x
   pub stays : (x y : X) → due x ≤ due y → come x ≡ false → come y ≡ false
 
-none_come : {X : Type 0} (due : X → ℕ) (come : X → Bool) (x : X) (xs : List X) → ((x y : X) → due x ≤ due y → come x ≡ false → come y ≡ false) → come x ≡ false → IsFrom due (due x) xs → filter come xs ≡ []
+none_come : {X : Type 0} (due : X → ℕ) (come : X → Bool) (x : X) (xs : List X) →
+    ((x y : X) → due x ≤ due y → come x ≡ false → come y ≡ false) → come x ≡ false → IsFrom due (due x) xs →
+    filter come xs ≡ []
 none_come due come x [] stays late from = refl
 none_come due come x (y ∷ xs) stays late from =
     let later = stays x y from.0 late in rw later (none_come due come y xs stays later from.1)
 
-come-next : {X : Type 0} (due : X → ℕ) (come now next : X → Bool) (start : ℕ) (xs : List X) → IsStep due come now next → IsFrom due start xs →
+come-next : {X : Type 0} (due : X → ℕ) (come now next : X → Bool) (start : ℕ) (xs : List X) → IsStep due come now next →
+    IsFrom due start xs →
     filter come xs ++ filter now xs ≡ filter next xs
 come-next due come now next start [] step from = refl
 come-next due come now next start (x ∷ xs) step from =
@@ -101,7 +112,8 @@ come-next due come now next start (x ∷ xs) step from =
           rw (later, same, none) (ap (λ ys. if next x then x ∷ ys else ys) only)
     ]
 
-pub landed-come : {X : Type 0} (due : X → ℕ) (at come : ℕ → X → Bool) (xs : List X) → ((n : ℕ) → IsStep due (come n) (at n) (come (suc n))) → ((x : X) → come zero x ≡ false) →
+pub landed-come : {X : Type 0} (due : X → ℕ) (at come : ℕ → X → Bool) (xs : List X) →
+    ((n : ℕ) → IsStep due (come n) (at n) (come (suc n))) → ((x : X) → come zero x ≡ false) →
     IsNonDecreasingBy due xs → (n : ℕ) → landed at xs n ≡ filter (come n) xs
 unfolding landed
 landed-come due at come xs step none sorted zero = sym (no_first (come zero) xs none) where
@@ -123,9 +135,11 @@ orders_step j = record {
   stays = λ a b low late. grind (arith, nat_tests, low, late);
 }
 
-pub orders_land : (orders : List DueCommand) (j : ℕ) → AreOrdersInOrder orders → landed lands_at orders j ≡ filter (is_landed j) orders
+pub orders_land : (orders : List DueCommand) (j : ℕ) → AreOrdersInOrder orders →
+    landed lands_at orders j ≡ filter (is_landed j) orders
 orders_land orders j sorted =
-    landed-come (λ (order : DueCommand). order.due) lands_at is_landed orders orders_step (λ order. grind (arith, nat_tests)) sorted j
+    landed-come (λ (order : DueCommand). order.due) lands_at is_landed orders orders_step
+    (λ order. grind (arith, nat_tests)) sorted j
 
 -- ---- offers
 pub comes_apart : (i j : ℕ) (offer : DueFrame) → (i ≡ j → ⊥) → comes_at j offer ≡ true → comes_at i offer ≡ false
@@ -138,6 +152,8 @@ offers_step t = record {
   stays = λ a b low late. grind (arith, nat_tests, low, late);
 }
 
-pub offers_land : (offers : List DueFrame) (t : ℕ) → AreOffersInOrder offers → landed comes_at offers t ≡ filter (is_come t) offers
+pub offers_land : (offers : List DueFrame) (t : ℕ) → AreOffersInOrder offers →
+    landed comes_at offers t ≡ filter (is_come t) offers
 offers_land offers t sorted =
-    landed-come (λ (offer : DueFrame). offer.due) comes_at is_come offers offers_step (λ offer. grind (arith, nat_tests)) sorted t
+    landed-come (λ (offer : DueFrame). offer.due) comes_at is_come offers offers_step
+    (λ offer. grind (arith, nat_tests)) sorted t

@@ -1,5 +1,6 @@
 -- How soon an added line is in use where the ADD lines before it can't be read: it is brought before them.
-use Rattle.std.proofs.Common.{◌≡◌, ◌⊎◌, ℕ, zero, suc, ◌+◌, ◌*◌, ◌<◌, ◌≤◌, ◌==◌, Bool, true, false, if◌then◌else◌, inl, inr, List, [], ◌∷◌, length, Option, Some, None, refl, sym, ◌∙◌, ap, subst, arith}
+use Rattle.std.proofs.Common.{◌≡◌, ◌⊎◌, ℕ, zero, suc, ◌+◌, ◌*◌, ◌<◌, ◌≤◌, ◌==◌, Bool, true, false, if◌then◌else◌, inl}
+use Rattle.std.proofs.Common.{inr, List, [], ◌∷◌, length, Option, Some, None, refl, sym, ◌∙◌, ap, subst, arith}
 use Rattle.std.proofs.lemmas.Bool.Decides.{nat_tests}
 use Rattle.std.proofs.lemmas.Option.{slice_get_within}
 use Rattle.std.proofs.Math.Nat.{eq-or-lt_of_le}
@@ -10,7 +11,8 @@ use Rattle.session_model.specs.declared.table.Command.TheVariants.{Add as add}
 use Rattle.session_model.specs.Scenario.{Scenario, is_read}
 use Rattle.session_model.specs.declared.table.Standing.TheVariants.{Add as adding}
 use Rattle.session_model.specs.declared.table.Member.{Member}
-use Rattle.session_model.specs.Table.{kept_of, member_of, Table, Told, is_ok, is_fail, admit, told_on, carried_out, exchange, exchanged}
+use Rattle.session_model.specs.Table.{kept_of, member_of, Table, Told, is_ok, is_fail, admit, told_on, carried_out}
+use Rattle.session_model.specs.Table.{exchange, exchanged}
 use Rattle.session_model.specs.Source.{Source, change_by, change, source_at, told_at, first_of, carried, table_of}
 use Rattle.session_law.specs.Use.{IsInUse, IsUsedBefore, AddsAlone, AllCome, AllRead, NoneRead}
 use Rattle.session_model.specs.Back.{cells_before}
@@ -18,8 +20,11 @@ use Rattle.session_law.specs.Feedback.{lines_of, table_before}
 use Rattle.session_law.proofs.TableLaws.{told_on-lines}
 use Rattle.session_law.proofs.SessionLaws.{session-law}
 use Rattle.session_law.proofs.StatusLaws.{none_kept-at}
-use Rattle.session_law.proofs.OrderLaws.{Has, IsThere, Only, Leads, LeadsIn, Known, Has-line, exchange-leads, exchange-there_plain, turned-adding}
-use Rattle.session_law.proofs.UseLaws.{MaySay, IsFair, Waits, waiting, moving, using, Exchanges, Alone, lines-stay, heard_at, Hears-step, next-table, next-carried, not_fail, told_on-adds, used_at, Waits-next, step-on, known-last, used-longer, used-now, used_by}
+use Rattle.session_law.proofs.OrderLaws.{Has, IsThere, Only, Leads, LeadsIn, Known, Has-line, exchange-leads}
+use Rattle.session_law.proofs.OrderLaws.{exchange-there_plain, turned-adding}
+use Rattle.session_law.proofs.UseLaws.{MaySay, IsFair, Waits, waiting, moving, using, Exchanges, Alone, lines-stay}
+use Rattle.session_law.proofs.UseLaws.{heard_at, Hears-step, next-table, next-carried, not_fail, told_on-adds, used_at}
+use Rattle.session_law.proofs.UseLaws.{Waits-next, step-on, known-last, used-longer, used-now, used_by}
 use Rattle.session_law.proofs.DamageLaws.{some_heard}
 use Rattle.session_law.proofs.AddLaws.{cell-comes, Waits-added, table_of-carried, told_at-count}
 
@@ -28,20 +33,24 @@ abbrev pub is_line : ℕ → ℕ → Bool
 is_line line l = l == line
 
 -- where an acknowledged table has an exchange, it is made
-exchanged-there : (table : Table) (found : Option (List Member)) → exchange (kept_of table) 0 table.order ≡ found → IsThere found → Exchanges table (exchanged found table)
+exchanged-there : (table : Table) (found : Option (List Member)) → exchange (kept_of table) 0 table.order ≡ found →
+    IsThere found → Exchanges table (exchanged found table)
 exchanged-there table None e there = absurd there
 exchanged-there table (Some order) e there = record { order = order; found = e; changes = refl }
 
-change_by-there : (commands : List Command) (source : Source) (table : Table) → first_of commands ≡ None → IsThere (exchange (kept_of table) 0 table.order) →
+change_by-there : (commands : List Command) (source : Source) (table : Table) → first_of commands ≡ None →
+    IsThere (exchange (kept_of table) 0 table.order) →
     Exchanges table (change_by commands source table).table
 change_by-there [] source table none there = exchanged-there table (exchange (kept_of table) 0 table.order) refl there
 change_by-there (command ∷ commands) source table none there = absurd (let e : None ≡ Some command = sym none in cc)
 
-change-there : (source : Source) (table : Table) → table.acknowledged ≡ true → (if table.acknowledged then first_of source.waiting else None) ≡ None →
+change-there : (source : Source) (table : Table) → table.acknowledged ≡ true →
+    (if table.acknowledged then first_of source.waiting else None) ≡ None →
     IsThere (exchange (kept_of table) 0 table.order) → Exchanges table (change source table).table
 change-there source table ack none there =
     elim table.acknowledged as (λ b. b ≡ true → (if b then first_of source.waiting else None) ≡ None →
-    Exchanges table (if b then change_by source.waiting source table else record { table = table; planned = source.planned; waiting = source.waiting }).table) [
+    Exchanges table (if b then change_by source.waiting source table
+    else record { table = table; planned = source.planned; waiting = source.waiting }).table) [
       | true ↦ λ ack none. change_by-there source.waiting source table none there
       | false ↦ λ ack none. absurd cc
     ] ack none
@@ -64,9 +73,11 @@ Ends-lines : (a b : List Member) (sq : ℕ) → lines_of a ≡ lines_of b → En
 Ends-lines a b sq same ends =
     sym (length-map a (λ member. member.line)) ∙ ap length same ∙ length-map b (λ member. member.line) ∙ ends
 
-starts : (scenario : Scenario) (cells : List (Option Told)) (first sq line i : ℕ) → 0 < scenario.lag → Ends (told_on (heard_at scenario cells i)).order sq →
+starts : (scenario : Scenario) (cells : List (Option Told)) (first sq line i : ℕ) → 0 < scenario.lag →
+    Ends (told_on (heard_at scenario cells i)).order sq →
     (table_before scenario cells i).count ≡ (table_of scenario cells first).count →
-    Waits scenario cells (is_line line) first sq line (suc i) (told_on (heard_at scenario cells i)) → Exchanges (told_on (heard_at scenario cells i)) (table_of scenario cells i) →
+    Waits scenario cells (is_line line) first sq line (suc i) (told_on (heard_at scenario cells i)) →
+    Exchanges (told_on (heard_at scenario cells i)) (table_of scenario cells i) →
     (place : ℕ) × Starts scenario cells line i place
 starts scenario cells first sq line i lag ends count next moves =
     let table = told_on (heard_at scenario cells i) in
@@ -95,28 +106,35 @@ starts scenario cells first sq line i lag ends count next moves =
 
 -- ---- one step while no line is brought forward
 pub data Moves_on (scenario : Scenario) (cells : List (Option Told)) (first sq line i : ℕ) : Type 0 where
-  still : Waits scenario cells (is_line line) first sq line (suc i) (table_before scenario cells (suc i)) → Moves_on scenario cells first sq line i
+  still : Waits scenario cells (is_line line) first sq line (suc i) (table_before scenario cells (suc i)) →
+      Moves_on scenario cells first sq line i
   begun : (place : ℕ) → Starts scenario cells line i place → Moves_on scenario cells first sq line i
   done : IsInUse (table_of scenario cells i) line → Moves_on scenario cells first sq line i
 
-told_on-ends : (scenario : Scenario) (cells : List (Option Told)) (first sq line i : ℕ) → IsFair scenario cells (is_line line) first sq → Ends (table_of scenario cells first).order sq →
-    Waits scenario cells (is_line line) first sq line i (table_before scenario cells i) → first < i → i < first + 16 + scenario.lag → Ends (told_on (heard_at scenario cells i)).order sq
+told_on-ends : (scenario : Scenario) (cells : List (Option Told)) (first sq line i : ℕ) →
+    IsFair scenario cells (is_line line) first sq → Ends (table_of scenario cells first).order sq →
+    Waits scenario cells (is_line line) first sq line i (table_before scenario cells i) → first < i →
+    i < first + 16 + scenario.lag → Ends (told_on (heard_at scenario cells i)).order sq
 told_on-ends scenario cells first sq line i fair ends waits from near =
     let hears = Hears-step scenario cells (is_line line) first sq line i fair waits near in
     Ends-lines (told_on (heard_at scenario cells i)).order (table_of scenario cells first).order sq
-    (told_on-lines (heard_at scenario cells i) ∙ ap lines_of hears.order ∙ lines-stay scenario cells first i first (omega arith) from waits.count) ends
+    (told_on-lines (heard_at scenario cells i) ∙ ap lines_of hears.order
+    ∙ lines-stay scenario cells first i first (omega arith) from waits.count) ends
 
 itself : (line : ℕ) → is_line line line ≡ true
 itself line = grind (arith, nat_tests)
 
-move-on : (scenario : Scenario) (cells : List (Option Told)) (first sq line i : ℕ) → IsFair scenario cells (is_line line) first sq → Ends (table_of scenario cells first).order sq →
-    Waits scenario cells (is_line line) first sq line i (table_before scenario cells i) → first < i → i < first + 16 + scenario.lag → carried scenario cells i ≡ None →
+move-on : (scenario : Scenario) (cells : List (Option Told)) (first sq line i : ℕ) →
+    IsFair scenario cells (is_line line) first sq → Ends (table_of scenario cells first).order sq →
+    Waits scenario cells (is_line line) first sq line i (table_before scenario cells i) → first < i →
+    i < first + 16 + scenario.lag → carried scenario cells i ≡ None →
     Moves_on scenario cells first sq line i
 move-on scenario cells first sq line i fair ends waits from near none =
     elim (step-on scenario cells (is_line line) first sq line i fair (itself line) waits near none) [
       | waiting next ↦ still next
       | moving next moves ↦
-          let start = starts scenario cells first sq line i fair.lag (told_on-ends scenario cells first sq line i fair ends waits from near) waits.count next moves in
+          let start = starts scenario cells first sq line i fair.lag
+          (told_on-ends scenario cells first sq line i fair ends waits from near) waits.count next moves in
           begun start.0 start.1
       | using now ↦ done now
     ]
@@ -126,84 +144,114 @@ known_either true kept e = inl (rw e refl)
 known_either false kept e = inr (rw e refl)
 
 -- at the last step it is brought forward
-move-last : (scenario : Scenario) (cells : List (Option Told)) (first sq line i : ℕ) → IsFair scenario cells (is_line line) first sq → Ends (table_of scenario cells first).order sq →
-    Waits scenario cells (is_line line) first sq line i (table_before scenario cells i) → i ≡ first + 15 + scenario.lag → carried scenario cells i ≡ None →
+move-last : (scenario : Scenario) (cells : List (Option Told)) (first sq line i : ℕ) →
+    IsFair scenario cells (is_line line) first sq → Ends (table_of scenario cells first).order sq →
+    Waits scenario cells (is_line line) first sq line i (table_before scenario cells i) →
+    i ≡ first + 15 + scenario.lag → carried scenario cells i ≡ None →
     ((place : ℕ) × Starts scenario cells line i place) ⊎ IsInUse (table_of scenario cells i) line
 move-last scenario cells first sq line i fair ends waits at none =
     let lag = fair.lag in
     let table = heard_at scenario cells i in
     let hears = Hears-step scenario cells (is_line line) first sq line i fair waits (omega arith) in
     let has : Has table.order sq line adding = subst (λ order. Has order sq line adding) (sym hears.order) waits.here in
-    let fine = not_fail (is_line line line) ((kept_of table) sq) (hears.fine sq line (omega arith) waits.here) (itself line) in
+    let fine = not_fail (is_line line line) ((kept_of table) sq) (hears.fine sq line (omega arith) waits.here)
+    (itself line) in
     elim (told_on-adds table sq line fine has) [
       | inr used ↦ inr (used_at scenario cells sq line i none used)
       | inl adds ↦
           let known : Known (kept_of table) 0 table.order sq = λ s l low h.
           let e : 0 + s ≡ s = omega arith in
           let there = subst (λ order. Has order s l adding) hears.order h in
-          rw e (known_either (is_line line l) ((kept_of table) s) (known-last scenario cells (is_line line) first sq line i s l fair waits at low there)) in
+          rw e (known_either (is_line line l) ((kept_of table) s)
+          (known-last scenario cells (is_line line) first sq line i s l fair waits at low there)) in
           let ok : is_ok ((kept_of table) sq) ≡ true =
-          ap is_ok (known-last scenario cells (is_line line) first sq line i sq line fair waits at (omega arith) waits.here) ∙ itself line in
-          let there = exchange-there_plain (kept_of table) table.order sq line known ok (turned-adding (kept_of table) 0 (admit (kept_of table) 0 table.order) sq line adds) in
-          let moves = change-there (source_at scenario cells i) (told_on table) (hears.acknowledged (omega arith)) (next-carried scenario cells i none) there in
-          let next = Waits-next scenario cells (is_line line) first sq line i table (table_before scenario cells i) waits hears adds in
-          inl (starts scenario cells first sq line i lag (told_on-ends scenario cells first sq line i fair ends waits (omega arith) (omega arith)) waits.count next
+          ap is_ok (known-last scenario cells (is_line line) first sq line i sq line fair waits at
+          (omega arith) waits.here) ∙ itself line in
+          let there = exchange-there_plain (kept_of table) table.order sq line known ok
+          (turned-adding (kept_of table) 0 (admit (kept_of table) 0 table.order) sq line adds) in
+          let moves = change-there (source_at scenario cells i) (told_on table) (hears.acknowledged (omega arith))
+          (next-carried scenario cells i none) there in
+          let next = Waits-next scenario cells (is_line line) first sq line i table
+          (table_before scenario cells i) waits hears adds in
+          inl (starts scenario cells first sq line i lag
+          (told_on-ends scenario cells first sq line i fair ends waits (omega arith) (omega arith)) waits.count next
           (subst (Exchanges (told_on table)) (sym (next-table scenario cells i)) moves))
     ]
 
 -- ---- all steps up to that one
 pub data Progress (scenario : Scenario) (cells : List (Option Told)) (first sq line i : ℕ) : Type 0 where
-  is_still : Waits scenario cells (is_line line) first sq line i (table_before scenario cells i) → Progress scenario cells first sq line i
+  is_still : Waits scenario cells (is_line line) first sq line i (table_before scenario cells i) →
+      Progress scenario cells first sq line i
   is_used : IsUsedBefore scenario cells line first i → Progress scenario cells first sq line i
-  is_begun : (start place : ℕ) → first < start → start < i → Starts scenario cells line start place → Progress scenario cells first sq line i
+  is_begun : (start place : ℕ) → first < start → start < i → Starts scenario cells line start place →
+      Progress scenario cells first sq line i
 
-progress-next : (scenario : Scenario) (cells : List (Option Told)) (first sq line i last : ℕ) → IsFair scenario cells (is_line line) first sq → Ends (table_of scenario cells first).order sq →
-    Alone scenario cells line first last → first + 15 + scenario.lag ≤ last → first < i → i < first + 15 + scenario.lag → Progress scenario cells first sq line i → Progress scenario cells first sq line (suc i)
-progress-next scenario cells first sq line i last fair ends alone far from near (is_used used) = is_used (used-longer scenario cells line first i (suc i) (omega arith) used)
-progress-next scenario cells first sq line i last fair ends alone far from near (is_begun start place later before starts) = is_begun start place later (omega arith) starts
+progress-next : (scenario : Scenario) (cells : List (Option Told)) (first sq line i last : ℕ) →
+    IsFair scenario cells (is_line line) first sq → Ends (table_of scenario cells first).order sq →
+    Alone scenario cells line first last → first + 15 + scenario.lag ≤ last → first < i →
+    i < first + 15 + scenario.lag → Progress scenario cells first sq line i →
+    Progress scenario cells first sq line (suc i)
+progress-next scenario cells first sq line i last fair ends alone far from near (is_used used) =
+    is_used (used-longer scenario cells line first i (suc i) (omega arith) used)
+progress-next scenario cells first sq line i last fair ends alone far from near
+    (is_begun start place later before starts) = is_begun start place later (omega arith) starts
 progress-next scenario cells first sq line i last fair ends alone far from near (is_still waits) =
-    elim (carried scenario cells i) as (λ c. carried scenario cells i ≡ c → Progress scenario cells first sq line (suc i)) [
+    elim (carried scenario cells i)
+    as (λ c. carried scenario cells i ≡ c → Progress scenario cells first sq line (suc i)) [
       | None ↦ λ e.
           elim (move-on scenario cells first sq line i fair ends waits from (omega arith) e) [
             | still next ↦ is_still next
             | begun place starts ↦ is_begun i place from (omega arith) starts
             | done now ↦ is_used (used-now scenario cells line first i (omega arith) now)
           ]
-      | Some command ↦ λ e. is_used (used-longer scenario cells line first i (suc i) (omega arith) (alone i command from (omega arith) e))
+      | Some command ↦ λ e. is_used (used-longer scenario cells line first i (suc i) (omega arith)
+          (alone i command from (omega arith) e))
     ] refl
 
-progress-many : (scenario : Scenario) (cells : List (Option Told)) (first sq line last : ℕ) → IsFair scenario cells (is_line line) first sq → Ends (table_of scenario cells first).order sq →
-    Alone scenario cells line first last → first + 15 + scenario.lag ≤ last → Waits scenario cells (is_line line) first sq line (suc first) (table_of scenario cells first) →
+progress-many : (scenario : Scenario) (cells : List (Option Told)) (first sq line last : ℕ) →
+    IsFair scenario cells (is_line line) first sq → Ends (table_of scenario cells first).order sq →
+    Alone scenario cells line first last → first + 15 + scenario.lag ≤ last →
+    Waits scenario cells (is_line line) first sq line (suc first) (table_of scenario cells first) →
     (d : ℕ) → d < 15 + scenario.lag → Progress scenario cells first sq line (d + suc first)
 progress-many scenario cells first sq line last fair ends alone far waits zero near =
     let e : zero + suc first ≡ suc first = omega arith in rw e (is_still waits)
 progress-many scenario cells first sq line last fair ends alone far waits (suc d) near =
     let e : suc d + suc first ≡ suc (d + suc first) = omega arith in
-    rw e (progress-next scenario cells first sq line (d + suc first) last fair ends alone far (omega arith) (omega arith)
+    rw e (progress-next scenario cells first sq line (d + suc first) last fair ends alone far (omega arith)
+    (omega arith)
     (progress-many scenario cells first sq line last fair ends alone far waits d (omega arith)))
 
 -- the line is in use, or was brought forward by then
 abbrev pub Brought : Scenario → List (Option Told) → ℕ → ℕ → ℕ → Type 0
-Brought scenario cells line first i = (start : ℕ) × (place : ℕ) × (first < start) × (start < i) × Starts scenario cells line start place
+Brought scenario cells line first i = (start : ℕ) × (place : ℕ) × (first < start) × (start < i) ×
+    Starts scenario cells line start place
 
-progress-last : (scenario : Scenario) (cells : List (Option Told)) (first sq line i last : ℕ) → IsFair scenario cells (is_line line) first sq → Ends (table_of scenario cells first).order sq →
-    Alone scenario cells line first last → i ≤ last → i ≡ first + 15 + scenario.lag → Progress scenario cells first sq line i →
+progress-last : (scenario : Scenario) (cells : List (Option Told)) (first sq line i last : ℕ) →
+    IsFair scenario cells (is_line line) first sq → Ends (table_of scenario cells first).order sq →
+    Alone scenario cells line first last → i ≤ last → i ≡ first + 15 + scenario.lag →
+    Progress scenario cells first sq line i →
     IsUsedBefore scenario cells line first (suc i) ⊎ Brought scenario cells line first (suc i)
-progress-last scenario cells first sq line i last fair ends alone far at (is_used used) = inl (used-longer scenario cells line first i (suc i) (omega arith) used)
-progress-last scenario cells first sq line i last fair ends alone far at (is_begun start place later before starts) = inr (start, place, later, omega arith, starts)
+progress-last scenario cells first sq line i last fair ends alone far at (is_used used) =
+    inl (used-longer scenario cells line first i (suc i) (omega arith) used)
+progress-last scenario cells first sq line i last fair ends alone far at (is_begun start place later before starts) =
+    inr (start, place, later, omega arith, starts)
 progress-last scenario cells first sq line i last fair ends alone far at (is_still waits) =
     let lag = fair.lag in
-    elim (carried scenario cells i) as (λ c. carried scenario cells i ≡ c → IsUsedBefore scenario cells line first (suc i) ⊎ Brought scenario cells line first (suc i)) [
+    elim (carried scenario cells i)
+    as (λ c. carried scenario cells i ≡ c →
+    IsUsedBefore scenario cells line first (suc i) ⊎ Brought scenario cells line first (suc i)) [
       | None ↦ λ e.
           elim (move-last scenario cells first sq line i fair ends waits at e) [
             | inl starts ↦ inr (i, starts.0, omega arith, omega arith, starts.1)
             | inr now ↦ inl (used-now scenario cells line first i (omega arith) now)
           ]
-      | Some command ↦ λ e. inl (used-longer scenario cells line first i (suc i) (omega arith) (alone i command (omega arith) far e))
+      | Some command ↦ λ e. inl (used-longer scenario cells line first i (suc i) (omega arith)
+          (alone i command (omega arith) far e))
     ] refl
 
 -- ---- from there on
-read_there : (scenario : Scenario) (order : List Member) (s l place line k : ℕ) → s ≤ place → Leads order place line → Has order s l adding →
+read_there : (scenario : Scenario) (order : List Member) (s l place line k : ℕ) → s ≤ place → Leads order place line →
+    Has order s l adding →
     is_read scenario line k ≡ true → is_read scenario l k ≡ true
 read_there scenario order s l place line k low leads has read =
     elim (eq-or-lt_of_le low) [
@@ -214,16 +262,19 @@ read_there scenario order s l place line k low leads has read =
       | inr before ↦ absurd (leads.first s l before has)
     ]
 
-reads_line : (scenario : Scenario) (line l k : ℕ) → is_read scenario line k ≡ true → ((l ≡ line → ⊥) → is_read scenario l k ≡ false) → is_read scenario l k ≡ is_line line l
+reads_line : (scenario : Scenario) (line l k : ℕ) → is_read scenario line k ≡ true →
+    ((l ≡ line → ⊥) → is_read scenario l k ≡ false) → is_read scenario l k ≡ is_line line l
 reads_line scenario line l k read other =
     elim (l == line) as (λ b. (l == line) ≡ b → is_read scenario l k ≡ b) [
       | true ↦ λ e. let same = eqb-true l line e in rw same read
       | false ↦ λ e. other (eqb-false l line e)
     ] refl
 
-after_start : (scenario : Scenario) (n first line start place : ℕ) → 0 < scenario.lag → line < length scenario.windows → first + 31 + scenario.lag ≤ n →
+after_start : (scenario : Scenario) (n first line start place : ℕ) → 0 < scenario.lag → line < length scenario.windows →
+    first + 31 + scenario.lag ≤ n →
     ((j s l : ℕ) → Has (table_of scenario (cells_before scenario n) j).order s l adding → s < 128) →
-    Alone scenario (cells_before scenario n) line first (first + 30 + 2 * scenario.lag) → AllCome scenario first (31 + scenario.lag) → AllRead scenario line first (31 + scenario.lag) →
+    Alone scenario (cells_before scenario n) line first (first + 30 + 2 * scenario.lag) →
+    AllCome scenario first (31 + scenario.lag) → AllRead scenario line first (31 + scenario.lag) →
     first < start → start < first + 16 + scenario.lag → Starts scenario (cells_before scenario n) line start place →
     IsUsedBefore scenario (cells_before scenario n) line first (first + 31 + 2 * scenario.lag)
 after_start scenario n first line start place lag known whole small alone come read later near starts =
@@ -232,41 +283,55 @@ after_start scenario n first line start place lag known whole small alone come r
       lag = lag;
       session = session-law scenario n lag;
       rose = starts.rose;
-      comes = λ k from close. cell-comes scenario n first (31 + scenario.lag) k lag (omega arith) come (omega arith) (omega arith);
+      comes = λ k from close. cell-comes scenario n first (31 + scenario.lag) k lag (omega arith) come (omega arith)
+          (omega arith);
       hears = λ k from close. some_heard scenario.windows line k known (read k (omega arith) (omega arith));
-      reads = λ s l k low has from close. read_there scenario (table_of scenario cells start).order s l place line k low starts.leads has (read k (omega arith) (omega arith));
+      reads = λ s l k low has from close. read_there scenario (table_of scenario cells start).order s l place line k low
+          starts.leads has (read k (omega arith) (omega arith));
       small = small start place line starts.leads.here;
     } in
     used-longer scenario cells line first (start + 16 + scenario.lag) (first + 31 + 2 * scenario.lag) (omega arith)
     (used_by scenario cells (λ l. true) first start place line fair (λ s l low h. refl)
     (λ i command from close e. alone i command from (omega arith) e) (omega arith) starts.waits)
 
-pub brought : (scenario : Scenario) (n first line : ℕ) → 0 < scenario.lag → line < length scenario.windows → first + 31 + scenario.lag ≤ n →
+pub brought : (scenario : Scenario) (n first line : ℕ) → 0 < scenario.lag → line < length scenario.windows →
+    first + 31 + scenario.lag ≤ n →
     ((j s l : ℕ) → Has (table_of scenario (cells_before scenario n) j).order s l adding → s < 128) →
-    AddsAlone scenario (cells_before scenario n) line first (first + 30 + 2 * scenario.lag) → AllCome scenario first (31 + scenario.lag) → AllRead scenario line first (31 + scenario.lag) →
-    ((s l : ℕ) → Has (table_of scenario (cells_before scenario n) first).order s l adding → (l ≡ line → ⊥) → NoneRead scenario l first 16) →
+    AddsAlone scenario (cells_before scenario n) line first (first + 30 + 2 * scenario.lag) →
+    AllCome scenario first (31 + scenario.lag) → AllRead scenario line first (31 + scenario.lag) →
+    ((s l : ℕ) → Has (table_of scenario (cells_before scenario n) first).order s l adding → (l ≡ line → ⊥) →
+    NoneRead scenario l first 16) →
     IsUsedBefore scenario (cells_before scenario n) line first (first + 31 + 2 * scenario.lag)
 brought scenario n first line lag known whole small adds come read others =
     let cells = cells_before scenario n in
     let table = told_at scenario cells first in
     let sq = length table.order in
-    let after : table_of scenario cells first ≡ carried_out (add line) table = table_of-carried scenario cells first (add line) adds.added in
+    let after : table_of scenario cells first ≡ carried_out (add line) table =
+    table_of-carried scenario cells first (add line) adds.added in
     let count = ap (λ t. t.count) after in
     let before = told_at-count scenario cells first in
     let waits = Waits-added scenario cells (is_line line) first line lag adds.added in
-    let ends : Ends (table_of scenario cells first).order sq = rw after (length-append table.order (member_of line adding ∷ []) ∙ (let e : length table.order + 1 ≡ suc (length table.order) = omega arith in e)) in
+    let ends : Ends (table_of scenario cells first).order sq =
+    rw after (length-append table.order (member_of line adding ∷ [])
+    ∙ (let e : length table.order + 1 ≡ suc (length table.order) = omega arith in e)) in
     let fair : IsFair scenario cells (is_line line) first sq = record {
       lag = lag;
       session = session-law scenario n lag;
       rose = omega arith;
-      comes = λ k from close. cell-comes scenario n first (31 + scenario.lag) k lag (omega arith) come from (omega arith);
+      comes = λ k from close. cell-comes scenario n first (31 + scenario.lag) k lag (omega arith) come from
+          (omega arith);
       hears = λ k from close. some_heard scenario.windows line k known (read k from (omega arith));
-      reads = λ s l k low has from close. reads_line scenario line l k (read k from (omega arith)) (λ other. others s l has other k from close);
+      reads = λ s l k low has from close. reads_line scenario line l k (read k from (omega arith))
+          (λ other. others s l has other k from close);
       small = small first sq line waits.here;
     } in
     let at : 14 + scenario.lag + suc first ≡ first + 15 + scenario.lag = omega arith in
-    let progress = progress-many scenario cells first sq line (first + 30 + 2 * scenario.lag) fair ends adds.alone (omega arith) waits (14 + scenario.lag) (omega arith) in
-    elim (progress-last scenario cells first sq line (14 + scenario.lag + suc first) (first + 30 + 2 * scenario.lag) fair ends adds.alone (omega arith) at progress) [
-      | inl used ↦ used-longer scenario cells line first (suc (14 + scenario.lag + suc first)) (first + 31 + 2 * scenario.lag) (omega arith) used
-      | inr there ↦ after_start scenario n first line there.0 there.1 lag known whole small adds.alone come read there.2 (omega (arith, there.3)) there.4
+    let progress = progress-many scenario cells first sq line (first + 30 + 2 * scenario.lag) fair ends adds.alone
+    (omega arith) waits (14 + scenario.lag) (omega arith) in
+    elim (progress-last scenario cells first sq line (14 + scenario.lag + suc first)
+    (first + 30 + 2 * scenario.lag) fair ends adds.alone (omega arith) at progress) [
+      | inl used ↦ used-longer scenario cells line first (suc (14 + scenario.lag + suc first))
+          (first + 31 + 2 * scenario.lag) (omega arith) used
+      | inr there ↦ after_start scenario n first line there.0 there.1 lag known whole small adds.alone come read there.2
+          (omega (arith, there.3)) there.4
     ]

@@ -1,12 +1,15 @@
 -- The statuses that are kept, as a list by SQ: there are always 128 of them.
-use Rattle.std.proofs.Common.{◌≡◌, ℕ, zero, suc, ◌+◌, ◌-◌, ◌/◌, ◌%◌, ◌<◌, ◌==◌, Bool, true, false, if◌then◌else◌, List, [], ◌∷◌, length, replicate, Option, Some, None, slice_get, slice_index_or, refl, sym, ◌∙◌, ap, subst, arith}
+use Rattle.std.proofs.Common.{◌≡◌, ℕ, zero, suc, ◌+◌, ◌-◌, ◌/◌, ◌%◌, ◌<◌, ◌==◌, Bool, true, false, if◌then◌else◌, List}
+use Rattle.std.proofs.Common.{[], ◌∷◌, length, replicate, Option, Some, None, slice_get, slice_index_or, refl, sym, ◌∙◌}
+use Rattle.std.proofs.Common.{ap, subst, arith}
 use Rattle.std.proofs.lemmas.Option.{none-some}
 use Rattle.std.proofs.lemmas.List.{length-replicate}
 use Rattle.session_model.specs.declared.table.Command.{Command}
 use Rattle.session_model.specs.declared.table.Command.TheVariants.{Add as add, Remove as remove}
 use Rattle.session_model.specs.Scenario.{Scenario, orders_at}
 use Rattle.session_model.specs.declared.table.Member.{Member}
-use Rattle.session_model.specs.Table.{Table, Told, kept_of, is_for, keep, none_kept, acknowledged_by, heard, told_on, exchange, exchanged}
+use Rattle.session_model.specs.Table.{Table, Told, kept_of, is_for, keep, none_kept, acknowledged_by, heard, told_on}
+use Rattle.session_model.specs.Table.{exchange, exchanged}
 use Rattle.session_model.specs.Source.{Source, change_by, change, asked_all, cell_at, after}
 use Rattle.session_law.specs.Feedback.{table_before}
 use Rattle.session_law.proofs.FeedbackLaws.{asked_all-table}
@@ -27,25 +30,30 @@ none_kept-size : length none_kept ≡ 128
 unfolding none_kept
 none_kept-size = length-replicate {A = Option Bool} 128 None
 
-pub keep-size : (group : ℕ) (oks : List Bool) (base : ℕ) (statuses : List (Option Bool)) → length (keep group oks base statuses) ≡ length statuses
+pub keep-size : (group : ℕ) (oks : List Bool) (base : ℕ) (statuses : List (Option Bool)) →
+    length (keep group oks base statuses) ≡ length statuses
 unfolding keep
 keep-size group oks base [] = refl
 keep-size group oks base (old ∷ statuses) = ap suc (keep-size group oks (base + 1) statuses)
 
-keep-at_from : (group : ℕ) (oks : List Bool) (base : ℕ) (statuses : List (Option Bool)) (sq : ℕ) → sq < length statuses →
+keep-at_from : (group : ℕ) (oks : List Bool) (base : ℕ) (statuses : List (Option Bool)) (sq : ℕ) →
+    sq < length statuses →
     slice_index_or (keep group oks base statuses) sq None
     ≡ (if (base + sq) / 8 == group then slice_get oks ((base + sq) % 8) else slice_index_or statuses sq None)
 unfolding keep
 keep-at_from group oks base [] sq h = absurd (omega arith)
 keep-at_from group oks base (old ∷ statuses) zero h = let e : base + zero ≡ base = omega arith in rw e refl
 keep-at_from group oks base (old ∷ statuses) (suc sq) h =
-    let e : base + suc sq ≡ base + 1 + sq = omega arith in rw e (keep-at_from group oks (base + 1) statuses sq (omega arith))
+    let e : base + suc sq ≡ base + 1 + sq =
+    omega arith in rw e (keep-at_from group oks (base + 1) statuses sq (omega arith))
 
 pub keep-at : (group : ℕ) (oks : List Bool) (statuses : List (Option Bool)) (sq : ℕ) → sq < length statuses →
-    slice_index_or (keep group oks 0 statuses) sq None ≡ (if sq / 8 == group then slice_get oks (sq % 8) else slice_index_or statuses sq None)
+    slice_index_or (keep group oks 0 statuses) sq None ≡
+    (if sq / 8 == group then slice_get oks (sq % 8) else slice_index_or statuses sq None)
 keep-at group oks statuses sq h = let e : 0 + sq ≡ sq = omega arith in rw e at (keep-at_from group oks 0 statuses sq h)
 
-pub inside-of_some : {X : Type 0} (xs : List (Option X)) (k : ℕ) (x : X) → slice_index_or xs k None ≡ Some x → k < length xs
+pub inside-of_some : {X : Type 0} (xs : List (Option X)) (k : ℕ) (x : X) → slice_index_or xs k None ≡ Some x →
+    k < length xs
 inside-of_some [] k x e = absurd (let f : None ≡ Some x = e in cc)
 inside-of_some (y ∷ xs) zero x e = omega arith
 inside-of_some (y ∷ xs) (suc k) x e = let h = inside-of_some xs k x e in omega arith
@@ -65,7 +73,8 @@ full-exchanged : (found : Option (List Member)) (table : Table) → IsFull table
 full-exchanged None table full = full
 full-exchanged (Some order) table full = none_kept-size
 
-full-change_by : (commands : List Command) (source : Source) (table : Table) → IsFull table → IsFull (change_by commands source table).table
+full-change_by : (commands : List Command) (source : Source) (table : Table) → IsFull table →
+    IsFull (change_by commands source table).table
 full-change_by [] source table full = full-exchanged (exchange (kept_of table) 0 table.order) table full
 full-change_by (add line ∷ commands) source table full = none_kept-size
 full-change_by (remove line ∷ commands) source table full = none_kept-size
@@ -85,4 +94,5 @@ full-after scenario cells (suc j) =
     let source = asked_all (length scenario.windows) (orders_at scenario j) (after scenario cells j) in
     let same = asked_all-table (length scenario.windows) (orders_at scenario j) (after scenario cells j) in
     full-change source (told_on (heard ((j - scenario.lag) % 16) (cell_at scenario cells j) source.table))
-    (full-heard ((j - scenario.lag) % 16) (cell_at scenario cells j) source.table (subst IsFull (sym same) (full-after scenario cells j)))
+    (full-heard ((j - scenario.lag) % 16) (cell_at scenario cells j) source.table
+    (subst IsFull (sym same) (full-after scenario cells j)))

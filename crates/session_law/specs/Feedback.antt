@@ -30,9 +30,11 @@ TellsOf scenario cells j k = said scenario cells k ≡ (table_before scenario ce
 
 -- the lines have before step j the SQs that they have in packet k
 abbrev pub SameLines : Scenario → List (Option Told) → ℕ → ℕ → Type 0
-SameLines scenario cells j k = lines_of (table_before scenario cells j).order ≡ lines_of (table_of scenario cells k).order
+SameLines scenario cells j k = lines_of (table_before scenario cells j).order ≡ lines_of
+    (table_of scenario cells k).order
 
--- a status that step j acts on was said in a return packet that wasn't lost, and that this step or one before it has taken.
+-- a status that step j acts on was said in a return packet that wasn't lost, and that this step or one before it has
+-- taken.
 -- It tells of the very count of the table before step j, and in its table the same lines had the same SQs
 pub record WasSaid (scenario : Scenario) (cells : List (Option Told)) (j sq : ℕ) (ok : Bool) : Type 0 where
   pub packet : ℕ

@@ -8,7 +8,8 @@ use Rattle.session_model.specs.Back.{return_cell, cells_before}
 
 -- of the first n return cells, cell k is the one that the tables say which these cells lead to
 abbrev pub IsReturned : Scenario → ℕ → ℕ → Type 0
-IsReturned scenario n k = slice_index_or (cells_before scenario n) k None ≡ return_cell scenario (cells_before scenario n) k
+IsReturned scenario n k = slice_index_or (cells_before scenario n) k None ≡ return_cell scenario
+    (cells_before scenario n) k
 
 -- lists of return cells whose first n are the same
 abbrev pub AgreeBefore : ℕ → List (Option Told) → List (Option Told) → Type 0

@@ -27,7 +27,8 @@ pub record IsUsedBefore (scenario : Scenario) (cells : List (Option Told)) (line
 abbrev pub IsUsedBy : Scenario → ℕ → ℕ → ℕ → Type 0
 IsUsedBy scenario line first last = IsUsedBefore scenario (session_cells scenario) line first (last + 1)
 
--- step first carries out the adding of a line, and no further command is carried out up to a step, before the line is in use
+-- step first carries out the adding of a line, and no further command is carried out up to a step, before the line is
+-- in use
 pub record AddsAlone (scenario : Scenario) (cells : List (Option Told)) (line first last : ℕ) : Type 0 where
   pub added : carried scenario cells first ≡ Some (add line)
   pub alone : (i : ℕ) (command : Command) → first < i → i ≤ last →
@@ -53,16 +54,19 @@ pub record HasLimits (scenario : Scenario) : Type 0 where
 abbrev pub Begins : Scenario → ℕ → Type 0
 Begins scenario k = 16 * k + 8 < scenario.ticks
 
--- an add of a line is carried out in a step, and nothing comes between: in the sixteen packets from that step on each line in ADD
+-- an add of a line is carried out in a step, and nothing comes between: in the sixteen packets from that step on each
+-- line in ADD
 -- can be read, and their return packets come. How the lines in NORM and DNU fare doesn't matter
 pub record AddsUndamaged (scenario : Scenario) (first line : ℕ) : Type 0 where
   pub limits : HasLimits scenario
   pub begins : Begins scenario (first + 15 + scenario.lag)
   pub adds : AddsAlone scenario (session_cells scenario) line first (first + 15 + scenario.lag)
   pub come : AllCome scenario first 16
-  pub read : (other : ℕ) → IsAdded (table_of scenario (session_cells scenario) first) other → AllRead scenario other first 16
+  pub read : (other : ℕ) → IsAdded (table_of scenario (session_cells scenario) first) other →
+      AllRead scenario other first 16
 
--- an add of a line that can be read is carried out in a step, and in the sixteen packets from that step on no other line in ADD can
+-- an add of a line that can be read is carried out in a step, and in the sixteen packets from that step on no other
+-- line in ADD can
 -- be read
 pub record AddsAmongSilent (scenario : Scenario) (first line : ℕ) : Type 0 where
   pub limits : HasLimits scenario

@@ -44,7 +44,8 @@ shown_in scenario packets = map (λ packet. shown scenario packet.0) packets
 -- three lines are added; line 1 is removed at tick 600
 abbrev pub three_lines : Scenario
 three_lines =
-    scenario_for 1 700 ([] ∷ [] ∷ [] ∷ []) (order 0 (add 0) ∷ order 0 (add 1) ∷ order 0 (add 2) ∷ order 600 (remove 1) ∷ [])
+    scenario_for 1 700 ([] ∷ [] ∷ [] ∷ [])
+    (order 0 (add 0) ∷ order 0 (add 1) ∷ order 0 (add 2) ∷ order 600 (remove 1) ∷ [])
 
 abbrev pub three_lines_shown : List Shown
 three_lines_shown =
@@ -72,7 +73,8 @@ failing_line_shown =
     ∷ (65, member_of 0 normal ∷ member_of 1 unused ∷ [], None, 0)
     ∷ (97, member_of 0 normal ∷ member_of 1 normal ∷ [], None, 0) ∷ []
 
--- the first line is never read: the second is brought forward in packet 17 and in use in packet 33, 30 packets and twice the lag after
+-- the first line is never read: the second is brought forward in packet 17 and in use in packet 33, 30 packets and
+-- twice the lag after
 -- it was added
 abbrev pub silent_line : Scenario
 silent_line = scenario_for 1 600 (damaged 0 600 ∷ [] ∷ []) (order 0 (add 0) ∷ order 0 (add 1) ∷ [])

@@ -1,12 +1,14 @@
-//! The laws of a session, over the definitions alone: what return packets tell the source, how soon a line that is added carries
-//! payload, what is accepted, and how the client's stream goes on. There is no code here. Begin at `feedback_law`, by which one
-//! bit of a return packet stands for a whole count of changes.
+//! The laws of a session, over the definitions alone: what return packets tell the source, how soon a line
+//! that is added carries payload, what is accepted, and how the client's stream goes on. There is no code
+//! here. Begin at `feedback_law`, by which one bit of a return packet stands for a whole count of changes.
 #![tactic(auto)]
 
-ghost use Rattle.std.specs.Prelude.{◌≡◌, ◌↔◌, ◌<◌, ◌≤◌, ◌++◌, ◌+◌, ◌-◌, ◌*◌, ◌/◌, ℕ, Bool, true, List, Option, Some, take, filter, suc, length};
+ghost use Rattle.std.specs.Prelude.{◌≡◌, ◌↔◌, ◌<◌, ◌≤◌, ◌++◌, ◌+◌, ◌-◌, ◌*◌, ◌/◌, ℕ, Bool, true, List, Option, Some};
+ghost use Rattle.std.specs.Prelude.{take, filter, suc, length};
 ghost use Rattle.session_model.specs.declared.window.Carried.{Carried};
 ghost use Rattle.session_model.specs.Damage.{is_good, is_readable};
-ghost use Rattle.session_model.specs.Scenario.{Scenario, DueCommand, DueFrame, steps_in, is_read, is_heard, lands_at, comes_at};
+ghost use Rattle.session_model.specs.Scenario.{Scenario, DueCommand, DueFrame, steps_in, is_read, is_heard, lands_at};
+ghost use Rattle.session_model.specs.Scenario.{comes_at};
 ghost use Rattle.session_model.specs.Table.{kept_of, Told};
 ghost use Rattle.session_model.specs.Source.{after, table_of, told_at};
 ghost use Rattle.session_model.specs.Back.{cells_before};
@@ -16,11 +18,12 @@ ghost use Rattle.session_model.specs.Journal.{orders_before, offers_before, fram
 ghost use Rattle.session_law.specs.Session.{IsReturned, AgreeBefore, AreWhole};
 ghost use Rattle.session_law.specs.Feedback.{Takes, Acknowledges, TellsOf, SameLines, WasSaid};
 ghost use Rattle.session_law.specs.Use.{IsUsedBy, AddsUndamaged, AddsAmongSilent};
-ghost use Rattle.session_law.specs.Worked.{shown_in, three_lines, three_lines_shown, other_line, other_line_shown, failing_line, failing_line_shown, silent_line, silent_line_shown};
+ghost use Rattle.session_law.specs.Worked.{shown_in, three_lines, three_lines_shown, other_line, other_line_shown};
+ghost use Rattle.session_law.specs.Worked.{failing_line, failing_line_shown, silent_line, silent_line_shown};
 ghost use Rattle.session_law.specs.Landing.{AreOrdersInOrder, AreOffersInOrder, landed, is_landed, is_come};
 
-/// The return cells of a session. Each is made from the tables that the cells before it lead to; more cells after a list change no
-/// table that was made before.
+/// The return cells of a session. Each is made from the tables that the cells before it lead to; more cells
+/// after a list change no table that was made before.
 pub fn session_law()
     ensures cells { (scenario : Scenario) (n k : ℕ) → 0 < scenario.lag → k < n →
         IsReturned scenario n k }
@@ -30,9 +33,9 @@ pub fn session_law()
         AgreeBefore (j + 1 - scenario.lag) a b → table_of scenario a j ≡ table_of scenario b j }
 {}
 
-/// Feedback. By its one bit a return packet acknowledges the change that is out exactly where it tells of the whole count of
-/// changes. Then each line still has the SQ that it had in the packet that was read, and each status that a step acts on was said
-/// of that line.
+/// Feedback. By its one bit a return packet acknowledges the change that is out exactly where it tells of the
+/// whole count of changes. Then each line still has the SQ that it had in the packet that was read, and each
+/// status that a step acts on was said of that line.
 pub fn feedback_law()
     ensures whole_count { (scenario : Scenario) (n j k : ℕ) (told : Told) →
         Takes scenario (cells_before scenario n) j k told →
@@ -47,9 +50,10 @@ pub fn feedback_law()
         WasSaid scenario (cells_before scenario n) j sq ok }
 {}
 
-/// A line that is added is in use fifteen packets and the lag later where each line in ADD can be read and no return packet is lost
-/// meanwhile, no further command is carried out before, and the session is as long. Where it can be read and no other line in ADD can,
-/// it is in use at most as long again later: a line that is seen isn't held up by one that isn't.
+/// A line that is added is in use fifteen packets and the lag later where each line in ADD can be read and no
+/// return packet is lost meanwhile, no further command is carried out before, and the session is as long.
+/// Where it can be read and no other line in ADD can, it is in use at most as long again later: a line that
+/// is seen isn't held up by one that isn't.
 pub fn use_law()
     ensures undamaged { (scenario : Scenario) (first line : ℕ) → AddsUndamaged scenario first line →
         IsUsedBy scenario line first (first + 15 + scenario.lag) }
@@ -58,8 +62,8 @@ pub fn use_law()
         IsUsedBy scenario line first (first + 30 + 2 * scenario.lag) }
 {}
 
-/// What of a line arrives whole. A container is good, and a packet can be read, exactly where each container on the way to it is
-/// whole; a packet is heard where some line has it.
+/// What of a line arrives whole. A container is good, and a packet can be read, exactly where each container
+/// on the way to it is whole; a packet is heard where some line has it.
 pub fn readable_law()
     ensures good { (carries : ℕ → Carried) (t : ℕ) →
         (is_good carries t ≡ true) ↔ ((2 ≤ t) × AreWhole carries (16 * ((t - 2) / 16)) (t + 1)) }
@@ -69,8 +73,8 @@ pub fn readable_law()
         ((line : ℕ) × (line < length scenario.windows) × (is_read scenario line k ≡ true)) }
 {}
 
-/// What was refused changes nothing: the session of what was accepted alone goes as the session, and accepts all of it again. Items
-/// land in the order of the script.
+/// What was refused changes nothing: the session of what was accepted alone goes as the session, and accepts
+/// all of it again. Items land in the order of the script.
 pub fn journal_law()
     ensures tables { (scenario : Scenario) (cells : List (Option Told)) (t j : ℕ) → j ≤ steps_in t →
         after (replayed scenario cells t) cells j ≡ after scenario cells j }
@@ -87,8 +91,9 @@ pub fn journal_law()
         landed comes_at offers t ≡ filter (is_come t) offers }
 {}
 
-/// The client's stream. Each accepted frame is begun or waits, in order; the pieces are the fewest that reach the place at which the
-/// next frame begins, so that each frame has all octets that it carries; and more return cells after a list change nothing of what was sent before.
+/// The client's stream. Each accepted frame is begun or waits, in order; the pieces are the fewest that reach
+/// the place at which the next frame begins, so that each frame has all octets that it carries; and more
+/// return cells after a list change nothing of what was sent before.
 pub fn client_law()
     ensures frames { (scenario : Scenario) (cells : List (Option Told)) (t : ℕ) →
         frames_in (stream_before scenario cells t).pieces

@@ -1,5 +1,7 @@
 -- A core header and its PLI determine each other.
-use Rattle.std.proofs.Common.{◌≡◌, ℕ, ◌^◌, ◌<◌, ◌≤◌, ◌⊎◌, ◌&&◌, Bool, true, false, List, ◌++◌, length, take, All, Some, None, if◌then◌else◌, refl, sym, ◌∙◌, ap, ap₂, subst, arith, mod-eq_of_lt, lt_of_lt_of_le, le_of_eq, pow_mono}
+use Rattle.std.proofs.Common.{◌≡◌, ℕ, ◌^◌, ◌<◌, ◌≤◌, ◌⊎◌, ◌&&◌, Bool, true, false, List, ◌++◌, length, take, All, Some}
+use Rattle.std.proofs.Common.{None, if◌then◌else◌, refl, sym, ◌∙◌, ap, ap₂, subst, arith, mod-eq_of_lt, lt_of_lt_of_le}
+use Rattle.std.proofs.Common.{le_of_eq, pow_mono}
 use Rattle.std.specs.Str.{bytes_eq}
 use Rattle.std.proofs.lemmas.Bool.Decides.{nat_tests}
 use Rattle.std.proofs.lemmas.List.{take_at}
@@ -21,15 +23,19 @@ unfolding core_header
 core_header_below pli = octets_of_below 4 _
 
 -- the first two octets have the PLI, and the other two its check
-pub core_header_parts : (pli : ℕ) → core_header pli ≡ octets_of 2 (xors (bits 16 0xb6ab) (bits 16 pli)) ++ octets_of 2 (xors (bits 16 0x31e0) (hec_bits pli))
+pub core_header_parts : (pli : ℕ) →
+    core_header pli ≡ octets_of 2 (xors (bits 16 0xb6ab) (bits 16 pli)) ++ octets_of 2
+    (xors (bits 16 0x31e0) (hec_bits pli))
 unfolding core_header
 core_header_parts pli =
     let mask : bits 32 0xb6ab31e0 ≡ bits 16 0xb6ab ++ bits 16 0x31e0 =
     bits-add 16 16 0xb6ab31e0 ∙ ap (λ l. bits 16 0xb6ab ++ l) (bits_low 16 0xb6ab 0x31e0) in
     let same : length (bits 16 0xb6ab) ≡ length (bits 16 pli) = length-bits 16 0xb6ab ∙ sym (length-bits 16 pli) in
-    let size : length (xors (bits 16 0xb6ab) (bits 16 pli)) ≡ 16 = length_xors (bits 16 0xb6ab) (bits 16 pli) same ∙ length-bits 16 pli in
+    let size : length (xors (bits 16 0xb6ab) (bits 16 pli)) ≡ 16 = length_xors (bits 16 0xb6ab) (bits 16 pli) same
+    ∙ length-bits 16 pli in
     ap (octets_of 4)
-    (ap (λ l. xors l (bits 16 pli ++ hec_bits pli)) mask ∙ xors-append (bits 16 0xb6ab) (bits 16 pli) (bits 16 0x31e0) (hec_bits pli) same)
+    (ap (λ l. xors l (bits 16 pli ++ hec_bits pli)) mask
+    ∙ xors-append (bits 16 0xb6ab) (bits 16 pli) (bits 16 0x31e0) (hec_bits pli) same)
     ∙ octets_of-append 2 2 (xors (bits 16 0xb6ab) (bits 16 pli)) (xors (bits 16 0x31e0) (hec_bits pli)) size
 
 pub pli_of-core_header : (pli : ℕ) → pli < 2 ^ 16 → pli_of (core_header pli) ≡ pli
@@ -39,7 +45,9 @@ pli_of-core_header pli h =
     let same : length (bits 16 0xb6ab) ≡ length (bits 16 pli) = length-bits 16 0xb6ab ∙ sym (length-bits 16 pli) in
     let size : length front ≡ 16 = length_xors (bits 16 0xb6ab) (bits 16 pli) same ∙ length-bits 16 pli in
     let two : take 2 (core_header pli) ≡ octets_of 2 front =
-    ap (take 2) (core_header_parts pli) ∙ take_at (octets_of 2 front) (octets_of 2 (xors (bits 16 0x31e0) (hec_bits pli))) 2 (length-octets_of 2 front) in
+    ap (take 2) (core_header_parts pli)
+    ∙ take_at (octets_of 2 front) (octets_of 2 (xors (bits 16 0x31e0) (hec_bits pli))) 2
+    (length-octets_of 2 front) in
     ap number
     (ap (xors (bits 16 0xb6ab)) (ap octet_bits two ∙ octet_bits-octets_of 2 front size)
     ∙ xors_twice (bits 16 0xb6ab) (bits 16 pli) (le_of_eq (sym same)))
@@ -49,7 +57,8 @@ pub pli_of_below : (octets : List ℕ) → pli_of octets < 2 ^ 16
 unfolding pli_of
 pli_of_below octets =
     let bs = xors (bits 16 0xb6ab) (octet_bits (take 2 octets)) in
-    let short : length bs ≤ 16 = omega (arith, length-xors (bits 16 0xb6ab) (octet_bits (take 2 octets)), length-bits 16 0xb6ab) in
+    let short : length bs ≤ 16 = omega
+    (arith, length-xors (bits 16 0xb6ab) (octet_bits (take 2 octets)), length-bits 16 0xb6ab) in
     lt_of_lt_of_le (number_below bs) (pow_mono short)
 
 -- what a PLI may be, as a test
@@ -68,14 +77,17 @@ bytes_eq-self : (octets : List ℕ) → bytes_eq octets octets ≡ true
 bytes_eq-self octets = (bytes_eq-Decides octets octets).1 refl
 
 -- what is known of octets that have a PLI
-headed : (octets : List ℕ) (pli : ℕ) → head octets ≡ Some pli → (bytes_eq (core_header (pli_of octets)) octets ≡ true) × (is_pli (pli_of octets) ≡ true) × (pli_of octets ≡ pli)
+headed : (octets : List ℕ) (pli : ℕ) → head octets ≡ Some pli → (bytes_eq (core_header (pli_of octets)) octets ≡ true) ×
+    (is_pli (pli_of octets) ≡ true) × (pli_of octets ≡ pli)
 unfolding head
-headed octets pli h = some_if (bytes_eq (core_header (pli_of octets)) octets) (is_pli (pli_of octets)) (pli_of octets) pli h
+headed octets pli h = some_if (bytes_eq (core_header (pli_of octets)) octets) (is_pli (pli_of octets))
+    (pli_of octets) pli h
 
 pub head-core_header : (pli : ℕ) → IsPli pli → head (core_header pli) ≡ Some pli
 unfolding head
 head-core_header pli h =
-    ap (λ n. if bytes_eq (core_header n) (core_header pli) && is_pli n then Some n else None) (pli_of-core_header pli h.0)
+    ap (λ n. if bytes_eq (core_header n) (core_header pli) && is_pli n then Some n else None)
+    (pli_of-core_header pli h.0)
     ∙ ap₂ (λ a b. if a && b then Some pli else None) (bytes_eq-self (core_header pli)) (is_pli-true pli h.1)
 
 pub core_header-head : (octets : List ℕ) (pli : ℕ) → head octets ≡ Some pli → core_header pli ≡ octets

@@ -1,6 +1,8 @@
 -- The laws of octets cut at lengths, and of areas joined to one list.
-use Rattle.std.proofs.Common.{◌≡◌, ℕ, suc, ◌+◌, ◌≤◌, List, [], ◌∷◌, ◌++◌, length, map, take, drop, sum, refl, sym, ◌∙◌, ap, ap₂, arith, append_assoc}
-use Rattle.std.proofs.lemmas.List.{length-append, length-take, length-drop, take_at, drop_at, take-append-le, drop-append-le, drop-drop, take_all}
+use Rattle.std.proofs.Common.{◌≡◌, ℕ, suc, ◌+◌, ◌≤◌, List, [], ◌∷◌, ◌++◌, length, map, take, drop, sum, refl, sym, ◌∙◌}
+use Rattle.std.proofs.Common.{ap, ap₂, arith, append_assoc}
+use Rattle.std.proofs.lemmas.List.{length-append, length-take, length-drop, take_at, drop_at, take-append-le}
+use Rattle.std.proofs.lemmas.List.{drop-append-le, drop-drop, take_all}
 use Rattle.std.proofs.Math.Seq.{take-add}
 use Rattle.std.proofs.lemmas.List.Sums.{sum_by-cons}
 use Rattle.std.proofs.lemmas.List.Concat.{flat_map-append}
@@ -15,7 +17,8 @@ joined-append areas more = flat_map-append (λ area. area) areas more
 
 pub length-joined : (areas : List (List ℕ)) → length (joined areas) ≡ sum (map length areas)
 length-joined [] = refl
-length-joined (area ∷ areas) = omega (arith, length-append area (joined areas), length-joined areas, sum-cons (length area) (map length areas))
+length-joined (area ∷ areas) = omega
+    (arith, length-append area (joined areas), length-joined areas, sum-cons (length area) (map length areas))
 
 -- ---- octets cut
 pub length-cut : (sizes octets : List ℕ) → length (cut sizes octets) ≡ length sizes
@@ -23,13 +26,15 @@ unfolding cut
 length-cut [] octets = refl
 length-cut (size ∷ sizes) octets = ap suc (length-cut sizes (drop size octets))
 
-pub cut-append : (sizes more octets : List ℕ) → cut (sizes ++ more) octets ≡ cut sizes octets ++ cut more (drop (sum sizes) octets)
+pub cut-append : (sizes more octets : List ℕ) →
+    cut (sizes ++ more) octets ≡ cut sizes octets ++ cut more (drop (sum sizes) octets)
 unfolding cut
 cut-append [] more octets = refl
 cut-append (size ∷ sizes) more octets =
     ap (λ areas. take size octets ∷ areas)
     (cut-append sizes more (drop size octets)
-    ∙ ap (λ rest. cut sizes (drop size octets) ++ cut more rest) (drop-drop (sum sizes) size octets ∙ ap (λ n. drop n octets) (sym (sum-cons size sizes))))
+    ∙ ap (λ rest. cut sizes (drop size octets) ++ cut more rest)
+    (drop-drop (sum sizes) size octets ∙ ap (λ n. drop n octets) (sym (sum-cons size sizes))))
 
 -- the cut octets don't depend on what is behind them
 pub cut-front : (sizes octets more : List ℕ) → sum sizes ≤ length octets → cut sizes (octets ++ more) ≡ cut sizes octets
@@ -38,13 +43,16 @@ cut-front [] octets more h = refl
 cut-front (size ∷ sizes) octets more h =
     let all : size + sum sizes ≤ length octets = omega (arith, sum-cons size sizes) in
     ap₂ ◌∷◌ (take-append-le size octets more (omega arith))
-    (ap (cut sizes) (drop-append-le size octets more (omega arith)) ∙ cut-front sizes (drop size octets) more (omega (arith, length-drop size octets)))
+    (ap (cut sizes) (drop-append-le size octets more (omega arith))
+    ∙ cut-front sizes (drop size octets) more (omega (arith, length-drop size octets)))
 
 -- octets in two parts
-pub cut_parts : (sizes more front rest : List ℕ) → length front ≡ sum sizes → cut (sizes ++ more) (front ++ rest) ≡ cut sizes front ++ cut more rest
+pub cut_parts : (sizes more front rest : List ℕ) → length front ≡ sum sizes →
+    cut (sizes ++ more) (front ++ rest) ≡ cut sizes front ++ cut more rest
 cut_parts sizes more front rest e =
     cut-append sizes more (front ++ rest)
-    ∙ ap₂ (λ areas behind. areas ++ cut more behind) (cut-front sizes front rest (omega arith)) (drop_at front rest (sum sizes) e)
+    ∙ ap₂ (λ areas behind. areas ++ cut more behind) (cut-front sizes front rest (omega arith))
+    (drop_at front rest (sum sizes) e)
 
 -- the lengths of what is cut
 pub map-length-cut : (sizes octets : List ℕ) → sum sizes ≤ length octets → map length (cut sizes octets) ≡ sizes

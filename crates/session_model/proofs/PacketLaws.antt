@@ -1,7 +1,11 @@
--- What is read of a list: sixteen nibbles whose check is right and whose code is that of a control word, and nothing else.
-use Rattle.std.proofs.Common.{◌≡◌, ◌≢◌, ℕ, zero, suc, ◌+◌, ◌*◌, ◌/◌, ◌%◌, ◌<◌, ◌==◌, nat_lt, Bool, true, false, inl, inr, List, [], ◌∷◌, ◌++◌, length, slice_index, All, Option, Some, None, Ok, Err, refl, sym, ◌∙◌, ap, subst, arith, lit<}
+-- What is read of a list: sixteen nibbles whose check is right and whose code is that of a control word, and nothing
+-- else.
+use Rattle.std.proofs.Common.{◌≡◌, ◌≢◌, ℕ, zero, suc, ◌+◌, ◌*◌, ◌/◌, ◌%◌, ◌<◌, ◌==◌, nat_lt, Bool, true, false, inl}
+use Rattle.std.proofs.Common.{inr, List, [], ◌∷◌, ◌++◌, length, slice_index, All, Option, Some, None, Ok, Err, refl}
+use Rattle.std.proofs.Common.{sym, ◌∙◌, ap, subst, arith, lit<}
 use Rattle.std.specs.List.{list_all}
-use Rattle.std.proofs.lemmas.Bool.{and_parts, and_from, and_left, and_right, eqb-true, eq-eqb, ne_eqb, ltb-true, lt-ltb, cases_Bool, cases_eq}
+use Rattle.std.proofs.lemmas.Bool.{and_parts, and_from, and_left, and_right, eqb-true, eq-eqb, ne_eqb, ltb-true, lt-ltb}
+use Rattle.std.proofs.lemmas.Bool.{cases_Bool, cases_eq}
 use Rattle.std.proofs.lemmas.List.Elements.{All-nil, All-cons, All-append, All-head, All-tail}
 use Rattle.vc_bits.specs.Check.{crc8_of}
 use Rattle.vc_bits.proofs.CheckLaws.{crc8_of_below}
@@ -10,7 +14,9 @@ use Rattle.vc_cell.specs.Code.{code_of, ctrl_of}
 use Rattle.vc_cell.proofs.CodeLaws.{code_of_below, ctrl_of-code_of, ctrl_of-some}
 use Rattle.session_model.specs.declared.packet.Packet.{Packet}
 use Rattle.session_model.specs.declared.packet.PacketFault.TheVariants.{Crc}
-use Rattle.session_model.specs.Packet.{octet_nibbles, bit_nibble, IsPacket, covered_nibbles, packet_nibbles, octet_at, said_check, found_check, said_code, packet_of, cleared_nibbles, are_nibbles, read_by, read_of}
+use Rattle.session_model.specs.Packet.{octet_nibbles, bit_nibble, IsPacket, covered_nibbles, packet_nibbles, octet_at}
+use Rattle.session_model.specs.Packet.{said_check, found_check, said_code, packet_of, cleared_nibbles, are_nibbles}
+use Rattle.session_model.specs.Packet.{read_by, read_of}
 
 abbrev pub AreNibbles : List ℕ → Type 0
 AreNibbles nibbles = All (λ nibble. nibble < 16) nibbles
@@ -52,7 +58,8 @@ halves octet hi lo h e = (omega arith, omega arith)
 nibble_at_below : (nibbles : List ℕ) (place : ℕ) → AreNibbles nibbles → slice_index nibbles place < 16
 nibble_at_below [] place below = lit< tt
 nibble_at_below (x ∷ nibbles) zero below = All-head (λ nibble. nibble < 16) x nibbles below
-nibble_at_below (x ∷ nibbles) (suc place) below = nibble_at_below nibbles place (All-tail (λ nibble. nibble < 16) x nibbles below)
+nibble_at_below (x ∷ nibbles) (suc place) below =
+    nibble_at_below nibbles place (All-tail (λ nibble. nibble < 16) x nibbles below)
 
 octet_at_below : (octet hi lo : ℕ) → hi < 16 → lo < 16 → octet ≡ 16 * hi + lo → octet < 256
 octet_at_below octet hi lo p q e = omega arith
@@ -68,7 +75,8 @@ below_all : (nibbles : List ℕ) → AreNibbles nibbles → list_all (λ nibble.
 below_all [] below = refl
 below_all (x ∷ nibbles) below =
     and_from (nat_lt x 16) (list_all (λ nibble. nat_lt nibble 16) nibbles)
-    (lt-ltb x 16 (All-head (λ nibble. nibble < 16) x nibbles below)) (below_all nibbles (All-tail (λ nibble. nibble < 16) x nibbles below))
+    (lt-ltb x 16 (All-head (λ nibble. nibble < 16) x nibbles below))
+    (below_all nibbles (All-tail (λ nibble. nibble < 16) x nibbles below))
 
 pub are_nibbles-true : (nibbles : List ℕ) → are_nibbles nibbles ≡ true → (length nibbles ≡ 16) × AreNibbles nibbles
 are_nibbles-true nibbles e =
@@ -77,7 +85,8 @@ are_nibbles-true nibbles e =
 
 pub are_nibbles-from : (nibbles : List ℕ) → length nibbles ≡ 16 → AreNibbles nibbles → are_nibbles nibbles ≡ true
 are_nibbles-from nibbles size below =
-    and_from (length nibbles == 16) (list_all (λ nibble. nat_lt nibble 16) nibbles) (eq-eqb (length nibbles) 16 size) (below_all nibbles below)
+    and_from (length nibbles == 16) (list_all (λ nibble. nat_lt nibble 16) nibbles) (eq-eqb (length nibbles) 16 size)
+    (below_all nibbles below)
 
 -- ---- the nibbles of a packet
 pub length-packet_nibbles : (packet : Packet) → length (packet_nibbles packet) ≡ 16
@@ -101,7 +110,8 @@ covered_nibbles_below packet p =
     All-cons P (code_of packet.ctrl) (bit_nibble packet.gid ∷ act) (code_of_below packet.ctrl)
     (All-cons P (bit_nibble packet.gid) act (bit_nibble_below packet.gid) (octet_nibbles_below packet.act p.act)) in
     All-append P (mst ++ bits ++ mfi2) words
-    (All-append P (mst ++ bits) mfi2 (All-append P mst bits (octet_nibbles_below packet.mst p.mst) bits_below) (octet_nibbles_below packet.mfi2 p.mfi2))
+    (All-append P (mst ++ bits) mfi2 (All-append P mst bits (octet_nibbles_below packet.mst p.mst) bits_below)
+    (octet_nibbles_below packet.mfi2 p.mfi2))
     words_below
 
 pub packet_nibbles_below : (packet : Packet) → IsPacket packet → AreNibbles (packet_nibbles packet)
@@ -123,25 +133,40 @@ packet_of-packet_nibbles packet =
     let mfi2 = octet_split packet.mfi2 in
     let gid = bit_of-bit_nibble packet.gid in
     let act = octet_split packet.act in
-    λ i. record { mst = mst i; rs_ack = rs_ack i; chg = chg i; sq = sq i; mfi2 = mfi2 i; ctrl = packet.ctrl; gid = gid i; act = act i }
+    λ i. record {
+      mst = mst i;
+      rs_ack = rs_ack i;
+      chg = chg i;
+      sq = sq i;
+      mfi2 = mfi2 i;
+      ctrl = packet.ctrl;
+      gid =
+          gid i;
+      act = act i;
+    }
 
 -- ---- what is read
 -- of a list whose check is wrong, or which is not sixteen nibbles
-pub read_of-crc : (nibbles : List ℕ) → said_check nibbles ≢ found_check nibbles → read_of nibbles ≡ Err (Crc (said_check nibbles) (found_check nibbles))
+pub read_of-crc : (nibbles : List ℕ) → said_check nibbles ≢ found_check nibbles →
+    read_of nibbles ≡ Err (Crc (said_check nibbles) (found_check nibbles))
 unfolding read_of
 read_of-crc nibbles other =
-    rw (and_right (are_nibbles nibbles) (said_check nibbles == found_check nibbles) (ne_eqb (said_check nibbles) (found_check nibbles) other)) refl
+    rw (and_right (are_nibbles nibbles) (said_check nibbles == found_check nibbles)
+    (ne_eqb (said_check nibbles) (found_check nibbles) other)) refl
 
-pub read_of-others : (nibbles : List ℕ) → are_nibbles nibbles ≡ false → read_of nibbles ≡ Err (Crc (said_check nibbles) (found_check nibbles))
+pub read_of-others : (nibbles : List ℕ) → are_nibbles nibbles ≡ false →
+    read_of nibbles ≡ Err (Crc (said_check nibbles) (found_check nibbles))
 unfolding read_of
-read_of-others nibbles other = rw (and_left (are_nibbles nibbles) (said_check nibbles == found_check nibbles) other) refl
+read_of-others nibbles other = rw (and_left (are_nibbles nibbles) (said_check nibbles == found_check nibbles) other)
+    refl
 
 -- of nibbles whose check is right
 pub read_of-checked : (nibbles : List ℕ) → are_nibbles nibbles ≡ true → said_check nibbles ≡ found_check nibbles →
     read_of nibbles ≡ read_by (ctrl_of (said_code nibbles)) nibbles
 unfolding read_of
 read_of-checked nibbles are check =
-    rw (and_from (are_nibbles nibbles) (said_check nibbles == found_check nibbles) are (eq-eqb (said_check nibbles) (found_check nibbles) check)) refl
+    rw (and_from (are_nibbles nibbles) (said_check nibbles == found_check nibbles) are
+    (eq-eqb (said_check nibbles) (found_check nibbles) check)) refl
 
 -- a list of which a packet is read
 pub record IsAccepted (nibbles : List ℕ) (packet : Packet) : Type 0 where
@@ -150,7 +175,8 @@ pub record IsAccepted (nibbles : List ℕ) (packet : Packet) : Type 0 where
   pub ctrl : ctrl_of (said_code nibbles) ≡ Some packet.ctrl
   pub fields : packet ≡ packet_of nibbles packet.ctrl
 
-accepted_by : (nibbles : List ℕ) (packet : Packet) (ctrl : Option Ctrl) → are_nibbles nibbles ≡ true → said_check nibbles ≡ found_check nibbles →
+accepted_by : (nibbles : List ℕ) (packet : Packet) (ctrl : Option Ctrl) → are_nibbles nibbles ≡ true →
+    said_check nibbles ≡ found_check nibbles →
     ctrl_of (said_code nibbles) ≡ ctrl → read_by ctrl nibbles ≡ Ok packet → IsAccepted nibbles packet
 accepted_by nibbles packet None are check is e = absurd cc
 accepted_by nibbles packet (Some ctrl) are check is e =
@@ -163,7 +189,8 @@ read_of-accepted nibbles packet e =
     elim (cases_Bool (are_nibbles nibbles)) [
       | inl are ↦
           elim (cases_eq (said_check nibbles) (found_check nibbles)) [
-            | inl check ↦ accepted_by nibbles packet (ctrl_of (said_code nibbles)) are check refl (sym (read_of-checked nibbles are check) ∙ e)
+            | inl check ↦ accepted_by nibbles packet (ctrl_of (said_code nibbles)) are check refl
+                (sym (read_of-checked nibbles are check) ∙ e)
             | inr other ↦ let fault = sym (read_of-crc nibbles other) ∙ e in absurd cc
           ]
       | inr other ↦ let fault = sym (read_of-others nibbles other) ∙ e in absurd cc
@@ -184,7 +211,8 @@ read_of-packet_nibbles packet p =
     })
 
 -- what is accepted is the nibbles of the packet, apart from the ignored bits and the check over them
-pub accepted_cleared : (nibbles : List ℕ) (packet : Packet) → IsAccepted nibbles packet → covered_nibbles packet ≡ cleared_nibbles nibbles
+pub accepted_cleared : (nibbles : List ℕ) (packet : Packet) → IsAccepted nibbles packet →
+    covered_nibbles packet ≡ cleared_nibbles nibbles
 accepted_cleared nibbles packet is =
     let below = (are_nibbles-true nibbles is.are).1 in
     let n = slice_index nibbles in

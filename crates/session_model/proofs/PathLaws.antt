@@ -1,5 +1,6 @@
 -- What a window at the front of a list does to a container, and the cells of a path that goes on.
-use Rattle.std.proofs.Common.{◌≡◌, ℕ, suc, ◌+◌, ◌<◌, ◌≤◌, ◌&&◌, nat_le, nat_lt, true, false, List, [], ◌∷◌, ◌++◌, length, refl, sym, ◌∙◌, ap, arith, append_assoc}
+use Rattle.std.proofs.Common.{◌≡◌, ℕ, suc, ◌+◌, ◌<◌, ◌≤◌, ◌&&◌, nat_le, nat_lt, true, false, List, [], ◌∷◌, ◌++◌}
+use Rattle.std.proofs.Common.{length, refl, sym, ◌∙◌, ap, arith, append_assoc}
 use Rattle.vc_cell.specs.declared.Container.{Container}
 use Rattle.session_model.specs.declared.window.Window.{Window}
 use Rattle.session_model.specs.declared.window.Carried.{Carried}
@@ -30,5 +31,6 @@ unfolding path
 path-append carries n [] ys = ap (λ n. path carries n ys) (let e : n ≡ n + 0 = omega arith in e)
 path-append carries n (x ∷ xs) ys =
     ap (λ l. cells_of (carries n) x ++ l) (path-append carries (suc n) xs ys
-    ∙ ap (λ m. path carries (suc n) xs ++ path carries m ys) (let e : suc n + length xs ≡ n + suc (length xs) = omega arith in e))
+    ∙ ap (λ m. path carries (suc n) xs ++ path carries m ys)
+    (let e : suc n + length xs ≡ n + suc (length xs) = omega arith in e))
     ∙ sym (append_assoc (cells_of (carries n) x) (path carries (suc n) xs) (path carries (n + suc (length xs)) ys))

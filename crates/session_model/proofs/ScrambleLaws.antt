@@ -1,6 +1,8 @@
 -- The laws of scrambling and descrambling, with any number of places between the bits that are combined.
-use Rattle.std.proofs.Common.{◌≡◌, ℕ, zero, suc, ◌+◌, ◌<◌, ◌≤◌, Bool, false, List, [], ◌∷◌, ◌++◌, length, take, drop, replicate, get_or, refl, sym, ◌∙◌, ap, ap₂, arith, append_assoc, zero-add}
-use Rattle.std.proofs.lemmas.List.{append-nil, length-append, length-replicate, length-drop, take_all, take_at, drop_at, take-take, take-append-drop, drop-append-le, drop_more, drop-drop}
+use Rattle.std.proofs.Common.{◌≡◌, ℕ, zero, suc, ◌+◌, ◌<◌, ◌≤◌, Bool, false, List, [], ◌∷◌, ◌++◌, length, take, drop}
+use Rattle.std.proofs.Common.{replicate, get_or, refl, sym, ◌∙◌, ap, ap₂, arith, append_assoc, zero-add}
+use Rattle.std.proofs.lemmas.List.{append-nil, length-append, length-replicate, length-drop, take_all, take_at, drop_at}
+use Rattle.std.proofs.lemmas.List.{take-take, take-append-drop, drop-append-le, drop_more, drop-drop}
 use Rattle.remainder.specs.Bits.{xor, xors}
 use Rattle.remainder.proofs.XorLaws.{length-xors, xors_twice_right, take-xors, drop-xors}
 use Rattle.session_model.specs.Scramble.{back, scramble_on, IsScrambled, scrambled, descrambled}
@@ -13,13 +15,15 @@ xors-longer (x ∷ xs) [] zs h = absurd (omega arith)
 xors-longer (x ∷ xs) (y ∷ ys) zs h = ap (λ l. xor x y ∷ l) (xors-longer xs ys zs (omega arith))
 
 -- one more bit
-pub xors_push : (xs ys : List Bool) (b : Bool) → length xs < length ys → xors (xs ++ b ∷ []) ys ≡ xors xs ys ++ xor b (get_or ys (length xs) false) ∷ []
+pub xors_push : (xs ys : List Bool) (b : Bool) → length xs < length ys →
+    xors (xs ++ b ∷ []) ys ≡ xors xs ys ++ xor b (get_or ys (length xs) false) ∷ []
 unfolding xors
 xors_push xs [] b h = absurd (omega arith)
 xors_push [] (y ∷ ys) b h = refl
 xors_push (x ∷ xs) (y ∷ ys) b h = ap (λ l. xor x y ∷ l) (xors_push xs ys b (omega arith))
 
-pub xors-append_left : (xs more ys : List Bool) → length xs ≤ length ys → xors (xs ++ more) ys ≡ xors xs ys ++ xors more (drop (length xs) ys)
+pub xors-append_left : (xs more ys : List Bool) → length xs ≤ length ys →
+    xors (xs ++ more) ys ≡ xors xs ys ++ xors more (drop (length xs) ys)
 unfolding xors
 xors-append_left [] more ys h = refl
 xors-append_left (x ∷ xs) more [] h = absurd (omega arith)
@@ -51,7 +55,8 @@ take-scramble_on n s (b ∷ d) =
     ∙ take_at s (xor b (back n s) ∷ []) (length s) refl
 
 -- as many bits as there are places, or fewer, are combined with the last of those that were there
-pub scramble_on-short : (n : ℕ) (s d : List Bool) → length d ≤ n → scramble_on n s d ≡ s ++ xors d (drop (length s) (replicate n false ++ s))
+pub scramble_on-short : (n : ℕ) (s d : List Bool) → length d ≤ n →
+    scramble_on n s d ≡ s ++ xors d (drop (length s) (replicate n false ++ s))
 unfolding scramble_on xors
 scramble_on-short n s [] h = sym (append-nil s)
 scramble_on-short n s (b ∷ d) h =
@@ -62,7 +67,8 @@ scramble_on-short n s (b ∷ d) h =
     let within : k < length (zeros ++ s) = omega arith in
     let one : length (s ++ x ∷ []) ≡ k + 1 = length-append s (x ∷ []) in
     let behind : drop (k + 1) (zeros ++ (s ++ x ∷ [])) ≡ drop (k + 1) (zeros ++ s) ++ x ∷ [] =
-    ap (drop (k + 1)) (sym (append_assoc zeros s (x ∷ []))) ∙ drop-append-le (k + 1) (zeros ++ s) (x ∷ []) (omega arith) in
+    ap (drop (k + 1)) (sym (append_assoc zeros s (x ∷ [])))
+    ∙ drop-append-le (k + 1) (zeros ++ s) (x ∷ []) (omega arith) in
     let short : length d ≤ length (drop (k + 1) (zeros ++ s)) = omega (arith, length-drop (k + 1) (zeros ++ s)) in
     let first : drop k (zeros ++ s) ≡ back n s ∷ drop (k + 1) (zeros ++ s) = drop_more (zeros ++ s) k false within in
     scramble_on-short n (s ++ x ∷ []) d (omega arith)
@@ -74,7 +80,8 @@ scramble_on-short n s (b ∷ d) h =
 
 -- ---- the recurrence
 -- what is scrambled so far meets it, and so does all of it
-meets_on : (n : ℕ) (before s d : List Bool) → 0 < n → length before ≡ length s → IsScrambled n before s → IsScrambled n (before ++ d) (scramble_on n s d)
+meets_on : (n : ℕ) (before s d : List Bool) → 0 < n → length before ≡ length s → IsScrambled n before s →
+    IsScrambled n (before ++ d) (scramble_on n s d)
 unfolding scramble_on
 meets_on n before s [] p e h = h ∙ ap (λ l. xors l (replicate n false ++ s)) (sym (append-nil before))
 meets_on n before s (b ∷ d) p e h =
@@ -87,7 +94,8 @@ meets_on n before s (b ∷ d) p e h =
     ∙ sym (xors_push before (zeros ++ s) b (omega arith))
     ∙ sym (xors-longer (before ++ b ∷ []) (zeros ++ s) (x ∷ []) longer)
     ∙ ap (xors (before ++ b ∷ [])) (append_assoc zeros s (x ∷ [])) in
-    let same : length (before ++ b ∷ []) ≡ length (s ++ x ∷ []) = omega (arith, length-append before (b ∷ []), length-append s (x ∷ [])) in
+    let same : length (before ++ b ∷ []) ≡ length (s ++ x ∷ []) =
+    omega (arith, length-append before (b ∷ []), length-append s (x ∷ [])) in
     meets_on n (before ++ b ∷ []) (s ++ x ∷ []) d p same next
     ∙ ap (λ l. xors l (zeros ++ scramble_on n (s ++ x ∷ []) d)) (append_assoc before (b ∷ []) d)
 
@@ -113,7 +121,8 @@ begin_alike (suc k) (suc n) d s t p h g =
     let zeros = replicate n false in
     let all = replicate (suc n) false in
     let same : take k (zeros ++ s) ≡ take k (zeros ++ t) =
-    take-behind k zeros s ∙ ap (λ l. take k (zeros ++ l)) (begin_alike k (suc n) d s t p h g) ∙ sym (take-behind k zeros t) in
+    take-behind k zeros s ∙ ap (λ l. take k (zeros ++ l)) (begin_alike k (suc n) d s t p h g)
+    ∙ sym (take-behind k zeros t) in
     ap (take (suc k)) h ∙ take-xors (suc k) d (all ++ s)
     ∙ ap (λ l. xors (take (suc k) d) (false ∷ l)) same
     ∙ sym (take-xors (suc k) d (all ++ t)) ∙ sym (ap (take (suc k)) g)
@@ -142,11 +151,13 @@ length-descramble n s = omega (arith, length-xors s (replicate n false ++ s), le
 pub descramble-scramble_on : (n : ℕ) (d : List Bool) → 0 < n → descramble n (scramble_on n [] d) ≡ d
 descramble-scramble_on n d p =
     let s = scramble_on n [] d in
-    let longer : length d ≤ length (replicate n false ++ s) = omega (arith, length-zeros_behind n s, length-scramble_on n [] d) in
+    let longer : length d ≤ length (replicate n false ++ s) =
+    omega (arith, length-zeros_behind n s, length-scramble_on n [] d) in
     ap (λ l. xors l (replicate n false ++ s)) (meets n d p) ∙ xors_twice_right d (replicate n false ++ s) longer
 
 -- bits in two parts: those of the second are combined with the last ones of the first
-pub descramble-append : (n : ℕ) (s t : List Bool) → descramble n (s ++ t) ≡ descramble n s ++ xors t (drop (length s) (replicate n false ++ s) ++ t)
+pub descramble-append : (n : ℕ) (s t : List Bool) →
+    descramble n (s ++ t) ≡ descramble n s ++ xors t (drop (length s) (replicate n false ++ s) ++ t)
 descramble-append n s t =
     let zeros = replicate n false in
     let longer : length s ≤ length (zeros ++ s) = omega (arith, length-zeros_behind n s) in
@@ -159,10 +170,12 @@ with_itself : (n : ℕ) (front t : List Bool) → length front ≡ n → drop n 
 with_itself n front t e = drop-xors n t (front ++ t) ∙ ap (xors (drop n t)) (drop_at front t n e)
 
 -- bits with at least so many before them don't depend on what is before those
-pub descramble-behind : (n : ℕ) (s t : List Bool) → drop (length s + n) (descramble n (s ++ t)) ≡ drop n (descramble n t)
+pub descramble-behind : (n : ℕ) (s t : List Bool) →
+    drop (length s + n) (descramble n (s ++ t)) ≡ drop n (descramble n t)
 descramble-behind n s t =
     let last = drop (length s) (replicate n false ++ s) in
-    let size : length last ≡ n = omega (arith, length-drop (length s) (replicate n false ++ s), length-zeros_behind n s) in
+    let size : length last ≡ n = omega (arith, length-drop (length s) (replicate n false ++ s), length-zeros_behind n s)
+    in
     sym (drop-drop n (length s) (descramble n (s ++ t)))
     ∙ ap (λ l. drop n (drop (length s) l)) (descramble-append n s t)
     ∙ ap (drop n) (drop_at (descramble n s) (xors t (last ++ t)) (length s) (length-descramble n s))
@@ -172,7 +185,8 @@ descramble-behind n s t =
 pub take-descramble : (n : ℕ) (s t : List Bool) → take (length s) (descramble n (s ++ t)) ≡ descramble n s
 take-descramble n s t =
     ap (take (length s)) (descramble-append n s t)
-    ∙ take_at (descramble n s) (xors t (drop (length s) (replicate n false ++ s) ++ t)) (length s) (length-descramble n s)
+    ∙ take_at (descramble n s) (xors t (drop (length s) (replicate n false ++ s) ++ t)) (length s)
+    (length-descramble n s)
 
 -- ---- with 43 places
 -- a list that begins with another
@@ -205,7 +219,8 @@ length-descrambled s = length-descramble 43 s
 pub take-descrambled : (s t : List Bool) → take (length s) (descrambled (s ++ t)) ≡ descrambled s
 take-descrambled s t = take-descramble 43 s t
 
-pub descrambled-append : (s t : List Bool) → descrambled (s ++ t) ≡ descrambled s ++ drop (length s) (descrambled (s ++ t))
+pub descrambled-append : (s t : List Bool) →
+    descrambled (s ++ t) ≡ descrambled s ++ drop (length s) (descrambled (s ++ t))
 descrambled-append s t = begins (length s) (descrambled (s ++ t)) (descrambled s) (take-descrambled s t)
 
 -- the bits behind the first 43 don't depend on what is before

@@ -1,5 +1,6 @@
 -- G.7042, the return packets of a session: the sink tells which packets it could read, and of which count of changes.
-use Rattle.std.specs.Prelude.{ℕ, zero, suc, ◌+◌, ◌*◌, ◌%◌, Bool, false, if◌then◌else◌, List, [], ◌∷◌, ◌++◌, map, Option, Some, None, slice_get}
+use Rattle.std.specs.Prelude.{ℕ, zero, suc, ◌+◌, ◌*◌, ◌%◌, Bool, false, if◌then◌else◌, List, [], ◌∷◌, ◌++◌, map, Option}
+use Rattle.std.specs.Prelude.{Some, None, slice_get}
 use Rattle.session_model.specs.Scenario.{Scenario, is_read, is_heard, is_lost, packets}
 use Rattle.session_model.specs.declared.table.Member.{Member}
 use Rattle.session_model.specs.Table.{Told}
@@ -8,7 +9,8 @@ use Rattle.session_model.specs.Source.{table_of}
 -- the count of changes of the last packet before packet k that some line could read
 unfoldable pub said_before : Scenario → List (Option Told) → ℕ → ℕ
 said_before scenario cells zero = 0
-said_before scenario cells (suc k) = if is_heard scenario k then (table_of scenario cells k).count else said_before scenario cells k
+said_before scenario cells (suc k) =
+    if is_heard scenario k then (table_of scenario cells k).count else said_before scenario cells k
 
 abbrev pub said : Scenario → List (Option Told) → ℕ → ℕ
 said scenario cells k = said_before scenario cells (suc k)

@@ -1,5 +1,6 @@
 -- The client's frames in the stream of a session: which are accepted, and after which pieces a frame is made.
-use Rattle.std.specs.Prelude.{◌≡◌, ◌≤◌, ◌<◌, take, ℕ, zero, suc, ◌+◌, ◌-◌, ◌*◌, ◌/◌, nat_le, nat_lt, ◌||◌, if◌then◌else◌, List, [], ◌∷◌, ◌++◌, fold, flat_map, sum_by, length, Option, Some, None}
+use Rattle.std.specs.Prelude.{◌≡◌, ◌≤◌, ◌<◌, take, ℕ, zero, suc, ◌+◌, ◌-◌, ◌*◌, ◌/◌, nat_le, nat_lt, ◌||◌}
+use Rattle.std.specs.Prelude.{if◌then◌else◌, List, [], ◌∷◌, ◌++◌, fold, flat_map, sum_by, length, Option, Some, None}
 use Rattle.session_model.specs.declared.refusal.AcceptFault.{AcceptFault}
 use Rattle.session_model.specs.declared.refusal.AcceptFault.TheVariants.{Length, QueueFull}
 use Rattle.session_model.specs.Piece.{Piece, idle, client, size_of}
@@ -42,7 +43,8 @@ next_by (frame ∷ waiting) pieces = record { pieces = pieces ++ client frame �
 -- the fewest pieces that reach a place, with at most so many more
 unfoldable pub reaching : ℕ → ℕ → Stream → Stream
 reaching zero place stream = stream
-reaching (suc steps) place stream = if nat_le place (size stream.pieces) then stream else reaching steps place (next_by stream.waiting stream.pieces)
+reaching (suc steps) place stream =
+    if nat_le place (size stream.pieces) then stream else reaching steps place (next_by stream.waiting stream.pieces)
 
 -- the fewest pieces that reach a place: each has octets, so there are no more than the place counts
 abbrev pub reached : ℕ → Stream → Stream

@@ -1,6 +1,9 @@
--- A walk in numbers: the counts that its events raise, and the order in which the causes of a stall are tried. A line enters by two
+-- A walk in numbers: the counts that its events raise, and the order in which the causes of a stall are tried. A line
+-- enters by two
 -- numbers alone: how many cells its carries give, and how many rows its cells decide.
-use Rattle.std.specs.Prelude.{ℕ, zero, suc, ◌+◌, ◌-◌, ◌*◌, ◌/◌, ◌%◌, ◌&&◌, ◌==◌, nat_le, nat_lt, min, Bool, List, [], ◌∷◌, ◌++◌, map, length, replicate, slice_get, slice_set, Option, Some, None, if◌then◌else◌}
+use Rattle.std.specs.Prelude.{ℕ, zero, suc, ◌+◌, ◌-◌, ◌*◌, ◌/◌, ◌%◌, ◌&&◌, ◌==◌, nat_le, nat_lt, min, Bool, List, []}
+use Rattle.std.specs.Prelude.{◌∷◌, ◌++◌, map, length, replicate, slice_get, slice_set, Option, Some, None}
+use Rattle.std.specs.Prelude.{if◌then◌else◌}
 use Rattle.std.specs.List.{flat_map}
 use Rattle.session_model.specs.declared.script.Item.{Item}
 use Rattle.session_model.specs.declared.script.ItemKind.{ItemKind}
@@ -10,11 +13,13 @@ use Rattle.session_model.specs.declared.script.EventLine.TheVariants as script_l
 use Rattle.session_model.specs.declared.walk.Event.{Event}
 use Rattle.session_model.specs.declared.walk.Event.TheVariants.{Accept, Command, Tick, Carry, Back, Take}
 use Rattle.session_model.specs.declared.walk.StallCause.{StallCause}
-use Rattle.session_model.specs.declared.walk.StallCause.TheVariants.{Done, NotDue, Held, TxFull, BackMissing, Empty, RxFull, BackEmpty, BackFull, Waiting}
+use Rattle.session_model.specs.declared.walk.StallCause.TheVariants.{Done, NotDue, Held, TxFull, BackMissing, Empty}
+use Rattle.session_model.specs.declared.walk.StallCause.TheVariants.{RxFull, BackEmpty, BackFull, Waiting}
 use Rattle.session_model.specs.Scenario.{packets_in, steps_in}
 
 -- ---- what a walk is given
--- a line in numbers: its delay; how many cells its first carries give; how many numbers below the ticks its first cells decide
+-- a line in numbers: its delay; how many cells its first carries give; how many numbers below the ticks its first cells
+-- decide
 pub record LinePath : Type 0 where
   pub delay : ℕ
   pub given : ℕ → ℕ
@@ -33,7 +38,8 @@ due_of due (Remove line) = command_due due
 abbrev pub dues_of : List Item → List Due
 dues_of items = map (λ item. due_of item.due item.kind) items
 
--- how many ticks there are; the cells that a receive ring holds; the lag in packets; the items in their order; the lines
+-- how many ticks there are; the cells that a receive ring holds; the lag in packets; the items in their order; the
+-- lines
 pub record Plan : Type 0 where
   pub ticks : ℕ
   pub ring : ℕ
@@ -104,7 +110,8 @@ abbrev pub accept : Plan → Counts → Step
 accept plan s = land_due s.ticks (slice_get (frame_dues plan.items) s.frames) s (record s { frames = s.frames + 1 })
 
 abbrev pub command : Plan → Counts → Step
-command plan s = land_due s.ticks (slice_get (command_dues plan.items) s.commands) s (record s { commands = s.commands + 1 })
+command plan s = land_due s.ticks (slice_get (command_dues plan.items) s.commands) s
+    (record s { commands = s.commands + 1 })
 
 -- ---- Tick
 -- the least item that is due and hasn't landed, where a frames and b commands have; the items are numbered from i
@@ -118,7 +125,8 @@ held ticks a (suc b) i (command_due due ∷ items) = held ticks a b (suc i) item
 -- the first line, numbered from m, whose send ring holds 32 containers
 unfoldable pub full : ℕ → ℕ → ℕ → List LineCounts → Option ℕ
 full total ticks m [] = None
-full total ticks m (line ∷ lines) = if nat_le 32 (in_send total ticks line) then Some m else full total ticks (suc m) lines
+full total ticks m (line ∷ lines) =
+    if nat_le 32 (in_send total ticks line) then Some m else full total ticks (suc m) lines
 
 -- a return packet is needed, and the inbox is empty
 abbrev pub is_missing : Plan → Counts → Bool
@@ -127,7 +135,8 @@ is_missing plan s = nat_le (16 * plan.lag + 8) s.ticks && s.ticks % 16 == 8 && n
 abbrev pub tick_full : Option ℕ → Plan → Counts → Step
 tick_full (Some line) plan s = stalled s (TxFull line)
 tick_full None plan s =
-    if is_missing plan s then stalled s (BackMissing (s.ticks / 16 - plan.lag)) else moved (record s { ticks = s.ticks + 1 })
+    if is_missing plan s then stalled s (BackMissing (s.ticks / 16 - plan.lag)) else moved
+    (record s { ticks = s.ticks + 1 })
 
 abbrev pub tick_held : Option ℕ → Plan → Counts → Step
 tick_held (Some item) plan s = stalled s (Held item)
@@ -135,7 +144,8 @@ tick_held None plan s = tick_full (full plan.ticks s.ticks 0 s.lines) plan s
 
 abbrev pub tick : Plan → Counts → Step
 tick plan s =
-    if nat_le plan.ticks s.ticks then stalled s Done else tick_held (held s.ticks s.frames s.commands 0 plan.items) plan s
+    if nat_le plan.ticks s.ticks then stalled s Done else tick_held (held s.ticks s.frames s.commands 0 plan.items) plan
+    s
 
 -- ---- Carry
 abbrev pub carry_on : Plan → Counts → ℕ → LinePath → LineCounts → Step

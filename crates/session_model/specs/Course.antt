@@ -1,11 +1,14 @@
--- G.7042, the source over any list of calls: commands and decision steps as they come, each step with the return cell that it takes.
-use Rattle.std.specs.Prelude.{ℕ, zero, suc, ◌+◌, ◌-◌, ◌%◌, nat_le, List, [], ◌∷◌, ◌++◌, map, fold, Option, Some, None, slice_index_or, if◌then◌else◌}
+-- G.7042, the source over any list of calls: commands and decision steps as they come, each step with the return cell
+-- that it takes.
+use Rattle.std.specs.Prelude.{ℕ, zero, suc, ◌+◌, ◌-◌, ◌%◌, nat_le, List, [], ◌∷◌, ◌++◌, map, fold, Option, Some, None}
+use Rattle.std.specs.Prelude.{slice_index_or, if◌then◌else◌}
 use Rattle.session_model.specs.declared.table.Command.{Command}
 use Rattle.session_model.specs.Scenario.{Scenario, orders_at}
 use Rattle.session_model.specs.Table.{Told}
 use Rattle.session_model.specs.Source.{Source, opening, asked, decide}
 
--- a command, accepted or refused; a decision step, and the return cell that it takes, if there is one: lost ones are cells too
+-- a command, accepted or refused; a decision step, and the return cell that it takes, if there is one: lost ones are
+-- cells too
 pub data Call : Type 0 where
   asks : Command → Call
   decides : Option (Option Told) → Call

@@ -1,5 +1,6 @@
 -- Failures of a line: which containers a list of windows damages, and how.
-use Rattle.std.specs.Prelude.{ℕ, zero, suc, ◌+◌, ◌-◌, ◌*◌, ◌/◌, ◌&&◌, ◌≤◌, ◌<◌, nat_le, nat_lt, max, Bool, true, false, List, [], ◌∷◌, if◌then◌else◌}
+use Rattle.std.specs.Prelude.{ℕ, zero, suc, ◌+◌, ◌-◌, ◌*◌, ◌/◌, ◌&&◌, ◌≤◌, ◌<◌, nat_le, nat_lt, max, Bool, true, false}
+use Rattle.std.specs.Prelude.{List, [], ◌∷◌, if◌then◌else◌}
 use Rattle.std.specs.List.{list_any}
 use Rattle.session_model.specs.declared.window.Window.{Window}
 use Rattle.session_model.specs.declared.window.Carried.{Carried}
@@ -44,9 +45,11 @@ is_readable carries k = are_whole carries (16 * k) 24
 -- the windows stand in order, apart, and each gives a sign first
 unfoldable pub AreWindows : ℕ → List Window → Type 0
 AreWindows from [] = Unit {0}
-AreWindows from (window ∷ windows) = (from ≤ window.first) × (window.slip + window.first < window.end) × AreWindows window.end windows
+AreWindows from (window ∷ windows) = (from ≤ window.first) × (window.slip + window.first < window.end) ×
+    AreWindows window.end windows
 
--- the greatest sum of slips over a run of windows each near the one before: fewer than 17 containers lie between them. So far the
+-- the greatest sum of slips over a run of windows each near the one before: fewer than 17 containers lie between them.
+-- So far the
 -- run has this sum, and the last window this end
 unfoldable pub slip_after : ℕ → ℕ → List Window → ℕ
 slip_after run end [] = run

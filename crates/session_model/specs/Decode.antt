@@ -1,6 +1,8 @@
--- The control packets among the H4 octets of a line all of whose cells are good (G.707, G.7042), each at the place of its first
+-- The control packets among the H4 octets of a line all of whose cells are good (G.707, G.7042), each at the place of
+-- its first
 -- octet, counted from 0.
-use Rattle.std.specs.Prelude.{ℕ, ◌+◌, ◌/◌, ◌%◌, ◌==◌, nat_le, ◌&&◌, Bool, true, false, if◌then◌else◌, List, [], ◌∷◌, ◌++◌, length, map, take, slice_index, Option, Some, Result}
+use Rattle.std.specs.Prelude.{ℕ, ◌+◌, ◌/◌, ◌%◌, ◌==◌, nat_le, ◌&&◌, Bool, true, false, if◌then◌else◌, List, [], ◌∷◌}
+use Rattle.std.specs.Prelude.{◌++◌, length, map, take, slice_index, Option, Some, Result}
 use Rattle.std.specs.List.{list_all}
 use Rattle.session_model.specs.declared.packet.Packet.{Packet}
 use Rattle.session_model.specs.declared.packet.PacketFault.{PacketFault}
@@ -45,7 +47,8 @@ packet_here lock place octets = if begins_packet lock octets then (place, read_o
 -- the packets of octets that come after others
 unfoldable pub packets_on : LineLock → ℕ → List ℕ → List Found
 packets_on lock place [] = []
-packets_on lock place (h4 ∷ octets) = packet_here lock place (h4 ∷ octets) ++ packets_on (lock_by lock (Some h4)) (place + 1) octets
+packets_on lock place (h4 ∷ octets) =
+    packet_here lock place (h4 ∷ octets) ++ packets_on (lock_by lock (Some h4)) (place + 1) octets
 
 -- the packets of the octets of a line, in their order
 abbrev pub packets_in : List ℕ → List Found

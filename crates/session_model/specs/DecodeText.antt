@@ -10,11 +10,14 @@ use Rattle.session_model.specs.PacketText.{ctrl_text, bit_text, octet_text, nibb
 -- the line of a packet at a place, or of what is wrong with it
 abbrev pub found_text : ℕ → Result Packet PacketFault → List ℕ
 found_text place (Ok packet) =
-    codes "at " ++ decimal place ++ codes " " ++ ctrl_text packet.ctrl ++ codes " sq " ++ decimal packet.sq ++ codes " gid " ++ bit_text packet.gid
-    ++ codes " act " ++ decimal packet.act ++ codes " chg " ++ bit_text packet.chg ++ codes " mst " ++ octet_text packet.mst
+    codes "at " ++ decimal place ++ codes " " ++ ctrl_text packet.ctrl ++ codes " sq " ++ decimal packet.sq ++ codes
+    " gid " ++ bit_text packet.gid
+    ++ codes " act " ++ decimal packet.act ++ codes " chg " ++ bit_text packet.chg ++ codes " mst " ++ octet_text
+    packet.mst
     ++ codes " ack " ++ bit_text packet.rs_ack ++ codes "\n"
 found_text place (Err (Crc said found)) =
-    codes "at " ++ decimal place ++ codes " crc said " ++ octet_text said ++ codes " found " ++ octet_text found ++ codes "\n"
+    codes "at " ++ decimal place ++ codes " crc said " ++ octet_text said ++ codes " found " ++ octet_text found ++
+    codes "\n"
 found_text place (Err (CtrlFault code)) =
     codes "at " ++ decimal place ++ codes " ctrl " ++ nibble_text code ++ codes "\n"
 

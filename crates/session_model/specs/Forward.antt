@@ -8,7 +8,8 @@ use Rattle.session_model.specs.declared.table.Standing.{Standing}
 use Rattle.session_model.specs.declared.table.Standing.TheVariants.{Add as adding, Norm as normal, Dnu as unused}
 use Rattle.session_model.specs.declared.table.Member.{Member}
 use Rattle.session_model.specs.declared.table.SourceState.{SourceState}
-use Rattle.session_model.specs.declared.table.SourceState.TheVariants.{Idle as idle, Add as in_add, Norm as in_norm, Dnu as in_dnu, Remove as in_remove}
+use Rattle.session_model.specs.declared.table.SourceState.TheVariants.{Idle as idle, Add as in_add, Norm as in_norm}
+use Rattle.session_model.specs.declared.table.SourceState.TheVariants.{Dnu as in_dnu, Remove as in_remove}
 use Rattle.session_model.specs.Table.{Table, is_normal, active}
 use Rattle.session_model.specs.GroupBit.{group_bit}
 
@@ -25,13 +26,15 @@ state_without (Some leaving) line = if leaving == line then in_remove else idle
 
 unfoldable pub state_in : List Member → Option ℕ → ℕ → SourceState
 state_in [] leaving line = state_without leaving line
-state_in (member ∷ order) leaving line = if member.line == line then state_by member.standing else state_in order leaving line
+state_in (member ∷ order) leaving line =
+    if member.line == line then state_by member.standing else state_in order leaving line
 
 abbrev pub state_of : Table → ℕ → SourceState
 state_of table line = state_in table.order table.leaving line
 
 -- ---- the packet of a line
--- the control word of a line by its standing, and by whether a line of a greater SQ is in NORM: the last one in NORM says EOS
+-- the control word of a line by its standing, and by whether a line of a greater SQ is in NORM: the last one in NORM
+-- says EOS
 abbrev pub ctrl_by : Standing → Bool → Ctrl
 ctrl_by adding more = Add
 ctrl_by normal more = if more then Norm else Eos
@@ -46,7 +49,8 @@ pub record LineFields : Type 0 where
 unfoldable pub place_in : List Member → ℕ → ℕ → LineFields
 place_in [] sq line = record { ctrl = Idle; sq = 255 }
 place_in (member ∷ order) sq line =
-    if member.line == line then record { ctrl = ctrl_by member.standing (list_any is_normal order); sq = sq } else place_in order (sq + 1) line
+    if member.line == line then record { ctrl = ctrl_by member.standing (list_any is_normal order); sq = sq }
+    else place_in order (sq + 1) line
 
 -- packet k of a line. MFI2 is that of the multiframe in which it ends; CHG, ACT and GID are the same for all lines
 abbrev pub forward_packet : Table → ℕ → ℕ → Packet

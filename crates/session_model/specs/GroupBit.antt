@@ -1,9 +1,12 @@
--- The bit of a group (GID, G.7042): a sequence that repeats after 32,767 packets. The exact sequence is this project's own.
-use Rattle.std.specs.Prelude.{ℕ, zero, suc, ◌-◌, nat_lt, Bool, true, false, if◌then◌else◌, List, [], ◌∷◌, ◌++◌, length, map, slice_index_or}
+-- The bit of a group (GID, G.7042): a sequence that repeats after 32,767 packets. The exact sequence is this project's
+-- own.
+use Rattle.std.specs.Prelude.{ℕ, zero, suc, ◌-◌, nat_lt, Bool, true, false, if◌then◌else◌, List, [], ◌∷◌, ◌++◌, length}
+use Rattle.std.specs.Prelude.{map, slice_index_or}
 use Rattle.std.specs.List.{range_with_len}
 use Rattle.remainder.specs.Bits.{xor}
 
--- the bit after those of all packets before: 1 in the first fifteen packets, and then the sum modulo 2 of the bits that stand
+-- the bit after those of all packets before: 1 in the first fifteen packets, and then the sum modulo 2 of the bits that
+-- stand
 -- fifteen and fourteen packets before
 abbrev pub next_bit : List Bool → Bool
 next_bit before =

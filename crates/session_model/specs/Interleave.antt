@@ -1,9 +1,11 @@
--- G.707, virtual concatenation: the payload of a group is dealt octet by octet to its members. Octet i of a row goes to the member of
+-- G.707, virtual concatenation: the payload of a group is dealt octet by octet to its members. Octet i of a row goes to
+-- the member of
 -- rank i mod x, place i div x, where x members carry payload.
 use Rattle.std.specs.Prelude.{ℕ, zero, suc, List, [], ◌∷◌, ◌++◌, map, drop, slice_index}
 use Rattle.std.specs.List.{range_with_len}
 
--- the octets of a row that the member of a rank carries at a number of places: of each x octets in turn the one of that rank
+-- the octets of a row that the member of a rank carries at a number of places: of each x octets in turn the one of that
+-- rank
 unfoldable pub part_of : ℕ → ℕ → ℕ → List ℕ → List ℕ
 part_of rank x zero row = []
 part_of rank x (suc places) row = slice_index row rank ∷ part_of rank x places (drop x row)

@@ -9,12 +9,14 @@ use Rattle.session_model.specs.Client.{Stream, frame_refusal, offered, stream_be
 -- of orders that land one after the other those that are accepted
 abbrev pub accepted_orders : ℕ → Source → List DueCommand → List DueCommand
 accepted_orders lines source orders =
-    accepted_of (λ order source. refusal lines order.command source) (λ source order. asked lines source order.command) source orders
+    accepted_of (λ order source. refusal lines order.command source) (λ source order. asked lines source order.command)
+    source orders
 
 -- of offers that land one after the other those that are accepted
 abbrev pub accepted_offers : Stream → List DueFrame → List DueFrame
 accepted_offers stream offers =
-    accepted_of (λ offer stream. frame_refusal offer.frame stream) (λ stream offer. offered stream offer.frame) stream offers
+    accepted_of (λ offer stream. frame_refusal offer.frame stream) (λ stream offer. offered stream offer.frame) stream
+    offers
 
 -- the orders that are accepted before decision step j
 unfoldable pub orders_before : Scenario → List (Option Told) → ℕ → List DueCommand
@@ -27,7 +29,8 @@ orders_before scenario cells (suc j) =
 unfoldable pub offers_before : Scenario → List (Option Told) → ℕ → List DueFrame
 offers_before scenario cells zero = []
 offers_before scenario cells (suc t) =
-    offers_before scenario cells t ++ accepted_offers (stream_before scenario cells t) (filter (comes_at t) scenario.offers)
+    offers_before scenario cells t ++ accepted_offers (stream_before scenario cells t)
+    (filter (comes_at t) scenario.offers)
 
 -- their frames
 abbrev pub frames_before : Scenario → List (Option Told) → ℕ → List (List ℕ)
@@ -47,4 +50,5 @@ with_items scenario orders offers = record {
 
 -- the session of what is accepted in t ticks alone
 abbrev pub replayed : Scenario → List (Option Told) → ℕ → Scenario
-replayed scenario cells t = with_items scenario (orders_before scenario cells (steps_in t)) (offers_before scenario cells t)
+replayed scenario cells t = with_items scenario (orders_before scenario cells (steps_in t))
+    (offers_before scenario cells t)

@@ -23,6 +23,7 @@ vc4_size = 2340
 abbrev pub longest_input : ℕ
 longest_input = 67108864
 
--- the octets of the line that tells a delivered frame: a word, a space, two digits for each octet, and the end of the line
+-- the octets of the line that tells a delivered frame: a word, a space, two digits for each octet, and the end of the
+-- line
 abbrev pub longest_got_line : ℕ
 longest_got_line = 2 * longest_frame + 5

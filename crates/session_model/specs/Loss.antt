@@ -1,5 +1,7 @@
--- Which frames are lost with rows that aren't whole: by four cases, over the places at which the pieces of the stream begin and end.
-use Rattle.std.specs.Prelude.{◌≡◌, ℕ, ◌+◌, ◌≤◌, nat_le, nat_lt, ◌&&◌, not, Bool, true, false, List, [], ◌∷◌, ◌++◌, length, map, filter, All, Option, Some, None, IfSome, ◌<◌, ◌⊎◌}
+-- Which frames are lost with rows that aren't whole: by four cases, over the places at which the pieces of the stream
+-- begin and end.
+use Rattle.std.specs.Prelude.{◌≡◌, ℕ, ◌+◌, ◌≤◌, nat_le, nat_lt, ◌&&◌, not, Bool, true, false, List, [], ◌∷◌, ◌++◌}
+use Rattle.std.specs.Prelude.{length, map, filter, All, Option, Some, None, IfSome, ◌<◌, ◌⊎◌}
 use Rattle.std.specs.List.{list_any, Contains}
 use Rattle.std.specs.Option.{option_map}
 use Rattle.session_model.specs.Piece.{Piece, idle, client, size_of, stream_of}
@@ -32,7 +34,8 @@ lies_in segment extent = nat_le segment.base extent.from && nat_le extent.to (se
 abbrev pub confirmed_in : Segment → Option ℕ
 confirmed_in segment = option_map (λ found. segment.base + found.place) (hunt true 0 segment.octets)
 
--- a frame of such a segment is missed where nothing is confirmed, where it begins before the confirmed place, and where no client
+-- a frame of such a segment is missed where nothing is confirmed, where it begins before the confirmed place, and where
+-- no client
 -- frame begins between that place and its own
 abbrev pub missed_after : Option ℕ → List Extent → Extent → Bool
 missed_after None all extent = true
@@ -56,7 +59,8 @@ is_frame_lost segments all extent = not (list_any (is_given all extent) segments
 abbrev pub frames_kept : List Piece → List StreamRow → List (List ℕ)
 frames_kept pieces rows =
     map (λ (e : Extent). e.frame)
-    (filter (λ e. is_carried (length (octets_of_rows rows)) e && not (is_frame_lost (segments rows) (extents 0 pieces) e))
+    (filter (λ e. is_carried (length (octets_of_rows rows)) e && not
+    (is_frame_lost (segments rows) (extents 0 pieces) e))
     (extents 0 pieces))
 
 -- ---- the premise on what is confirmed after a break
@@ -91,7 +95,8 @@ pub data Lost (segments : List Segment) (all : List Extent) (extent : Extent) : 
   -- it doesn't lie within one segment
   cut_off : All (λ segment. lies_in segment extent ≡ false) segments → Lost segments all extent
   -- nothing is confirmed in its segment
-  unconfirmed : (segment : Segment) → LiesLater segments extent segment → confirmed_in segment ≡ None → Lost segments all extent
+  unconfirmed : (segment : Segment) → LiesLater segments extent segment → confirmed_in segment ≡ None →
+      Lost segments all extent
   -- it begins before the confirmed place
   too_early : (place : ℕ) → LiesConfirmed segments extent place → extent.from < place → Lost segments all extent
   -- no client frame begins at the confirmed place or later, and before it

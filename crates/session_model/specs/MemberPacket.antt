@@ -1,4 +1,5 @@
--- The nibbles of a control packet of a line (G.7042): the upper halves of the H4 octets of sixteen numbers, where they are all whole.
+-- The nibbles of a control packet of a line (G.7042): the upper halves of the H4 octets of sixteen numbers, where they
+-- are all whole.
 use Rattle.std.specs.Prelude.{ℕ, zero, suc, ◌+◌, ◌*◌, ◌/◌, List, [], ◌∷◌, ◌++◌, Option, Some, None}
 use Rattle.vc_cell.specs.declared.Container.{Container}
 use Rattle.vc_cell.specs.declared.Cell.{Cell}

@@ -1,10 +1,12 @@
 -- How the sink numbers the cells of a line (G.707): what each cell decides.
-use Rattle.std.specs.Prelude.{ℕ, suc, ◌+◌, ◌-◌, ◌*◌, ◌/◌, ◌%◌, ◌==◌, List, [], ◌∷◌, ◌++◌, length, replicate, slice_get, Option, Some, None, if◌then◌else◌}
+use Rattle.std.specs.Prelude.{ℕ, suc, ◌+◌, ◌-◌, ◌*◌, ◌/◌, ◌%◌, ◌==◌, List, [], ◌∷◌, ◌++◌, length, replicate, slice_get}
+use Rattle.std.specs.Prelude.{Option, Some, None, if◌then◌else◌}
 use Rattle.vc_cell.specs.declared.Container.{Container}
 use Rattle.vc_cell.specs.declared.Cell.{Cell}
 use Rattle.vc_cell.specs.declared.Cell.TheVariants.{Good, Fail, End}
 
--- what is known of a line after some cells: it is not locked; nor is it, and the last cell was a good one with MFI1 0 and this H4
+-- what is known of a line after some cells: it is not locked; nor is it, and the last cell was a good one with MFI1 0
+-- and this H4
 -- octet; it is locked, and the last cell had this MFI1; it has ended
 pub data LineLock : Type 0 where
   unlocked : LineLock
@@ -12,7 +14,8 @@ pub data LineLock : Type 0 where
   locked : ℕ → LineLock
   over : LineLock
 
--- what a good cell is: it decides one number as bad; it locks the line, with its number modulo 4096; it has the next number
+-- what a good cell is: it decides one number as bad; it locks the line, with its number modulo 4096; it has the next
+-- number
 pub data Sight : Type 0 where
   unknown : Sight
   locks : ℕ → Sight

@@ -1,9 +1,12 @@
--- G.7041, frame delineation: what comes of each client frame that lies whole in a run. That six octets settle a descrambler is
+-- G.7041, frame delineation: what comes of each client frame that lies whole in a run. That six octets settle a
+-- descrambler is
 -- this project's own rule.
 --
--- The words that end in `with` take what comes of an area: from whether the descrambler was settled when it began, and from its
+-- The words that end in `with` take what comes of an area: from whether the descrambler was settled when it began, and
+-- from its
 -- descrambled octets. Those without it are for Ethernet frames of at most a number of octets, `longest`.
-use Rattle.std.specs.Prelude.{ℕ, ◌+◌, ◌||◌, nat_le, nat_lt, Bool, true, false, List, [], ◌∷◌, ◌++◌, length, map, take, drop, Option, Some, None, if◌then◌else◌}
+use Rattle.std.specs.Prelude.{ℕ, ◌+◌, ◌||◌, nat_le, nat_lt, Bool, true, false, List, [], ◌∷◌, ◌++◌, length, map, take}
+use Rattle.std.specs.Prelude.{drop, Option, Some, None, if◌then◌else◌}
 use Rattle.std.specs.List.{flat_map}
 use Rattle.session_model.specs.declared.Why.{Why}
 use Rattle.session_model.specs.declared.Why.TheVariants.{Unsettled, TooLong, Header}
@@ -27,7 +30,8 @@ outcome_by (Some fault) area = dropping (Header fault)
 -- the outcome of a descrambled area: the first cause that holds, or the frame in it
 abbrev pub client_outcome : ℕ → Bool → List ℕ → Outcome
 client_outcome longest true area =
-    if nat_lt (longest + 4) (length area) then dropping (TooLong (length area)) else outcome_by (type_fault (take 4 area)) area
+    if nat_lt (longest + 4) (length area) then dropping (TooLong (length area)) else outcome_by
+    (type_fault (take 4 area)) area
 client_outcome longest false area = dropping Unsettled
 
 -- ---- the areas of a run
@@ -54,8 +58,10 @@ abbrev pub run_outcomes_with : {X : Type 0} → (Bool → List ℕ → X) → Ru
 run_outcomes_with outcome run = outcomes_after_with outcome run.settled 0 (descrambled_areas run.areas)
 
 -- ---- the runs of a segment
-abbrev pub outcomes_with : {X : Type 0} → (List ℕ → Option ℕ) → (List ℕ → Option ℕ) → (Bool → List ℕ → X) → Bool → List ℕ → List X
-outcomes_with seek follow outcome first octets = flat_map (run_outcomes_with outcome) (runs_with seek follow first octets)
+abbrev pub outcomes_with : {X : Type 0} → (List ℕ → Option ℕ) → (List ℕ → Option ℕ) → (Bool → List ℕ → X) → Bool →
+    List ℕ → List X
+outcomes_with seek follow outcome first octets =
+    flat_map (run_outcomes_with outcome) (runs_with seek follow first octets)
 
 -- ---- Ethernet frames
 abbrev pub outcome_of : ℕ → Bool → ℕ → List ℕ → List Outcome

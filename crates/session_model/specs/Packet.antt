@@ -1,7 +1,10 @@
--- The control packet (G.7042): sixteen nibbles, which go in the upper halves of sixteen H4 octets from MFI1 8 on. Which nibble
--- says what, with the number of active members (ACT) and the change bit (CHG) in nibbles that the standard reserves, and the
+-- The control packet (G.7042): sixteen nibbles, which go in the upper halves of sixteen H4 octets from MFI1 8 on. Which
+-- nibble
+-- says what, with the number of active members (ACT) and the change bit (CHG) in nibbles that the standard reserves,
+-- and the
 -- details of the check are this project's own.
-use Rattle.std.specs.Prelude.{ℕ, ◌+◌, ◌*◌, ◌/◌, ◌%◌, ◌<◌, ◌==◌, nat_lt, ◌&&◌, Bool, if◌then◌else◌, List, [], ◌∷◌, ◌++◌, length, take, slice_index, Option, Some, None, Result, Ok, Err}
+use Rattle.std.specs.Prelude.{ℕ, ◌+◌, ◌*◌, ◌/◌, ◌%◌, ◌<◌, ◌==◌, nat_lt, ◌&&◌, Bool, if◌then◌else◌, List, [], ◌∷◌, ◌++◌}
+use Rattle.std.specs.Prelude.{length, take, slice_index, Option, Some, None, Result, Ok, Err}
 use Rattle.std.specs.List.{list_all}
 use Rattle.vc_bits.specs.Check.{crc8_of}
 use Rattle.vc_cell.specs.declared.Ctrl.{Ctrl}
@@ -56,7 +59,8 @@ found_check nibbles = crc8_of (take 14 nibbles)
 abbrev pub said_code : List ℕ → ℕ
 said_code nibbles = slice_index nibbles 10
 
--- the packet that they say with this control word. The ignored bits, which are the upper ones of RS-Ack, CHG and GID and the two
+-- the packet that they say with this control word. The ignored bits, which are the upper ones of RS-Ack, CHG and GID
+-- and the two
 -- reserved nibbles, say nothing
 abbrev pub packet_of : List ℕ → Ctrl → Packet
 packet_of nibbles ctrl = record {
@@ -74,7 +78,8 @@ packet_of nibbles ctrl = record {
 abbrev pub cleared_nibbles : List ℕ → List ℕ
 cleared_nibbles nibbles =
     slice_index nibbles 0 ∷ slice_index nibbles 1 ∷ slice_index nibbles 2 % 2 ∷ slice_index nibbles 3 % 2 ∷ 0 ∷ 0
-    ∷ slice_index nibbles 6 ∷ slice_index nibbles 7 ∷ slice_index nibbles 8 ∷ slice_index nibbles 9 ∷ slice_index nibbles 10
+    ∷ slice_index nibbles 6 ∷ slice_index nibbles 7 ∷ slice_index nibbles 8 ∷ slice_index nibbles 9 ∷ slice_index
+    nibbles 10
     ∷ slice_index nibbles 11 % 2 ∷ slice_index nibbles 12 ∷ slice_index nibbles 13 ∷ []
 
 -- ---- what is read
@@ -90,5 +95,6 @@ read_by (Some ctrl) nibbles = Ok (packet_of nibbles ctrl)
 -- what is read of a list. One that is not sixteen nibbles is refused like one whose check is wrong
 unfoldable pub read_of : List ℕ → Result Packet PacketFault
 read_of nibbles =
-    if are_nibbles nibbles && said_check nibbles == found_check nibbles then read_by (ctrl_of (said_code nibbles)) nibbles
+    if are_nibbles nibbles && said_check nibbles == found_check nibbles then read_by
+    (ctrl_of (said_code nibbles)) nibbles
     else Err (Crc (said_check nibbles) (found_check nibbles))

@@ -5,7 +5,8 @@ use Rattle.session_model.specs.Scenario.{Scenario}
 use Rattle.session_model.specs.Table.{Told}
 use Rattle.session_model.specs.Client.{width, place_of, stream_before}
 
--- those of frame t: as many as its lines that carry payload have, from the place of the stream at which the frame begins
+-- those of frame t: as many as its lines that carry payload have, from the place of the stream at which the frame
+-- begins
 abbrev pub payload_of : Scenario → List (Option Told) → ℕ → List ℕ
 payload_of scenario cells t =
     take (scenario.size * width scenario cells t)

@@ -44,13 +44,15 @@ size_of piece = 4 + length (area_of piece)
 unfoldable pub frame_ends : ℕ → List Piece → List (ℕ × List ℕ)
 frame_ends place [] = []
 frame_ends place (idle ∷ pieces) = frame_ends (place + size_of idle) pieces
-frame_ends place (client frame ∷ pieces) = (place + size_of (client frame), frame) ∷ frame_ends (place + size_of (client frame)) pieces
+frame_ends place (client frame ∷ pieces) =
+    (place + size_of (client frame), frame) ∷ frame_ends (place + size_of (client frame)) pieces
 
 -- the frames whose piece ends by a place of the stream, in order
 abbrev pub frames_by : ℕ → List Piece → List (List ℕ)
 frames_by place pieces = map (λ end. end.1) (filter (λ end. nat_le end.0 place) (frame_ends 0 pieces))
 
--- the pieces of a stream in which all frames wait from the start: two idles, the frames, and a number of idles. The two idles at
+-- the pieces of a stream in which all frames wait from the start: two idles, the frames, and a number of idles. The two
+-- idles at
 -- the start are this project's own
 abbrev pub opening : List (List ℕ) → ℕ → List Piece
 opening frames idles = idle ∷ idle ∷ map client frames ++ replicate idles idle

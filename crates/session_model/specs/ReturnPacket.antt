@@ -1,6 +1,8 @@
--- G.7042, what the sink tells: rows of control packets, one packet of each line or none where it could not be read, and the return
+-- G.7042, what the sink tells: rows of control packets, one packet of each line or none where it could not be read, and
+-- the return
 -- packet that each row makes.
-use Rattle.std.specs.Prelude.{ℕ, ◌+◌, ◌*◌, ◌%◌, ◌==◌, ◌&&◌, not, Bool, true, false, if◌then◌else◌, List, [], ◌∷◌, map, fold, take, slice_index_or, Option, Some, None}
+use Rattle.std.specs.Prelude.{ℕ, ◌+◌, ◌*◌, ◌%◌, ◌==◌, ◌&&◌, not, Bool, true, false, if◌then◌else◌, List, [], ◌∷◌, map}
+use Rattle.std.specs.Prelude.{fold, take, slice_index_or, Option, Some, None}
 use Rattle.std.specs.List.{list_any, range_with_len}
 use Rattle.remainder.specs.Bits.{number}
 use Rattle.vc_cell.specs.declared.Ctrl.{Ctrl}

@@ -1,7 +1,10 @@
--- The rows of a group, over any cells of all its lines (G.707, G.7042): the control packets that are read, the rows that are whole by
--- them and the octets that those give, and the return packets. That a row is tested by the number of active members that a packet
+-- The rows of a group, over any cells of all its lines (G.707, G.7042): the control packets that are read, the rows
+-- that are whole by
+-- them and the octets that those give, and the return packets. That a row is tested by the number of active members
+-- that a packet
 -- says (ACT) is this project's own.
-use Rattle.std.specs.Prelude.{ℕ, zero, suc, ◌+◌, ◌-◌, ◌/◌, ◌==◌, nat_lt, ◌&&◌, Bool, true, false, if◌then◌else◌, List, [], ◌∷◌, ◌++◌, map, length, slice_get, Option, Some, None, is_none}
+use Rattle.std.specs.Prelude.{ℕ, zero, suc, ◌+◌, ◌-◌, ◌/◌, ◌==◌, nat_lt, ◌&&◌, Bool, true, false, if◌then◌else◌, List}
+use Rattle.std.specs.Prelude.{[], ◌∷◌, ◌++◌, map, length, slice_get, Option, Some, None, is_none}
 use Rattle.std.specs.List.{range_with_len, position_from}
 use Rattle.std.specs.Option.{option_map}
 use Rattle.std.specs.Result.{result_ok}
@@ -86,17 +89,20 @@ containers_at cells t (line ∷ lines) = with_first (container_on (slice_get cel
 abbrev pub carried_row : List Container → ℕ → List ℕ
 carried_row containers size = row_of size (map (λ container. container.payload) containers)
 
--- by the packets that govern it: the row is whole where they have a leader, the lines that carry payload number its ACT, and each of
+-- by the packets that govern it: the row is whole where they have a leader, the lines that carry payload number its
+-- ACT, and each of
 -- them is whole
 abbrev pub row_by : Option Packet → List ℕ → ℕ → List (List Cell) → ℕ → Option (List ℕ)
 row_by None lines size cells t = None
 row_by (Some packet) lines size cells t =
-    if length lines == packet.act then option_map (λ containers. carried_row containers size) (containers_at cells t lines) else None
+    if length lines == packet.act then option_map (λ containers. carried_row containers size)
+    (containers_at cells t lines) else None
 
 abbrev pub row_under : List (Option Packet) → ℕ → List (List Cell) → ℕ → Option (List ℕ)
 row_under packets size cells t = row_by (leader packets) (active_of packets) size cells t
 
--- the octets of row t, where it is whole: containers have a size of payload octets. Rows 0 to 23 are whole and give nothing
+-- the octets of row t, where it is whole: containers have a size of payload octets. Rows 0 to 23 are whole and give
+-- nothing
 abbrev pub row_at : ℕ → List (List Cell) → ℕ → Option (List ℕ)
 row_at size cells t = if nat_lt t 24 then Some [] else row_under (governing cells t) size cells t
 

@@ -1,16 +1,22 @@
--- G.7041, frame delineation, the state SYNC: the runs of a segment. A run begins at a confirmed place and goes from header to
--- header: after a header of four octets comes an area of as many octets as it says, and after the area the next header. Four
--- octets in the place of a header that are none end the run. They are refused, and a search goes on one octet after the first of
+-- G.7041, frame delineation, the state SYNC: the runs of a segment. A run begins at a confirmed place and goes from
+-- header to
+-- header: after a header of four octets comes an area of as many octets as it says, and after the area the next header.
+-- Four
+-- octets in the place of a header that are none end the run. They are refused, and a search goes on one octet after the
+-- first of
 -- them. A segment is gone through in this way, from search to run and from run to search, until its octets end.
 --
--- The words that end in `with` take the reader of headers in HUNT and PRESYNC and the one in SYNC, which may read more than the
+-- The words that end in `with` take the reader of headers in HUNT and PRESYNC and the one in SYNC, which may read more
+-- than the
 -- standard's. Those without it are the same where both are `head`.
-use Rattle.std.specs.Prelude.{ℕ, zero, suc, ◌+◌, nat_le, not, Bool, true, false, List, [], ◌∷◌, ◌++◌, length, take, drop, Option, Some, None, if◌then◌else◌}
+use Rattle.std.specs.Prelude.{ℕ, zero, suc, ◌+◌, nat_le, not, Bool, true, false, List, [], ◌∷◌, ◌++◌, length, take}
+use Rattle.std.specs.Prelude.{drop, Option, Some, None, if◌then◌else◌}
 use Rattle.session_model.specs.Core.{head}
 use Rattle.session_model.specs.Hunt.{Confirmed, header_with, hunt_with}
 
 -- ---- a run
--- what is found of a run: its areas that are whole, and, where it was ended, the octets one after the first that were refused
+-- what is found of a run: its areas that are whole, and, where it was ended, the octets one after the first that were
+-- refused
 pub record Followed : Type 0 where
   pub areas : List (List ℕ)
   pub after : Option (List ℕ)
@@ -23,12 +29,14 @@ area_then area more = record { areas = area ∷ more.areas; after = more.after }
 abbrev pub no_area : Option (List ℕ) → Followed
 no_area after = record { areas = []; after = after }
 
--- at the place of a header: four octets that are none end the run; an area that isn't whole leaves it open, and so do fewer
+-- at the place of a header: four octets that are none end the run; an area that isn't whole leaves it open, and so do
+-- fewer
 -- than four octets
 abbrev pub follow_by : Option ℕ → List ℕ → (List ℕ → Followed) → Followed
 follow_by None octets follow_on = no_area (if nat_le 4 (length octets) then Some (drop 1 octets) else None)
 follow_by (Some pli) octets follow_on =
-    if nat_le (4 + pli) (length octets) then area_then (take pli (drop 4 octets)) (follow_on (drop (4 + pli) octets)) else no_area None
+    if nat_le (4 + pli) (length octets) then area_then (take pli (drop 4 octets))
+    (follow_on (drop (4 + pli) octets)) else no_area None
 
 -- a run from its first octet on, with a bound on its headers
 unfoldable pub follow_within : (List ℕ → Option ℕ) → ℕ → List ℕ → Followed
@@ -47,7 +55,8 @@ abbrev pub after_run : List ℕ → Option (List ℕ)
 after_run octets = (follow_with head octets).after
 
 -- ---- a segment
--- a run of a segment: whether its descrambler is settled from its first area on, and its areas. It is settled where no header of
+-- a run of a segment: whether its descrambler is settled from its first area on, and its areas. It is settled where no
+-- header of
 -- the first segment was refused before it
 pub record Run : Type 0 where
   pub settled : Bool
@@ -75,7 +84,8 @@ run_then run (Some octets) search_on = runs_then (run ∷ []) (search_on octets)
 abbrev pub delineate_by : (List ℕ → Followed) → Option Confirmed → (List ℕ → Delineated) → Delineated
 delineate_by follow None search_on = no_run
 delineate_by follow (Some found) search_on =
-    run_then (record { settled = not found.refused; areas = (follow found.octets).areas }) (follow found.octets).after search_on
+    run_then (record { settled = not found.refused; areas = (follow found.octets).areas })
+    (follow found.octets).after search_on
 
 -- octets from a search on, with a bound on the searches. After a run a header was refused
 unfoldable pub delineate_within : (List ℕ → Option ℕ) → (List ℕ → Option ℕ) → ℕ → Bool → List ℕ → Delineated

@@ -1,5 +1,7 @@
--- A scenario: what the network, the operator and the client of a group do, as plain lists. It is what a script says of them.
-use Rattle.std.specs.Prelude.{ℕ, ◌+◌, ◌*◌, ◌-◌, ◌/◌, nat_le, nat_lt, ◌&&◌, Bool, List, [], ◌∷◌, map, filter, slice_index_or}
+-- A scenario: what the network, the operator and the client of a group do, as plain lists. It is what a script says of
+-- them.
+use Rattle.std.specs.Prelude.{ℕ, ◌+◌, ◌*◌, ◌-◌, ◌/◌, nat_le, nat_lt, ◌&&◌, Bool, List, [], ◌∷◌, map, filter}
+use Rattle.std.specs.Prelude.{slice_index_or}
 use Rattle.std.specs.List.{list_any, flat_map}
 use Rattle.session_model.specs.declared.window.Window.{Window}
 use Rattle.session_model.specs.declared.window.Carried.{Carried}
@@ -21,7 +23,8 @@ pub record DueFrame : Type 0 where
   pub due : ℕ
   pub frame : List ℕ
 
--- the lag in packets; how many ticks there are; the payload octets of a container; the failures of each line; the return packets
+-- the lag in packets; how many ticks there are; the payload octets of a container; the failures of each line; the
+-- return packets
 -- that are lost; the commands and the frames in their order
 pub record Scenario : Type 0 where
   pub lag : ℕ

@@ -1,4 +1,5 @@
--- G.7041, payload scrambling by x^43 + 1: each bit is combined by exclusive or with the scrambled bit 43 places before it.
+-- G.7041, payload scrambling by x^43 + 1: each bit is combined by exclusive or with the scrambled bit 43 places before
+-- it.
 -- Bits before the list are 0, which is this project's own start.
 use Rattle.std.specs.Prelude.{◌≡◌, ℕ, Bool, false, List, [], ◌∷◌, ◌++◌, length, replicate, slice_index_or}
 use Rattle.remainder.specs.Bits.{octet_bits, octets_of, xor, xors}

@@ -1,4 +1,5 @@
--- G.7041 over the rows of a group: the segments of a stream that comes in rows, which are the longest runs of whole rows, and the
+-- G.7041 over the rows of a group: the segments of a stream that comes in rows, which are the longest runs of whole
+-- rows, and the
 -- frames that they give. That a row which isn't whole breaks the stream is this project's own.
 use Rattle.std.specs.Prelude.{ℕ, ◌+◌, Bool, true, false, List, [], ◌∷◌, ◌++◌, length}
 use Rattle.std.specs.List.{flat_map}
@@ -50,7 +51,8 @@ no_rows = record { ended = []; last = record { first = true; base = 0; octets = 
 abbrev pub segments_of : List StreamRow → Segments
 segments_of rows = segments_on no_rows rows
 
--- all of them, in order. Two rows in turn that aren't whole leave a segment without octets between them, which gives nothing and in
+-- all of them, in order. Two rows in turn that aren't whole leave a segment without octets between them, which gives
+-- nothing and in
 -- which no frame lies
 abbrev pub segments : List StreamRow → List Segment
 segments rows = (segments_of rows).ended ++ (segments_of rows).last ∷ []

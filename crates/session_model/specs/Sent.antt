@@ -1,6 +1,8 @@
--- The containers of a session (G.707, G.7042): what each line carries in each frame. That payload begins in frame 24 and packets in
+-- The containers of a session (G.707, G.7042): what each line carries in each frame. That payload begins in frame 24
+-- and packets in
 -- frame 8 is this project's own.
-use Rattle.std.specs.Prelude.{ℕ, ◌+◌, ◌-◌, ◌*◌, ◌/◌, ◌%◌, ◌==◌, nat_lt, if◌then◌else◌, List, [], ◌++◌, map, length, slice_index, replicate, Option, Some, None}
+use Rattle.std.specs.Prelude.{ℕ, ◌+◌, ◌-◌, ◌*◌, ◌/◌, ◌%◌, ◌==◌, nat_lt, if◌then◌else◌, List, [], ◌++◌, map, length}
+use Rattle.std.specs.Prelude.{slice_index, replicate, Option, Some, None}
 use Rattle.std.specs.List.{position_from, range_with_len}
 use Rattle.vc_cell.specs.declared.Container.{Container}
 use Rattle.session_model.specs.Packet.{packet_nibbles}
@@ -20,7 +22,8 @@ active_at scenario cells t = if nat_lt t 24 then [] else active (table_of scenar
 abbrev pub rank_of : List ℕ → ℕ → Option ℕ
 rank_of lines line = position_from (λ other. other == line) 0 lines
 
--- what the member of a rank carries of a row, of x members with a size of payload octets each: zeros follow up to 2,340 octets, and a
+-- what the member of a rank carries of a row, of x members with a size of payload octets each: zeros follow up to 2,340
+-- octets, and a
 -- line without a rank carries zeros alone
 abbrev pub payload_by : Option ℕ → ℕ → ℕ → List ℕ → List ℕ
 payload_by None x size row = replicate vc4_size 0
@@ -31,7 +34,8 @@ payload_on lines line size row = payload_by (rank_of lines line) (length lines) 
 
 -- the nibble that a line carries of its packets: packet k is sent in frames 16 k + 8 to 16 k + 23
 abbrev pub nibble_in : Scenario → List (Option Told) → ℕ → ℕ → ℕ → ℕ
-nibble_in scenario cells line k place = slice_index (packet_nibbles (forward_packet (table_of scenario cells k) line k)) place
+nibble_in scenario cells line k place =
+    slice_index (packet_nibbles (forward_packet (table_of scenario cells k) line k)) place
 
 abbrev pub nibble_at : Scenario → List (Option Told) → ℕ → ℕ → ℕ
 nibble_at scenario cells line t = if nat_lt t 8 then 0 else nibble_in scenario cells line ((t - 8) / 16) ((t - 8) % 16)
@@ -49,4 +53,5 @@ containers_of scenario cells line frames = map (container_of scenario cells line
 
 -- those of all lines in frame t, by line
 abbrev pub frame_of : Scenario → List (Option Told) → ℕ → List Container
-frame_of scenario cells t = map (λ line. container_of scenario cells line t) (range_with_len 0 (length scenario.windows))
+frame_of scenario cells t = map (λ line. container_of scenario cells line t)
+    (range_with_len 0 (length scenario.windows))

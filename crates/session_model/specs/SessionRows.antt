@@ -1,6 +1,8 @@
--- The rows of a session (G.707, G.7042), as the source's table and the failures say: which control packets can be read of the lines,
+-- The rows of a session (G.707, G.7042), as the source's table and the failures say: which control packets can be read
+-- of the lines,
 -- and which rows are whole.
-use Rattle.std.specs.Prelude.{ℕ, ◌-◌, ◌/◌, ◌&&◌, nat_lt, Bool, true, if◌then◌else◌, List, map, length, Option, Some, None}
+use Rattle.std.specs.Prelude.{ℕ, ◌-◌, ◌/◌, ◌&&◌, nat_lt, Bool, true, if◌then◌else◌, List, map, length, Option, Some}
+use Rattle.std.specs.Prelude.{None}
 use Rattle.std.specs.List.{list_all, range_with_len}
 use Rattle.session_model.specs.declared.packet.Packet.{Packet}
 use Rattle.session_model.specs.Damage.{is_good}
@@ -23,12 +25,14 @@ abbrev pub packets_of : Scenario → List (Option Told) → ℕ → Row
 packets_of scenario cells k =
     packets_from (length scenario.windows) (table_of scenario cells k) k (λ line. is_read scenario line k)
 
--- a row t is whole under packet k: some line has a packet k that can be read, and each line that carries payload has, and its
+-- a row t is whole under packet k: some line has a packet k that can be read, and each line that carries payload has,
+-- and its
 -- container is good
 abbrev pub is_whole_under : Scenario → List (Option Told) → ℕ → ℕ → Bool
 is_whole_under scenario cells k t =
     is_heard scenario k
-    && list_all (λ line. is_read scenario line k && is_good (carried_by scenario line) t) (active (table_of scenario cells k))
+    && list_all (λ line. is_read scenario line k && is_good (carried_by scenario line) t)
+    (active (table_of scenario cells k))
 
 -- packet k governs rows 16 k + 24 to 16 k + 39; those before are whole
 abbrev pub is_whole_row : Scenario → List (Option Told) → ℕ → Bool

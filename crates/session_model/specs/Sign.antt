@@ -1,4 +1,5 @@
--- The H4 octets of the cells of a line, as the lock on the multiframe sees them: none stands for a cell that is not good.
+-- The H4 octets of the cells of a line, as the lock on the multiframe sees them: none stands for a cell that is not
+-- good.
 use Rattle.std.specs.Prelude.{◌≡◌, ℕ, List, map, slice_get, Option, Some, None}
 use Rattle.vc_cell.specs.declared.Cell.{Cell}
 use Rattle.vc_cell.specs.declared.Cell.TheVariants.{Good, Fail, End}

@@ -1,13 +1,17 @@
--- G.7042, the source: commands that wait, and decision steps. A return cell is what a return packet says, or none where it is lost.
-use Rattle.std.specs.Prelude.{ℕ, zero, suc, ◌-◌, ◌%◌, ◌&&◌, not, nat_le, Bool, true, false, if◌then◌else◌, List, [], ◌∷◌, ◌++◌, fold, length, Option, Some, None, slice_index_or, slice_set, replicate}
+-- G.7042, the source: commands that wait, and decision steps. A return cell is what a return packet says, or none where
+-- it is lost.
+use Rattle.std.specs.Prelude.{ℕ, zero, suc, ◌-◌, ◌%◌, ◌&&◌, not, nat_le, Bool, true, false, if◌then◌else◌, List, []}
+use Rattle.std.specs.Prelude.{◌∷◌, ◌++◌, fold, length, Option, Some, None, slice_index_or, slice_set, replicate}
 use Rattle.session_model.specs.declared.refusal.CommandFault.{CommandFault}
 use Rattle.session_model.specs.declared.refusal.CommandFault.TheVariants.{UnknownLine, AlreadyIn, NotIn, TooManyPending}
 use Rattle.session_model.specs.declared.table.Command.{Command}
 use Rattle.session_model.specs.declared.table.Command.TheVariants.{Add as add, Remove as remove}
 use Rattle.session_model.specs.Scenario.{Scenario, orders_at}
-use Rattle.session_model.specs.Table.{Table, Told, kept_of, first_table, heard, told_on, carried_out, exchange, exchanged}
+use Rattle.session_model.specs.Table.{Table, Told, kept_of, first_table, heard, told_on, carried_out, exchange}
+use Rattle.session_model.specs.Table.{exchanged}
 
--- the planned set is the lines that accepted commands have added and not removed; the commands that wait were accepted and
+-- the planned set is the lines that accepted commands have added and not removed; the commands that wait were accepted
+-- and
 -- not carried out
 pub record Source : Type 0 where
   pub table : Table
@@ -61,8 +65,14 @@ asked_all lines commands source = fold (asked lines) source commands
 
 -- the first change that there is: a command that waits, or an exchange of ADD lines
 abbrev pub change_by : List Command → Source → Table → Source
-change_by [] source table = record { table = exchanged (exchange (kept_of table) 0 table.order) table; planned = source.planned; waiting = [] }
-change_by (command ∷ commands) source table = record { table = carried_out command table; planned = source.planned; waiting = commands }
+change_by [] source table = record {
+  table = exchanged (exchange (kept_of table) 0 table.order) table;
+  planned =
+      source.planned;
+  waiting = [];
+}
+change_by (command ∷ commands) source table =
+    record { table = carried_out command table; planned = source.planned; waiting = commands }
 
 abbrev pub change : Source → Table → Source
 change source table = if table.acknowledged then change_by source.waiting source table
@@ -88,7 +98,8 @@ abbrev pub source_at : Scenario → List (Option Told) → ℕ → Source
 source_at scenario cells j = asked_all (length scenario.windows) (orders_at scenario j) (after scenario cells j)
 
 abbrev pub told_at : Scenario → List (Option Told) → ℕ → Table
-told_at scenario cells j = told_on (heard ((j - scenario.lag) % 16) (cell_at scenario cells j) (source_at scenario cells j).table)
+told_at scenario cells j = told_on
+    (heard ((j - scenario.lag) % 16) (cell_at scenario cells j) (source_at scenario cells j).table)
 
 -- the command that step j carries out
 abbrev pub first_of : List Command → Option Command
@@ -96,7 +107,8 @@ first_of [] = None
 first_of (command ∷ commands) = Some command
 
 abbrev pub carried : Scenario → List (Option Told) → ℕ → Option Command
-carried scenario cells j = if (told_at scenario cells j).acknowledged then first_of (source_at scenario cells j).waiting else None
+carried scenario cells j = if (told_at scenario cells j).acknowledged then first_of
+    (source_at scenario cells j).waiting else None
 
 -- the table that packet j says
 abbrev pub table_of : Scenario → List (Option Told) → ℕ → Table

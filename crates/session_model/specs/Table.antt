@@ -1,5 +1,6 @@
 -- G.7042, the source's table of lines: what a decision step does with a return packet.
-use Rattle.std.specs.Prelude.{ℕ, ◌+◌, ◌/◌, ◌%◌, ◌==◌, ◌&&◌, not, Bool, true, false, if◌then◌else◌, List, [], ◌∷◌, ◌++◌, map, filter, Option, Some, None, option_map, slice_get, slice_index_or, replicate}
+use Rattle.std.specs.Prelude.{ℕ, ◌+◌, ◌/◌, ◌%◌, ◌==◌, ◌&&◌, not, Bool, true, false, if◌then◌else◌, List, [], ◌∷◌, ◌++◌}
+use Rattle.std.specs.Prelude.{map, filter, Option, Some, None, option_map, slice_get, slice_index_or, replicate}
 use Rattle.session_model.specs.declared.table.Standing.{Standing}
 use Rattle.session_model.specs.declared.table.Standing.TheVariants.{Add as adding, Norm as normal, Dnu as unused}
 use Rattle.session_model.specs.declared.table.Member.{Member}
@@ -9,7 +10,8 @@ use Rattle.session_model.specs.declared.table.Command.TheVariants.{Add as add, R
 abbrev pub member_of : ℕ → Standing → Member
 member_of line standing = record { line = line; standing = standing }
 
--- the order of the lines: the place of a line is its SQ; the line in REMOVE; the count of changes, and whether the last one is
+-- the order of the lines: the place of a line is its SQ; the line in REMOVE; the count of changes, and whether the last
+-- one is
 -- acknowledged; for an SQ the status that is kept: OK, FAIL or none. A line that is nowhere is IDLE
 pub record Table : Type 0 where
   pub order : List Member
@@ -76,7 +78,8 @@ oks_of (Some told) = told.oks
 
 unfoldable pub keep : ℕ → List Bool → ℕ → List (Option Bool) → List (Option Bool)
 keep group oks sq [] = []
-keep group oks sq (old ∷ statuses) = (if sq / 8 == group then slice_get oks (sq % 8) else old) ∷ keep group oks (sq + 1) statuses
+keep group oks sq (old ∷ statuses) =
+    (if sq / 8 == group then slice_get oks (sq % 8) else old) ∷ keep group oks (sq + 1) statuses
 
 abbrev pub acknowledged_by : ℕ → Option Told → Table → Table
 acknowledged_by group told table = record {
@@ -121,11 +124,18 @@ told_on table = record {
 
 -- 4. A change: the count grows, and nothing is known of the lines until it is acknowledged
 abbrev pub changed : List Member → Option ℕ → Table → Table
-changed order leaving table = record { order = order; leaving = leaving; count = table.count + 1; acknowledged = false; statuses = none_kept }
+changed order leaving table = record {
+  order = order;
+  leaving = leaving;
+  count = table.count + 1;
+  acknowledged = false;
+  statuses = none_kept;
+}
 
 -- (a) a command
 abbrev pub carried_out : Command → Table → Table
-carried_out (add line) table = changed (table.order ++ record { line = line; standing = adding } ∷ []) table.leaving table
+carried_out (add line) table = changed (table.order ++ record { line = line; standing = adding } ∷ []) table.leaving
+    table
 carried_out (remove line) table = changed (filter (λ member. not (member.line == line)) table.order) (Some line) table
 
 -- (b) the first ADD line has FAIL, and a later one OK: the first such later line goes before it

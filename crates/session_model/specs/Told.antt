@@ -8,7 +8,8 @@ use Rattle.session_model.specs.declared.packet.PacketFault.{PacketFault}
 use Rattle.session_model.specs.Packet.{bit_nibble, read_of}
 use Rattle.session_model.specs.Table.{Told}
 
--- the eight statuses of a group, that of its least SQ first: OK is sent as 0, and the first status in the most significant bit
+-- the eight statuses of a group, that of its least SQ first: OK is sent as 0, and the first status in the most
+-- significant bit
 abbrev pub oks_in : ℕ → List Bool
 oks_in mst = map not (bits 8 mst)
 

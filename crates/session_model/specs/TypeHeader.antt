@@ -1,5 +1,7 @@
--- G.7041, type header: the type field and its check (tHEC). The type field has PTI (3 bits), PFI (1), EXI (4) and UPI (8).
-use Rattle.std.specs.Prelude.{ℕ, ◌+◌, ◌*◌, ◌/◌, ◌%◌, ◌^◌, ◌==◌, List, [], ◌∷◌, slice_index, Option, Some, None, if◌then◌else◌}
+-- G.7041, type header: the type field and its check (tHEC). The type field has PTI (3 bits), PFI (1), EXI (4) and UPI
+-- (8).
+use Rattle.std.specs.Prelude.{ℕ, ◌+◌, ◌*◌, ◌/◌, ◌%◌, ◌^◌, ◌==◌, List, [], ◌∷◌, slice_index, Option, Some, None}
+use Rattle.std.specs.Prelude.{if◌then◌else◌}
 use Rattle.hec16.specs.Hec.{hec_of}
 use Rattle.session_model.specs.declared.TypeFault.{TypeFault}
 use Rattle.session_model.specs.declared.TypeFault.TheVariants.{Check, NotClient, PayloadFcs, Extension, NotEthernet}

@@ -1,4 +1,5 @@
--- What a script meets that can be walked, and each that was read does: ranges, lengths, order, and the tests of the rings. The limits are this
+-- What a script meets that can be walked, and each that was read does: ranges, lengths, order, and the tests of the
+-- rings. The limits are this
 -- project's own.
 use Rattle.std.specs.Prelude.{◌≡◌, ◌⊎◌, ℕ, ◌<◌, ◌≤◌, List, [], ◌∷◌, length, All}
 use Rattle.std.specs.List.Sorted.{IsNonDecreasing}
@@ -8,7 +9,8 @@ use Rattle.session_model.specs.declared.script.Item.{Item}
 use Rattle.session_model.specs.declared.script.ItemKind.{ItemKind}
 use Rattle.session_model.specs.declared.script.ItemKind.TheVariants.{Frame, Add, Remove}
 use Rattle.session_model.specs.declared.script.EventLine.{EventLine}
-use Rattle.session_model.specs.declared.script.EventLine.TheVariants.{Client, Operator, Tick, Carry, Back, Take, Round, Drain}
+use Rattle.session_model.specs.declared.script.EventLine.TheVariants.{Client, Operator, Tick, Carry, Back, Take, Round}
+use Rattle.session_model.specs.declared.script.EventLine.TheVariants.{Drain}
 use Rattle.session_model.specs.declared.script.Script.{Script}
 use Rattle.session_model.specs.Damage.{AreWindows}
 use Rattle.session_model.specs.Counts.{dues_of, frame_dues, command_dues}

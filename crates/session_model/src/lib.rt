@@ -18,8 +18,8 @@ pub use table::{Command, Member, SinkState, SourceState, Standing};
 pub use walk::{Event, StallCause};
 pub use window::{Carried, Window};
 
-/// What is wrong with a type header (G.7041): its check, which says one word and was found to be another; or the first field
-/// that is not that of an Ethernet frame, in the order PTI, PFI, EXI, UPI.
+/// What is wrong with a type header (G.7041): its check, which says one word and was found to be another; or
+/// the first field that is not that of an Ethernet frame, in the order PTI, PFI, EXI, UPI.
 #[derive(Clone, Copy, Debug, PartialEq, Eq)]
 pub enum TypeFault {
     Check { said: u16, found: u16 },
@@ -29,8 +29,8 @@ pub enum TypeFault {
     NotEthernet { upi: u8 },
 }
 
-/// Why a client frame that was followed is not delivered: the descrambler was not settled when its area began; its area is
-/// longer than a frame may be, and has `pli` octets; or its type header has a fault.
+/// Why a client frame that was followed is not delivered: the descrambler was not settled when its area
+/// began; its area is longer than a frame may be, and has `pli` octets; or its type header has a fault.
 #[derive(Clone, Copy, Debug, PartialEq, Eq)]
 pub enum Why {
     Unsettled,

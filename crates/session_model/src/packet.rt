@@ -9,8 +9,8 @@ use vc_cell::Ctrl;
 /// A control packet, forward or return (G.7042). Its layout in nibbles is this project's own.
 #[derive(Clone, Copy, Debug, PartialEq, Eq)]
 pub struct Packet {
-    /// The statuses of eight members: a bit is 0 for OK and 1 for FAIL, and the most significant one is for the least of their
-    /// sequence numbers. 0 in a forward packet.
+    /// The statuses of eight members: a bit is 0 for OK and 1 for FAIL, and the most significant one is for
+    /// the least of their sequence numbers. 0 in a forward packet.
     pub mst: u8,
     /// The acknowledgement (RS-Ack): the change bit that the sink last read. False in a forward packet.
     pub rs_ack: bool,

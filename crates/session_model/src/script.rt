@@ -1,5 +1,5 @@
-//! What a script says: the network's configuration and failures, what lands at which tick, and the events of a walk. Each list
-//! is a type of its own, which contracts see as the list.
+//! What a script says: the network's configuration and failures, what lands at which tick, and the events of
+//! a walk. Each list is a type of its own, which contracts see as the list.
 
 use crate::window::Window;
 use std::marker::Model;

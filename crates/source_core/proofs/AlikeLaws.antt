@@ -7,14 +7,18 @@ use Rattle.session_model.specs.Forward.{forward_packet}
 use Rattle.session_law.proofs.AlikeLaws.{Alike, alike-after}
 use Rattle.source_core.specs.Given.{nibbles_after, active_now}
 
-pub alike-active : (one : Scenario) (a : List (Option Told)) (other : Scenario) (b : List (Option Told)) (t : ℕ) → Alike one a other b t → active_now one a t ≡ active_now other b t
-alike-active one a other b t alike = ap (λ source. active source.table) (alike-after one a other b t (steps_in t - 1) alike (omega arith))
+pub alike-active : (one : Scenario) (a : List (Option Told)) (other : Scenario) (b : List (Option Told)) (t : ℕ) →
+    Alike one a other b t → active_now one a t ≡ active_now other b t
+alike-active one a other b t alike =
+    ap (λ source. active source.table) (alike-after one a other b t (steps_in t - 1) alike (omega arith))
 
-nibbles-by : (one : Scenario) (a : List (Option Told)) (other : Scenario) (b : List (Option Told)) (t line j : ℕ) → Alike one a other b t → j ≤ steps_in t → nibbles_after one a line j ≡ nibbles_after other b line j
+nibbles-by : (one : Scenario) (a : List (Option Told)) (other : Scenario) (b : List (Option Told)) (t line j : ℕ) →
+    Alike one a other b t → j ≤ steps_in t → nibbles_after one a line j ≡ nibbles_after other b line j
 nibbles-by one a other b t line zero alike low = refl
 nibbles-by one a other b t line (suc k) alike low =
     ap (λ source. packet_nibbles (forward_packet source.table line k)) (alike-after one a other b t (suc k) alike low)
 
-pub alike-nibbles : (one : Scenario) (a : List (Option Told)) (other : Scenario) (b : List (Option Told)) (t line : ℕ) → Alike one a other b t →
+pub alike-nibbles : (one : Scenario) (a : List (Option Told)) (other : Scenario) (b : List (Option Told)) (t line : ℕ) →
+    Alike one a other b t →
     nibbles_after one a line (steps_in t) ≡ nibbles_after other b line (steps_in t)
 alike-nibbles one a other b t line alike = nibbles-by one a other b t line (steps_in t) alike (omega arith)

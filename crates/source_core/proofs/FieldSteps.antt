@@ -1,5 +1,6 @@
 -- What is true of a terminal's fields, call by call.
-use Rattle.std.proofs.Common.{◌≡◌, ℕ, ◌+◌, ◌*◌, ◌%◌, ◌≤◌, Bool, true, false, List, length, Option, option_map, refl, sym, ◌∙◌, ap, subst, arith}
+use Rattle.std.proofs.Common.{◌≡◌, ℕ, ◌+◌, ◌*◌, ◌%◌, ◌≤◌, Bool, true, false, List, length, Option, option_map, refl}
+use Rattle.std.proofs.Common.{sym, ◌∙◌, ap, subst, arith}
 use Rattle.std.proofs.lemmas.Bool.{eqb-true, eqb-false}
 use Rattle.std.proofs.lemmas.List.FromFn.{length-map-range_with_len}
 use Rattle.std.proofs.Math.Nat.{mul-le-mul_left}
@@ -11,16 +12,19 @@ use Rattle.session_model.specs.Course.{Course, asks, called, said_by}
 use Rattle.session_law.proofs.PlanLaws.{Fits, Fits-asked, Fits-decide}
 use Rattle.gfp_fill.specs.Queue.{Held}
 use Rattle.gfp_fill.specs.Stream.{Sender}
-use Rattle.source_core.specs.Step.{is_step, table_by, active_by, nibbles_by, AreNibbles, AreMembers, terminal_of, IsTerminal}
+use Rattle.source_core.specs.Step.{is_step, table_by, active_by, nibbles_by, AreNibbles, AreMembers, terminal_of}
+use Rattle.source_core.specs.Step.{IsTerminal}
 use Rattle.source_core.proofs.MemberLaws.{active-members}
 
 -- a command
-pub IsTerminal-asked : (lag size ticks : ℕ) (queue : Held) (sender : Sender) (table next : Course) (active : List ℕ) (nibbles : List (List ℕ)) (octets : ℕ) (command : Command) →
+pub IsTerminal-asked : (lag size ticks : ℕ) (queue : Held) (sender : Sender) (table next : Course) (active : List ℕ)
+    (nibbles : List (List ℕ)) (octets : ℕ) (command : Command) →
     next ≡ called table (asks command) →
     IsTerminal (terminal_of lag size ticks queue sender table active nibbles) octets →
     IsTerminal (terminal_of lag size ticks queue sender next active nibbles) octets
 IsTerminal-asked lag size ticks queue sender table next active nibbles octets command is fields =
-    subst (λ course. IsTerminal (terminal_of lag size ticks queue sender course active nibbles) octets) (sym is) (record {
+    subst (λ course. IsTerminal (terminal_of lag size ticks queue sender course active nibbles) octets) (sym is)
+    (record {
       lines = fields.lines;
       size = fields.size;
       room = fields.room;
@@ -36,28 +40,36 @@ pub table_by-lines : (b : Bool) (back : Option BackCell) (table : Course) → (t
 table_by-lines true back table = refl
 table_by-lines false back table = refl
 
-table_by-fits : (b : Bool) (back : Option BackCell) (table : Course) → Fits table.lines table.source → Fits table.lines (table_by b back table).source
-table_by-fits true back table fits = Fits-decide table.lines (table.taken % 16) (said_by (option_map told_in back)) table.source fits
+table_by-fits : (b : Bool) (back : Option BackCell) (table : Course) → Fits table.lines table.source →
+    Fits table.lines (table_by b back table).source
+table_by-fits true back table fits =
+    Fits-decide table.lines (table.taken % 16) (said_by (option_map told_in back)) table.source fits
 table_by-fits false back table fits = fits
 
 -- how many decision steps are made after a tick
-table_by-steps : (t : ℕ) (b : Bool) (back : Option BackCell) (table : Course) → is_step t ≡ b → table.steps ≡ steps_in t → (table_by b back table).steps ≡ steps_in (t + 1)
+table_by-steps : (t : ℕ) (b : Bool) (back : Option BackCell) (table : Course) → is_step t ≡ b →
+    table.steps ≡ steps_in t → (table_by b back table).steps ≡ steps_in (t + 1)
 table_by-steps t true back table e steps = let at = eqb-true (t % 16) 8 e in omega arith
 table_by-steps t false back table e steps = let other = eqb-false (t % 16) 8 e in omega arith
 
-pub active_by-members : (b : Bool) (table : Course) (active : List ℕ) → Fits table.lines table.source → AreMembers table.lines active → AreMembers table.lines (active_by b table active)
+pub active_by-members : (b : Bool) (table : Course) (active : List ℕ) → Fits table.lines table.source →
+    AreMembers table.lines active → AreMembers table.lines (active_by b table active)
 active_by-members true table active fits members = active-members table.lines table.source fits
 active_by-members false table active fits members = members
 
-pub nibbles_by-length : (b : Bool) (table : Course) (nibbles : List (List ℕ)) → length (nibbles_by b table nibbles) ≡ length nibbles
+pub nibbles_by-length : (b : Bool) (table : Course) (nibbles : List (List ℕ)) →
+    length (nibbles_by b table nibbles) ≡ length nibbles
 nibbles_by-length true table nibbles = length-map-range_with_len _ 0 (length nibbles)
 nibbles_by-length false table nibbles = refl
 
-pub IsTerminal-ticked : (lag size ticks : ℕ) (queue later : Held) (sender further : Sender) (table next : Course) (active members : List ℕ) (nibbles said : List (List ℕ)) (octets : ℕ) (back : Option BackCell) →
-    next ≡ table_by (is_step ticks) back table → members ≡ active_by (is_step ticks) table active → said ≡ nibbles_by (is_step ticks) next nibbles → AreNibbles said →
+pub IsTerminal-ticked : (lag size ticks : ℕ) (queue later : Held) (sender further : Sender) (table next : Course)
+    (active members : List ℕ) (nibbles said : List (List ℕ)) (octets : ℕ) (back : Option BackCell) →
+    next ≡ table_by (is_step ticks) back table → members ≡ active_by (is_step ticks) table active →
+    said ≡ nibbles_by (is_step ticks) next nibbles → AreNibbles said →
     IsTerminal (terminal_of lag size ticks queue sender table active nibbles) octets →
     IsTerminal (terminal_of lag size (ticks + 1) later further next members said) octets
-IsTerminal-ticked lag size ticks queue later sender further table next active members nibbles said octets back is_next is_members is_said below fields =
+IsTerminal-ticked lag size ticks queue later sender further table next active members nibbles said octets back is_next
+    is_members is_said below fields =
     let b = is_step ticks in
     let lines = ap (λ (course : Course). course.lines) is_next ∙ table_by-lines b back table in
     let many = ap length is_said ∙ nibbles_by-length b next nibbles in
@@ -67,21 +79,29 @@ IsTerminal-ticked lag size ticks queue later sender further table next active me
       lines = omega arith;
       size = fields.size;
       room = fields.room ∙ ap (λ n. size * n) (sym lines);
-      fits = subst (λ n. Fits n next.source) (sym lines) (subst (λ (course : Course). Fits table.lines course.source) (sym is_next) (table_by-fits b back table fields.fits));
+      fits = subst (λ n. Fits n next.source) (sym lines)
+          (subst (λ (course : Course). Fits table.lines course.source) (sym is_next)
+          (table_by-fits b back table fields.fits));
       steps = ap (λ (course : Course). course.steps) is_next ∙ table_by-steps ticks b back table refl fields.steps;
-      active = subst (λ n. AreMembers n members) (sym lines) (subst (AreMembers table.lines) (sym is_members) (active_by-members b table active fields.fits fields.active));
+      active = subst (λ n. AreMembers n members) (sym lines)
+          (subst (AreMembers table.lines) (sym is_members)
+          (active_by-members b table active fields.fits fields.active));
       nibbles = omega arith;
       below = below;
     }
 
 -- the lines that carry payload after a decision step
-pub next-members : (lag size ticks : ℕ) (queue : Held) (sender : Sender) (table : Course) (active members : List ℕ) (nibbles : List (List ℕ)) (octets : ℕ) →
-    members ≡ active_by (is_step ticks) table active → IsTerminal (terminal_of lag size ticks queue sender table active nibbles) octets → AreMembers table.lines members
+pub next-members : (lag size ticks : ℕ) (queue : Held) (sender : Sender) (table : Course) (active members : List ℕ)
+    (nibbles : List (List ℕ)) (octets : ℕ) →
+    members ≡ active_by (is_step ticks) table active →
+    IsTerminal (terminal_of lag size ticks queue sender table active nibbles) octets →
+    AreMembers table.lines members
 next-members lag size ticks queue sender table active members nibbles octets is fields =
     subst (AreMembers table.lines) (sym is) (active_by-members (is_step ticks) table active fields.fits fields.active)
 
 -- the octets of a frame fit the room
-pub frame-fits : (size lines octets n x : ℕ) (active : List ℕ) → octets ≡ size * lines → AreMembers lines active → n ≡ size → x ≡ length active → n * x ≤ octets
+pub frame-fits : (size lines octets n x : ℕ) (active : List ℕ) → octets ≡ size * lines → AreMembers lines active →
+    n ≡ size → x ≡ length active → n * x ≤ octets
 frame-fits size lines octets n x active room members is_size is_many =
     let most = members.most in
     let fits : size * length active ≤ size * lines = mul-le-mul_left size most in

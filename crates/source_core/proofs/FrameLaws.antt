@@ -1,5 +1,8 @@
 -- The containers of a frame: H4 and zeros first, and then the row over the lines that carry payload.
-use Rattle.std.proofs.Common.{◌≡◌, ◌≢◌, ℕ, zero, suc, ◌+◌, ◌-◌, ◌*◌, ◌<◌, ◌≤◌, inl, inr, ◌==◌, Bool, true, false, if◌then◌else◌, List, [], ◌∷◌, ◌++◌, take, drop, length, replicate, slice_index, slice_index_or, slice_set, Option, Some, None, refl, sym, ◌∙◌, ap, ap₂, subst, arith, length-drop}
+use Rattle.std.proofs.Common.{◌≡◌, ◌≢◌, ℕ, zero, suc, ◌+◌, ◌-◌, ◌*◌, ◌<◌, ◌≤◌, inl, inr, ◌==◌, Bool, true, false}
+use Rattle.std.proofs.Common.{if◌then◌else◌, List, [], ◌∷◌, ◌++◌, take, drop, length, replicate, slice_index}
+use Rattle.std.proofs.Common.{slice_index_or, slice_set, Option, Some, None, refl, sym, ◌∙◌, ap, ap₂, subst, arith}
+use Rattle.std.proofs.Common.{length-drop}
 use Rattle.std.specs.Option.{is_some}
 use Rattle.std.specs.List.{position_from}
 use Rattle.std.proofs.lemmas.Bool.{eqb-true, eqb-false, cases_lt, false≢true, false_from_ne_true}
@@ -22,21 +25,28 @@ use Rattle.source_core.specs.Frame.{h4_by, carries, IsBegun, AreBegun, container
 -- a line stands at its place, or nowhere
 abbrev pub IsRank : List ℕ → ℕ → ℕ → Option ℕ → Type 0
 IsRank lines line from None = (rank : ℕ) → rank < length lines → slice_index lines rank ≢ line
-IsRank lines line from (Some place) = (rank : ℕ) × (place ≡ from + rank) × (rank < length lines) × (slice_index lines rank ≡ line)
+IsRank lines line from (Some place) = (rank : ℕ) × (place ≡ from + rank) × (rank < length lines) ×
+    (slice_index lines rank ≡ line)
 
-IsRank-later : (first : ℕ) (lines : List ℕ) (line from : ℕ) (found : Option ℕ) → first ≢ line → IsRank lines line (from + 1) found → IsRank (first ∷ lines) line from found
+IsRank-later : (first : ℕ) (lines : List ℕ) (line from : ℕ) (found : Option ℕ) → first ≢ line →
+    IsRank lines line (from + 1) found → IsRank (first ∷ lines) line from found
 IsRank-later first lines line from None other none = later where
   later : (rank : ℕ) → rank < suc (length lines) → slice_index (first ∷ lines) rank ≢ line
   later zero low same = other same
   later (suc rank) low same = none rank (omega arith) same
-IsRank-later first lines line from (Some place) other found = (suc found.0, omega (arith, found.1), omega (arith, found.2), found.3)
+IsRank-later first lines line from (Some place) other found =
+    (suc found.0, omega (arith, found.1), omega (arith, found.2), found.3)
 
-IsRank-from : (lines : List ℕ) (line from : ℕ) → IsRank lines line from (position_from (λ other. other == line) from lines)
+IsRank-from : (lines : List ℕ) (line from : ℕ) →
+    IsRank lines line from (position_from (λ other. other == line) from lines)
 IsRank-from [] line from = λ rank low same. omega arith
 IsRank-from (first ∷ lines) line from =
-    elim (first == line) as (λ b. (first == line) ≡ b → IsRank (first ∷ lines) line from (if b then Some from else position_from (λ other. other == line) (from + 1) lines)) [
+    elim (first == line) as (λ b. (first == line) ≡ b →
+    IsRank (first ∷ lines) line from
+    (if b then Some from else position_from (λ other. other == line) (from + 1) lines)) [
       | true ↦ λ e. (zero, omega arith, omega arith, eqb-true first line e)
-      | false ↦ λ e. IsRank-later first lines line from (position_from (λ other. other == line) (from + 1) lines) (eqb-false first line e) (IsRank-from lines line (from + 1))
+      | false ↦ λ e. IsRank-later first lines line from (position_from (λ other. other == line) (from + 1) lines)
+          (eqb-false first line e) (IsRank-from lines line (from + 1))
     ] refl
 
 pub rank_of-is : (lines : List ℕ) (line : ℕ) → IsRank lines line 0 (rank_of lines line)
@@ -47,11 +57,13 @@ pub no-mark : (lines line : ℕ) → slice_index_or (replicate lines false) line
 no-mark lines line marked =
     elim (cases_lt line lines) [
       | inl low ↦ false≢true (sym (get_or-replicate lines line false false low) ∙ marked)
-      | inr high ↦ false≢true (sym (get_or-eq_default (replicate lines false) false (let e : length (replicate lines false) ≤ line = omega (arith, length-replicate lines false) in e)) ∙ marked)
+      | inr high ↦ false≢true (sym (get_or-eq_default (replicate lines false) false
+          (let e : length (replicate lines false) ≤ line = omega (arith, length-replicate lines false) in e)) ∙ marked)
     ]
 
 -- which lines are marked, where each of those that carry payload is and no other
-pub marked-is : (active : List ℕ) (marks : List Bool) (line : ℕ) → ((rank : ℕ) → rank < length active → slice_index_or marks (slice_index active rank) false ≡ true) →
+pub marked-is : (active : List ℕ) (marks : List Bool) (line : ℕ) →
+    ((rank : ℕ) → rank < length active → slice_index_or marks (slice_index active rank) false ≡ true) →
     (slice_index_or marks line false ≡ true → (rank : ℕ) × (rank < length active) × (slice_index active rank ≡ line)) →
     slice_index_or marks line false ≡ carries active line
 marked-is active marks line all only = is (rank_of active line) (rank_of-is active line) where
@@ -60,22 +72,28 @@ marked-is active marks line all only = is (rank_of active line) (rank_of-is acti
   is None none = false_from_ne_true (slice_index_or marks line false) (λ e. let one = only e in none one.0 one.1 one.2)
 
 -- ---- a part of a row, put into a container that was begun
-pub IsBegun-as : (h4 other filled more : ℕ) (one same : Container) → h4 ≡ other → filled ≡ more → one ≡ same → IsBegun h4 filled one → IsBegun other more same
+pub IsBegun-as : (h4 other filled more : ℕ) (one same : Container) → h4 ≡ other → filled ≡ more → one ≡ same →
+    IsBegun h4 filled one → IsBegun other more same
 IsBegun-as h4 other filled more one same header size is begun =
-    subst (IsBegun other more) is (subst (λ n. IsBegun other n one) size (subst (λ n. IsBegun n filled one) header begun))
+    subst (IsBegun other more) is (subst (λ n. IsBegun other n one) size
+    (subst (λ n. IsBegun n filled one) header begun))
 
 part-put : (h4 size : ℕ) (part : List ℕ) (container : Container) → length part ≡ size → IsBegun h4 size container →
     with_octets 0 part container ≡ record { h4 = h4; payload = part ++ replicate (2340 - size) 0 }
 part-put h4 size part container long begun =
     let place : 0 + length part ≡ size = omega arith in
-    ap₂ (λ (h : ℕ) (rest : List ℕ). record { h4 = h; payload = part ++ rest }) begun.header (ap (λ n. drop n container.payload) place ∙ begun.zeros)
+    ap₂ (λ (h : ℕ) (rest : List ℕ). record { h4 = h; payload = part ++ rest }) begun.header
+    (ap (λ n. drop n container.payload) place ∙ begun.zeros)
 
 -- one that has no octets of the stream
-empty : (h4 : ℕ) (container : Container) → IsBegun h4 0 container → container ≡ record { h4 = h4; payload = replicate 2340 0 }
-empty h4 container begun = ap₂ (λ (h : ℕ) (payload : List ℕ). record { h4 = h; payload = payload }) begun.header begun.zeros
+empty : (h4 : ℕ) (container : Container) → IsBegun h4 0 container →
+    container ≡ record { h4 = h4; payload = replicate 2340 0 }
+empty h4 container begun = ap₂ (λ (h : ℕ) (payload : List ℕ). record { h4 = h; payload = payload }) begun.header
+    begun.zeros
 
 -- ---- all lines
-pub sent-frame : (lines t : ℕ) (nibbles : List (List ℕ)) (active : List ℕ) (size : ℕ) (row : List ℕ) (before after : List Container) →
+pub sent-frame : (lines t : ℕ) (nibbles : List (List ℕ)) (active : List ℕ) (size : ℕ) (row : List ℕ)
+    (before after : List Container) →
     AreBegun t nibbles active size lines before → Spreads 0 size row active before after → length before ≡ lines →
     after ≡ containers_by lines t nibbles active size row
 sent-frame lines t nibbles active size row before after begun spreads long =
@@ -86,9 +104,12 @@ sent-frame lines t nibbles active size row before after begun spreads long =
       header : ℕ → ℕ
       header line = h4_by t (slice_index_or nibbles line [])
 
-      one : (line : ℕ) → (found : Option ℕ) → IsRank active line 0 found → IsBegun (header line) (if is_some found then size else 0) (slice_index_or before line none) →
-          slice_index_or after line none ≡ record { h4 = header line; payload = payload_by found (length active) size row }
-      one line None apart is = spreads.others line none (λ rank above low. apart rank low) ∙ empty (header line) (slice_index_or before line none) is
+      one : (line : ℕ) → (found : Option ℕ) → IsRank active line 0 found →
+          IsBegun (header line) (if is_some found then size else 0) (slice_index_or before line none) →
+          slice_index_or after line none ≡
+          record { h4 = header line; payload = payload_by found (length active) size row }
+      one line None apart is = spreads.others line none (λ rank above low. apart rank low)
+          ∙ empty (header line) (slice_index_or before line none) is
       one line (Some place) found is =
           let rank = found.0 in
           let same : rank ≡ place = omega (arith, found.1) in
@@ -96,8 +117,13 @@ sent-frame lines t nibbles active size row before after begun spreads long =
           sym (ap (λ n. slice_index_or after n none) found.3)
           ∙ spreads.members rank none (omega arith) found.2
           ∙ ap (λ n. with_octets 0 part (slice_index_or before n none)) found.3
-          ∙ part-put (header line) size part (slice_index_or before line none) (length-part_of rank (length active) size row) is
-          ∙ ap (λ n. record { h4 = header line; payload = part_of n (length active) size row ++ replicate (2340 - size) 0 }) same
+          ∙ part-put (header line) size part (slice_index_or before line none)
+          (length-part_of rank (length active) size row) is
+          ∙ ap (λ n. record {
+            h4 = header line;
+            payload =
+                part_of n (length active) size row ++ replicate (2340 - size) 0;
+          }) same
 
       each : (line : ℕ) → line < lines → slice_index_or after line none ≡ container_by t nibbles active size row line
       each line low = one line (rank_of active line) (rank_of-is active line) (begun line none low)
@@ -108,18 +134,23 @@ part_of-one : (row : List ℕ) → part_of 0 1 (length row) row ≡ row
 part_of-one row = sym (is-part_of row row 0 1 (λ p low. let place : p ≡ p * 1 + 0 = omega arith in ap (slice_index row) place))
 
 -- the row is put into its container
-pub spreads-one : (size : ℕ) (row active : List ℕ) (before after : List Container) → length active ≡ 1 → AreDistinct active → AreLines (length before) active → length row ≡ size →
-    ((d : Container) → after ≡ slice_set before (slice_index active 0) (with_octets 0 row (slice_index_or before (slice_index active 0) d))) →
+pub spreads-one : (size : ℕ) (row active : List ℕ) (before after : List Container) → length active ≡ 1 →
+    AreDistinct active → AreLines (length before) active → length row ≡ size →
+    ((d : Container) → after ≡ slice_set before (slice_index active 0)
+    (with_octets 0 row (slice_index_or before (slice_index active 0) d))) →
     Spreads 0 size row active before after
 spreads-one size row active before after single distinct lines long put =
     let part : row ≡ part_of 0 (length active) size row =
-    sym (part_of-one row) ∙ ap (λ x. part_of 0 x (length row) row) (sym single) ∙ ap (λ n. part_of 0 (length active) n row) long in
+    sym (part_of-one row) ∙ ap (λ x. part_of 0 x (length row) row) (sym single)
+    ∙ ap (λ n. part_of 0 (length active) n row) long in
     subst (λ upto. SpreadsOver 0 upto 0 size row active before after) (sym single)
     (spreads-next 0 0 0 size row active before before after distinct lines (omega arith) (omega arith)
-    (λ d. put d ∙ ap (λ part. slice_set before (slice_index active 0) (with_octets 0 part (slice_index_or before (slice_index active 0) d))) part)
+    (λ d. put d ∙ ap (λ part. slice_set before (slice_index active 0)
+    (with_octets 0 part (slice_index_or before (slice_index active 0) d))) part)
     (spreads-none 0 0 0 size row active before (omega arith)))
 
 -- the next octets of a stream are as many as it has been reached for
-pub next-size : (place n : ℕ) (pieces : List Piece) → place + n ≤ size pieces → length (take n (drop place (stream_of pieces))) ≡ n
+pub next-size : (place n : ℕ) (pieces : List Piece) → place + n ≤ size pieces →
+    length (take n (drop place (stream_of pieces))) ≡ n
 next-size place n pieces within =
     length-take-le n (drop place (stream_of pieces)) (omega (arith, length-drop place (stream_of pieces), long pieces))

@@ -1,5 +1,6 @@
 -- The lines that carry payload: each is one of the group's, and none stands twice.
-use Rattle.std.proofs.Common.{◌≡◌, ℕ, zero, suc, ◌+◌, ◌<◌, ◌≤◌, true, false, if◌then◌else◌, inl, inr, List, [], ◌∷◌, map, filter, length, slice_index, subst, arith}
+use Rattle.std.proofs.Common.{◌≡◌, ℕ, zero, suc, ◌+◌, ◌<◌, ◌≤◌, true, false, if◌then◌else◌, inl, inr, List, [], ◌∷◌}
+use Rattle.std.proofs.Common.{map, filter, length, slice_index, subst, arith}
 use Rattle.std.proofs.lemmas.Bool.{cases_lt}
 use Rattle.session_model.specs.declared.table.Member.{Member}
 use Rattle.session_model.specs.Table.{is_normal, active}
@@ -16,7 +17,8 @@ times-at [] i low = absurd (omega arith)
 times-at (x ∷ xs) zero low = let self = one-self x in omega arith
 times-at (x ∷ xs) (suc i) low = let later = times-at xs i (omega arith) in omega arith
 
-times-twice : (xs : List ℕ) (i j : ℕ) → i < j → j < length xs → slice_index xs i ≡ slice_index xs j → 2 ≤ times xs (slice_index xs j)
+times-twice : (xs : List ℕ) (i j : ℕ) → i < j → j < length xs → slice_index xs i ≡ slice_index xs j →
+    2 ≤ times xs (slice_index xs j)
 times-twice [] i j before low same = absurd (omega arith)
 times-twice (x ∷ xs) i zero before low same = absurd (omega arith)
 times-twice (x ∷ xs) zero (suc j) before low same =
@@ -36,20 +38,26 @@ among-of_times n xs inside i low =
     ]
 
 -- the lines in use stand in the order
-kept-times : (order : List Member) (l : ℕ) → times (map (λ member. member.line) (filter is_normal order)) l ≤ times (lines_of order) l
+kept-times : (order : List Member) (l : ℕ) →
+    times (map (λ member. member.line) (filter is_normal order)) l ≤ times (lines_of order) l
 kept-times [] l = omega arith
 kept-times (member ∷ order) l =
     let rest = kept-times order l in
-    elim (is_normal member) as (λ b. times (map (λ member. member.line) (if b then member ∷ filter is_normal order else filter is_normal order)) l ≤ one member.line l + times (lines_of order) l) [
+    elim (is_normal member) as (λ b. times
+    (map (λ member. member.line) (if b then member ∷ filter is_normal order else filter is_normal order)) l ≤ one
+    member.line l + times (lines_of order) l) [
       | true ↦ omega arith
       | false ↦ omega arith
     ]
 
-kept-length : (order : List Member) → length (map (λ (member : Member). member.line) (filter is_normal order)) ≤ length order
+kept-length : (order : List Member) →
+    length (map (λ (member : Member). member.line) (filter is_normal order)) ≤ length order
 kept-length [] = omega arith
 kept-length (member ∷ order) =
     let rest = kept-length order in
-    elim (is_normal member) as (λ b. length (map (λ (member : Member). member.line) (if b then member ∷ filter is_normal order else filter is_normal order)) ≤ suc (length order)) [
+    elim (is_normal member) as (λ b. length
+    (map (λ (member : Member). member.line) (if b then member ∷ filter is_normal order else filter is_normal order))
+    ≤ suc (length order)) [
       | true ↦ omega arith
       | false ↦ omega arith
     ]

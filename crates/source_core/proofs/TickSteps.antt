@@ -1,5 +1,8 @@
 -- What a tick makes of a terminal's scenario: a decision step where one is due, and the next octets of the stream.
-use Rattle.std.proofs.Common.{◌≡◌, ◌≤◌, ◌<◌, ◌↔◌, ℕ, zero, suc, ◌+◌, ◌-◌, ◌*◌, ◌/◌, ◌%◌, ◌==◌, ◌&&◌, nat_le, nat_lt, true, false, Bool, if◌then◌else◌, inl, inr, List, [], ◌∷◌, ◌++◌, map, filter, fold, length, take, drop, All, slice_index, slice_index_or, Option, Some, None, option_map, refl, sym, ◌∙◌, ap, subst, arith}
+use Rattle.std.proofs.Common.{◌≡◌, ◌≤◌, ◌<◌, ◌↔◌, ℕ, zero, suc, ◌+◌, ◌-◌, ◌*◌, ◌/◌, ◌%◌, ◌==◌, ◌&&◌, nat_le, nat_lt}
+use Rattle.std.proofs.Common.{true, false, Bool, if◌then◌else◌, inl, inr, List, [], ◌∷◌, ◌++◌, map, filter, fold}
+use Rattle.std.proofs.Common.{length, take, drop, All, slice_index, slice_index_or, Option, Some, None, option_map}
+use Rattle.std.proofs.Common.{refl, sym, ◌∙◌, ap, subst, arith}
 use Rattle.std.specs.Option.{is_some}
 use Rattle.std.specs.List.{range_with_len}
 use Rattle.std.proofs.lemmas.Bool.{cases_lt, eqb-true, eqb-false, eq-eqb, leb-true, le-leb, lt-ltb, ltb-true, ltb-false}
@@ -9,7 +12,8 @@ use Rattle.std.proofs.lemmas.List.Elements.{All-head, All-tail}
 use Rattle.std.proofs.lemmas.List.FromFn.{length-map-range_with_len, get_or-map-range_with_len, fill_by_all}
 use Rattle.vc_cell.specs.declared.BackCell.{BackCell}
 use Rattle.vc_cell.specs.declared.Container.{Container}
-use Rattle.session_model.specs.Scenario.{Scenario, DueCommand, DueFrame, orders_at, frames_at, lands_at, comes_at, steps_in}
+use Rattle.session_model.specs.Scenario.{Scenario, DueCommand, DueFrame, orders_at, frames_at, lands_at, comes_at}
+use Rattle.session_model.specs.Scenario.{steps_in}
 use Rattle.session_model.specs.Packet.{packet_nibbles}
 use Rattle.session_model.specs.Piece.{stream_of}
 use Rattle.session_model.specs.Table.{Told, active}
@@ -43,7 +47,8 @@ IsDue lag t (Some cell) = (t % 16 ≡ 8) × (lag ≤ t / 16)
 pub test-both : (a b c d : ℕ) → (a == b && nat_le c d) ≡ true → (a ≡ b) × (c ≤ d)
 test-both a b c d e = (grind (arith, nat_tests, e), grind (arith, nat_tests, e))
 
-pub is-due : (lag t : ℕ) (back : Option BackCell) → (is_some back ≡ true) ↔ (is_some (needed_at lag t) ≡ true) → IsDue lag t back
+pub is-due : (lag t : ℕ) (back : Option BackCell) → (is_some back ≡ true) ↔ (is_some (needed_at lag t) ≡ true) →
+    IsDue lag t back
 is-due lag t (Some cell) same =
     let test = t % 16 == 8 && nat_le lag (t / 16) in
     test-both (t % 16) 8 lag (t / 16) (sym (needed-when test (t / 16 - lag)) ∙ same.0 refl)
@@ -58,11 +63,13 @@ is-due lag t None same = λ at.
     ]
 
 -- ---- the return cells
-with_cell-agree : (scenario : Scenario) (cells : List (Option Told)) (back : Option BackCell) (n : ℕ) → length cells ≡ n - scenario.lag → Agree scenario (with_cell cells back) cells n
+with_cell-agree : (scenario : Scenario) (cells : List (Option Told)) (back : Option BackCell) (n : ℕ) →
+    length cells ≡ n - scenario.lag → Agree scenario (with_cell cells back) cells n
 with_cell-agree scenario cells None n told = λ i low. refl
 with_cell-agree scenario cells (Some cell) n told = Agree-append scenario cells (told_in cell ∷ []) n (omega arith)
 
-pub tick-alike : (scenario : Scenario) (cells : List (Option Told)) (back : Option BackCell) (t : ℕ) → length cells ≡ steps_in t - scenario.lag →
+pub tick-alike : (scenario : Scenario) (cells : List (Option Told)) (back : Option BackCell) (t : ℕ) →
+    length cells ≡ steps_in t - scenario.lag →
     Alike scenario (with_cell cells back) scenario cells t
 tick-alike scenario cells back t told = record {
   lines = refl;
@@ -74,24 +81,29 @@ tick-alike scenario cells back t told = record {
 }
 
 -- the step takes the cell that the tick was given
-cell-now : (scenario : Scenario) (cells : List (Option Told)) (back : Option BackCell) (t n : ℕ) → n ≡ t / 16 → t % 16 ≡ 8 → length cells ≡ n - scenario.lag → IsDue scenario.lag t back →
+cell-now : (scenario : Scenario) (cells : List (Option Told)) (back : Option BackCell) (t n : ℕ) → n ≡ t / 16 →
+    t % 16 ≡ 8 → length cells ≡ n - scenario.lag → IsDue scenario.lag t back →
     cell_at scenario (with_cell cells back) n ≡ said_by (option_map told_in back)
 cell-now scenario cells None t n is at told due =
     let early = due at in
-    elim (nat_le scenario.lag n) as (λ b. nat_le scenario.lag n ≡ b → (if b then slice_index_or cells (n - scenario.lag) None else None) ≡ None) [
+    elim (nat_le scenario.lag n) as (λ b. nat_le scenario.lag n ≡ b →
+    (if b then slice_index_or cells (n - scenario.lag) None else None) ≡ None) [
       | true ↦ λ e. let low = leb-true scenario.lag n e in absurd (omega arith)
       | false ↦ λ e. refl
     ] refl
 cell-now scenario cells (Some cell) t n is at told due =
     let low : scenario.lag ≤ n = omega (arith, due.1) in
-    ap (λ b. if b then slice_index_or (cells ++ told_in cell ∷ []) (n - scenario.lag) None else None) (le-leb scenario.lag n low)
+    ap (λ b. if b then slice_index_or (cells ++ told_in cell ∷ []) (n - scenario.lag) None else None)
+    (le-leb scenario.lag n low)
     ∙ get_or_at cells (told_in cell) [] None (n - scenario.lag) told
 
-cells-count : (lag t n : ℕ) (back : Option BackCell) → n ≡ t / 16 → t % 16 ≡ 8 → IsDue lag t back → n - lag + count_of (option_map told_in back) ≡ suc n - lag
+cells-count : (lag t n : ℕ) (back : Option BackCell) → n ≡ t / 16 → t % 16 ≡ 8 → IsDue lag t back →
+    n - lag + count_of (option_map told_in back) ≡ suc n - lag
 cells-count lag t n None is at due = let early = due at in omega arith
 cells-count lag t n (Some cell) is at due = let late = due.1 in omega arith
 
-pub told-ticked : (scenario : Scenario) (cells : List (Option Told)) (back : Option BackCell) (t : ℕ) → length cells ≡ steps_in t - scenario.lag → IsDue scenario.lag t back →
+pub told-ticked : (scenario : Scenario) (cells : List (Option Told)) (back : Option BackCell) (t : ℕ) →
+    length cells ≡ steps_in t - scenario.lag → IsDue scenario.lag t back →
     length (with_cell cells back) ≡ steps_in (t + 1) - scenario.lag
 told-ticked scenario cells (Some cell) t told due =
     let more = length-append cells (told_in cell ∷ []) in
@@ -114,26 +126,38 @@ filter-none test (x ∷ xs) none =
 comes-late : (due t : ℕ) → due ≤ t → (nat_le due (t + 1) && nat_le (t + 1) due) ≡ false
 comes-late due t low = grind (arith, nat_tests, low)
 
-no-orders : (scenario : Scenario) (t j : ℕ) → t ≤ 16 * j + 8 → All (λ (order : DueCommand). order.due ≤ t) scenario.orders → orders_at scenario (suc j) ≡ []
+no-orders : (scenario : Scenario) (t j : ℕ) → t ≤ 16 * j + 8 →
+    All (λ (order : DueCommand). order.due ≤ t) scenario.orders → orders_at scenario (suc j) ≡ []
 no-orders scenario t j high due =
-    ap (map (λ (order : DueCommand). order.command)) (filter-none (lands_at (suc j)) scenario.orders (λ k d low. late (slice_index_or scenario.orders k d).due (due k d low))) where
+    ap (map (λ (order : DueCommand). order.command))
+    (filter-none (lands_at (suc j)) scenario.orders
+    (λ k d low. late (slice_index_or scenario.orders k d).due (due k d low))) where
       late : (n : ℕ) → n ≤ t → (nat_lt (16 * suc j) (n + 8) && nat_le n (16 * suc j + 8)) ≡ false
       late n low = grind (arith, nat_tests, low, high)
 
-no-frames : (scenario : Scenario) (t : ℕ) → All (λ (offer : DueFrame). offer.due ≤ t) scenario.offers → frames_at scenario (t + 1) ≡ []
+no-frames : (scenario : Scenario) (t : ℕ) → All (λ (offer : DueFrame). offer.due ≤ t) scenario.offers →
+    frames_at scenario (t + 1) ≡ []
 no-frames scenario t due =
-    ap (map (λ (offer : DueFrame). offer.frame)) (filter-none (comes_at (t + 1)) scenario.offers (λ k d low. comes-late (slice_index_or scenario.offers k d).due t (due k d low)))
+    ap (map (λ (offer : DueFrame). offer.frame))
+    (filter-none (comes_at (t + 1)) scenario.offers
+    (λ k d low. comes-late (slice_index_or scenario.offers k d).due t (due k d low)))
 
 -- ---- the table
-source-next : (scenario : Scenario) (cells : List (Option Told)) (back : Option BackCell) (t n : ℕ) → n ≡ t / 16 → t % 16 ≡ 8 → length cells ≡ n - scenario.lag → IsDue scenario.lag t back →
-    after scenario (with_cell cells back) (suc n) ≡ decide ((n - scenario.lag) % 16) (said_by (option_map told_in back)) (source_at scenario cells n)
+source-next : (scenario : Scenario) (cells : List (Option Told)) (back : Option BackCell) (t n : ℕ) → n ≡ t / 16 →
+    t % 16 ≡ 8 → length cells ≡ n - scenario.lag → IsDue scenario.lag t back →
+    after scenario (with_cell cells back) (suc n) ≡ decide ((n - scenario.lag) % 16) (said_by (option_map told_in back))
+    (source_at scenario cells n)
 unfolding after
 source-next scenario cells back t n is at told due =
     let more = with_cell cells back in
     let steps : steps_in t ≡ n = omega arith in
-    let same = alike-after scenario more scenario cells t n (tick-alike scenario cells back t (rw steps told)) (omega arith) in
-    ap (λ told. decide ((n - scenario.lag) % 16) told (asked_all (length scenario.windows) (orders_at scenario n) (after scenario more n))) (cell-now scenario cells back t n is at told due)
-    ∙ ap (λ source. decide ((n - scenario.lag) % 16) (said_by (option_map told_in back)) (asked_all (length scenario.windows) (orders_at scenario n) source)) same
+    let same = alike-after scenario more scenario cells t n (tick-alike scenario cells back t (rw steps told))
+    (omega arith) in
+    ap (λ told. decide ((n - scenario.lag) % 16) told
+    (asked_all (length scenario.windows) (orders_at scenario n) (after scenario more n)))
+    (cell-now scenario cells back t n is at told due)
+    ∙ ap (λ source. decide ((n - scenario.lag) % 16) (said_by (option_map told_in back))
+    (asked_all (length scenario.windows) (orders_at scenario n) source)) same
 
 abbrev pub course_after : Scenario → List (Option Told) → ℕ → Course
 course_after scenario cells n = record {
@@ -143,60 +167,90 @@ course_after scenario cells n = record {
   steps = n;
 }
 
-course-next : (scenario : Scenario) (cells : List (Option Told)) (back : Option BackCell) (t n : ℕ) → n ≡ t / 16 → t % 16 ≡ 8 → length cells ≡ n - scenario.lag → IsDue scenario.lag t back →
+course-next : (scenario : Scenario) (cells : List (Option Told)) (back : Option BackCell) (t n : ℕ) → n ≡ t / 16 →
+    t % 16 ≡ 8 → length cells ≡ n - scenario.lag → IsDue scenario.lag t back →
     All (λ (order : DueCommand). order.due ≤ t) scenario.orders →
-    called (course_after scenario cells n) (decides (option_map told_in back)) ≡ course_after scenario (with_cell cells back) (suc n)
+    called (course_after scenario cells n) (decides (option_map told_in back)) ≡ course_after scenario
+    (with_cell cells back) (suc n)
 course-next scenario cells back t n is at told due orders =
     let more = with_cell cells back in
     let lines = length scenario.windows in
-    let found : source_at scenario more (suc n) ≡ decide ((n - scenario.lag) % 16) (said_by (option_map told_in back)) (source_at scenario cells n) =
-    ap (λ orders. asked_all lines orders (after scenario more (suc n))) (no-orders scenario t n (omega arith) orders) ∙ source-next scenario cells back t n is at told due in
+    let found : source_at scenario more (suc n) ≡ decide ((n - scenario.lag) % 16) (said_by (option_map told_in back))
+    (source_at scenario cells n) =
+    ap (λ orders. asked_all lines orders (after scenario more (suc n))) (no-orders scenario t n (omega arith) orders)
+    ∙ source-next scenario cells back t n is at told due in
     let next : n + 1 ≡ suc n = omega arith in
-    ap (λ source. record { lines = lines; source = source; taken = n - scenario.lag + count_of (option_map told_in back); steps = n + 1 }) (sym found)
-    ∙ ap (λ taken. record { lines = lines; source = source_at scenario more (suc n); taken = taken; steps = n + 1 }) (cells-count scenario.lag t n back is at due)
-    ∙ ap (λ steps. record { lines = lines; source = source_at scenario more (suc n); taken = suc n - scenario.lag; steps = steps }) next
+    ap (λ source. record {
+      lines = lines;
+      source = source;
+      taken =
+          n - scenario.lag + count_of (option_map told_in back);
+      steps = n + 1;
+    }) (sym found)
+    ∙ ap (λ taken. record { lines = lines; source = source_at scenario more (suc n); taken = taken; steps = n + 1 })
+    (cells-count scenario.lag t n back is at due)
+    ∙ ap (λ steps. record {
+      lines = lines;
+      source = source_at scenario more (suc n);
+      taken = suc n - scenario.lag;
+      steps = steps;
+    }) next
 
 -- where no step is made there is no cell
-no-cell : (scenario : Scenario) (cells : List (Option Told)) (back : Option BackCell) (t : ℕ) → is_step t ≡ false → IsDue scenario.lag t back → with_cell cells back ≡ cells
+no-cell : (scenario : Scenario) (cells : List (Option Told)) (back : Option BackCell) (t : ℕ) → is_step t ≡ false →
+    IsDue scenario.lag t back → with_cell cells back ≡ cells
 no-cell scenario cells None t e due = refl
 no-cell scenario cells (Some cell) t e due = let other = eqb-false (t % 16) 8 e in absurd (other due.0)
 
-pub table-ticked : (scenario : Scenario) (cells : List (Option Told)) (back : Option BackCell) (t : ℕ) → length cells ≡ steps_in t - scenario.lag → IsDue scenario.lag t back →
+pub table-ticked : (scenario : Scenario) (cells : List (Option Told)) (back : Option BackCell) (t : ℕ) →
+    length cells ≡ steps_in t - scenario.lag → IsDue scenario.lag t back →
     All (λ (order : DueCommand). order.due ≤ t) scenario.orders → (b : Bool) → is_step t ≡ b →
     table_by b back (course_now scenario cells t) ≡ course_now scenario (with_cell cells back) (t + 1)
 table-ticked scenario cells back t told due orders true e =
     let at = eqb-true (t % 16) 8 e in
     let n = steps_in t in
     let next : suc (steps_in t) ≡ steps_in (t + 1) = omega arith in
-    course-next scenario cells back t (steps_in t) (omega arith) at told due orders ∙ ap (course_after scenario (with_cell cells back)) next
+    course-next scenario cells back t (steps_in t) (omega arith) at told due orders
+    ∙ ap (course_after scenario (with_cell cells back)) next
 table-ticked scenario cells back t told due orders false e =
     let other = eqb-false (t % 16) 8 e in
     let same : steps_in t ≡ steps_in (t + 1) = omega arith in
-    ap (course_after scenario cells) same ∙ ap (λ cells. course_after scenario cells (steps_in (t + 1))) (sym (no-cell scenario cells back t e due))
+    ap (course_after scenario cells) same
+    ∙ ap (λ cells. course_after scenario cells (steps_in (t + 1))) (sym (no-cell scenario cells back t e due))
 
 -- ---- the lines that carry payload
-pub active-ticked : (scenario : Scenario) (cells : List (Option Told)) (back : Option BackCell) (t : ℕ) → length cells ≡ steps_in t - scenario.lag → IsDue scenario.lag t back → (b : Bool) → is_step t ≡ b →
-    active_by b (course_now scenario cells t) (active_now scenario cells t) ≡ active_now scenario (with_cell cells back) (t + 1)
+pub active-ticked : (scenario : Scenario) (cells : List (Option Told)) (back : Option BackCell) (t : ℕ) →
+    length cells ≡ steps_in t - scenario.lag → IsDue scenario.lag t back → (b : Bool) → is_step t ≡ b →
+    active_by b (course_now scenario cells t) (active_now scenario cells t) ≡ active_now scenario (with_cell cells back)
+    (t + 1)
 active-ticked scenario cells back t told due true e =
     let at = eqb-true (t % 16) 8 e in
     let next : steps_in t ≡ steps_in (t + 1) - 1 = omega arith in
     let more = with_cell cells back in
-    ap active (asked_all-table (length scenario.windows) (orders_at scenario (steps_in t)) (after scenario cells (steps_in t)))
-    ∙ ap (λ (source : Source). active source.table) (sym (alike-after scenario more scenario cells t (steps_in t) (tick-alike scenario cells back t told) (omega arith)))
+    ap active (asked_all-table (length scenario.windows) (orders_at scenario (steps_in t))
+    (after scenario cells (steps_in t)))
+    ∙ ap (λ (source : Source). active source.table)
+    (sym (alike-after scenario more scenario cells t (steps_in t) (tick-alike scenario cells back t told)
+    (omega arith)))
     ∙ ap (λ n. active (after scenario more n).table) next
 active-ticked scenario cells back t told due false e =
     let other = eqb-false (t % 16) 8 e in
     let same : steps_in t - 1 ≡ steps_in (t + 1) - 1 = omega arith in
-    ap (λ n. active (after scenario cells n).table) same ∙ ap (λ cells. active (after scenario cells (steps_in (t + 1) - 1)).table) (sym (no-cell scenario cells back t e due))
+    ap (λ n. active (after scenario cells n).table) same
+    ∙ ap (λ cells. active (after scenario cells (steps_in (t + 1) - 1)).table)
+    (sym (no-cell scenario cells back t e due))
 
 -- those of a frame are those that the terminal has in it
-none-before : (scenario : Scenario) (cells : List (Option Told)) (n : ℕ) → n ≡ 0 → active (after scenario cells n).table ≡ []
+none-before : (scenario : Scenario) (cells : List (Option Told)) (n : ℕ) → n ≡ 0 →
+    active (after scenario cells n).table ≡ []
 unfolding after
 none-before scenario cells n none = ap (λ n. active (after scenario cells n).table) none
 
-pub active-at : (scenario : Scenario) (cells : List (Option Told)) (t : ℕ) → active_at scenario cells t ≡ active_now scenario cells (t + 1)
+pub active-at : (scenario : Scenario) (cells : List (Option Told)) (t : ℕ) →
+    active_at scenario cells t ≡ active_now scenario cells (t + 1)
 active-at scenario cells t =
-    elim (nat_lt t 24) as (λ b. nat_lt t 24 ≡ b → (if b then [] else active (table_of scenario cells ((t - 24) / 16))) ≡ active_now scenario cells (t + 1)) [
+    elim (nat_lt t 24) as (λ b. nat_lt t 24 ≡ b →
+    (if b then [] else active (table_of scenario cells ((t - 24) / 16))) ≡ active_now scenario cells (t + 1)) [
       | true ↦ λ e. let low = ltb-true t 24 e in sym (none-before scenario cells (steps_in (t + 1) - 1) (omega arith))
       | false ↦ λ e.
           let high = ltb-false t 24 e in
@@ -204,146 +258,192 @@ active-at scenario cells t =
           ap (λ n. active (after scenario cells n).table) same
     ] refl
 
-pub width-at : (scenario : Scenario) (cells : List (Option Told)) (t : ℕ) → width scenario cells t ≡ length (active_at scenario cells t)
+pub width-at : (scenario : Scenario) (cells : List (Option Told)) (t : ℕ) →
+    width scenario cells t ≡ length (active_at scenario cells t)
 width-at scenario cells t =
-    elim (nat_lt t 24) as (λ b. (if b then 0 else length (active (table_of scenario cells ((t - 24) / 16)))) ≡ length (if b then [] else active (table_of scenario cells ((t - 24) / 16)))) [
+    elim (nat_lt t 24) as (λ b. (if b then 0 else length (active (table_of scenario cells ((t - 24) / 16)))) ≡ length
+    (if b then [] else active (table_of scenario cells ((t - 24) / 16)))) [
       | true ↦ refl
       | false ↦ refl
     ]
 
 -- ---- the nibbles
-pub nibbles-ticked : (scenario : Scenario) (cells : List (Option Told)) (back : Option BackCell) (t : ℕ) → IsDue scenario.lag t back → (b : Bool) → is_step t ≡ b →
-    nibbles_by b (course_now scenario (with_cell cells back) (t + 1)) (nibbles_now scenario cells t) ≡ nibbles_now scenario (with_cell cells back) (t + 1)
+pub nibbles-ticked : (scenario : Scenario) (cells : List (Option Told)) (back : Option BackCell) (t : ℕ) →
+    IsDue scenario.lag t back → (b : Bool) → is_step t ≡ b →
+    nibbles_by b (course_now scenario (with_cell cells back) (t + 1)) (nibbles_now scenario cells t)
+    ≡ nibbles_now scenario (with_cell cells back) (t + 1)
 nibbles-ticked scenario cells back t due true e =
     let at = eqb-true (t % 16) 8 e in
     let more = with_cell cells back in
     let lines = length scenario.windows in
     let next : steps_in (t + 1) ≡ suc (steps_in t) = omega arith in
-    ap (λ n. nibbles_of (course_after scenario more (steps_in (t + 1))) n) (length-map-range_with_len (λ line. nibbles_after scenario cells line (steps_in t)) 0 lines)
+    ap (λ n. nibbles_of (course_after scenario more (steps_in (t + 1))) n)
+    (length-map-range_with_len (λ line. nibbles_after scenario cells line (steps_in t)) 0 lines)
     ∙ ap (λ n. nibbles_of (course_after scenario more n) lines) next
-    ∙ map-same (λ line. packet_nibbles (forward_packet (source_at scenario more (suc (steps_in t))).table line (suc (steps_in t) - 1))) (λ line. nibbles_after scenario more line (suc (steps_in t)))
+    ∙ map-same (λ line. packet_nibbles
+    (forward_packet (source_at scenario more (suc (steps_in t))).table line (suc (steps_in t) - 1)))
+    (λ line. nibbles_after scenario more line (suc (steps_in t)))
     (λ line. ap (λ table. packet_nibbles (forward_packet table line (suc (steps_in t) - 1)))
     (asked_all-table lines (orders_at scenario (suc (steps_in t))) (after scenario more (suc (steps_in t))))
-    ∙ (let k : suc (steps_in t) - 1 ≡ steps_in t = omega arith in ap (λ n. packet_nibbles (forward_packet (table_of scenario more (steps_in t)) line n)) k))
+    ∙ (let k : suc (steps_in t) - 1 ≡ steps_in t =
+    omega arith in ap (λ n. packet_nibbles (forward_packet (table_of scenario more (steps_in t)) line n)) k))
     (range_with_len 0 lines)
     ∙ ap (λ n. map (λ line. nibbles_after scenario more line n) (range_with_len 0 lines)) (sym next)
 nibbles-ticked scenario cells back t due false e =
     let other = eqb-false (t % 16) 8 e in
     let same : steps_in t ≡ steps_in (t + 1) = omega arith in
     ap (λ n. map (λ line. nibbles_after scenario cells line n) (range_with_len 0 (length scenario.windows))) same
-    ∙ ap (λ cells. map (λ line. nibbles_after scenario cells line (steps_in (t + 1))) (range_with_len 0 (length scenario.windows))) (sym (no-cell scenario cells back t e due))
+    ∙ ap (λ cells. map (λ line. nibbles_after scenario cells line (steps_in (t + 1)))
+    (range_with_len 0 (length scenario.windows))) (sym (no-cell scenario cells back t e due))
 
 -- ---- the stream
-place-next : (scenario : Scenario) (cells : List (Option Told)) (t : ℕ) → place_of scenario cells (suc t) ≡ place_of scenario cells t + scenario.size * width scenario cells t
+place-next : (scenario : Scenario) (cells : List (Option Told)) (t : ℕ) →
+    place_of scenario cells (suc t) ≡ place_of scenario cells t + scenario.size * width scenario cells t
 unfolding place_of
 place-next scenario cells t = refl
 
 stream-next : (scenario : Scenario) (cells : List (Option Told)) (t : ℕ) →
-    stream_before scenario cells (suc t) ≡ reached (place_of scenario cells (suc t)) (fold offered (stream_before scenario cells t) (frames_at scenario t))
+    stream_before scenario cells (suc t) ≡ reached (place_of scenario cells (suc t))
+    (fold offered (stream_before scenario cells t) (frames_at scenario t))
 unfolding stream_before
 stream-next scenario cells t = refl
 
 -- the place after the tick
-pub place-ticked : (scenario : Scenario) (cells : List (Option Told)) (back : Option BackCell) (t size : ℕ) (lines : List ℕ) → length cells ≡ steps_in t - scenario.lag → size ≡ scenario.size →
+pub place-ticked : (scenario : Scenario) (cells : List (Option Told)) (back : Option BackCell) (t size : ℕ)
+    (lines : List ℕ) → length cells ≡ steps_in t - scenario.lag → size ≡ scenario.size →
     lines ≡ active_now scenario (with_cell cells back) (t + 1) →
     place_of scenario cells t + size * length lines ≡ place_of scenario (with_cell cells back) (suc t)
 place-ticked scenario cells back t size lines told is_size is_lines =
     let more = with_cell cells back in
-    ap (λ n. n + size * length lines) (sym (alike-place scenario more scenario cells t (tick-alike scenario cells back t told)))
+    ap (λ n. n + size * length lines)
+    (sym (alike-place scenario more scenario cells t (tick-alike scenario cells back t told)))
     ∙ ap (λ n. place_of scenario more t + n * length lines) is_size
-    ∙ ap (λ n. place_of scenario more t + scenario.size * n) (ap length (is_lines ∙ sym (active-at scenario more t)) ∙ sym (width-at scenario more t))
+    ∙ ap (λ n. place_of scenario more t + scenario.size * n)
+    (ap length (is_lines ∙ sym (active-at scenario more t)) ∙ sym (width-at scenario more t))
     ∙ sym (place-next scenario more t)
 
 -- and the stream
-pub stream-ticked : (scenario : Scenario) (cells : List (Option Told)) (back : Option BackCell) (t place : ℕ) → length cells ≡ steps_in t - scenario.lag →
+pub stream-ticked : (scenario : Scenario) (cells : List (Option Told)) (back : Option BackCell) (t place : ℕ) →
+    length cells ≡ steps_in t - scenario.lag →
     place ≡ place_of scenario (with_cell cells back) (suc t) →
     reached place (stream_now scenario cells t) ≡ stream_before scenario (with_cell cells back) (suc t)
 stream-ticked scenario cells back t place told is =
     let more = with_cell cells back in
     ap (λ n. reached n (stream_now scenario cells t)) is
-    ∙ ap (λ stream. reached (place_of scenario more (suc t)) (fold offered stream (frames_at scenario t))) (sym (alike-stream scenario more scenario cells t (tick-alike scenario cells back t told)))
+    ∙ ap (λ stream. reached (place_of scenario more (suc t)) (fold offered stream (frames_at scenario t)))
+    (sym (alike-stream scenario more scenario cells t (tick-alike scenario cells back t told)))
     ∙ sym (stream-next scenario more t)
 
-pub stream-now : (scenario : Scenario) (cells : List (Option Told)) (t : ℕ) → All (λ (offer : DueFrame). offer.due ≤ t) scenario.offers →
+pub stream-now : (scenario : Scenario) (cells : List (Option Told)) (t : ℕ) →
+    All (λ (offer : DueFrame). offer.due ≤ t) scenario.offers →
     stream_now scenario cells (t + 1) ≡ stream_before scenario cells (suc t)
 stream-now scenario cells t offers =
     let next : t + 1 ≡ suc t = omega arith in
-    ap (fold offered (stream_before scenario cells (t + 1))) (no-frames scenario t offers) ∙ ap (stream_before scenario cells) next
+    ap (fold offered (stream_before scenario cells (t + 1))) (no-frames scenario t offers)
+    ∙ ap (stream_before scenario cells) next
 
 -- ---- the fields after a tick
-pub record NextFields (scenario : Scenario) (more : List (Option Told)) (t : ℕ) (table : Course) (members : List ℕ) (nibbles : List (List ℕ)) : Type 0 where
+pub record NextFields (scenario : Scenario) (more : List (Option Told)) (t : ℕ) (table : Course) (members : List ℕ)
+    (nibbles : List (List ℕ)) : Type 0 where
   pub table_is : table ≡ course_now scenario more (t + 1)
   pub members_are : members ≡ active_now scenario more (t + 1)
   pub nibbles_are : nibbles ≡ nibbles_now scenario more (t + 1)
 
-pub next-fields : (lag size t : ℕ) (queue : Held) (sender : Sender) (table next : Course) (active members : List ℕ) (nibbles said : List (List ℕ)) (back : Option BackCell) (scenario : Scenario) (cells : List (Option Told)) →
-    next ≡ table_by (is_step t) back table → members ≡ active_by (is_step t) table active → said ≡ nibbles_by (is_step t) next nibbles → IsDue lag t back →
+pub next-fields : (lag size t : ℕ) (queue : Held) (sender : Sender) (table next : Course) (active members : List ℕ)
+    (nibbles said : List (List ℕ)) (back : Option BackCell) (scenario : Scenario) (cells : List (Option Told)) →
+    next ≡ table_by (is_step t) back table → members ≡ active_by (is_step t) table active →
+    said ≡ nibbles_by (is_step t) next nibbles → IsDue lag t back →
     Stands (terminal_of lag size t queue sender table active nibbles) scenario cells →
     NextFields scenario (with_cell cells back) t next members said
-next-fields lag size t queue sender table next active members nibbles said back scenario cells is_next are_members are_said due stands =
+next-fields lag size t queue sender table next active members nibbles said back scenario cells is_next are_members
+    are_said due stands =
     let b = is_step t in
     let fits = subst (λ n. IsDue n t back) stands.lag due in
-    let table_is = is_next ∙ ap (table_by b back) stands.table ∙ table-ticked scenario cells back t stands.told fits stands.orders b refl in
+    let table_is = is_next ∙ ap (table_by b back) stands.table
+    ∙ table-ticked scenario cells back t stands.told fits stands.orders b refl in
     record {
       table_is = table_is;
-      members_are = are_members ∙ ap (λ course. active_by b course active) stands.table ∙ ap (active_by b (course_now scenario cells t)) stands.active
+      members_are = are_members ∙ ap (λ course. active_by b course active) stands.table
+          ∙ ap (active_by b (course_now scenario cells t)) stands.active
           ∙ active-ticked scenario cells back t stands.told fits b refl;
-      nibbles_are = are_said ∙ ap (λ course. nibbles_by b course nibbles) table_is ∙ ap (nibbles_by b (course_now scenario (with_cell cells back) (t + 1))) stands.nibbles
+      nibbles_are = are_said ∙ ap (λ course. nibbles_by b course nibbles) table_is
+          ∙ ap (nibbles_by b (course_now scenario (with_cell cells back) (t + 1))) stands.nibbles
           ∙ nibbles-ticked scenario cells back t fits b refl;
     }
 
 -- the stream is written up to the place at which the next frame begins
-stream-written : (size t place : ℕ) (queue : Held) (sender : Sender) (members : List ℕ) (back : Option BackCell) (scenario : Scenario) (cells : List (Option Told)) →
-    length cells ≡ steps_in t - scenario.lag → size ≡ scenario.size → members ≡ active_now scenario (with_cell cells back) (t + 1) →
-    All (λ (offer : DueFrame). offer.due ≤ t) scenario.offers → place ≡ place_of scenario cells t + size * length members →
+stream-written : (size t place : ℕ) (queue : Held) (sender : Sender) (members : List ℕ) (back : Option BackCell)
+    (scenario : Scenario) (cells : List (Option Told)) →
+    length cells ≡ steps_in t - scenario.lag → size ≡ scenario.size →
+    members ≡ active_now scenario (with_cell cells back) (t + 1) →
+    All (λ (offer : DueFrame). offer.due ≤ t) scenario.offers →
+    place ≡ place_of scenario cells t + size * length members →
     HasWritten sender queue (reached place (stream_now scenario cells t)) place →
-    HasWritten sender queue (stream_now scenario (with_cell cells back) (t + 1)) (place_of scenario (with_cell cells back) (t + 1))
+    HasWritten sender queue (stream_now scenario (with_cell cells back) (t + 1))
+    (place_of scenario (with_cell cells back) (t + 1))
 stream-written size t place queue sender members back scenario cells told is_size are_members offers is_place written =
     let more = with_cell cells back in
     let next : suc t ≡ t + 1 = omega arith in
     let further = is_place ∙ place-ticked scenario cells back t size members told is_size are_members in
     subst (HasWritten sender queue (stream_now scenario more (t + 1))) (further ∙ ap (place_of scenario more) next)
-    (subst (λ s. HasWritten sender queue s place) (stream-ticked scenario cells back t place told further ∙ sym (stream-now scenario more t offers)) written)
+    (subst (λ s. HasWritten sender queue s place)
+    (stream-ticked scenario cells back t place told further ∙ sym (stream-now scenario more t offers)) written)
 
-later-offers : (t : ℕ) (scenario : Scenario) → All (λ (offer : DueFrame). offer.due ≤ t) scenario.offers → All (λ (offer : DueFrame). offer.due ≤ t + 1) scenario.offers
+later-offers : (t : ℕ) (scenario : Scenario) → All (λ (offer : DueFrame). offer.due ≤ t) scenario.offers →
+    All (λ (offer : DueFrame). offer.due ≤ t + 1) scenario.offers
 later-offers t scenario due k d low = let now = due k d low in omega arith
 
-later-orders : (t : ℕ) (scenario : Scenario) → All (λ (order : DueCommand). order.due ≤ t) scenario.orders → All (λ (order : DueCommand). order.due ≤ t + 1) scenario.orders
+later-orders : (t : ℕ) (scenario : Scenario) → All (λ (order : DueCommand). order.due ≤ t) scenario.orders →
+    All (λ (order : DueCommand). order.due ≤ t + 1) scenario.orders
 later-orders t scenario due k d low = let now = due k d low in omega arith
 
-pub Stands-ticked : (lag size t : ℕ) (queue later : Held) (sender further : Sender) (table next : Course) (active members : List ℕ) (nibbles said : List (List ℕ)) (back : Option BackCell) (scenario : Scenario) (cells : List (Option Told)) →
+pub Stands-ticked : (lag size t : ℕ) (queue later : Held) (sender further : Sender) (table next : Course)
+    (active members : List ℕ) (nibbles said : List (List ℕ)) (back : Option BackCell) (scenario : Scenario)
+    (cells : List (Option Told)) →
     NextFields scenario (with_cell cells back) t next members said → IsDue lag t back →
     ((stream : Stream) (place : ℕ) → HasWritten sender queue stream place →
     HasWritten further later (reached (place + size * length members) stream) (place + size * length members)) →
     Stands (terminal_of lag size t queue sender table active nibbles) scenario cells →
     Stands (terminal_of lag size (t + 1) later further next members said) scenario (with_cell cells back)
-Stands-ticked lag size t queue later sender further table next active members nibbles said back scenario cells fields due writes stands = record {
-  lines = ap (λ (course : Course). course.lines) fields.table_is;
-  lag = stands.lag;
-  size = stands.size;
-  offers = later-offers t scenario stands.offers;
-  orders = later-orders t scenario stands.orders;
-  told = told-ticked scenario cells back t stands.told (subst (λ n. IsDue n t back) stands.lag due);
-  table = fields.table_is;
-  stream = stream-written size t (place_of scenario cells t + size * length members) later further members back scenario cells stands.told stands.size fields.members_are stands.offers refl
-      (writes (stream_now scenario cells t) (place_of scenario cells t) stands.stream);
-  active = fields.members_are;
-  nibbles = fields.nibbles_are;
-}
+Stands-ticked lag size t queue later sender further table next active members nibbles said back scenario cells fields
+    due writes stands = record {
+      lines = ap (λ (course : Course). course.lines) fields.table_is;
+      lag = stands.lag;
+      size = stands.size;
+      offers = later-offers t scenario stands.offers;
+      orders = later-orders t scenario stands.orders;
+      told = told-ticked scenario cells back t stands.told (subst (λ n. IsDue n t back) stands.lag due);
+      table = fields.table_is;
+      stream = stream-written size t (place_of scenario cells t + size * length members) later further members back scenario
+          cells stands.told stands.size fields.members_are stands.offers refl
+          (writes (stream_now scenario cells t) (place_of scenario cells t) stands.stream);
+      active = fields.members_are;
+      nibbles = fields.nibbles_are;
+    }
 
 -- ---- the octets of the frame, and its containers
-pub row-ticked : (size t : ℕ) (members : List ℕ) (back : Option BackCell) (scenario : Scenario) (cells : List (Option Told)) →
-    length cells ≡ steps_in t - scenario.lag → size ≡ scenario.size → members ≡ active_now scenario (with_cell cells back) (t + 1) →
-    take (size * length members) (drop (place_of scenario cells t) (stream_of (reached (place_of scenario cells t + size * length members) (stream_now scenario cells t)).pieces))
+pub row-ticked : (size t : ℕ) (members : List ℕ) (back : Option BackCell) (scenario : Scenario)
+    (cells : List (Option Told)) →
+    length cells ≡ steps_in t - scenario.lag → size ≡ scenario.size →
+    members ≡ active_now scenario (with_cell cells back) (t + 1) →
+    take (size * length members) (drop (place_of scenario cells t)
+    (stream_of (reached (place_of scenario cells t + size * length members) (stream_now scenario cells t)).pieces))
     ≡ payload_of scenario (with_cell cells back) t
 row-ticked size t members back scenario cells told is_size are_members =
     let more = with_cell cells back in
     let further = place-ticked scenario cells back t size members told is_size are_members in
-    let many = ap (λ n. n * length members) is_size ∙ ap (λ n. scenario.size * n) (ap length (are_members ∙ sym (active-at scenario more t)) ∙ sym (width-at scenario more t)) in
-    ap (λ n. take n (drop (place_of scenario cells t) (stream_of (reached (place_of scenario cells t + size * length members) (stream_now scenario cells t)).pieces))) many
-    ∙ ap (λ n. take (scenario.size * width scenario more t) (drop n (stream_of (reached (place_of scenario cells t + size * length members) (stream_now scenario cells t)).pieces)))
+    let many = ap (λ n. n * length members) is_size
+    ∙ ap (λ n. scenario.size * n) (ap length (are_members ∙ sym (active-at scenario more t))
+    ∙ sym (width-at scenario more t)) in
+    ap (λ n. take n (drop (place_of scenario cells t)
+    (stream_of (reached (place_of scenario cells t + size * length members) (stream_now scenario cells t)).pieces)))
+    many
+    ∙ ap (λ n. take (scenario.size * width scenario more t)
+    (drop n (stream_of (reached (place_of scenario cells t + size * length members)
+    (stream_now scenario cells t)).pieces)))
     (sym (alike-place scenario more scenario cells t (tick-alike scenario cells back t told)))
-    ∙ ap (λ (stream : Stream). take (scenario.size * width scenario more t) (drop (place_of scenario more t) (stream_of stream.pieces)))
+    ∙ ap (λ (stream : Stream). take (scenario.size * width scenario more t)
+    (drop (place_of scenario more t) (stream_of stream.pieces)))
     (stream-ticked scenario cells back t (place_of scenario cells t + size * length members) told further)
 
 -- the nibble that a line sends
@@ -351,37 +451,53 @@ nibble-by : (scenario : Scenario) (cells : List (Option Told)) (line t n : ℕ) 
     slice_index (nibbles_after scenario cells line n) ((t % 16 + 8) % 16) ≡ nibble_at scenario cells line t
 nibble-by scenario cells line t zero is =
     let low : t < 8 = omega arith in
-    get_or-replicate 16 ((t % 16 + 8) % 16) 0 0 (omega arith) ∙ ap (λ b. if b then 0 else nibble_in scenario cells line ((t - 8) / 16) ((t - 8) % 16)) (sym (lt-ltb t 8 low))
+    get_or-replicate 16 ((t % 16 + 8) % 16) 0 0 (omega arith)
+    ∙ ap (λ b. if b then 0 else nibble_in scenario cells line ((t - 8) / 16) ((t - 8) % 16)) (sym (lt-ltb t 8 low))
 nibble-by scenario cells line t (suc k) is =
     let high : 8 ≤ t = omega arith in
     let same : k ≡ (t - 8) / 16 = omega arith in
     let place : (t % 16 + 8) % 16 ≡ (t - 8) % 16 = omega arith in
     ap (nibble_in scenario cells line k) place ∙ ap (λ k. nibble_in scenario cells line k ((t - 8) % 16)) same
-    ∙ ap (λ b. if b then 0 else nibble_in scenario cells line ((t - 8) / 16) ((t - 8) % 16)) (sym (not-below t high)) where
+    ∙ ap (λ b. if b then 0 else nibble_in scenario cells line ((t - 8) / 16) ((t - 8) % 16))
+    (sym (not-below t high)) where
       not-below : (t : ℕ) → 8 ≤ t → nat_lt t 8 ≡ false
       not-below t high = grind (arith, nat_tests, high)
 
-pub frame-ticked : (size t : ℕ) (table : Course) (members : List ℕ) (nibbles : List (List ℕ)) (row : List ℕ) (lines : ℕ) (scenario : Scenario) (more : List (Option Told)) →
-    NextFields scenario more t table members nibbles → size ≡ scenario.size → row ≡ payload_of scenario more t → lines ≡ length scenario.windows →
+pub frame-ticked : (size t : ℕ) (table : Course) (members : List ℕ) (nibbles : List (List ℕ)) (row : List ℕ) (lines : ℕ)
+    (scenario : Scenario) (more : List (Option Told)) →
+    NextFields scenario more t table members nibbles → size ≡ scenario.size → row ≡ payload_of scenario more t →
+    lines ≡ length scenario.windows →
     containers_by lines t nibbles members size row ≡ frame_of scenario more t
 frame-ticked size t table members nibbles row lines scenario more fields is_size is_row are_lines =
     let all = length scenario.windows in
     ap (λ n. containers_by n t nibbles members size row) are_lines
     ∙ ap (λ nibbles. containers_by all t nibbles members size row) fields.nibbles_are
-    ∙ ap (λ members. containers_by all t (nibbles_now scenario more (t + 1)) members size row) (fields.members_are ∙ sym (active-at scenario more t))
+    ∙ ap (λ members. containers_by all t (nibbles_now scenario more (t + 1)) members size row)
+    (fields.members_are ∙ sym (active-at scenario more t))
     ∙ ap (λ size. containers_by all t (nibbles_now scenario more (t + 1)) (active_at scenario more t) size row) is_size
     ∙ ap (containers_by all t (nibbles_now scenario more (t + 1)) (active_at scenario more t) scenario.size) is_row
-    ∙ fill_by_all (λ line. container_of scenario more line t) (containers_by all t (nibbles_now scenario more (t + 1)) (active_at scenario more t) scenario.size (payload_of scenario more t)) all
+    ∙ fill_by_all (λ line. container_of scenario more line t)
+    (containers_by all t (nibbles_now scenario more (t + 1)) (active_at scenario more t) scenario.size
+    (payload_of scenario more t)) all
     (container_of scenario more 0 t) (length-map-range_with_len _ 0 all) each where
       made : ℕ → ℕ → Container
-      made nibble line = record { h4 = 16 * nibble + t % 16; payload = payload_on (active_at scenario more t) line scenario.size (payload_of scenario more t) }
+      made nibble line = record {
+        h4 = 16 * nibble + t % 16;
+        payload =
+            payload_on (active_at scenario more t) line scenario.size (payload_of scenario more t);
+      }
 
       each : (line : ℕ) → line < length scenario.windows →
-          slice_index_or (containers_by (length scenario.windows) t (nibbles_now scenario more (t + 1)) (active_at scenario more t) scenario.size (payload_of scenario more t)) line (container_of scenario more 0 t)
+          slice_index_or (containers_by (length scenario.windows) t (nibbles_now scenario more (t + 1))
+          (active_at scenario more t) scenario.size (payload_of scenario more t)) line
+          (container_of scenario more 0 t)
           ≡ container_of scenario more line t
       each line low =
-          get_or-map-range_with_len (container_by t (nibbles_now scenario more (t + 1)) (active_at scenario more t) scenario.size (payload_of scenario more t)) 0 (length scenario.windows) line line
+          get_or-map-range_with_len (container_by t (nibbles_now scenario more (t + 1))
+          (active_at scenario more t) scenario.size (payload_of scenario more t)) 0
+          (length scenario.windows) line line
           (container_of scenario more 0 t) low (omega arith)
           ∙ ap (λ nibbles. made (slice_index nibbles ((t % 16 + 8) % 16)) line)
-          (get_or-map-range_with_len (λ line. nibbles_after scenario more line (steps_in (t + 1))) 0 (length scenario.windows) line line [] low (omega arith))
+          (get_or-map-range_with_len (λ line. nibbles_after scenario more line (steps_in (t + 1))) 0
+          (length scenario.windows) line line [] low (omega arith))
           ∙ ap (λ nibble. made nibble line) (nibble-by scenario more line t (steps_in (t + 1)) refl)

@@ -15,4 +15,5 @@ place_of scenario cells t i = i / length (active_at scenario cells t)
 -- the line that carries it is one of those that carry payload, and has it at that place of its container
 pub record IsDealt (scenario : Scenario) (cells : List (Option Told)) (t i : ℕ) : Type 0 where
   pub rank : i % length (active_at scenario cells t) < length (active_at scenario cells t)
-  pub octet : slice_index (container_of scenario cells (carrier_of scenario cells t i) t).payload (place_of scenario cells t i) ≡ slice_index (payload_of scenario cells t) i
+  pub octet : slice_index (container_of scenario cells (carrier_of scenario cells t i) t).payload
+      (place_of scenario cells t i) ≡ slice_index (payload_of scenario cells t) i

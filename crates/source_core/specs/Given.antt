@@ -1,5 +1,6 @@
 -- A source terminal over any list of calls: the scenario that it was given so far, and what stands of it.
-use Rattle.std.specs.Prelude.{◌≡◌, ◌≤◌, ℕ, zero, suc, ◌-◌, nat_lt, Bool, List, [], ◌∷◌, ◌++◌, map, filter, fold, take, length, replicate, All, Option, Some, None}
+use Rattle.std.specs.Prelude.{◌≡◌, ◌≤◌, ℕ, zero, suc, ◌-◌, nat_lt, Bool, List, [], ◌∷◌, ◌++◌, map, filter, fold, take}
+use Rattle.std.specs.Prelude.{length, replicate, All, Option, Some, None}
 use Rattle.std.specs.List.{range_with_len}
 use Rattle.vc_cell.specs.declared.BackCell.{BackCell}
 use Rattle.session_model.specs.declared.table.Command.{Command}
@@ -18,11 +19,13 @@ use Rattle.source_core.specs.Terminal.{Terminal}
 -- ---- what a call adds to a scenario
 -- a frame, given when a number of ticks are made, accepted or refused
 abbrev pub with_frame : Scenario → ℕ → List ℕ → Scenario
-with_frame scenario ticks frame = with_items scenario scenario.orders (scenario.offers ++ record { due = ticks; frame = frame } ∷ [])
+with_frame scenario ticks frame =
+    with_items scenario scenario.orders (scenario.offers ++ record { due = ticks; frame = frame } ∷ [])
 
 -- a command, accepted or refused
 abbrev pub with_command : Scenario → ℕ → Command → Scenario
-with_command scenario ticks command = with_items scenario (scenario.orders ++ record { due = ticks; command = command } ∷ []) scenario.offers
+with_command scenario ticks command =
+    with_items scenario (scenario.orders ++ record { due = ticks; command = command } ∷ []) scenario.offers
 
 -- a return cell, where the tick takes one
 abbrev pub with_cell : List (Option Told) → Option BackCell → List (Option Told)
@@ -61,13 +64,15 @@ nibbles_after scenario cells line (suc k) = packet_nibbles (forward_packet (tabl
 
 -- those of all lines
 abbrev pub nibbles_now : Scenario → List (Option Told) → ℕ → List (List ℕ)
-nibbles_now scenario cells ticks = map (λ line. nibbles_after scenario cells line (steps_in ticks)) (range_with_len 0 (length scenario.windows))
+nibbles_now scenario cells ticks =
+    map (λ line. nibbles_after scenario cells line (steps_in ticks)) (range_with_len 0 (length scenario.windows))
 
 -- the lines that carry payload in the frame that was made last: those of the table before the last decision step
 abbrev pub active_now : Scenario → List (Option Told) → ℕ → List ℕ
 active_now scenario cells ticks = active (after scenario cells (steps_in ticks - 1)).table
 
--- a terminal was given the frames and the commands of this scenario, each after as many ticks as it is due, and these return cells
+-- a terminal was given the frames and the commands of this scenario, each after as many ticks as it is due, and these
+-- return cells
 pub record Stands (core : Terminal) (scenario : Scenario) (cells : List (Option Told)) : Type 0 where
   pub lines : core.lines ≡ length scenario.windows
   pub lag : core.lag ≡ scenario.lag
@@ -76,7 +81,8 @@ pub record Stands (core : Terminal) (scenario : Scenario) (cells : List (Option 
   pub orders : All (λ (order : DueCommand). order.due ≤ core.ticks) scenario.orders
   pub told : length cells ≡ steps_in core.ticks - scenario.lag
   pub table : core.table ≡ course_now scenario cells core.ticks
-  pub stream : HasWritten core.sender core.queue (stream_now scenario cells core.ticks) (place_of scenario cells core.ticks)
+  pub stream : HasWritten core.sender core.queue (stream_now scenario cells core.ticks)
+      (place_of scenario cells core.ticks)
   pub active : core.active ≡ active_now scenario cells core.ticks
   pub nibbles : core.nibbles ≡ nibbles_now scenario cells core.ticks
 
@@ -94,5 +100,7 @@ pub record ComesAlike (one other : Scenario) (t : ℕ) : Type 0 where
   pub lines : length one.windows ≡ length other.windows
   pub lag : one.lag ≡ other.lag
   pub size : one.size ≡ other.size
-  pub offers : filter (λ (offer : DueFrame). has_come t offer.due) one.offers ≡ filter (λ (offer : DueFrame). has_come t offer.due) other.offers
-  pub orders : filter (λ (order : DueCommand). has_come t order.due) one.orders ≡ filter (λ (order : DueCommand). has_come t order.due) other.orders
+  pub offers : filter (λ (offer : DueFrame). has_come t offer.due) one.offers ≡ filter
+      (λ (offer : DueFrame). has_come t offer.due) other.offers
+  pub orders : filter (λ (order : DueCommand). has_come t order.due) one.orders ≡ filter
+      (λ (order : DueCommand). has_come t order.due) other.orders

@@ -6,7 +6,8 @@ use Rattle.source_core.specs.Step.{terminal_of, IsTerminal}
 
 -- the terminal that they are
 abbrev pub terminal_in : Maker → Terminal
-terminal_in maker = terminal_of maker.lag maker.size maker.ticks maker.queue maker.filler maker.table maker.active.items maker.nibbles.items
+terminal_in maker = terminal_of maker.lag maker.size maker.ticks maker.queue maker.filler maker.table maker.active.items
+    maker.nibbles.items
 
 -- what is true of them
 abbrev pub IsMaker : Maker → Type 0

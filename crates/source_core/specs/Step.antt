@@ -1,5 +1,6 @@
 -- What a decision step makes of the fields of a terminal, in the ticks in which one is made.
-use Rattle.std.specs.Prelude.{◌≡◌, ◌<◌, ◌≤◌, ℕ, ◌-◌, ◌*◌, ◌%◌, ◌==◌, Bool, true, false, List, map, length, All, Option, option_map}
+use Rattle.std.specs.Prelude.{◌≡◌, ◌<◌, ◌≤◌, ℕ, ◌-◌, ◌*◌, ◌%◌, ◌==◌, Bool, true, false, List, map, length, All, Option}
+use Rattle.std.specs.Prelude.{option_map}
 use Rattle.std.specs.List.{range_with_len}
 use Rattle.vc_cell.specs.declared.BackCell.{BackCell}
 use Rattle.session_model.specs.Packet.{packet_nibbles}
@@ -31,7 +32,8 @@ active_by false table lines = lines
 
 -- the nibbles of the packets of a number of lines are those of the table after it
 abbrev pub nibbles_of : Course → ℕ → List (List ℕ)
-nibbles_of table lines = map (λ line. packet_nibbles (forward_packet table.source.table line (table.steps - 1))) (range_with_len 0 lines)
+nibbles_of table lines = map (λ line. packet_nibbles (forward_packet table.source.table line (table.steps - 1)))
+    (range_with_len 0 lines)
 
 abbrev pub nibbles_by : Bool → Course → List (List ℕ) → List (List ℕ)
 nibbles_by true table nibbles = nibbles_of table (length nibbles)
@@ -41,7 +43,8 @@ nibbles_by false table nibbles = nibbles
 abbrev pub AreNibbles : List (List ℕ) → Type 0
 AreNibbles lists = All (λ nibbles. All (λ nibble. nibble < 16) nibbles) lists
 
--- lines that can carry payload together: each is one of the group's, none stands twice, and there are no more than there are lines
+-- lines that can carry payload together: each is one of the group's, none stands twice, and there are no more than
+-- there are lines
 pub record AreMembers (lines : ℕ) (active : List ℕ) : Type 0 where
   pub among : AreLines lines active
   pub distinct : AreDistinct active

@@ -4,8 +4,10 @@ use Rattle.session_model.specs.Course.{Course}
 use Rattle.gfp_fill.specs.Queue.{Held}
 use Rattle.gfp_fill.specs.Stream.{Sender}
 
--- how many lines there are; the lag in packets; the payload octets of a container; how many frames were made; the client's frames
--- that aren't sent, and the stream that is made of them; the table; the lines that carry payload, and the nibbles of each line's packet, as they
+-- how many lines there are; the lag in packets; the payload octets of a container; how many frames were made; the
+-- client's frames
+-- that aren't sent, and the stream that is made of them; the table; the lines that carry payload, and the nibbles of
+-- each line's packet, as they
 -- were in the frame that was made last
 pub record Terminal : Type 0 where
   pub lines : ℕ
@@ -18,7 +20,8 @@ pub record Terminal : Type 0 where
   pub active : List ℕ
   pub nibbles : List (List ℕ)
 
--- the return cell that the tick of frame t needs: decision step j is made in that of frame 16 j + 8, and takes return cell j - lag
+-- the return cell that the tick of frame t needs: decision step j is made in that of frame 16 j + 8, and takes return
+-- cell j - lag
 abbrev pub needed_at : ℕ → ℕ → Option ℕ
 needed_at lag t = if t % 16 == 8 && nat_le lag (t / 16) then Some (t / 16 - lag) else None
 

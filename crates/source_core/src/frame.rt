@@ -1,6 +1,7 @@
 //! The containers of a frame.
 
-ghost use Rattle.std.specs.Prelude.{◌≡◌, IfOk, ℕ, ◌+◌, ◌-◌, ◌*◌, ◌<◌, ◌≤◌, if◌then◌else◌, All, false, length, take, drop, replicate, slice_index_or};
+ghost use Rattle.std.specs.Prelude.{◌≡◌, IfOk, ℕ, ◌+◌, ◌-◌, ◌*◌, ◌<◌, ◌≤◌, if◌then◌else◌, All, false, length, take};
+ghost use Rattle.std.specs.Prelude.{drop, replicate, slice_index_or};
 ghost use Rattle.session_model.specs.Piece.{stream_of};
 ghost use Rattle.session_model.specs.Client.{Stream, reached};
 ghost use Rattle.gfp_fill.specs.Stream.{Stands};

@@ -1,6 +1,7 @@
 //! Laws of what a source terminal sends, over the definitions alone.
 
-ghost use Rattle.std.specs.Prelude.{◌≡◌, ◌↔◌, ◌<◌, ◌≤◌, ◌+◌, ◌-◌, ◌*◌, ℕ, [], List, Option, Some, None, All, drop, length, replicate};
+ghost use Rattle.std.specs.Prelude.{◌≡◌, ◌↔◌, ◌<◌, ◌≤◌, ◌+◌, ◌-◌, ◌*◌, ℕ, [], List, Option, Some, None, All, drop};
+ghost use Rattle.std.specs.Prelude.{length, replicate};
 ghost use Rattle.session_model.specs.Scenario.{Scenario, steps_in};
 ghost use Rattle.session_model.specs.Table.{Told, active};
 ghost use Rattle.session_model.specs.Source.{after, table_of};
@@ -15,8 +16,8 @@ ghost use Rattle.source_core.specs.Given.{ComesAlike, first_items};
 ghost use Rattle.source_core.specs.Dealt.{IsDealt};
 ghost use Rattle.session_model.specs.Limits.{vc4_size};
 
-/// What lands later, and return cells that come later, change nothing of what was sent before: so what a terminal makes of the
-/// items that have landed is what the definitions say of the whole session.
+/// What lands later, and return cells that come later, change nothing of what was sent before: so what a
+/// terminal makes of the items that have landed is what the definitions say of the whole session.
 pub fn landed_law()
     ensures frames { (one other : Scenario) (a b : List (Option Told)) (t : ℕ) →
         ComesAlike one other (t + 1) → AgreeBefore (steps_in (t + 1) - one.lag) a b →
@@ -39,9 +40,9 @@ pub fn accepted_law()
         frame_of (replayed scenario cells t) cells u ≡ frame_of scenario cells u }
 {}
 
-/// The octets of a frame are dealt to the lines that the table of its packet has in NORM, all of them and no other; each octet is
-/// carried once. A change of membership takes effect for all lines in the same frame: packet `k` governs frames `16 k + 24` to
-/// `16 k + 39`, and nothing is carried before frame 24.
+/// The octets of a frame are dealt to the lines that the table of its packet has in NORM, all of them and no
+/// other; each octet is carried once. A change of membership takes effect for all lines in the same frame:
+/// packet `k` governs frames `16 k + 24` to `16 k + 39`, and nothing is carried before frame 24.
 pub fn membership_law()
     ensures governed { (scenario : Scenario) (cells : List (Option Told)) (k i : ℕ) → i < 16 →
         active_at scenario cells (16 * k + 24 + i) ≡ active (table_of scenario cells k) }

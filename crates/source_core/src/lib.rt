@@ -1,6 +1,6 @@
-//! The source terminal of a group: it takes the client's frames, the operator's commands and the return packets, and makes the
-//! containers of all lines, frame by frame (G.707, G.7041, G.7042). What comes of a container on its line, and what the sink makes
-//! of it, is not said here. Begin with `SourceCore`.
+//! The source terminal of a group: it takes the client's frames, the operator's commands and the return
+//! packets, and makes the containers of all lines, frame by frame (G.707, G.7041, G.7042). What comes of a
+//! container on its line, and what the sink makes of it, is not said here. Begin with `SourceCore`.
 #![tactic(auto)]
 
 mod frame;

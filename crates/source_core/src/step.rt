@@ -13,8 +13,8 @@ use vc_cell::BackCell;
 /// The nibbles of a packet.
 pub(crate) const NIBBLES: usize = 16;
 
-/// Makes the decision step of a frame, where one is made. From this frame on the lines send the packets of the table after the step,
-/// and those carry payload that the table before it says.
+/// Makes the decision step of a frame, where one is made. From this frame on the lines send the packets of
+/// the table after the step, and those carry payload that the table before it says.
 pub(crate) fn take_step(
     ticks: u32,
     back: Option<BackCell>,

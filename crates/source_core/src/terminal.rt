@@ -43,8 +43,8 @@ impl Model for SourceCore {
 }
 
 impl SourceCore {
-    /// The terminal of a group of `lines` lines, up to 128, with `size` payload octets in a container, up to 2,340. The return cell
-    /// of packet `k` comes with the tick of frame `16 (k + lag) + 8`.
+    /// The terminal of a group of `lines` lines, up to 128, with `size` payload octets in a container, up to
+    /// 2,340. The return cell of packet `k` comes with the tick of frame `16 (k + lag) + 8`.
     pub fn new(alloc: Global, lines: u8, lag: u16, size: u16) -> Result<SourceCore, AllocError>
         requires lines { lines ≤ 128 }
         requires size { size ≤ vc4_size }
@@ -61,7 +61,8 @@ impl SourceCore {
         })
     }
 
-    /// Takes a frame of the client, from its destination address to its FCS. A refusal tells its first cause, and changes nothing.
+    /// Takes a frame of the client, from its destination address to its FCS. A refusal tells its first cause,
+    /// and changes nothing.
     pub fn accept(&mut self, frame: &[u8]) -> Result<(), AcceptFault>
         ensures refused { refusal_in result ≡ refusal_while self.old.queue.waiting frame.now }
         ensures unchanged { OnErr result (self.new ≡ self.old) }
@@ -115,8 +116,9 @@ impl SourceCore {
         self.maker.table.refusal(command)
     }
 
-    /// The number of the return cell that the next tick takes. It takes one exactly where it makes decision step `j`, so that the
-    /// next frame is `16 j + 8`, and `j` is the lag or more; the cell's number is then `j` less the lag.
+    /// The number of the return cell that the next tick takes. It takes one exactly where it makes decision
+    /// step `j`, so that the next frame is `16 j + 8`, and `j` is the lag or more; the cell's number is then
+    /// `j` less the lag.
     pub fn needs_back(&self) -> Option<u32>
         ensures { result ≡ needed self.now }
     {
@@ -129,8 +131,8 @@ impl SourceCore {
         }
     }
 
-    /// Makes the next frame, a container for each line at its place in `out`. The return cell that `needs_back` names is there
-    /// exactly where it names one.
+    /// Makes the next frame, a container for each line at its place in `out`. The return cell that
+    /// `needs_back` names is there exactly where it names one.
     pub fn tick(&mut self, back: Option<BackCell>, out: &mut [Container])
         requires places { length out.old ≡ self.old.lines }
         requires back { IsSome back ↔ IsSome (needed self.old) }

@@ -1,5 +1,7 @@
 -- What the containers of a frame carry of the client's stream, and which return cells they depend on.
-use Rattle.std.proofs.Common.{◌≡◌, ℕ, zero, suc, ◌+◌, ◌-◌, ◌*◌, ◌/◌, ◌%◌, ◌<◌, ◌≤◌, ◌==◌, nat_lt, true, false, if◌then◌else◌, inl, inr, List, [], ◌∷◌, map, filter, take, drop, replicate, length, slice_get, slice_index, Option, Some, None, refl, sym, ◌∙◌, ap, arith, length-append}
+use Rattle.std.proofs.Common.{◌≡◌, ℕ, zero, suc, ◌+◌, ◌-◌, ◌*◌, ◌/◌, ◌%◌, ◌<◌, ◌≤◌, ◌==◌, nat_lt, true, false}
+use Rattle.std.proofs.Common.{if◌then◌else◌, inl, inr, List, [], ◌∷◌, map, filter, take, drop, replicate, length}
+use Rattle.std.proofs.Common.{slice_get, slice_index, Option, Some, None, refl, sym, ◌∙◌, ap, arith, length-append}
 use Rattle.std.specs.List.{position_from}
 use Rattle.std.proofs.lemmas.Bool.{cases_Bool, ltb-false, eq-eqb, ne_eqb}
 use Rattle.std.proofs.lemmas.List.{length-map, length-replicate, get_or_append_left}
@@ -30,15 +32,20 @@ by-length None x size row fits = length-replicate {A = ℕ} 2340 0
 by-length (Some rank) x size row fits =
     let zeros : length (replicate {A = ℕ} (2340 - size) 0) ≡ 2340 - size = length-replicate {A = ℕ} (2340 - size) 0 in
     let part : length (part_of rank x size row) ≡ size = length-part_of rank x size row in
-    length-append (part_of rank x size row) (replicate {A = ℕ} (2340 - size) 0) ∙ (let e : length (part_of rank x size row) + length (replicate {A = ℕ} (2340 - size) 0) ≡ 2340 = omega arith in e)
+    length-append (part_of rank x size row) (replicate {A = ℕ} (2340 - size) 0)
+    ∙ (let e : length (part_of rank x size row) + length (replicate {A = ℕ} (2340 - size) 0) ≡ 2340 =
+    omega arith in e)
 
-pub payload-size : (scenario : Scenario) (returns : List (Option Told)) (line t : ℕ) → scenario.size ≤ 2340 → length (container_of scenario returns line t).payload ≡ 2340
+pub payload-size : (scenario : Scenario) (returns : List (Option Told)) (line t : ℕ) → scenario.size ≤ 2340 →
+    length (container_of scenario returns line t).payload ≡ 2340
 payload-size scenario returns line t fits =
-    by-length (rank_of (active_at scenario returns t) line) (length (active_at scenario returns t)) scenario.size (payload_of scenario returns t) fits
+    by-length (rank_of (active_at scenario returns t) line) (length (active_at scenario returns t)) scenario.size
+    (payload_of scenario returns t) fits
 
 -- ---- the rank of a line
 -- a line that stands once has the rank of its place
-rank-from : (lines : List ℕ) (from r line : ℕ) → ((l : ℕ) → times lines l ≤ 1) → slice_get lines r ≡ Some line → position_from (λ other. other == line) from lines ≡ Some (from + r)
+rank-from : (lines : List ℕ) (from r line : ℕ) → ((l : ℕ) → times lines l ≤ 1) → slice_get lines r ≡ Some line →
+    position_from (λ other. other == line) from lines ≡ Some (from + r)
 rank-from [] from r line once here = absurd cc
 rank-from (x ∷ lines) from zero line once here =
     let same : x ≡ line = cc in
@@ -60,24 +67,30 @@ carrying-once : (order : List Member) (l : ℕ) → times (carrying order) l ≤
 carrying-once [] l = omega arith
 carrying-once (member ∷ order) l =
     let rest = carrying-once order l in
-    elim (is_norm member.standing) as (λ b. times (map (λ m. m.line) (if b then member ∷ filter is_normal order else filter is_normal order)) l ≤ one member.line l + times (lines_of order) l) [
+    elim (is_norm member.standing) as (λ b. times
+    (map (λ m. m.line) (if b then member ∷ filter is_normal order else filter is_normal order)) l ≤ one member.line
+    l + times (lines_of order) l) [
       | true ↦ omega arith
       | false ↦ omega arith
     ]
 
-active-once : (scenario : Scenario) (returns : List (Option Told)) (k l : ℕ) → times (active (table_of scenario returns k)) l ≤ 1
+active-once : (scenario : Scenario) (returns : List (Option Told)) (k l : ℕ) →
+    times (active (table_of scenario returns k)) l ≤ 1
 active-once scenario returns k l =
     let least = carrying-once (table_of scenario returns k).order l in
     let most = once-after scenario returns k l in
     omega arith
 
 -- ---- the lines that carry payload are dealt its octets
-dealt-part : (rank : ℕ) (x size p : ℕ) (row : List ℕ) → p < size → slice_index (payload_by (Some rank) x size row) p ≡ slice_index row (p * x + rank)
+dealt-part : (rank : ℕ) (x size p : ℕ) (row : List ℕ) → p < size →
+    slice_index (payload_by (Some rank) x size row) p ≡ slice_index row (p * x + rank)
 dealt-part rank x size p row low =
     let part = length-part_of rank x size row in
-    get_or_append_left (part_of rank x size row) (replicate (2340 - size) 0) 0 p (omega arith) ∙ get-part_of rank x size row p low
+    get_or_append_left (part_of rank x size row) (replicate (2340 - size) 0) 0 p (omega arith)
+    ∙ get-part_of rank x size row p low
 
-pub dealt-row : (scenario : Scenario) (returns : List (Option Told)) (t : ℕ) → IsDealtRow scenario returns (λ line. container_of scenario returns line t) t
+pub dealt-row : (scenario : Scenario) (returns : List (Option Told)) (t : ℕ) →
+    IsDealtRow scenario returns (λ line. container_of scenario returns line t) t
 dealt-row scenario returns t late r p container here low =
     let k : ℕ = (t - 24) / 16 in
     let lines : List ℕ = active (table_of scenario returns k) in
@@ -85,7 +98,8 @@ dealt-row scenario returns t late r p container here low =
     let sent : ℕ → Container = λ line. container_of scenario returns line t in
     let open_ : nat_lt t 24 ≡ false = grind (arith, late) in
     let (line, own, same) = from-map lines r container sent here in
-    let rank : rank_of lines line ≡ Some r = rank-from lines 0 r line (active-once scenario returns k) own ∙ ap Some (let e : 0 + r ≡ r = omega arith in e) in
+    let rank : rank_of lines line ≡ Some r = rank-from lines 0 r line (active-once scenario returns k) own
+    ∙ ap Some (let e : 0 + r ≡ r = omega arith in e) in
     let count : length (map sent lines) ≡ length lines = length-map lines sent in
     ap (λ (c : Container). slice_index c.payload p) (sym same)
     ∙ ap (λ b. slice_index (payload_on (if b then [] else lines) line scenario.size row) p) open_
@@ -93,7 +107,8 @@ dealt-row scenario returns t late r p container here low =
     ∙ dealt-part r (length lines) scenario.size p row low
     ∙ ap (λ x. slice_index row (p * x + r)) (sym count)
   where
-    from-map : (lines : List ℕ) (r : ℕ) (container : Container) (sent : ℕ → Container) → slice_get (map sent lines) r ≡ Some container →
+    from-map : (lines : List ℕ) (r : ℕ) (container : Container) (sent : ℕ → Container) →
+        slice_get (map sent lines) r ≡ Some container →
         (line : ℕ) × (slice_get lines r ≡ Some line) × (sent line ≡ container)
     from-map [] r container sent here = absurd cc
     from-map (x ∷ lines) zero container sent here = (x, refl, cc)
@@ -107,35 +122,47 @@ module _ (scenario : Scenario) (a b : List (Option Told)) where
         | inl early ↦ rw early refl
         | inr late ↦
             let high = ltb-false t 24 late in
-            let same = after-agree scenario a b (suc ((t - 24) / 16)) (Agree-sooner scenario a b (suc ((t - 24) / 16)) ((t + 8) / 16) (omega arith) agree) in
+            let same = after-agree scenario a b (suc ((t - 24) / 16))
+            (Agree-sooner scenario a b (suc ((t - 24) / 16)) ((t + 8) / 16) (omega arith) agree) in
             ap (λ source. if nat_lt t 24 then [] else active source.table) same
       ]
 
   tables-same : (j : ℕ) → Agree scenario a b j → SameTables scenario a scenario b j
-  tables-same j agree = record { size = refl; tables = λ i low. after-agree scenario a b i (Agree-sooner scenario a b i j low agree) }
+  tables-same j agree = record {
+    size = refl;
+    tables =
+        λ i low. after-agree scenario a b i (Agree-sooner scenario a b i j low agree);
+  }
 
   payload-same : (t : ℕ) → Agree scenario a b ((t + 8) / 16) → payload_of scenario a t ≡ payload_of scenario b t
   payload-same t agree =
       let sooner = Agree-sooner scenario a b ((t - 8) / 16) ((t + 8) / 16) (omega arith) agree in
       let wide = width-same scenario a scenario b t (tables-same ((t - 8) / 16) sooner) in
       let place = place_of-same scenario a scenario b t (tables-same ((t - 8) / 16) sooner) in
-      let stream = stream_before-agree scenario a b (suc t) (Agree-sooner scenario a b ((suc t - 8) / 16) ((t + 8) / 16) (omega arith) agree) in
-      ap (λ n. take (scenario.size * n) (drop (place_of scenario a t) (stream_of (stream_before scenario a (suc t)).pieces))) wide
-      ∙ ap (λ n. take (scenario.size * width scenario b t) (drop n (stream_of (stream_before scenario a (suc t)).pieces))) place
+      let stream = stream_before-agree scenario a b (suc t)
+      (Agree-sooner scenario a b ((suc t - 8) / 16) ((t + 8) / 16) (omega arith) agree) in
+      ap (λ n. take (scenario.size * n)
+      (drop (place_of scenario a t) (stream_of (stream_before scenario a (suc t)).pieces))) wide
+      ∙ ap (λ n. take (scenario.size * width scenario b t)
+      (drop n (stream_of (stream_before scenario a (suc t)).pieces))) place
       ∙ ap (λ s. take (scenario.size * width scenario b t) (drop (place_of scenario b t) (stream_of s.pieces))) stream
 
-  nibble-same : (line t : ℕ) → Agree scenario a b ((t + 8) / 16) → nibble_at scenario a line t ≡ nibble_at scenario b line t
+  nibble-same : (line t : ℕ) → Agree scenario a b ((t + 8) / 16) →
+      nibble_at scenario a line t ≡ nibble_at scenario b line t
   nibble-same line t agree =
       elim (cases_Bool (nat_lt t 8)) [
         | inl early ↦ rw early refl
         | inr late ↦
             let high = ltb-false t 8 late in
             let k : ℕ = (t - 8) / 16 in
-            let same = after-agree scenario a b (suc k) (Agree-sooner scenario a b (suc k) ((t + 8) / 16) (omega arith) agree) in
-            ap (λ source. if nat_lt t 8 then 0 else slice_index (packet_nibbles (forward_packet source.table line k)) ((t - 8) % 16)) same
+            let same = after-agree scenario a b (suc k)
+            (Agree-sooner scenario a b (suc k) ((t + 8) / 16) (omega arith) agree) in
+            ap (λ source. if nat_lt t 8 then 0 else slice_index (packet_nibbles (forward_packet source.table line k))
+            ((t - 8) % 16)) same
       ]
 
-  container-agree : (line t : ℕ) → Agree scenario a b ((t + 8) / 16) → container_of scenario a line t ≡ container_of scenario b line t
+  container-agree : (line t : ℕ) → Agree scenario a b ((t + 8) / 16) →
+      container_of scenario a line t ≡ container_of scenario b line t
   container-agree line t agree =
       let nibble = nibble-same line t agree in
       let lines = active-same t agree in
@@ -144,6 +171,8 @@ module _ (scenario : Scenario) (a b : List (Option Told)) where
       ∙ ap (λ l. let c : Container = record { h4 = (container_of scenario b line t).h4; payload = payload_on l line scenario.size (payload_of scenario a t) } in c) lines
       ∙ ap (λ r. let c : Container = record { h4 = (container_of scenario b line t).h4; payload = payload_on (active_at scenario b t) line scenario.size r } in c) row
 
-pub container-same : (scenario : Scenario) (a b : List (Option Told)) (line t : ℕ) → AgreeBefore ((t + 8) / 16 - scenario.lag) a b →
+pub container-same : (scenario : Scenario) (a b : List (Option Told)) (line t : ℕ) →
+    AgreeBefore ((t + 8) / 16 - scenario.lag) a b →
     container_of scenario a line t ≡ container_of scenario b line t
-container-same scenario a b line t same = container-agree scenario a b line t (Agree-first scenario a b ((t + 8) / 16) same)
+container-same scenario a b line t same =
+    container-agree scenario a b line t (Agree-first scenario a b ((t + 8) / 16) same)

@@ -1,6 +1,7 @@
 -- The octets of a payload are octets.
 use Rattle.std.specs.Prelude.{All}
-use Rattle.std.proofs.Common.{ℕ, zero, suc, ◌-◌, ◌*◌, ◌<◌, inl, inr, List, drop, replicate, length, slice_index, Option, Some, None, lit<}
+use Rattle.std.proofs.Common.{ℕ, zero, suc, ◌-◌, ◌*◌, ◌<◌, inl, inr, List, drop, replicate, length, slice_index, Option}
+use Rattle.std.proofs.Common.{Some, None, lit<}
 use Rattle.std.proofs.lemmas.Bool.{cases_lt}
 use Rattle.std.proofs.lemmas.List.{get_or_past}
 use Rattle.std.proofs.lemmas.List.Elements.{All-nil, All-cons, All-append, All-take, All-drop, All-replicate}
@@ -36,9 +37,12 @@ by-below (Some rank) x size row below =
     All-append (λ o. o < 256) (part_of rank x size row) (replicate (2340 - size) 0) (part-below rank x size row below)
     (All-replicate (λ o. o < 256) (2340 - size) 0 (lit< tt))
 
-pub payload-octets : (scenario : Scenario) (returns : List (Option Told)) (line t : ℕ) → All (λ o. o < 256) (container_of scenario returns line t).payload
+pub payload-octets : (scenario : Scenario) (returns : List (Option Told)) (line t : ℕ) →
+    All (λ o. o < 256) (container_of scenario returns line t).payload
 payload-octets scenario returns line t =
     let octets : List ℕ = stream_of (stream_before scenario returns (suc t)).pieces in
-    by-below (rank_of (active_at scenario returns t) line) (length (active_at scenario returns t)) scenario.size (payload_of scenario returns t)
+    by-below (rank_of (active_at scenario returns t) line) (length (active_at scenario returns t)) scenario.size
+    (payload_of scenario returns t)
     (All-take (λ o. o < 256) (scenario.size * width scenario returns t) (drop (place_of scenario returns t) octets)
-    (All-drop (λ o. o < 256) (place_of scenario returns t) octets (stream_of_below (stream_before scenario returns (suc t)).pieces)))
+    (All-drop (λ o. o < 256) (place_of scenario returns t) octets
+    (stream_of_below (stream_before scenario returns (suc t)).pieces)))

@@ -1,5 +1,6 @@
 -- The rows and return packets that a sink makes of what has come, by the session.
-use Rattle.std.proofs.Common.{◌≡◌, ℕ, ◌+◌, ◌*◌, ◌<◌, Bool, true, false, if◌then◌else◌, List, Option, Some, None, refl, ◌∙◌, ap, arith}
+use Rattle.std.proofs.Common.{◌≡◌, ℕ, ◌+◌, ◌*◌, ◌<◌, Bool, true, false, if◌then◌else◌, List, Option, Some, None, refl}
+use Rattle.std.proofs.Common.{◌∙◌, ap, arith}
 use Rattle.vc_cell.specs.declared.Cell.{Cell}
 use Rattle.vc_cell.specs.declared.BackCell.TheVariants.{Packet as Nibbles, Lost}
 use Rattle.session_model.specs.Packet.{packet_nibbles}
@@ -22,29 +23,36 @@ use Rattle.terminal_law.proofs.ListLaws.{same-range}
 use Rattle.terminal_law.proofs.DealtLaws.{dealt-row}
 use Rattle.terminal_law.proofs.CellLaws.{has-packets, tells-row}
 
-pub row-told : (scenario : Scenario) (returns : List (Option Told)) (frames : ℕ) (cells : List (List Cell)) (t : ℕ) → HasLines scenario →
+pub row-told : (scenario : Scenario) (returns : List (Option Told)) (frames : ℕ) (cells : List (List Cell)) (t : ℕ) →
+    HasLines scenario →
     ComeOfLines scenario returns frames cells → t < scenario.ticks → AreDecidedAt cells t →
-    row_at scenario.size cells t ≡ (if is_whole_row scenario returns t then Some (payload_of scenario returns t) else None)
+    row_at scenario.size cells t ≡ (if is_whole_row scenario returns t then Some
+    (payload_of scenario returns t) else None)
 row-told scenario returns frames cells t lines come low decided =
     let sent = λ (line : ℕ). container_of scenario returns line t in
     row-whole scenario returns sent cells t lines.few (tells-row scenario returns lines frames cells come t low decided)
-    ∙ ap (λ octets. if is_whole_row scenario returns t then Some octets else None) (row-payload scenario returns sent t (dealt-row scenario returns t))
+    ∙ ap (λ octets. if is_whole_row scenario returns t then Some octets else None)
+    (row-payload scenario returns sent t (dealt-row scenario returns t))
 
 -- what comes of a return packet, by whether it is lost
-lost-or : (lost : Bool) (nibbles : List ℕ) (told : Told) → told_in (Nibbles nibbles) ≡ Some told → told_in (if lost then Lost else Nibbles nibbles) ≡ (if lost then None else Some told)
+lost-or : (lost : Bool) (nibbles : List ℕ) (told : Told) → told_in (Nibbles nibbles) ≡ Some told →
+    told_in (if lost then Lost else Nibbles nibbles) ≡ (if lost then None else Some told)
 lost-or true nibbles told is = refl
 lost-or false nibbles told is = is
 
-pub back-told : (scenario : Scenario) (returns : List (Option Told)) (frames : ℕ) (cells : List (List Cell)) (k : ℕ) → HasLines scenario →
+pub back-told : (scenario : Scenario) (returns : List (Option Told)) (frames : ℕ) (cells : List (List Cell)) (k : ℕ) →
+    HasLines scenario →
     ComeOfLines scenario returns frames cells → 16 * k + 23 < scenario.ticks → AreDecidedAt cells (16 * k + 23) →
     told_in (back_of scenario cells k) ≡ return_cell scenario returns k
 back-told scenario returns frames cells k lines come low decided =
     lost-or (is_lost scenario k) (packet_nibbles (return_at cells k)) (return_packet scenario returns k)
     (said-nibbles scenario returns cells k (has-packets scenario returns lines frames cells come k low decided))
 
-pub packet-told : (scenario : Scenario) (returns : List (Option Told)) (frames : ℕ) (cells : List (List Cell)) (k : ℕ) → HasLines scenario →
+pub packet-told : (scenario : Scenario) (returns : List (Option Told)) (frames : ℕ) (cells : List (List Cell)) (k : ℕ) →
+    HasLines scenario →
     ComeOfLines scenario returns frames cells → 16 * k + 23 < scenario.ticks → AreDecidedAt cells (16 * k + 23) →
     return_at cells k ≡ packet_by scenario returns k
 packet-told scenario returns frames cells k lines come low decided =
     let read = has-packets scenario returns lines frames cells come k low decided in
-    ap (λ rows. return_of rows k) (same-range (read_packets cells) (packets_of scenario returns) (k + 1) (λ j below. read j (omega arith)))
+    ap (λ rows. return_of rows k) (same-range (read_packets cells) (packets_of scenario returns) (k + 1)
+    (λ j below. read j (omega arith)))

@@ -1,5 +1,7 @@
 -- The containers that the source makes: their H4 octets say their numbers and its packets.
-use Rattle.std.proofs.Common.{◌≡◌, ℕ, suc, ◌+◌, ◌-◌, ◌*◌, ◌/◌, ◌%◌, ◌<◌, ◌≤◌, ◌==◌, nat_lt, true, false, if◌then◌else◌, inl, inr, List, [], ◌∷◌, map, filter, take, drop, length, slice_get, slice_index, Option, Some, option_map, refl, sym, ◌∙◌, ap, subst, arith, lit<}
+use Rattle.std.proofs.Common.{◌≡◌, ℕ, suc, ◌+◌, ◌-◌, ◌*◌, ◌/◌, ◌%◌, ◌<◌, ◌≤◌, ◌==◌, nat_lt, true, false, if◌then◌else◌}
+use Rattle.std.proofs.Common.{inl, inr, List, [], ◌∷◌, map, filter, take, drop, length, slice_get, slice_index, Option}
+use Rattle.std.proofs.Common.{Some, option_map, refl, sym, ◌∙◌, ap, subst, arith, lit<}
 use Rattle.std.specs.List.{range_with_len, list_any}
 use Rattle.std.proofs.lemmas.Bool.{cases_Bool, ltb-true, ltb-false}
 use Rattle.std.proofs.lemmas.List.{length-map, drop-map}
@@ -24,7 +26,9 @@ unfolding place_in
 place-sq [] sq line fits = lit< tt
 place-sq (member ∷ order) sq line fits =
     let rest = place-sq order (sq + 1) line (omega arith) in
-    elim (member.line == line) as (λ b. (if b then record { ctrl = ctrl_by member.standing (list_any is_normal order); sq = sq } else place_in order (sq + 1) line).sq < 256) [
+    elim (member.line == line) as (λ b.
+    (if b then record { ctrl = ctrl_by member.standing (list_any is_normal order); sq = sq } else place_in order
+    (sq + 1) line).sq < 256) [
       | true ↦ omega arith
       | false ↦ rest
     ]
@@ -33,7 +37,8 @@ normal-least : (order : List Member) → length (filter is_normal order) ≤ len
 normal-least [] = omega arith
 normal-least (member ∷ order) =
     let rest = normal-least order in
-    elim (is_normal member) as (λ b. length (if b then member ∷ filter is_normal order else filter is_normal order) ≤ suc (length order)) [
+    elim (is_normal member) as (λ b. length (if b then member ∷ filter is_normal order else filter is_normal order) ≤
+    suc (length order)) [
       | true ↦ omega arith
       | false ↦ omega arith
     ]
@@ -60,7 +65,8 @@ halved hi lo octet low e = (omega arith, omega arith)
 module _ (scenario : Scenario) (returns : List (Option Told)) (limit : length scenario.windows ≤ 128) (line : ℕ) where
   nibble-small : (k place : ℕ) → place < 16 → nibble_in scenario returns line k place < 16
   nibble-small k place low =
-      packet_nibbles_below (forward_packet (table_of scenario returns k) line k) (forward-packet scenario returns line k limit) place 0 low
+      packet_nibbles_below (forward_packet (table_of scenario returns k) line k)
+      (forward-packet scenario returns line k limit) place 0 low
 
   nibble-below : (t : ℕ) → nibble_at scenario returns line t < 16
   nibble-below t =
@@ -107,10 +113,13 @@ pub container-at : (scenario : Scenario) (returns : List (Option Told)) (line fr
     slice_get (containers_of scenario returns line frames) t ≡ Some (container_of scenario returns line t)
 container-at scenario returns line frames t low =
     slice_get-map (container_of scenario returns line) (range_with_len 0 frames) t
-    ∙ ap (option_map (container_of scenario returns line)) (range-at 0 frames t low ∙ ap Some (let e : 0 + t ≡ t = omega arith in e))
+    ∙ ap (option_map (container_of scenario returns line))
+    (range-at 0 frames t low ∙ ap Some (let e : 0 + t ≡ t = omega arith in e))
 
-pub containers-size : (scenario : Scenario) (returns : List (Option Told)) (line frames : ℕ) → length (containers_of scenario returns line frames) ≡ frames
-containers-size scenario returns line frames = length-map (range_with_len 0 frames) (container_of scenario returns line) ∙ length-range_with_len 0 frames
+pub containers-size : (scenario : Scenario) (returns : List (Option Told)) (line frames : ℕ) →
+    length (containers_of scenario returns line frames) ≡ frames
+containers-size scenario returns line frames = length-map (range_with_len 0 frames) (container_of scenario returns line)
+    ∙ length-range_with_len 0 frames
 
 pub are-sent : (scenario : Scenario) (returns : List (Option Told)) (line frames : ℕ) → length scenario.windows ≤ 128 →
     AreSent (containers_of scenario returns line frames)
@@ -123,23 +132,32 @@ are-sent scenario returns line frames limit n container here =
 
 -- ---- the nibbles of a packet
 -- a part of the containers
-containers-part : (scenario : Scenario) (returns : List (Option Told)) (line frames from count : ℕ) → from + count ≤ frames →
-    take count (drop from (containers_of scenario returns line frames)) ≡ map (container_of scenario returns line) (range_with_len from count)
+containers-part : (scenario : Scenario) (returns : List (Option Told)) (line frames from count : ℕ) →
+    from + count ≤ frames →
+    take count (drop from (containers_of scenario returns line frames)) ≡ map (container_of scenario returns line)
+    (range_with_len from count)
 containers-part scenario returns line frames from count fits =
     let f = container_of scenario returns line in
     let e : 0 + from ≡ from = omega arith in
-    ap (take count) (drop-map f from (range_with_len 0 frames) ∙ ap (map f) (drop-range 0 from frames ∙ ap (λ b. range_with_len b (frames - from)) e))
+    ap (take count) (drop-map f from (range_with_len 0 frames)
+    ∙ ap (map f) (drop-range 0 from frames ∙ ap (λ b. range_with_len b (frames - from)) e))
     ∙ take-map-range_with_len f from (frames - from) count (omega arith)
 
-pub packet-nibbles : (scenario : Scenario) (returns : List (Option Told)) (line frames k : ℕ) → length scenario.windows ≤ 128 → 16 * k + 23 < frames →
-    sent_nibbles (containers_of scenario returns line frames) k ≡ packet_nibbles (forward_packet (table_of scenario returns k) line k)
+pub packet-nibbles : (scenario : Scenario) (returns : List (Option Told)) (line frames k : ℕ) →
+    length scenario.windows ≤ 128 → 16 * k + 23 < frames →
+    sent_nibbles (containers_of scenario returns line frames) k ≡ packet_nibbles
+    (forward_packet (table_of scenario returns k) line k)
 packet-nibbles scenario returns line frames k limit inside =
     let nibbles : List ℕ = packet_nibbles (forward_packet (table_of scenario returns k) line k) in
-    ap (map (λ container. container.h4 / 16)) (containers-part scenario returns line frames (16 * k + 8) 16 (omega arith))
-    ∙ map-part (container_of scenario returns line) (λ container. container.h4 / 16) (slice_index nibbles) (16 * k + 8) 0 16 (λ i low. each i low)
-    ∙ sym (fill_by_all (slice_index nibbles) nibbles 16 0 (length-packet_nibbles (forward_packet (table_of scenario returns k) line k)) (λ i low. refl))
+    ap (map (λ container. container.h4 / 16))
+    (containers-part scenario returns line frames (16 * k + 8) 16 (omega arith))
+    ∙ map-part (container_of scenario returns line) (λ container. container.h4 / 16) (slice_index nibbles)
+    (16 * k + 8) 0 16 (λ i low. each i low)
+    ∙ sym (fill_by_all (slice_index nibbles) nibbles 16 0
+    (length-packet_nibbles (forward_packet (table_of scenario returns k) line k)) (λ i low. refl))
   where
-    each : (i : ℕ) → i < 16 → (container_of scenario returns line (16 * k + 8 + i)).h4 / 16 ≡ slice_index (packet_nibbles (forward_packet (table_of scenario returns k) line k)) (0 + i)
+    each : (i : ℕ) → i < 16 → (container_of scenario returns line (16 * k + 8 + i)).h4 / 16 ≡ slice_index
+        (packet_nibbles (forward_packet (table_of scenario returns k) line k)) (0 + i)
     each i low =
         let t : ℕ = 16 * k + 8 + i in
         let nibble : ℕ = nibble_at scenario returns line t in

@@ -19,7 +19,8 @@ use Rattle.terminal_law.specs.Lines.{ComeOfLines}
 abbrev pub back_of : Scenario → List (List Cell) → ℕ → BackCell
 back_of scenario cells k = if is_lost scenario k then Lost else Nibbles (packet_nibbles (return_at cells k))
 
--- the return packet that the session makes, where the source was told these return cells: of the packets that can be read
+-- the return packet that the session makes, where the source was told these return cells: of the packets that can be
+-- read
 abbrev pub packet_by : Scenario → List (Option Told) → ℕ → Packet
 packet_by scenario returns k = return_of (map (packets_of scenario returns) (range_with_len 0 (k + 1))) k
 
@@ -27,8 +28,10 @@ packet_by scenario returns k = return_of (map (packets_of scenario returns) (ran
 abbrev pub told_of : Scenario → List (List Cell) → ℕ → List (Option Told)
 told_of scenario cells n = map (λ k. told_in (back_of scenario cells k)) (range_with_len 0 n)
 
--- so many frames were made, and for each decision step among them its return cell had come; of the lines these cells came, of the
--- containers that the source makes by these first return cells; and each of those is what the sink says by the cells, which decide
+-- so many frames were made, and for each decision step among them its return cell had come; of the lines these cells
+-- came, of the
+-- containers that the source makes by these first return cells; and each of those is what the sink says by the cells,
+-- which decide
 -- the row that ends its packet
 pub record IsCourse (scenario : Scenario) (frames n : ℕ) (cells : List (List Cell)) : Type 0 where
   pub most : n ≤ packets scenario

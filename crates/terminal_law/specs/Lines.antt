@@ -13,14 +13,17 @@ pub record HasLines (scenario : Scenario) : Type 0 where
   pub apart : All (AreWindows 0) scenario.windows
   pub slip : All (λ own. slip_of own < 4096) scenario.windows
 
--- the cells that a line gives in some carries after a delay, of the containers of these frames, where the source was told these
+-- the cells that a line gives in some carries after a delay, of the containers of these frames, where the source was
+-- told these
 -- return cells
 abbrev pub given : Scenario → List (Option Told) → ℕ → ℕ → ℕ → ℕ → List Cell
 given scenario returns line frames delay carries =
     cells (carried_by scenario line) delay scenario.ticks (containers_of scenario returns line frames) carries
 
--- cells that have come of a line: the first ones of those that it gives. Each of its carries but the last ones took a container
-pub record ComesOfLine (scenario : Scenario) (returns : List (Option Told)) (line frames : ℕ) (own : List Cell) : Type 0 where
+-- cells that have come of a line: the first ones of those that it gives. Each of its carries but the last ones took a
+-- container
+pub record ComesOfLine (scenario : Scenario) (returns : List (Option Told)) (line frames : ℕ)
+    (own : List Cell) : Type 0 where
   pub delay : ℕ
   pub carries : ℕ
   pub later : List Cell
@@ -28,7 +31,9 @@ pub record ComesOfLine (scenario : Scenario) (returns : List (Option Told)) (lin
   pub first : given scenario returns line frames delay carries ≡ own ++ later
 
 -- cells have come of each line of a session, in which this many frames were made
-pub record ComeOfLines (scenario : Scenario) (returns : List (Option Told)) (frames : ℕ) (cells : List (List Cell)) : Type 0 where
+pub record ComeOfLines (scenario : Scenario) (returns : List (Option Told)) (frames : ℕ)
+    (cells : List (List Cell)) : Type 0 where
   pub made : frames ≤ scenario.ticks
   pub lines : length cells ≡ length scenario.windows
-  pub each : (line : ℕ) (own : List Cell) → slice_get cells line ≡ Some own → ComesOfLine scenario returns line frames own
+  pub each : (line : ℕ) (own : List Cell) → slice_get cells line ≡ Some own →
+      ComesOfLine scenario returns line frames own

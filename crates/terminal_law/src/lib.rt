@@ -1,10 +1,12 @@
-//! The laws that join the two terminals of a session: the source makes containers by the return cells that it was told, the lines
-//! give cells of those, and the sink makes rows and return packets of these cells. There is no code here, and no ring or order of
-//! events. Begin at `course_law`: whatever the sink says so far, and the source was told of it, is what the session says. `sent_law`,
-//! `cells_law` and `rows_law` are what it stands on, each for any return cells.
+//! The laws that join the two terminals of a session: the source makes containers by the return cells that it
+//! was told, the lines give cells of those, and the sink makes rows and return packets of these cells. There
+//! is no code here, and no ring or order of events. Begin at `course_law`: whatever the sink says so far, and
+//! the source was told of it, is what the session says. `sent_law`, `cells_law` and `rows_law` are what it
+//! stands on, each for any return cells.
 #![tactic(auto)]
 
-ghost use Rattle.std.specs.Prelude.{◌≡◌, ℕ, suc, ◌+◌, ◌-◌, ◌*◌, ◌/◌, ◌<◌, ◌≤◌, min, if◌then◌else◌, All, [], ◌∷◌, ◌++◌, List, length, take, replicate, Option, Some, None};
+ghost use Rattle.std.specs.Prelude.{◌≡◌, ℕ, suc, ◌+◌, ◌-◌, ◌*◌, ◌/◌, ◌<◌, ◌≤◌, min, if◌then◌else◌, All, [], ◌∷◌, ◌++◌};
+ghost use Rattle.std.specs.Prelude.{List, length, take, replicate, Option, Some, None};
 ghost use Rattle.vc_cell.specs.declared.Cell.{Cell};
 ghost use Rattle.session_model.specs.Scenario.{Scenario, packets, steps_in};
 ghost use Rattle.session_model.specs.Table.{Told};
@@ -24,12 +26,14 @@ ghost use Rattle.session_law.specs.Session.{AgreeBefore};
 ghost use Rattle.row_law.specs.Received.{HasPackets, TellsRow, IsDealtRow};
 ghost use Rattle.terminal_law.specs.Lines.{HasLines, given, ComesOfLine, ComeOfLines};
 ghost use Rattle.terminal_law.specs.Course.{back_of, packet_by, told_of, IsCourse};
-ghost use Rattle.terminal_law.specs.Worked.{two_lines, h4_from, no_packet, first_added, first_in_use, second_added, first_told, first_cells, dealt};
+ghost use Rattle.terminal_law.specs.Worked.{two_lines, h4_from, no_packet, first_added, first_in_use, second_added};
+ghost use Rattle.terminal_law.specs.Worked.{first_told, first_cells, dealt};
 ghost use Rattle.session_model.specs.Limits.{vc4_size};
 
-/// The containers that the source makes, whatever it was told. Their H4 octets say their numbers, and the nibbles of each packet
-/// stand in them in their order; their payload is that of a VC-4 in length, in octets, and the lines that carry payload are dealt the octets of
-/// the client's stream. Return cells change no container of a frame before the decision steps that take them.
+/// The containers that the source makes, whatever it was told. Their H4 octets say their numbers, and the
+/// nibbles of each packet stand in them in their order; their payload is that of a VC-4 in length, in octets,
+/// and the lines that carry payload are dealt the octets of the client's stream. Return cells change no
+/// container of a frame before the decision steps that take them.
 pub fn sent_law()
     ensures places { (scenario : Scenario) (returns : List (Option Told)) (line frames : ℕ) →
         length scenario.windows ≤ 128 → AreSent (containers_of scenario returns line frames) }
@@ -51,9 +55,9 @@ pub fn sent_law()
         container_of scenario a line t ≡ container_of scenario b line t }
 {}
 
-/// What has come of the lines, whatever the source was told: any first cells that they give of the containers made so far, which are
-/// those that they give of all containers. A number that is decided on each line tells its containers where they are good, and the
-/// packets that can be read are those that were sent.
+/// What has come of the lines, whatever the source was told: any first cells that they give of the containers
+/// made so far, which are those that they give of all containers. A number that is decided on each line tells
+/// its containers where they are good, and the packets that can be read are those that were sent.
 pub fn cells_law()
     ensures made { (scenario : Scenario) (returns : List (Option Told))
         (line frames delay carries : ℕ) → frames ≤ scenario.ticks →
@@ -74,9 +78,9 @@ pub fn cells_law()
         TellsRow scenario returns (λ line. container_of scenario returns line t) cells t }
 {}
 
-/// What the sink makes of it. A row that is decided on each line is whole exactly where the source's table and the failures make it
-/// so, and then it gives the octets of the client's stream that its frame carries. What comes of a return packet tells the source
-/// what the definition of a session says, or is lost.
+/// What the sink makes of it. A row that is decided on each line is whole exactly where the source's table
+/// and the failures make it so, and then it gives the octets of the client's stream that its frame carries.
+/// What comes of a return packet tells the source what the definition of a session says, or is lost.
 pub fn rows_law()
     ensures rows { (scenario : Scenario) (returns : List (Option Told)) (frames t : ℕ)
         (cells : List (List Cell)) → HasLines scenario → ComeOfLines scenario returns frames cells →
@@ -93,9 +97,9 @@ pub fn rows_law()
         return_at cells k ≡ packet_by scenario returns k }
 {}
 
-/// Packets give tables, tables give rows, and rows give packets: where the source was told just what the sink says by the cells that
-/// came of the source's own containers, that is the return cells of the session. So each container made is the session's, and so is
-/// each row and each return packet that the cells decide.
+/// Packets give tables, tables give rows, and rows give packets: where the source was told just what the sink
+/// says by the cells that came of the source's own containers, that is the return cells of the session. So
+/// each container made is the session's, and so is each row and each return packet that the cells decide.
 pub fn course_law()
     ensures returns { (scenario : Scenario) (frames n : ℕ) (cells : List (List Cell)) →
         HasLines scenario → 0 < scenario.lag → IsCourse scenario frames n cells →
@@ -122,8 +126,9 @@ pub fn course_law()
         return_at cells k ≡ packet_by scenario (session_cells scenario) k }
 {}
 
-/// A course begins with nothing, and each event keeps it: a frame is made, for whose decision step the return cell has come; more
-/// cells come of the containers made so far; the next return cell comes, once the row that ends its packet is decided.
+/// A course begins with nothing, and each event keeps it: a frame is made, for whose decision step the return
+/// cell has come; more cells come of the containers made so far; the next return cell comes, once the row
+/// that ends its packet is decided.
 pub fn keep_law()
     ensures opens { (scenario : Scenario) →
         IsCourse scenario 0 0 (replicate (length scenario.windows) []) }
@@ -138,8 +143,9 @@ pub fn keep_law()
         IsCourse scenario frames n cells → IsCourse scenario frames (suc n) cells }
 {}
 
-/// By the session's own return cells, event by event: a frame that is made by those that have come is the session's, and so are the
-/// source's table and the client's stream; and what the sink says next is the session's next return cell.
+/// By the session's own return cells, event by event: a frame that is made by those that have come is the
+/// session's, and so are the source's table and the client's stream; and what the sink says next is the
+/// session's next return cell.
 pub fn loop_law()
     ensures frames { (scenario : Scenario) (n frames t : ℕ) → n ≤ packets scenario →
         steps_in frames ≤ n + scenario.lag → t < frames →
@@ -159,7 +165,8 @@ pub fn loop_law()
         ≡ cells_before scenario k ++ told_in (back_of scenario cells k) ∷ [] }
 {}
 
-/// A worked session that meets what is asked, computed: H4 octets, what the sink tells of the first cells, and a row that is dealt.
+/// A worked session that meets what is asked, computed: H4 octets, what the sink tells of the first cells,
+/// and a row that is dealt.
 pub fn worked_law()
     ensures met { HasLines two_lines }
     ensures zeros { h4_from 0 0 8 ≡ no_packet }

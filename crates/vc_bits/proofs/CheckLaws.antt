@@ -31,6 +31,7 @@ crc8_of_below nibbles =
     subst (λ n. number rest < 2 ^ n) (length-crc8_rest nibbles) (number_below rest)
 
 -- a number below 256 that has the remainder's bits is the check
-pub crc8_of_from_bits : (nibbles : List ℕ) (n : ℕ) → n < 256 → bits 8 n ≡ remainder crc8_lower (nibble_bits nibbles) → n ≡ crc8_of nibbles
+pub crc8_of_from_bits : (nibbles : List ℕ) (n : ℕ) → n < 256 → bits 8 n ≡ remainder crc8_lower (nibble_bits nibbles) →
+    n ≡ crc8_of nibbles
 unfolding crc8_of
 crc8_of_from_bits nibbles n small same = sym (mod-eq_of_lt small) ∙ sym (number-bits 8 n) ∙ ap number same

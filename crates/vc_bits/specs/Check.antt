@@ -1,4 +1,5 @@
--- The CRC-8 of a control packet (G.7042): the remainder by x^8 + x^2 + x + 1 over nibbles. That it begins with zeros and that its
+-- The CRC-8 of a control packet (G.7042): the remainder by x^8 + x^2 + x + 1 over nibbles. That it begins with zeros
+-- and that its
 -- nibbles go most significant bit first is this project's own choice.
 use Rattle.std.specs.Prelude.{ℕ, Bool, List}
 use Rattle.remainder.specs.Bits.{bits, number}

@@ -1,4 +1,5 @@
--- G.707, multiframe alignment of virtual concatenation, over the H4 octets of the cells of a line: an entry is the H4 octet
+-- G.707, multiframe alignment of virtual concatenation, over the H4 octets of the cells of a line: an entry is the H4
+-- octet
 -- of a good cell, or none. The lower half of H4 is MFI1, which counts the frames modulo 16.
 use Rattle.std.specs.Prelude.{◌≡◌, ℕ, ◌+◌, ◌-◌, ◌*◌, ◌/◌, ◌%◌, ◌<◌, ◌≤◌, List, Option, Some, slice_get}
 
@@ -33,7 +34,8 @@ Locks cells place = (from : ℕ) × IsFirstStep cells from place × (from + 1 �
 abbrev pub IsAt : List (Option ℕ) → ℕ → Type 0
 IsAt cells place = (from : ℕ) × IsFirstStep cells from place × (from + 1 < place)
 
--- the frame number of a cell in step, modulo 4096: MFI2 was read where the line locked, and each cell since is one frame
+-- the frame number of a cell in step, modulo 4096: MFI2 was read where the line locked, and each cell since is one
+-- frame
 abbrev pub HasNumber : List (Option ℕ) → ℕ → ℕ → Type 0
 HasNumber cells place number = (from : ℕ) × (mfi2 : ℕ) × IsFirstStep cells from place × HasMfi2 cells from mfi2
     × (number ≡ (16 * mfi2 + (place - from)) % 4096)

@@ -1,5 +1,6 @@
-//! Halves of octets, and the check of a control packet over them; begin with `crc8`. The crate also holds the words for the lock of a
-//! line on the multiframe (G.707), which h4_multiframe meets: no code of this crate keeps one.
+//! Halves of octets, and the check of a control packet over them; begin with `crc8`. The crate also holds the
+//! words for the lock of a line on the multiframe (G.707), which h4_multiframe meets: no code of this crate
+//! keeps one.
 #![tactic(auto)]
 
 ghost use Rattle.std.specs.Prelude.{◌≡◌, ℕ, ◌+◌, ◌*◌, ◌/◌, ◌%◌, ◌<◌, Bool, List, All};

@@ -15,7 +15,8 @@ ctrl_of-code_of Idle = refl
 ctrl_of-code_of Dnu = refl
 
 -- the word that is computed has the code
-by_test : (code n : ℕ) (word ctrl : Ctrl) (others : Option Ctrl) → code_of word ≡ n → (others ≡ Some ctrl → code_of ctrl ≡ code) →
+by_test : (code n : ℕ) (word ctrl : Ctrl) (others : Option Ctrl) → code_of word ≡ n →
+    (others ≡ Some ctrl → code_of ctrl ≡ code) →
     (if code == n then Some word else others) ≡ Some ctrl → code_of ctrl ≡ code
 by_test code n word ctrl others own further e =
     elim (cases_eq code n) [
@@ -34,7 +35,8 @@ ctrl_of-some code ctrl e =
     by_test code 0 Fixed ctrl add refl
     (by_test code 1 Add ctrl norm refl
     (by_test code 2 Norm ctrl eos refl
-    (by_test code 3 Eos ctrl idle refl (by_test code 5 Idle ctrl dnu refl (by_test code 15 Dnu ctrl None refl none))))) e
+    (by_test code 3 Eos ctrl idle refl (by_test code 5 Idle ctrl dnu refl (by_test code 15 Dnu ctrl None refl none)))))
+    e
 
 -- a code has four bits
 pub code_of_below : (ctrl : Ctrl) → code_of ctrl < 16

@@ -7,8 +7,8 @@ ghost use Rattle.vc_cell.specs.Lending.{LendsContainer};
 use crate::{Container, PAYLOAD};
 use std::marker::Model;
 
-/// A container in a place of its own. It is known whether its payload was written since it was last blank, so that blanking it again costs
-/// nothing.
+/// A container in a place of its own. It is known whether its payload was written since it was last blank, so
+/// that blanking it again costs nothing.
 #[derive(Drop)]
 pub struct HeldContainer {
     container: Container,

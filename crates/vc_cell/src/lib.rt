@@ -1,5 +1,6 @@
-//! What a line carries: containers and cells (G.707), and the control words of LCAS with their codes (G.7042). Begin with `Cell` and
-//! `Ctrl`; `HeldContainer` is a place for a container. What containers hold, and what comes of them on a line, is not said here.
+//! What a line carries: containers and cells (G.707), and the control words of LCAS with their codes
+//! (G.7042). Begin with `Cell` and `Ctrl`; `HeldContainer` is a place for a container. What containers hold,
+//! and what comes of them on a line, is not said here.
 #![tactic(auto)]
 
 mod held;
@@ -12,8 +13,8 @@ pub use held::HeldContainer;
 /// The payload octets of a VC-4 of one frame.
 pub const PAYLOAD: usize = 2340;
 
-/// A container of one frame. It has room for the payload of a VC-4 whatever its size; a VC-3 has 756 octets of it, and the others
-/// are 0.
+/// A container of one frame. It has room for the payload of a VC-4 whatever its size; a VC-3 has 756 octets
+/// of it, and the others are 0.
 #[derive(Clone, Copy, Debug, PartialEq, Eq)]
 pub struct Container {
     /// The multiframe octet of the path: a nibble of the control packet in its upper half, and MFI1 in its lower half.

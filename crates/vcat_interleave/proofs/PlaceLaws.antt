@@ -1,7 +1,9 @@
 -- Octets that are put at a place, and the places of squares in a row.
-use Rattle.std.proofs.Common.{◌≡◌, ℕ, ◌+◌, ◌-◌, ◌*◌, ◌<◌, ◌≤◌, ◌⊎◌, inl, inr, min, List, ◌++◌, length, take, drop, slice_index, refl, sym, ap, ◌∙◌, arith, length-take}
+use Rattle.std.proofs.Common.{◌≡◌, ℕ, ◌+◌, ◌-◌, ◌*◌, ◌<◌, ◌≤◌, ◌⊎◌, inl, inr, min, List, ◌++◌, length, take, drop}
+use Rattle.std.proofs.Common.{slice_index, refl, sym, ap, ◌∙◌, arith, length-take}
 use Rattle.std.proofs.Math.Seq.{take-append-add}
-use Rattle.std.proofs.lemmas.List.{length-take-le, take-append-le, get_or_append_left, get_or-append_right, get_or-take, get_or-drop}
+use Rattle.std.proofs.lemmas.List.{length-take-le, take-append-le, get_or_append_left, get_or-append_right, get_or-take}
+use Rattle.std.proofs.lemmas.List.{get_or-drop}
 use Rattle.std.proofs.lemmas.Bool.{cases_order}
 use Rattle.std.proofs.lemmas.Nat.{mul-le}
 
@@ -9,21 +11,27 @@ use Rattle.std.proofs.lemmas.Nat.{mul-le}
 abbrev pub put_at : ℕ → List ℕ → List ℕ → List ℕ
 put_at at row out = take at out ++ (row ++ drop (at + length row) out)
 
-pub put-placed : (at i : ℕ) (out row : List ℕ) → at + length row ≤ length out → i < length row → slice_index (put_at at row out) (at + i) ≡ slice_index row i
+pub put-placed : (at i : ℕ) (out row : List ℕ) → at + length row ≤ length out → i < length row →
+    slice_index (put_at at row out) (at + i) ≡ slice_index row i
 put-placed at i out row fits h =
-    let front : length (take at out) ≡ at = length-take at out ∙ (let e : min at (length out) ≡ at = omega arith in e) in
+    let front : length (take at out) ≡ at = length-take at out
+    ∙ (let e : min at (length out) ≡ at = omega arith in e) in
     get_or-append_right (take at out) (row ++ drop (at + length row) out) at (at + i) 0 front (omega arith)
     ∙ ap (slice_index (row ++ drop (at + length row) out)) (let e : at + i - at ≡ i = omega arith in e)
     ∙ get_or_append_left row (drop (at + length row) out) 0 i h
 
-pub put-before : (at n : ℕ) (out row : List ℕ) → at + length row ≤ length out → n < at → slice_index (put_at at row out) n ≡ slice_index out n
+pub put-before : (at n : ℕ) (out row : List ℕ) → at + length row ≤ length out → n < at →
+    slice_index (put_at at row out) n ≡ slice_index out n
 put-before at n out row fits h =
-    let front : length (take at out) ≡ at = length-take at out ∙ (let e : min at (length out) ≡ at = omega arith in e) in
+    let front : length (take at out) ≡ at = length-take at out
+    ∙ (let e : min at (length out) ≡ at = omega arith in e) in
     get_or_append_left (take at out) (row ++ drop (at + length row) out) 0 n (omega arith) ∙ get_or-take at out n 0 h
 
-pub put-after : (at n : ℕ) (out row : List ℕ) → at + length row ≤ length out → at + length row ≤ n → slice_index (put_at at row out) n ≡ slice_index out n
+pub put-after : (at n : ℕ) (out row : List ℕ) → at + length row ≤ length out → at + length row ≤ n →
+    slice_index (put_at at row out) n ≡ slice_index out n
 put-after at n out row fits h =
-    let front : length (take at out) ≡ at = length-take at out ∙ (let e : min at (length out) ≡ at = omega arith in e) in
+    let front : length (take at out) ≡ at = length-take at out
+    ∙ (let e : min at (length out) ≡ at = omega arith in e) in
     let rest : List ℕ = drop (at + length row) out in
     get_or-append_right (take at out) (row ++ rest) at n 0 front (omega arith)
     ∙ get_or-append_right row rest (length row) (n - at) 0 refl (omega arith)
@@ -32,7 +40,8 @@ put-after at n out row fits h =
 
 -- a later place begins after all ranks of an earlier one
 pub later : (j k x : ℕ) → j < k → j * x + x ≤ k * x
-later j k x h = (let e : j * x + x ≡ (j + 1) * x = omega arith in rw e (mul-le (j + 1) x k x (omega arith) (omega arith)))
+later j k x h = (let e : j * x + x ≡ (j + 1) * x =
+    omega arith in rw e (mul-le (j + 1) x k x (omega arith) (omega arith)))
 
 pub earlier : (j k x rank i : ℕ) → j < k → rank + 16 ≤ x → i < 16 → j * x + (rank + i) < k * x + rank
 earlier j k x rank i h fits small = omega (arith, later j k x h)
@@ -65,7 +74,8 @@ done-within done squares k x is more =
     omega (arith, mul-le ((k + 1) * 16) x (squares * 16) x most (omega arith), ap (λ n. n * x) is)
 
 -- what stands in the front of a row and in the front of what is put behind it
-pub take-behind : (a m : ℕ) (row octets rest : List ℕ) → a ≤ length row → m ≤ length octets → take (a + m) (take a row ++ (octets ++ rest)) ≡ take a row ++ take m octets
+pub take-behind : (a m : ℕ) (row octets rest : List ℕ) → a ≤ length row → m ≤ length octets →
+    take (a + m) (take a row ++ (octets ++ rest)) ≡ take a row ++ take m octets
 take-behind a m row octets rest within fits =
     ap (λ n. take (n + m) (take a row ++ (octets ++ rest))) (sym (length-take-le a row within))
     ∙ take-append-add (take a row) (octets ++ rest) m

@@ -12,4 +12,5 @@ pub record Gathers (rank x places : ℕ) (part before after : List ℕ) : Type 0
 unfoldable pub GathersAll : ℕ → ℕ → List ℕ → List ℕ → List ℕ → List ℕ → Type 0
 GathersAll x places row [] before after = before ≡ after
 GathersAll x places row (rank ∷ ranks) before after =
-    (between : List ℕ) × Gathers rank x places (part_of rank x places row) before between × GathersAll x places row ranks between after
+    (between : List ℕ) × Gathers rank x places (part_of rank x places row) before between ×
+    GathersAll x places row ranks between after

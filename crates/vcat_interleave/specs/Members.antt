@@ -1,5 +1,6 @@
 -- The payloads of the members of a group, where the lines hold one container each.
-use Rattle.std.specs.Prelude.{ℕ, ◌+◌, ◌<◌, List, [], ◌++◌, map, length, take, drop, slice_get, slice_index, Option, Some, None}
+use Rattle.std.specs.Prelude.{ℕ, ◌+◌, ◌<◌, List, [], ◌++◌, map, length, take, drop, slice_get, slice_index, Option}
+use Rattle.std.specs.Prelude.{Some, None}
 use Rattle.vc_cell.specs.declared.Container.{Container}
 
 abbrev pub payload_or : Option Container → List ℕ

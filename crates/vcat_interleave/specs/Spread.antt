@@ -4,10 +4,12 @@ use Rattle.vc_cell.specs.declared.Container.{Container}
 use Rattle.session_model.specs.Interleave.{part_of}
 use Rattle.vcat_interleave.specs.Members.{with_octets}
 
--- a row is spread over the members of the ranks from one on and below another: each of them has its part at these places, and nothing
+-- a row is spread over the members of the ranks from one on and below another: each of them has its part at these
+-- places, and nothing
 -- else has changed
 pub record SpreadsOver (from upto place places : ℕ) (row active : List ℕ) (before after : List Container) : Type 0 where
-  pub members : (rank : ℕ) (d : Container) → from ≤ rank → rank < upto → slice_index_or after (slice_index active rank) d
+  pub members : (rank : ℕ) (d : Container) → from ≤ rank → rank < upto →
+      slice_index_or after (slice_index active rank) d
       ≡ with_octets place (part_of rank (length active) places row) (slice_index_or before (slice_index active rank) d)
   pub others : (line : ℕ) (d : Container) → ((rank : ℕ) → from ≤ rank → rank < upto → slice_index active rank ≢ line) →
       slice_index_or after line d ≡ slice_index_or before line d
@@ -19,4 +21,5 @@ Spreads place places row active before after = SpreadsOver 0 (length active) pla
 
 -- no line is in it twice
 abbrev pub AreDistinct : List ℕ → Type 0
-AreDistinct active = (rank other : ℕ) → rank < other → other < length active → slice_index active rank ≢ slice_index active other
+AreDistinct active = (rank other : ℕ) → rank < other → other < length active →
+    slice_index active rank ≢ slice_index active other

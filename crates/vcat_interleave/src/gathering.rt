@@ -1,5 +1,6 @@
 //! The members of a group are gathered into a row.
-ghost use Rattle.std.specs.Prelude.{◌≡◌, ◌≢◌, ℕ, [], ◌+◌, ◌*◌, ◌%◌, ◌<◌, ◌≤◌, ◌⊎◌, length, take, slice_index, slice_index_or};
+ghost use Rattle.std.specs.Prelude.{◌≡◌, ◌≢◌, ℕ, [], ◌+◌, ◌*◌, ◌%◌, ◌<◌, ◌≤◌, ◌⊎◌, length, take, slice_index};
+ghost use Rattle.std.specs.Prelude.{slice_index_or};
 ghost use Rattle.vc_cell.specs.Held.{held};
 ghost use Rattle.session_model.specs.Interleave.{octets_from};
 ghost use Rattle.vcat_interleave.specs.Square.{octet_at};
@@ -11,8 +12,8 @@ use crate::square::{SIDE, octets_of, put_octets, squares_of, squares_over, turne
 use std::simd::prelude::*;
 use vc_cell::{HeldContainer, PAYLOAD};
 
-/// Writes the octets of the member of a rank to the places of its rank in a row, for `size` places. All other places of the row
-/// stay as they were.
+/// Writes the octets of the member of a rank to the places of its rank in a row, for `size` places. All other
+/// places of the row stay as they were.
 pub fn gather(part: &[u8; PAYLOAD], rank: usize, x: usize, size: usize, out: &mut [u8])
     requires rank { rank < x }
     requires size { size ≤ vc4_size }
@@ -24,8 +25,8 @@ pub fn gather(part: &[u8; PAYLOAD], rank: usize, x: usize, size: usize, out: &mu
     put_rank(&part[..size], rank, x, out);
 }
 
-/// Writes the row of all members at `places` places from `place` on. `active` has the lines that carry payload, by rank, and
-/// `containers` has the container of each line, each in a box.
+/// Writes the row of all members at `places` places from `place` on. `active` has the lines that carry
+/// payload, by rank, and `containers` has the container of each line, each in a box.
 pub fn gather_places(
     containers: &[Box<HeldContainer>],
     active: &[u8],
@@ -205,7 +206,8 @@ fn gather_some(
     gather_ranks(containers, active, place + done, places - done, back);
 }
 
-// How many squares of places are gathered where fewer ranks than a square has are there: none that reaches behind the end of the row.
+// How many squares of places are gathered where fewer ranks than a square has are there: none that reaches
+// behind the end of the row.
 fn squares_below(x: usize, len: usize) -> usize
     ensures within { (places : ℕ) → len ≡ places * x → result * 16 ≤ places }
     ensures few { 0 < result → x ≤ 16 }
@@ -251,7 +253,8 @@ fn gather_square(containers: &[Box<HeldContainer>], active: &[u8], place: usize,
     put_places(&turned(rows_of(containers, active, 0, x, place)), x, out);
 }
 
-// Puts the octets of up to sixteen members at sixteen places, one place after another: what is put behind a place is put over.
+// Puts the octets of up to sixteen members at sixteen places, one place after another: what is put behind a
+// place is put over.
 #[inline]
 fn put_places(rows: &[u8x16; 16], x: usize, out: &mut [u8])
     requires few { x ≤ 16 }

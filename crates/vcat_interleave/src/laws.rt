@@ -1,10 +1,12 @@
 //! What the definitions of rows and parts mean, and that gathering undoes spreading.
-ghost use Rattle.std.specs.Prelude.{◌≡◌, ℕ, ◌+◌, ◌*◌, ◌/◌, ◌%◌, ◌<◌, ◌≤◌, List, [], ◌++◌, length, take, slice_index, slice_index_or, Contains, All};
+ghost use Rattle.std.specs.Prelude.{◌≡◌, ℕ, ◌+◌, ◌*◌, ◌/◌, ◌%◌, ◌<◌, ◌≤◌, List, [], ◌++◌, length, take, slice_index};
+ghost use Rattle.std.specs.Prelude.{slice_index_or, Contains, All};
 ghost use Rattle.session_model.specs.Interleave.{part_of, parts_of, octets_from, row_of};
 ghost use Rattle.vcat_interleave.specs.Gathered.{GathersAll};
 
-/// Octet `i` of a row goes to the member of rank `i mod x`, place `i div x`. The row of the parts of a row is that row, and the
-/// parts of the row of some members are what these carry. A row goes on where a piece of it ends.
+/// Octet `i` of a row goes to the member of rank `i mod x`, place `i div x`. The row of the parts of a row is
+/// that row, and the parts of the row of some members are what these carry. A row goes on where a piece of it
+/// ends.
 pub fn interleave_law()
     ensures dealt { (x places i : ℕ) (row : List ℕ) → i < places * x →
         slice_index (part_of (i % x) x places row) (i / x) ≡ slice_index row i }

@@ -1,5 +1,6 @@
 //! A row is spread over the members of a group.
-ghost use Rattle.std.specs.Prelude.{◌≡◌, ◌≢◌, ℕ, ◌+◌, ◌-◌, ◌*◌, ◌/◌, ◌<◌, ◌≤◌, List, ◌++◌, length, take, drop, replicate, slice_index, slice_index_or, slice_set};
+ghost use Rattle.std.specs.Prelude.{◌≡◌, ◌≢◌, ℕ, ◌+◌, ◌-◌, ◌*◌, ◌/◌, ◌<◌, ◌≤◌, List, ◌++◌, length, take, drop};
+ghost use Rattle.std.specs.Prelude.{replicate, slice_index, slice_index_or, slice_set};
 ghost use Rattle.vc_cell.specs.declared.Container.{Container};
 ghost use Rattle.session_model.specs.Interleave.{part_of};
 ghost use Rattle.vcat_interleave.specs.Square.{octet_at, overhang};
@@ -13,7 +14,8 @@ use crate::square::{SIDE, octets_of, put_octets, squares_over, turned};
 use std::simd::prelude::*;
 use vc_cell::{HeldContainer, PAYLOAD};
 
-/// Writes the octets of a row that the member of a rank carries at `size` places, and zeros at the places from there on.
+/// Writes the octets of a row that the member of a rank carries at `size` places, and zeros at the places
+/// from there on.
 pub fn spread(bytes: &[u8], rank: usize, x: usize, size: usize, out: &mut [u8; PAYLOAD])
     requires rank { rank < x }
     requires size { size ≤ vc4_size }
@@ -25,8 +27,9 @@ pub fn spread(bytes: &[u8], rank: usize, x: usize, size: usize, out: &mut [u8; P
     rest.fill(0);
 }
 
-/// Writes a row of `places` places to the payloads of all members, from `place` on. `active` has the lines that carry payload,
-/// by rank, and `containers` has the container of each line. Other places, other lines and H4 stay as they were.
+/// Writes a row of `places` places to the payloads of all members, from `place` on. `active` has the lines
+/// that carry payload, by rank, and `containers` has the container of each line. Other places, other lines
+/// and H4 stay as they were.
 pub fn spread_places(
     row: &[u8],
     active: &[u8],
@@ -55,7 +58,8 @@ pub fn spread_places(
     spread_each(back, active, place + done, places - done, containers);
 }
 
-// Spreads a row at a number of places that sixteen divides. No more than sixteen payloads are written at once: caches follow these.
+// Spreads a row at a number of places that sixteen divides. No more than sixteen payloads are written at
+// once: caches follow these.
 fn spread_squares(
     row: &[u8],
     active: &[u8],

@@ -75,7 +75,8 @@ pub(crate) fn squares_of(x: usize, places: usize) -> usize
     if x < SIDE { 0 } else { places / SIDE }
 }
 
-// How many squares of places are done in a row: none of one member, whose row is copied, and none that reaches behind its end.
+// How many squares of places are done in a row: none of one member, whose row is copied, and none that
+// reaches behind its end.
 pub(crate) fn squares_over(x: usize, len: usize) -> usize
     ensures within { (places : ℕ) → len ≡ places * x → result * 16 ≤ places }
     ensures room { 0 < result → result * 16 * x + overhang x ≤ len }

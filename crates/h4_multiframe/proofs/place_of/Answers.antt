@@ -16,11 +16,13 @@ returns-then-mfi1-eq1 c cells stands =
     let h4 = c.args.h4 in
     let number : 16 * (16 * (octet / 16) + h4 / 16) + 1 ≡ 16 * c.from.result + 1 = omega arith in
     subst (λ n. IsPlace (cells ++ Some h4 ∷ []) (length cells) (Locks n)) number
-    (locks_place cells octet h4 (omega arith) (omega arith) (omega arith) (subst (λ state. Stands state cells) c.in-Begun.is stands))
+    (locks_place cells octet h4 (omega arith) (omega arith) (omega arith)
+    (subst (λ state. Stands state cells) c.in-Begun.is stands))
 
 pub returns-else-mfi1-eq1 : goal.returns-else-mfi1-eq1
 returns-else-mfi1-eq1 c cells stands =
-    begun_unknown cells c.in-Begun.octet c.args.h4 (omega arith) (subst (λ state. Stands state cells) c.in-Begun.is stands)
+    begun_unknown cells c.in-Begun.octet c.args.h4 (omega arith)
+    (subst (λ state. Stands state cells) c.in-Begun.is stands)
 
 pub returns-then-from-next : goal.returns-then-from-next
 returns-then-from-next c cells stands =
@@ -32,4 +34,5 @@ returns-then-from-next c cells stands =
 
 pub returns-else-from-next : goal.returns-else-from-next
 returns-else-from-next c cells stands =
-    locked_unknown cells c.in-Locked.number c.args.h4 (omega arith) (subst (λ state. Stands state cells) c.in-Locked.is stands)
+    locked_unknown cells c.in-Locked.number c.args.h4 (omega arith)
+    (subst (λ state. Stands state cells) c.in-Locked.is stands)

@@ -7,4 +7,5 @@ use Rattle.h4_multiframe.proofs.state_after.Goals as goal
 pub returns-else-nibble_lo-eq0 : goal.returns-else-nibble_lo-eq0
 returns-else-nibble_lo-eq0 c cells is_place =
     let h4 = c.args.h4 in
-    unlocked_after cells h4 (omega arith) (subst (IsPlace (cells ++ Some h4 ∷ []) (length cells)) c.in-Unknown.is is_place)
+    unlocked_after cells h4 (omega arith)
+    (subst (IsPlace (cells ++ Some h4 ∷ []) (length cells)) c.in-Unknown.is is_place)

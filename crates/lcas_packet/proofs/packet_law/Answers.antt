@@ -1,5 +1,6 @@
 -- The laws of what is read stand with its definition.
-use Rattle.session_model.proofs.PacketLaws.{read_of-packet_nibbles, read_of-accepted, are_nibbles-true, accepted_cleared, accepted_IsPacket}
+use Rattle.session_model.proofs.PacketLaws.{read_of-packet_nibbles, read_of-accepted, are_nibbles-true}
+use Rattle.session_model.proofs.PacketLaws.{accepted_cleared, accepted_IsPacket}
 use Rattle.lcas_packet.proofs.packet_law.Goals as goal
 
 pub returns-clause-back : goal.returns-clause-back

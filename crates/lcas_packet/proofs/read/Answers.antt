@@ -1,14 +1,16 @@
 -- The nibbles are sixteen, so what is read is decided by their check and then by their code.
 use Rattle.std.proofs.Common.{◌≡◌, ◌≢◌, Ok, sym, ◌∙◌, ap, arith}
 use Rattle.session_model.specs.Packet.{said_check, found_check, read_by}
-use Rattle.session_model.proofs.PacketLaws.{are_nibbles-from, read_of-crc, read_of-checked, read_of-accepted, accepted_cleared}
+use Rattle.session_model.proofs.PacketLaws.{are_nibbles-from, read_of-crc, read_of-checked, read_of-accepted}
+use Rattle.session_model.proofs.PacketLaws.{accepted_cleared}
 use Rattle.lcas_packet.proofs.read.Goals as goal
 
 pub returns-then-said-found-clause-value : goal.returns-then-said-found-clause-value
 returns-then-said-found-clause-value c =
     let said = c.octet-said.ensures in
     let found = c.check-found.ensures in
-    let other : said_check c.args.nibbles.now ≢ found_check c.args.nibbles.now = λ same. c.if-said-found.true (said ∙ same ∙ sym found) in
+    let other : said_check c.args.nibbles.now ≢ found_check c.args.nibbles.now =
+    λ same. c.if-said-found.true (said ∙ same ∙ sym found) in
     let read = read_of-crc c.args.nibbles.now other in
     cc
 
@@ -16,8 +18,10 @@ pub returns-in-Some-clause-value : goal.returns-in-Some-clause-value
 returns-in-Some-clause-value c =
     let nibbles = c.args.nibbles.now in
     let are = are_nibbles-from nibbles (omega arith) c.requires in
-    let check : said_check nibbles ≡ found_check nibbles = sym c.octet-said.ensures ∙ c.if-said-found.false ∙ c.check-found.ensures in
-    ap Ok c.packet_of.ensures ∙ sym (read_of-checked nibbles are check ∙ ap (λ ctrl. read_by ctrl nibbles) (sym c.in-Some.ensures.value))
+    let check : said_check nibbles ≡ found_check nibbles = sym c.octet-said.ensures ∙ c.if-said-found.false
+    ∙ c.check-found.ensures in
+    ap Ok c.packet_of.ensures ∙ sym
+    (read_of-checked nibbles are check ∙ ap (λ ctrl. read_by ctrl nibbles) (sym c.in-Some.ensures.value))
 
 pub returns-in-Some-clause-cleared : goal.returns-in-Some-clause-cleared
 returns-in-Some-clause-cleared c =
@@ -28,5 +32,6 @@ pub returns-in-None-clause-value : goal.returns-in-None-clause-value
 returns-in-None-clause-value c =
     let nibbles = c.args.nibbles.now in
     let are = are_nibbles-from nibbles (omega arith) c.requires in
-    let check : said_check nibbles ≡ found_check nibbles = sym c.octet-said.ensures ∙ c.if-said-found.false ∙ c.check-found.ensures in
+    let check : said_check nibbles ≡ found_check nibbles = sym c.octet-said.ensures ∙ c.if-said-found.false
+    ∙ c.check-found.ensures in
     sym (read_of-checked nibbles are check ∙ ap (λ ctrl. read_by ctrl nibbles) (sym c.in-None.ensures.value))

@@ -8,9 +8,12 @@ loop-place-init c = record { value = status-first c.args.row.now c.args.first; s
 pub loop-place-preserved : goal.loop-place-preserved
 loop-place-preserved c =
     record {
-      value = status-more c.args.row.now c.args.first c.loop-place.place c.loop-place.mst c.status_bit.result (omega arith) c.status_bit.ensures ∙ c.loop-place.invariant.value;
-      small = status-small c.loop-place.mst c.loop-place.place c.status_bit.result _ c.status_bit.ensures c.loop-place.invariant.small;
+      value = status-more c.args.row.now c.args.first c.loop-place.place c.loop-place.mst c.status_bit.result
+          (omega arith) c.status_bit.ensures ∙ c.loop-place.invariant.value;
+      small = status-small c.loop-place.mst c.loop-place.place c.status_bit.result _ c.status_bit.ensures
+          c.loop-place.invariant.small;
     }
 
 pub returns : goal.returns
-returns c = status-last c.args.row.now c.args.first c.loop-place.place c.loop-place.mst (omega arith) c.loop-place.invariant.value
+returns c = status-last c.args.row.now c.args.first c.loop-place.place c.loop-place.mst
+    (omega arith) c.loop-place.invariant.value

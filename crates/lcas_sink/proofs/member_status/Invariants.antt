@@ -6,6 +6,7 @@ use Rattle.lcas_sink.proofs.member_status.Given as goal
 
 abbrev pub invariant-loop-place : goal.invariant-loop-place
 invariant-loop-place l = record {
-  value : number_behind l.mst (map (λ sq. not (status_of l.row sq)) (range_with_len (l.first + l.place) (8 - l.place))) ≡ mst_of l.row l.first;
+  value : number_behind l.mst (map (λ sq. not (status_of l.row sq)) (range_with_len (l.first + l.place) (8 - l.place)))
+      ≡ mst_of l.row l.first;
   small : l.mst < 2 ^ l.place;
 }

@@ -6,4 +6,5 @@ pub loop-line-preserved : goal.loop-line-preserved
 loop-line-preserved c =
     let row = c.loop-line-test.true in
     let inside : c.loop-line.line < length c.loop-line.states = omega arith in
-    upto-more c.loop-line.states c.args.states.now c.args.row.now c.loop-line.line c.state_next.result _ inside refl c.state_next.ensures c.loop-line.invariant
+    upto-more c.loop-line.states c.args.states.now c.args.row.now c.loop-line.line c.state_next.result _ inside refl
+    c.state_next.ensures c.loop-line.invariant

@@ -5,4 +5,5 @@ use Rattle.loss_law.proofs.WayLaws.{way_of, lost_of}
 use Rattle.loss_law.proofs.ways_law.Goals as goal
 
 pub returns : goal.returns
-returns c rows all frame some = (way_of all frame (segments rows), lost_of all frame (segments rows) some (Stands-all rows).order)
+returns c rows all frame some =
+    (way_of all frame (segments rows), lost_of all frame (segments rows) some (Stands-all rows).order)

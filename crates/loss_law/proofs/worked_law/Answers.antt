@@ -22,23 +22,28 @@ unfolding extents
 returns-clause-places c = refl
 
 pub returns-clause-segments : goal.returns-clause-segments
-unfolding worked_rows worked_stream cut core_header octets_of xors bits number_behind divide add_front scramble_on segments_on
+unfolding worked_rows worked_stream cut core_header octets_of xors bits number_behind divide add_front scramble_on
+    segments_on
 returns-clause-segments c = refl
 
 pub returns-clause-confirmed : goal.returns-clause-confirmed
-unfolding worked_rows worked_stream cut core_header octets_of xors bits number_behind divide add_front scramble_on pli_of head hec_of header_with hunt_within segments_on
+unfolding worked_rows worked_stream cut core_header octets_of xors bits number_behind divide add_front scramble_on
+    pli_of head hec_of header_with hunt_within segments_on
 returns-clause-confirmed c = refl
 
 pub returns-clause-lost : goal.returns-clause-lost
-unfolding worked_rows worked_stream cut core_header octets_of xors bits number_behind divide add_front scramble_on pli_of head hec_of header_with hunt_within segments_on extents
+unfolding worked_rows worked_stream cut core_header octets_of xors bits number_behind divide add_front scramble_on
+    pli_of head hec_of header_with hunt_within segments_on extents
 returns-clause-lost c = refl
 
 pub returns-clause-delivered : goal.returns-clause-delivered
-unfolding worked_rows worked_stream cut core_header octets_of xors bits number_behind divide add_front scramble_on pli_of head hec_of header_with hunt_within type_fault follow_within delineate_within outcomes_after_with segments_on
+unfolding worked_rows worked_stream cut core_header octets_of xors bits number_behind divide add_front scramble_on
+    pli_of head hec_of header_with hunt_within type_fault follow_within delineate_within outcomes_after_with segments_on
 returns-clause-delivered c = refl
 
 pub returns-clause-kept : goal.returns-clause-kept
-unfolding worked_rows worked_stream cut core_header octets_of xors bits number_behind divide add_front scramble_on pli_of head hec_of header_with hunt_within segments_on extents
+unfolding worked_rows worked_stream cut core_header octets_of xors bits number_behind divide add_front scramble_on
+    pli_of head hec_of header_with hunt_within segments_on extents
 returns-clause-kept c = refl
 
 -- ---- what is confirmed first
@@ -52,15 +57,18 @@ third : Segment
 third = record { first = false; base = 54; octets = take 16 (drop 54 worked_stream) }
 
 all_segments : segments worked_rows ≡ first ∷ second ∷ third ∷ []
-unfolding first second third worked_rows worked_stream cut core_header octets_of xors bits number_behind divide add_front scramble_on segments_on
+unfolding first second third worked_rows worked_stream cut core_header octets_of xors bits number_behind divide
+    add_front scramble_on segments_on
 all_segments = refl
 
 second-confirmed : confirmed_in second ≡ Some 28
-unfolding second worked_stream cut core_header octets_of xors bits number_behind divide add_front scramble_on pli_of head hec_of header_with hunt_within
+unfolding second worked_stream cut core_header octets_of xors bits number_behind divide add_front scramble_on pli_of
+    head hec_of header_with hunt_within
 second-confirmed = refl
 
 third-confirmed : confirmed_in third ≡ None
-unfolding third worked_stream cut core_header octets_of xors bits number_behind divide add_front scramble_on pli_of head hec_of header_with hunt_within
+unfolding third worked_stream cut core_header octets_of xors bits number_behind divide add_front scramble_on pli_of head
+    hec_of header_with hunt_within
 third-confirmed = refl
 
 -- the third frame begins there

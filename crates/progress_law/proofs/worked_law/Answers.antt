@@ -1,7 +1,8 @@
 -- Worked walks, computed.
 use Rattle.std.proofs.Common.{ℕ, [], ◌∷◌, refl, arith}
 use Rattle.std.proofs.lemmas.List.Sorted.{IsNonDecreasingBy-short}
-use Rattle.session_model.specs.Counts.{frame_dues, command_dues, held, full, pop, pop_lines, run, carries_from, drain, sum_delays}
+use Rattle.session_model.specs.Counts.{frame_dues, command_dues, held, full, pop, pop_lines, run, carries_from, drain}
+use Rattle.session_model.specs.Counts.{sum_delays}
 use Rattle.progress_law.specs.Progress.{IsPath, AllPaths, IsPlanOf}
 use Rattle.progress_law.specs.Worked.{fine, one_line, two_items}
 use Rattle.progress_law.proofs.worked_law.Goals as goal

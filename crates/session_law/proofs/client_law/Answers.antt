@@ -1,6 +1,7 @@
 -- The client's stream.
 use Rattle.session_law.proofs.SessionLaws.{Agree-first}
-use Rattle.session_law.proofs.ClientLaws.{stream_before-frames, stream_before-reaches, stream_before-fewest, stream_before-agree, payload-length}
+use Rattle.session_law.proofs.ClientLaws.{stream_before-frames, stream_before-reaches, stream_before-fewest}
+use Rattle.session_law.proofs.ClientLaws.{stream_before-agree, payload-length}
 use Rattle.session_law.proofs.client_law.Goals as goal
 
 pub returns-clause-frames : goal.returns-clause-frames

@@ -7,7 +7,8 @@ use Rattle.session_law.proofs.feedback_law.Goals as goal
 
 pub returns-clause-whole_count : goal.returns-clause-whole_count
 returns-clause-whole_count c = λ scenario n j k told takes.
-    feedback scenario (cells_before scenario n) (session-law scenario n takes.lag) takes.lag j k takes.later told takes.cell
+    feedback scenario (cells_before scenario n) (session-law scenario n takes.lag) takes.lag j k takes.later told
+    takes.cell
 
 pub returns-clause-same_lines : goal.returns-clause-same_lines
 returns-clause-same_lines c = λ scenario n j k told takes tells.
@@ -15,4 +16,5 @@ returns-clause-same_lines c = λ scenario n j k told takes tells.
 
 pub returns-clause-statuses : goal.returns-clause-statuses
 returns-clause-statuses c = λ scenario n j sq ok lag kept.
-    acts_on scenario (cells_before scenario n) (session-law scenario n lag) (λ k told. session-kept scenario n k told lag) lag j sq ok kept
+    acts_on scenario (cells_before scenario n) (session-law scenario n lag)
+    (λ k told. session-kept scenario n k told lag) lag j sq ok kept

@@ -7,7 +7,8 @@ pub returns-clause-first : goal.returns-clause-first
 returns-clause-first c = comes-first
 
 pub returns-clause-packets : goal.returns-clause-packets
-returns-clause-packets c scenario returns frames k cells lines come = has-packets scenario returns lines frames cells come k
+returns-clause-packets c scenario returns frames k cells lines come =
+    has-packets scenario returns lines frames cells come k
 
 pub returns-clause-row : goal.returns-clause-row
 returns-clause-row c scenario returns frames t cells lines come = tells-row scenario returns lines frames cells come t

@@ -10,11 +10,14 @@ use Rattle.vc_bits.proofs.crc8.Goals as goal
 pub returns-clause-remainder : goal.returns-clause-remainder
 returns-clause-remainder c =
     let word = nibble_bits c.args.nibbles.now in
-    subst (IsRemainder crc8_lower word) (sym (c.remainder_of_nibbles.ensures.remainder crc8_lower length-crc8_lower crc8_entries_are)) (IsRemainder-remainder crc8_lower word)
+    subst (IsRemainder crc8_lower word)
+    (sym (c.remainder_of_nibbles.ensures.remainder crc8_lower length-crc8_lower crc8_entries_are))
+    (IsRemainder-remainder crc8_lower word)
 
 pub returns-clause-only : goal.returns-clause-only
 returns-clause-only c rest is_rest =
-    only_remainder crc8_lower (nibble_bits c.args.nibbles.now) rest is_rest ∙ sym (c.remainder_of_nibbles.ensures.remainder crc8_lower length-crc8_lower crc8_entries_are)
+    only_remainder crc8_lower (nibble_bits c.args.nibbles.now) rest is_rest
+    ∙ sym (c.remainder_of_nibbles.ensures.remainder crc8_lower length-crc8_lower crc8_entries_are)
 
 pub returns-clause-value : goal.returns-clause-value
 returns-clause-value c =

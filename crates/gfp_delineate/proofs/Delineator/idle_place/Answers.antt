@@ -12,8 +12,10 @@ pub returns-in-SyncHeader-clause-stays : goal.returns-in-SyncHeader-clause-stays
 returns-in-SyncHeader-clause-stays c count =
     let place : ℕ = c.from.result in
     let have : ℕ = c.in-SyncHeader.have in
-    let part : have < 4 = subst (λ phase. IsWithin phase (vec_len c.self.inside.area) c.self.inside.max) c.in-SyncHeader.is c.self.invariant.bounds in
-    let was : c.args.self.now.progress.phase ≡ SyncHeader have = ap (λ (receiver : Receiver). receiver.progress.phase) (sym c.self.view_is) ∙ c.in-SyncHeader.is in
+    let part : have < 4 = subst (λ phase. IsWithin phase (vec_len c.self.inside.area) c.self.inside.max)
+    c.in-SyncHeader.is c.self.invariant.bounds in
+    let was : c.args.self.now.progress.phase ≡ SyncHeader have =
+    ap (λ (receiver : Receiver). receiver.progress.phase) (sym c.self.view_is) ∙ c.in-SyncHeader.is in
     let begins : drop (4 - have) c.args.self.now.progress.window ≡ take have idle_header =
     ap (λ (receiver : Receiver). drop (4 - have) receiver.progress.window) (sym c.self.view_is)
     ∙ c.begins_idle.ensures.begun c.if-begins_idle.true in

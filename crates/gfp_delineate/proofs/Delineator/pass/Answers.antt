@@ -12,20 +12,28 @@ pub returns-then-piece-rest-clause-takes : goal.returns-then-piece-rest-clause-t
 returns-then-piece-rest-clause-takes c =
     let piece : List ℕ = c.args.piece.now in
     rw (take_all (length piece) piece (omega arith))
-    (seen c.args.self.now _ (λ old. holding old (SyncPassing (c.args.left - length piece) c.args.why) c.pass_over.new.descrambler old.area) _ _ c.self.view_is
+    (seen c.args.self.now _ (λ old. holding old (SyncPassing (c.args.left - length piece) c.args.why)
+    c.pass_over.new.descrambler old.area) _ _ c.self.view_is
     (Takes-pass-part c.args.self.now.progress piece c.args.left c.pass_over.new.descrambler c.args.why c.requires.phase
-    (subst (λ (old : Receiver). Continues old.progress.descrambling c.pass_over.new.descrambler piece) c.self.view_is c.pass_over.ensures) (omega arith)))
+    (subst (λ (old : Receiver). Continues old.progress.descrambling c.pass_over.new.descrambler piece) c.self.view_is
+    c.pass_over.ensures) (omega arith)))
 
 pub returns-clause-takes : goal.returns-clause-takes
 returns-clause-takes c =
     let part : List ℕ = take c.from-rest.result c.args.piece.now in
-    seen c.args.self.now _ (λ old. holding old (SyncHeader 0) c.pass_over-2.new.descrambler old.area) part _ c.self.view_is
-    (Takes-pass-whole c.args.self.now.progress part c.args.left c.pass_over-2.new.descrambler c.args.why c.requires.phase
-    (subst (λ (old : Receiver). Continues old.progress.descrambling c.pass_over-2.new.descrambler part) c.self.view_is c.pass_over-2.ensures)
+    seen c.args.self.now _ (λ old. holding old (SyncHeader 0) c.pass_over-2.new.descrambler old.area) part _
+    c.self.view_is
+    (Takes-pass-whole c.args.self.now.progress part c.args.left c.pass_over-2.new.descrambler c.args.why
+    c.requires.phase
+    (subst (λ (old : Receiver). Continues old.progress.descrambling c.pass_over-2.new.descrambler part) c.self.view_is
+    c.pass_over-2.ensures)
     (length-take-le c.from-rest.result c.args.piece.now c.if-piece-rest.false ∙ c.from-rest.ensures))
 
 pub returns-clause-first : goal.returns-clause-first
 returns-clause-first c = λ _.
     let part : List ℕ = take (c.from-rest.result - 1) c.args.piece.now in
-    let some : 0 < c.args.left = subst (λ phase. IsWithin phase (vec_len c.self.inside.area) c.self.inside.max) (ap (λ (old : Receiver). old.progress.phase) c.self.view_is ∙ c.requires.phase) c.self.invariant.bounds in
-    Adds-passing c.args.self.now.progress part c.args.left c.args.why (omega (arith, length-take (c.from-rest.result - 1) c.args.piece.now, c.from-rest.ensures, some)) c.requires.phase
+    let some : 0 < c.args.left = subst (λ phase. IsWithin phase (vec_len c.self.inside.area) c.self.inside.max)
+    (ap (λ (old : Receiver). old.progress.phase) c.self.view_is ∙ c.requires.phase) c.self.invariant.bounds in
+    Adds-passing c.args.self.now.progress part c.args.left c.args.why
+    (omega (arith, length-take (c.from-rest.result - 1) c.args.piece.now, c.from-rest.ensures, some))
+    c.requires.phase

@@ -9,41 +9,56 @@ use Rattle.gfp_delineate.proofs.Delineator.take_header.Goals as goal
 
 pub returns-in_default : goal.returns-in_default
 returns-in_default c =
-    let none = read-window _ _ _ _ _ _ c.self.view_is c.shifted-self-inside.ensures c.read_core.ensures.value c.in_default.is in
+    let none = read-window _ _ _ _ _ _ c.self.view_is c.shifted-self-inside.ensures c.read_core.ensures.value
+    c.in_default.is in
     rw c.shifted-self-inside.ensures
     (seen c.args.self.now _ (λ old. lost old c.args.octet c.forget.new.self) _ _ c.self.view_is
     (Takes-lost c.args.self.now.progress c.args.octet c.requires c.forget.new.self none c.forget.ensures))
 
 pub returns-then-pli-eq0 : goal.returns-then-pli-eq0
 returns-then-pli-eq0 c =
-    let found = read-window _ _ _ _ _ _ c.self.view_is c.shifted-self-inside.ensures c.read_core.ensures.value c.in-Some.is
+    let found = read-window _ _ _ _ _ _ c.self.view_is c.shifted-self-inside.ensures c.read_core.ensures.value
+    c.in-Some.is
     ∙ ap (λ n. Some n) c.if-pli-eq0.true in
     rw (c.clear.ensures.items, c.shifted-self-inside.ensures)
-    (seen c.args.self.now _ (λ old. followed old (drop 1 old.window ++ c.args.octet ∷ []) (SyncHeader 0)) _ _ c.self.view_is
+    (seen c.args.self.now _ (λ old. followed old (drop 1 old.window ++ c.args.octet ∷ []) (SyncHeader 0)) _ _
+    c.self.view_is
     (Takes-idle c.args.self.now.progress c.args.octet c.requires found))
 
 pub returns-then-not-known : goal.returns-then-not-known
 returns-then-not-known c =
-    let found = read-window _ _ _ _ _ _ c.self.view_is c.shifted-self-inside.ensures c.read_core.ensures.value c.in-Some.is in
+    let found = read-window _ _ _ _ _ _ c.self.view_is c.shifted-self-inside.ensures c.read_core.ensures.value
+    c.in-Some.is in
     rw (c.clear.ensures.items, c.shifted-self-inside.ensures)
-    (seen c.args.self.now _ (λ old. followed old (drop 1 old.window ++ c.args.octet ∷ []) (SyncPassing c.in-Some.pli Unsettled)) _ _ c.self.view_is
-    (Takes-unknown c.args.self.now.progress c.args.octet c.requires c.in-Some.pli found (omega (arith, c.if-pli-eq0.false))
-    (subst (λ (old : Receiver). Knows false old.progress.descrambling) c.self.view_is (subst (λ known. Knows known c.self.inside.descrambler) c.if-not-known.true c.known.ensures))))
+    (seen c.args.self.now _ (λ old. followed old (drop 1 old.window ++ c.args.octet ∷ [])
+    (SyncPassing c.in-Some.pli Unsettled)) _ _ c.self.view_is
+    (Takes-unknown c.args.self.now.progress c.args.octet c.requires c.in-Some.pli found
+    (omega (arith, c.if-pli-eq0.false))
+    (subst (λ (old : Receiver). Knows false old.progress.descrambling) c.self.view_is
+    (subst (λ known. Knows known c.self.inside.descrambler) c.if-not-known.true c.known.ensures))))
 
 pub returns-then-pli-self : goal.returns-then-pli-self
 returns-then-pli-self c =
-    let found = read-window _ _ _ _ _ _ c.self.view_is c.shifted-self-inside.ensures c.read_core.ensures.value c.in-Some.is in
+    let found = read-window _ _ _ _ _ _ c.self.view_is c.shifted-self-inside.ensures c.read_core.ensures.value
+    c.in-Some.is in
     let limit = ap (λ (old : Receiver). old.progress.longest) c.self.view_is in
     rw (c.clear.ensures.items, c.shifted-self-inside.ensures)
-    (seen c.args.self.now _ (λ old. followed old (drop 1 old.window ++ c.args.octet ∷ []) (SyncPassing c.in-Some.pli (TooLong c.in-Some.pli))) _ _ c.self.view_is
-    (Takes-long c.args.self.now.progress c.args.octet c.requires c.in-Some.pli found (omega (arith, limit, c.if-pli-self.true))
-    (subst (λ (old : Receiver). Knows true old.progress.descrambling) c.self.view_is (subst (λ known. Knows known c.self.inside.descrambler) c.if-not-known.false c.known.ensures))))
+    (seen c.args.self.now _ (λ old. followed old (drop 1 old.window ++ c.args.octet ∷ [])
+    (SyncPassing c.in-Some.pli (TooLong c.in-Some.pli))) _ _ c.self.view_is
+    (Takes-long c.args.self.now.progress c.args.octet c.requires c.in-Some.pli found
+    (omega (arith, limit, c.if-pli-self.true))
+    (subst (λ (old : Receiver). Knows true old.progress.descrambling) c.self.view_is
+    (subst (λ known. Knows known c.self.inside.descrambler) c.if-not-known.false c.known.ensures))))
 
 pub returns-else-pli-self : goal.returns-else-pli-self
 returns-else-pli-self c =
-    let found = read-window _ _ _ _ _ _ c.self.view_is c.shifted-self-inside.ensures c.read_core.ensures.value c.in-Some.is in
+    let found = read-window _ _ _ _ _ _ c.self.view_is c.shifted-self-inside.ensures c.read_core.ensures.value
+    c.in-Some.is in
     let limit = ap (λ (old : Receiver). old.progress.longest) c.self.view_is in
     rw (c.clear.ensures.items, c.shifted-self-inside.ensures)
-    (seen c.args.self.now _ (λ old. followed old (drop 1 old.window ++ c.args.octet ∷ []) (SyncArea c.in-Some.pli)) _ _ c.self.view_is
-    (Takes-kept c.args.self.now.progress c.args.octet c.requires c.in-Some.pli found (omega (arith, c.if-pli-eq0.false)) (omega (arith, limit, c.if-pli-self.false))
-    (subst (λ (old : Receiver). Knows true old.progress.descrambling) c.self.view_is (subst (λ known. Knows known c.self.inside.descrambler) c.if-not-known.false c.known.ensures))))
+    (seen c.args.self.now _ (λ old. followed old (drop 1 old.window ++ c.args.octet ∷ []) (SyncArea c.in-Some.pli)) _ _
+    c.self.view_is
+    (Takes-kept c.args.self.now.progress c.args.octet c.requires c.in-Some.pli found (omega (arith, c.if-pli-eq0.false))
+    (omega (arith, limit, c.if-pli-self.false))
+    (subst (λ (old : Receiver). Knows true old.progress.descrambling) c.self.view_is
+    (subst (λ known. Knows known c.self.inside.descrambler) c.if-not-known.false c.known.ensures))))

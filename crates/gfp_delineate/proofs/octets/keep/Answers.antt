@@ -1,4 +1,5 @@
-use Rattle.std.proofs.Common.{◌≡◌, ℕ, ◌+◌, ◌-◌, List, [], ◌∷◌, ◌++◌, get_or, length, take, drop, sym, subst, ap, ◌∙◌, arith}
+use Rattle.std.proofs.Common.{◌≡◌, ℕ, ◌+◌, ◌-◌, List, [], ◌∷◌, ◌++◌, get_or, length, take, drop, sym, subst, ap, ◌∙◌}
+use Rattle.std.proofs.Common.{arith}
 use Rattle.std.specs.Prelude.{vec_len}
 use Rattle.std.proofs.lemmas.List.{length-append, length-drop, drop_at, take_all}
 use Rattle.session_model.specs.Scramble.{descrambled_octets}
@@ -45,15 +46,18 @@ returns-clause-kept c settled octets stands =
     ap (λ l. drop (unknown settled) (descrambled_octets (octets ++ l))) (sym part)
     ∙ c.area.ensures.answer settled octets stands
     ∙ ap (λ l. drop (unknown settled) (descrambled_octets octets ++ l))
-    (sym (written_after (vec_len c.args.area.now) n c.extend_from_slice.new.self.len xs c.area.new.area _ c.len-old.ensures (sym c.deref_mut.ensures.len) (omega (arith, long, c.len-old.ensures))
+    (sym (written_after (vec_len c.args.area.now) n c.extend_from_slice.new.self.len xs c.area.new.area _
+    c.len-old.ensures (sym c.deref_mut.ensures.len) (omega (arith, long, c.len-old.ensures))
     (omega (arith, c.area.auto.area, ap length part, long, c.len-old.ensures))))
 
 pub returns-in-len1-clause-kept : goal.returns-in-len1-clause-kept
 returns-in-len1-clause-kept c settled octets stands =
     let piece = c.args.piece.now in
     let items = c.args.area.now.items in
-    let one : piece ≡ get_or piece 0 0 ∷ [] = sym (take_all 1 piece (omega (arith, c.in-len1.len_below))) ∙ take_one piece (omega (arith, c.in-len1.len_at_least)) in
+    let one : piece ≡ get_or piece 0 0 ∷ [] = sym (take_all 1 piece (omega (arith, c.in-len1.len_below)))
+    ∙ take_one piece (omega (arith, c.in-len1.len_at_least)) in
     ap (λ l. drop (unknown settled) (descrambled_octets (octets ++ l))) one
     ∙ c.byte.ensures.answer settled octets stands
     ∙ ap (λ l. drop (unknown settled) (descrambled_octets octets ++ l))
-    (sym (ap (drop (vec_len c.args.area.now)) c.push_reserved.ensures.items ∙ drop_at items (c.byte.result ∷ []) (vec_len c.args.area.now) (sym c.args.area.now.ok.0)))
+    (sym (ap (drop (vec_len c.args.area.now)) c.push_reserved.ensures.items
+    ∙ drop_at items (c.byte.result ∷ []) (vec_len c.args.area.now) (sym c.args.area.now.ok.0)))

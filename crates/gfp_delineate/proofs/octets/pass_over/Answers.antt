@@ -9,5 +9,6 @@ returns-else-piece-le-SETTLING c =
     let piece : List ℕ = c.args.piece.now in
     let skipped : ℕ = length piece - 6 in
     Continues-last c.args.descrambler.now c.settle-else-piece-le-SETTLING.new.descrambler piece (omega arith)
-    (subst (λ last. Stands c.settle-else-piece-le-SETTLING.new.descrambler false last) (take_all (length piece - skipped) (drop skipped piece) (omega (arith, length-drop skipped piece)))
+    (subst (λ last. Stands c.settle-else-piece-le-SETTLING.new.descrambler false last)
+    (take_all (length piece - skipped) (drop skipped piece) (omega (arith, length-drop skipped piece)))
     (c.settle-else-piece-le-SETTLING.ensures false [] c.forget.ensures))

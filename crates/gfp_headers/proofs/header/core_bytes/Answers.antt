@@ -8,7 +8,8 @@ pub returns : goal.returns
 returns c =
     let pli : c.from.result ≡ c.args.pli = c.from.ensures in
     let check : c.from-2.result ≡ c.hec.result = c.from-2.ensures in
-    let octets : c.to_le_bytes.result ≡ to_be_bytes w32 (bit_xor (c.from.result * 2 ^ 16 + c.from-2.result) 0xb6ab31e0) = search rules in
+    let octets : c.to_le_bytes.result ≡ to_be_bytes w32 (bit_xor (c.from.result * 2 ^ 16 + c.from-2.result) 0xb6ab31e0)
+    = search rules in
     octets
     ∙ ap₂ (λ a b. to_be_bytes w32 (bit_xor (a * 2 ^ 16 + b) 0xb6ab31e0)) pli check
     ∙ written c.args.pli c.hec.result c.hec.type_inv c.hec.ensures.value

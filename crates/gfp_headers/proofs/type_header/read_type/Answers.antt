@@ -24,7 +24,8 @@ returns-in-None-clause-value c =
 
 pub returns-in-None-clause-ok : goal.returns-in-None-clause-ok
 returns-in-None-clause-ok c = (
-  λ yes. type_header_only c.args.octets.now c.word-field.result c.word-said.result c.hec-found.result c.told-octets c.fits-octets
+  λ yes. type_header_only c.args.octets.now c.word-field.result c.word-said.result c.hec-found.result c.told-octets
+      c.fits-octets
       c.word-field.ensures c.word-said.ensures c.hec-found.ensures.value c.if-said-found.false
       (sym c.fault_of_field.ensures ∙ c.in-None.is),
   λ h. refl,

@@ -6,4 +6,5 @@ use Rattle.hec16.proofs.check.left_of_octet.Goals as goal
 
 pub returns : goal.returns
 returns c =
-    ap (λ f. bits 16 (bit_xor (bit_xor (f % 16 * 4096) (f * 32)) f)) c.from-folded.ensures ∙ left_is c.args.o c.ranges.o.fits
+    ap (λ f. bits 16 (bit_xor (bit_xor (f % 16 * 4096) (f * 32)) f)) c.from-folded.ensures
+    ∙ left_is c.args.o c.ranges.o.fits

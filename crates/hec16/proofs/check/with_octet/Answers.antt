@@ -1,4 +1,5 @@
--- The upper octet of the register is combined with the octet that comes, and what that leaves is added to the lower one.
+-- The upper octet of the register is combined with the octet that comes, and what that leaves is added to the lower
+-- one.
 use Rattle.remainder.proofs.BitLaws.{length-bits}
 use Rattle.remainder.proofs.TableLaws.{step}
 use Rattle.hec16.specs.Hec.{crc16}
@@ -6,4 +7,5 @@ use Rattle.hec16.proofs.check.with_octet.Goals as goal
 
 pub returns : goal.returns
 returns c word stands =
-    step 8 8 crc16 word c.args.register c.args.o c.left_of_octet.result (length-bits 16 0x1021) stands c.left_of_octet.ensures
+    step 8 8 crc16 word c.args.register c.args.o c.left_of_octet.result
+    (length-bits 16 0x1021) stands c.left_of_octet.ensures

@@ -14,11 +14,17 @@ loop-j-preserved c =
     let size = c.loop-j.auto.octets in
     let wide = c.loop-done.auto.octets in
     let upper : slice_index c.columns.result.0 c.loop-j.j ≡ slice_index text (2 * i) =
-    c.columns.ensures.upper c.loop-j.j (omega arith) ∙ ap (λ (m : ℕ). slice_index text m) (let e : 2 * c.loop-done.done + 2 * c.loop-j.j ≡ 2 * i = omega arith in e) in
+    c.columns.ensures.upper c.loop-j.j (omega arith)
+    ∙ ap (λ (m : ℕ). slice_index text m) (let e : 2 * c.loop-done.done + 2 * c.loop-j.j ≡ 2 * i = omega arith in e)
+    in
     let lower : slice_index c.columns.result.1 c.loop-j.j ≡ slice_index text (2 * i + 1) =
-    c.columns.ensures.lower c.loop-j.j (omega arith) ∙ ap (λ (m : ℕ). slice_index text m) (let e : 2 * c.loop-done.done + 2 * c.loop-j.j + 1 ≡ 2 * i + 1 = omega arith in e) in
-    let next = pair_decoded text c.loop-j.octets i (slice_index c.columns.result.0 c.loop-j.j) (slice_index c.columns.result.1 c.loop-j.j) c.value.result c.value-in-loop-j.result
-    c.loop-j.right c.is_digit.result c.is_digit-in-loop-j.result (omega (arith, c.requires, wide)) (omega (arith, size, wide)) upper lower c.is_digit.ensures c.is_digit-in-loop-j.ensures
+    c.columns.ensures.lower c.loop-j.j (omega arith)
+    ∙ ap (λ (m : ℕ). slice_index text m)
+    (let e : 2 * c.loop-done.done + 2 * c.loop-j.j + 1 ≡ 2 * i + 1 = omega arith in e) in
+    let next = pair_decoded text c.loop-j.octets i (slice_index c.columns.result.0 c.loop-j.j)
+    (slice_index c.columns.result.1 c.loop-j.j) c.value.result c.value-in-loop-j.result
+    c.loop-j.right c.is_digit.result c.is_digit-in-loop-j.result (omega (arith, c.requires, wide))
+    (omega (arith, size, wide)) upper lower c.is_digit.ensures c.is_digit-in-loop-j.ensures
     c.value.ensures.value c.value-in-loop-j.ensures.value c.loop-j.invariant in
     let place : i + 1 ≡ c.loop-done.done + (c.loop-j.j + 1) = omega arith in
     rw place at next
@@ -30,8 +36,10 @@ loop-i-preserved c =
     let below = c.loop-i-test.true in
     let size = c.loop-i.auto.octets in
     let wide = c.loop-done.auto.octets in
-    pair_decoded text c.loop-i.octets i (slice_index text (2 * i)) (slice_index text (2 * i + 1)) c.value-in-loop-i.result c.value-in-loop-i-2.result
-    c.loop-i.right c.is_digit-in-loop-i.result c.is_digit-in-loop-i-2.result (omega (arith, c.requires, wide)) (omega (arith, size, wide)) refl refl c.is_digit-in-loop-i.ensures
+    pair_decoded text c.loop-i.octets i (slice_index text (2 * i))
+    (slice_index text (2 * i + 1)) c.value-in-loop-i.result c.value-in-loop-i-2.result
+    c.loop-i.right c.is_digit-in-loop-i.result c.is_digit-in-loop-i-2.result (omega (arith, c.requires, wide))
+    (omega (arith, size, wide)) refl refl c.is_digit-in-loop-i.ensures
     c.is_digit-in-loop-i-2.ensures c.value-in-loop-i.ensures.value c.value-in-loop-i-2.ensures.value c.loop-i.invariant
 
 pub returns-clause-yes : goal.returns-clause-yes
@@ -39,9 +47,11 @@ returns-clause-yes c right =
     let even : length c.args.text.now % 2 ≡ 0 = omega (arith, c.requires) in
     let wide = c.loop-done.auto.octets in
     decode_of-even c.args.text.now even
-    ∙ decode_done c.args.text.now c.loop-i.octets c.loop-i.i (omega (arith, c.loop-i-test.false, c.loop-i.auto.octets)) (omega (arith, c.loop-i-test.false, c.requires, wide)) (c.loop-i.invariant.yes right)
+    ∙ decode_done c.args.text.now c.loop-i.octets c.loop-i.i (omega (arith, c.loop-i-test.false, c.loop-i.auto.octets))
+    (omega (arith, c.loop-i-test.false, c.requires, wide)) (c.loop-i.invariant.yes right)
 
 pub returns-clause-no : goal.returns-clause-no
 returns-clause-no c wrong =
     let wide = c.loop-done.auto.octets in
-    other_refused c.args.text.now (2 * c.loop-i.i) (omega (arith, c.loop-i.auto.i-end, c.requires, wide)) (c.loop-i.invariant.no wrong)
+    other_refused c.args.text.now (2 * c.loop-i.i) (omega (arith, c.loop-i.auto.i-end, c.requires, wide))
+    (c.loop-i.invariant.no wrong)

@@ -13,9 +13,11 @@ returns-then-decode-clause-ok c =
     let before : length old ≡ start = omega (arith, c.len-start.ensures, c.args.octets.now.ok) in
     let whole : take (start + half) old ≡ old = take_all (start + half) old (omega arith) in
     let grown : xs ≡ old ++ replicate (start + half - c.args.octets.now.len) 0 =
-    c.deref_mut.ensures.value ∙ c.in-Ok.ensures.items ∙ ap (λ l. l ++ replicate (start + half - c.args.octets.now.len) 0) whole in (
+    c.deref_mut.ensures.value ∙ c.in-Ok.ensures.items
+    ∙ ap (λ l. l ++ replicate (start + half - c.args.octets.now.len) 0) whole in (
       c.decode.new.octets,
       c.decode.ensures.yes c.if-decode.true,
-      written_after start c.resize.new.self.len old (replicate (start + half - c.args.octets.now.len) 0) xs c.decode.new.octets _ before grown
+      written_after start c.resize.new.self.len old (replicate (start + half - c.args.octets.now.len) 0) xs
+          c.decode.new.octets _ before grown
           (omega (arith, c.decode.auto.octets)) (sym c.deref_mut.ensures.len),
     )

@@ -19,4 +19,6 @@ returns-clause-digits c i below =
     let values : List ℕ = c.args.values in
     let small : slice_index values i < 16 = c.requires i below in
     get_or-swz_l w8 16 lower_digits 0 values i (omega (arith, c.fits-values.0))
-    ∙ rw (lt-leb 128 (slice_index values i) (omega arith)) (let e : 16 * ((0 + i) / 16) + slice_index values i ≡ slice_index values i = omega arith in ap (slice_index lower_digits) e)
+    ∙ rw (lt-leb 128 (slice_index values i) (omega arith))
+    (let e : 16 * ((0 + i) / 16) + slice_index values i ≡ slice_index values i =
+    omega arith in ap (slice_index lower_digits) e)

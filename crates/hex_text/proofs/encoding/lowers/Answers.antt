@@ -8,4 +8,5 @@ nonzero_rem-result c = Each2-splat _ c.args.all 16 16 (Each1-all _ (λ x. omega 
 
 pub returns : goal.returns
 returns c i below =
-    get_or-zip2 _ c.args.all (replicate 16 16) i 0 0 0 (omega (arith, c.fits-all.0)) below ∙ ap (λ n. slice_index c.args.all i % n) (get_or-replicate 16 i 16 0 below)
+    get_or-zip2 _ c.args.all (replicate 16 16) i 0 0 0 (omega (arith, c.fits-all.0)) below
+    ∙ ap (λ n. slice_index c.args.all i % n) (get_or-replicate 16 i 16 0 below)

@@ -7,5 +7,6 @@ pub returns-clause-packet : goal.returns-clause-packet
 returns-clause-packet c = λ rows stands.
     let f = c.self.inside in
     return-fields rows c.args.row.now f.taken c.member_status.result f.ack c.ack_after-self-inside.result
-    (ap (λ (sink : Sink). sink.taken) c.self.view_is ∙ stands.taken) (ap (λ (sink : Sink). sink.ack) c.self.view_is ∙ stands.ack)
+    (ap (λ (sink : Sink). sink.taken) c.self.view_is ∙ stands.taken)
+    (ap (λ (sink : Sink). sink.ack) c.self.view_is ∙ stands.ack)
     c.member_status.ensures c.ack_after-self-inside.ensures

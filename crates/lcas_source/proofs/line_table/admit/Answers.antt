@@ -12,9 +12,11 @@ returns-then-not-is_ok c =
     let kept = kept_in c.args.statuses.now in
     let inside : c.loop-sq.sq < length c.loop-sq.members = omega arith in
     let rest = drop-cons c.loop-sq.members c.loop-sq.sq _ inside in
-    let stays = admit-open kept c.loop-sq.sq _ _ (sym c.is_adding.ensures ∙ c.if-is_adding.true) (sym c.is_ok.ensures ∙ c.if-not-is_ok.true) in
+    let stays = admit-open kept c.loop-sq.sq _ _ (sym c.is_adding.ensures ∙ c.if-is_adding.true)
+    (sym c.is_ok.ensures ∙ c.if-not-is_ok.true) in
     set-get_or c.loop-sq.members c.loop-sq.sq _
-    ∙ front-stops (admit kept) c.loop-sq.sq c.loop-sq.members _ (ap (admit kept c.loop-sq.sq) rest ∙ stays ∙ sym rest) c.loop-sq.invariant
+    ∙ front-stops (admit kept) c.loop-sq.sq c.loop-sq.members _ (ap (admit kept c.loop-sq.sq) rest ∙ stays ∙ sym rest)
+    c.loop-sq.invariant
 
 pub loop-sq-preserved : goal.loop-sq-preserved
 loop-sq-preserved c =
@@ -23,7 +25,8 @@ loop-sq-preserved c =
     elim c.if-is_adding.branch [
       | then-is_adding+else-not-is_ok w ↦
           rw w.members-is (front-written (admit kept) c.loop-sq.sq c.loop-sq.members _ _ _ inside
-          (admit-confirmed kept c.loop-sq.sq _ _ (sym c.is_adding.ensures ∙ w.if-is_adding.true) (sym w.is_ok.ensures ∙ w.if-not-is_ok.false))
+          (admit-confirmed kept c.loop-sq.sq _ _ (sym c.is_adding.ensures ∙ w.if-is_adding.true)
+          (sym w.is_ok.ensures ∙ w.if-not-is_ok.false))
           c.loop-sq.invariant)
       | else-is_adding w ↦
           rw w.members-is (front-written (admit kept) c.loop-sq.sq c.loop-sq.members _ _ _ inside
@@ -34,4 +37,5 @@ loop-sq-preserved c =
 pub returns : goal.returns
 returns c =
     let kept = kept_in c.args.statuses.now in
-    front-ends (admit kept) c.loop-sq.sq c.loop-sq.members _ (omega arith) (admit-none kept c.loop-sq.sq) c.loop-sq.invariant
+    front-ends (admit kept) c.loop-sq.sq c.loop-sq.members _ (omega arith)
+    (admit-none kept c.loop-sq.sq) c.loop-sq.invariant

@@ -3,4 +3,5 @@ use Rattle.lcas_source.proofs.FrontLaws.{IsRewriting}
 use Rattle.lcas_source.proofs.line_table.admit.Given as goal
 
 abbrev pub invariant-loop-sq : goal.invariant-loop-sq
-invariant-loop-sq l = IsRewriting (admit (kept_in l.statuses)) l.sq l.members (admit (kept_in l.statuses) 0 l.fn.members)
+invariant-loop-sq l = IsRewriting (admit (kept_in l.statuses)) l.sq l.members
+    (admit (kept_in l.statuses) 0 l.fn.members)

@@ -13,8 +13,10 @@ loop-sq-preserved c =
 
 pub returns-then-is_confirmed-clause-found : goal.returns-then-is_confirmed-clause-found
 returns-then-is_confirmed-clause-found c = λ member.
-    passed-found (kept_in c.args.statuses.now) c.args.members.now c.args.from c.loop-sq.sq _ member (omega arith) (sym c.is_confirmed.ensures ∙ c.if-is_confirmed.true) c.loop-sq.invariant
+    passed-found (kept_in c.args.statuses.now) c.args.members.now c.args.from c.loop-sq.sq _ member (omega arith)
+    (sym c.is_confirmed.ensures ∙ c.if-is_confirmed.true) c.loop-sq.invariant
 
 pub returns-clause-none : goal.returns-clause-none
 returns-clause-none c =
-    passed-all (kept_in c.args.statuses.now) c.args.members.now c.args.from c.loop-sq.sq (omega arith) c.loop-sq.invariant
+    passed-all (kept_in c.args.statuses.now) c.args.members.now c.args.from c.loop-sq.sq
+    (omega arith) c.loop-sq.invariant

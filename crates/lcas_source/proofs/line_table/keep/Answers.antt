@@ -7,4 +7,5 @@ pub returns : goal.returns
 returns c =
     let eight : 8 * c.args.group + 8 - 8 * c.args.group ≡ 8 = omega arith in
     let said = c.copy_from_slice.ensures.after ∙ c.statuses_in.ensures in
-    rw (said, eight) (keep-in_place c.args.group (oks_in c.args.mst) c.args.statuses.now (oks_in-size c.args.mst) (omega arith))
+    rw (said, eight) (keep-in_place c.args.group (oks_in c.args.mst) c.args.statuses.now (oks_in-size c.args.mst)
+    (omega arith))

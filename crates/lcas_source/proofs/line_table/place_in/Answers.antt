@@ -11,7 +11,8 @@ pub returns-then-member-line-clause-ctrl : goal.returns-then-member-line-clause-
 returns-then-member-line-clause-ctrl c =
     let found = place-found c.args.members.now c.loop-sq.sq c.args.line _ (omega arith) c.if-member-line.true in
     c.ctrl_by-ctrl.ensures
-    ∙ ap (ctrl_by (slice_index_or c.args.members.now c.loop-sq.sq (record { line = 0; standing = adding })).standing) (c.any_normal.ensures ∙ ap (list_any is_normal) (take_rest c.args.members.now (c.loop-sq.sq + 1)))
+    ∙ ap (ctrl_by (slice_index_or c.args.members.now c.loop-sq.sq (record { line = 0; standing = adding })).standing)
+    (c.any_normal.ensures ∙ ap (list_any is_normal) (take_rest c.args.members.now (c.loop-sq.sq + 1)))
     ∙ ap (λ place. place.ctrl) (sym found ∙ c.loop-sq.invariant)
 
 pub returns-then-member-line-clause-sq : goal.returns-then-member-line-clause-sq
@@ -21,12 +22,15 @@ returns-then-member-line-clause-sq c =
 
 pub loop-sq-preserved : goal.loop-sq-preserved
 loop-sq-preserved c =
-    sym (place-next c.args.members.now c.loop-sq.sq c.args.line _ (omega arith) c.if-member-line.false) ∙ c.loop-sq.invariant
+    sym (place-next c.args.members.now c.loop-sq.sq c.args.line _ (omega arith) c.if-member-line.false)
+    ∙ c.loop-sq.invariant
 
 pub returns-clause-ctrl : goal.returns-clause-ctrl
 returns-clause-ctrl c =
-    ap (λ place. place.ctrl) (sym (place-none c.args.members.now c.loop-sq.sq c.args.line (omega arith)) ∙ c.loop-sq.invariant)
+    ap (λ place. place.ctrl) (sym (place-none c.args.members.now c.loop-sq.sq c.args.line (omega arith))
+    ∙ c.loop-sq.invariant)
 
 pub returns-clause-sq : goal.returns-clause-sq
 returns-clause-sq c =
-    ap (λ place. place.sq) (sym (place-none c.args.members.now c.loop-sq.sq c.args.line (omega arith)) ∙ c.loop-sq.invariant)
+    ap (λ place. place.sq) (sym (place-none c.args.members.now c.loop-sq.sq c.args.line (omega arith))
+    ∙ c.loop-sq.invariant)

@@ -4,5 +4,14 @@ use Rattle.lcas_source.proofs.line_table.statuses_in.Goals as goal
 
 pub returns : goal.returns
 returns c =
-    rw (c.status_at.ensures, c.status_at-2.ensures, c.status_at-3.ensures, c.status_at-4.ensures, c.status_at-5.ensures, c.status_at-6.ensures, c.status_at-7.ensures, c.status_at-8.ensures)
+    rw (
+      c.status_at.ensures,
+      c.status_at-2.ensures,
+      c.status_at-3.ensures,
+      c.status_at-4.ensures,
+      c.status_at-5.ensures,
+      c.status_at-6.ensures,
+      c.status_at-7.ensures,
+      c.status_at-8.ensures,
+    )
     (sym (ap (map Some) (oks_in-bits c.args.mst)))

@@ -8,9 +8,11 @@ pub loop-sq-preserved : goal.loop-sq-preserved
 loop-sq-preserved c =
     let kept = kept_in c.args.statuses.now in
     let inside : c.loop-sq.sq < length c.loop-sq.members = omega arith in
-    rw c.turned-member.ensures (front-written (turned kept) c.loop-sq.sq c.loop-sq.members _ _ _ inside (turned-first kept c.loop-sq.sq _ _) c.loop-sq.invariant)
+    rw c.turned-member.ensures (front-written (turned kept) c.loop-sq.sq c.loop-sq.members _ _ _ inside
+    (turned-first kept c.loop-sq.sq _ _) c.loop-sq.invariant)
 
 pub returns : goal.returns
 returns c =
     let kept = kept_in c.args.statuses.now in
-    front-ends (turned kept) c.loop-sq.sq c.loop-sq.members _ (omega arith) (turned-none kept c.loop-sq.sq) c.loop-sq.invariant
+    front-ends (turned kept) c.loop-sq.sq c.loop-sq.members _ (omega arith)
+    (turned-none kept c.loop-sq.sq) c.loop-sq.invariant

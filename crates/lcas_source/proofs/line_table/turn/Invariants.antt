@@ -3,4 +3,5 @@ use Rattle.lcas_source.proofs.FrontLaws.{IsRewriting}
 use Rattle.lcas_source.proofs.line_table.turn.Given as goal
 
 abbrev pub invariant-loop-sq : goal.invariant-loop-sq
-invariant-loop-sq l = IsRewriting (turned (kept_in l.statuses)) l.sq l.members (turned (kept_in l.statuses) 0 l.fn.members)
+invariant-loop-sq l = IsRewriting (turned (kept_in l.statuses)) l.sq l.members
+    (turned (kept_in l.statuses) 0 l.fn.members)

@@ -3,4 +3,5 @@ use Rattle.lcas_source.proofs.CourseSteps.{packet_read-none}
 use Rattle.lcas_source.proofs.source_table.packet_read.Goals as goal
 
 pub returns-else-are_nibbles : goal.returns-else-are_nibbles
-returns-else-are_nibbles c = sym (packet_read-none c.args.nibbles.now (sym c.are_nibbles.ensures.value ∙ c.if-are_nibbles.false))
+returns-else-are_nibbles c = sym
+    (packet_read-none c.args.nibbles.now (sym c.are_nibbles.ensures.value ∙ c.if-are_nibbles.false))

@@ -5,4 +5,5 @@ use Rattle.make_load.proofs.load.add_frames.Given as goal
 
 abbrev pub invariant-loop-k : goal.invariant-loop-k
 invariant-loop-k l =
-    l.fn.items.items ++ frames (frame_count l.fn.ticks) 0 l.fn.draws.state ≡ l.items.items ++ frames (frame_count l.fn.ticks - l.k) (8 * l.k) l.draws.state
+    l.fn.items.items ++ frames (frame_count l.fn.ticks) 0 l.fn.draws.state ≡ l.items.items ++ frames
+    (frame_count l.fn.ticks - l.k) (8 * l.k) l.draws.state

@@ -20,6 +20,10 @@ pub loop-m-preserved : goal.loop-m-preserved
 loop-m-preserved c =
     let m = c.loop-m.m in
     let line = slice_get-get_or c.loop-m.lines m c.index-lines-m.result (omega arith) in
-    let box = slice_get-get_or c.args.places.now m c.index-places-m.result (omega arith) ∙ ap Some (sym c.index-places-m.is) in
-    let place = slice_get-map (λ (b : Box Container). b.value) c.args.places.now m ∙ ap (option_map (λ (b : Box Container). b.value)) box ∙ ap Some (sym (c.container.ensures ∙ c.deref.ensures)) in
-    passed_more m c.args.j (held c.args.places.now) c.args.lines.now c.loop-m.lines _ c.pass.new.self _ c.loop-m.invariant line place c.pass.ensures.stands
+    let box = slice_get-get_or c.args.places.now m c.index-places-m.result (omega arith)
+    ∙ ap Some (sym c.index-places-m.is) in
+    let place = slice_get-map (λ (b : Box Container). b.value) c.args.places.now m
+    ∙ ap (option_map (λ (b : Box Container). b.value)) box
+    ∙ ap Some (sym (c.container.ensures ∙ c.deref.ensures)) in
+    passed_more m c.args.j (held c.args.places.now) c.args.lines.now c.loop-m.lines _ c.pass.new.self _
+    c.loop-m.invariant line place c.pass.ensures.stands

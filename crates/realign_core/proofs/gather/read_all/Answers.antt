@@ -7,5 +7,6 @@ use Rattle.realign_core.proofs.gather.read_all.Goals as goal
 pub loop-m-preserved : goal.loop-m-preserved
 loop-m-preserved c =
     let m = c.loop-m.m in
-    let here = slice_get-get_or c.args.lines.now m c.index-lines-m.result (omega arith) ∙ ap Some (sym c.index-lines-m.is) in
+    let here = slice_get-get_or c.args.lines.now m c.index-lines-m.result (omega arith)
+    ∙ ap Some (sym c.index-lines-m.is) in
     read_more m c.args.lines.now c.loop-m.packets _ c.packet.result c.loop-m.invariant here c.packet.ensures

@@ -8,5 +8,6 @@ use Rattle.remainder.proofs.table.remainder_of_nibbles.Goals as goal
 pub loop-nibble-init : goal.loop-nibble-init
 loop-nibble-init g c = record {
   within = pow_pos g.row.DEGREE;
-  remainder = λ lower size is_table. bits-zero g.row.DEGREE ∙ ap (λ n. replicate n false) (sym size) ∙ sym (remainder-nil lower);
+  remainder = λ lower size is_table. bits-zero g.row.DEGREE ∙ ap (λ n. replicate n false) (sym size)
+      ∙ sym (remainder-nil lower);
 }

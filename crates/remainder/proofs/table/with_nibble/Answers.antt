@@ -11,10 +11,15 @@ bounds-table-upper g c =
 
 pub returns-clause-within : goal.returns-clause-within
 returns-clause-within g c =
-    subst (λ n. n < 2 ^ g.row.DEGREE) (sym (computed g.row.DEGREE c.args.register c.args.nibble c.from.result c.args.table.now c.requires.least c.requires.most c.from.ensures))
-    (result_below g.row.DEGREE c.args.register c.args.nibble c.args.table.now c.requires.least c.requires.register c.requires.nibble c.told-table c.requires.entries)
+    subst (λ n. n < 2 ^ g.row.DEGREE)
+    (sym (computed g.row.DEGREE c.args.register c.args.nibble c.from.result c.args.table.now c.requires.least
+    c.requires.most c.from.ensures))
+    (result_below g.row.DEGREE c.args.register c.args.nibble c.args.table.now c.requires.least c.requires.register
+    c.requires.nibble c.told-table c.requires.entries)
 
 pub returns-clause-behind : goal.returns-clause-behind
 returns-clause-behind g c lower word size is_table stands =
-    ap (bits g.row.DEGREE) (computed g.row.DEGREE c.args.register c.args.nibble c.from.result c.args.table.now c.requires.least c.requires.most c.from.ensures)
-    ∙ nibble_step g.row.DEGREE lower word c.args.table.now c.args.register c.args.nibble c.requires.least c.requires.register c.requires.nibble size is_table stands
+    ap (bits g.row.DEGREE) (computed g.row.DEGREE c.args.register c.args.nibble c.from.result c.args.table.now
+    c.requires.least c.requires.most c.from.ensures)
+    ∙ nibble_step g.row.DEGREE lower word c.args.table.now c.args.register c.args.nibble c.requires.least
+    c.requires.register c.requires.nibble size is_table stands

@@ -7,4 +7,5 @@ use Rattle.source_core.proofs.frame.begin.Goals as goal
 pub returns-then-filled-eq0 : goal.returns-then-filled-eq0
 returns-then-filled-eq0 c =
     subst (IsBegun c.args.h4 c.args.filled) (sym c.begin_blank.ensures)
-    (subst (λ n. IsBegun c.args.h4 n (blank c.args.h4)) (sym c.if-filled-eq0.true) (record { header = refl; zeros = refl }))
+    (subst (λ n. IsBegun c.args.h4 n (blank c.args.h4)) (sym c.if-filled-eq0.true)
+    (record { header = refl; zeros = refl }))

@@ -1,5 +1,6 @@
 -- One line more is begun.
-use Rattle.std.proofs.Common.{◌≡◌, if◌then◌else◌, [], slice_index_or, sym, ◌∙◌, ap, subst, arith, get_or-set_other, inl, inr}
+use Rattle.std.proofs.Common.{◌≡◌, if◌then◌else◌, [], slice_index_or, sym, ◌∙◌, ap, subst, arith, get_or-set_other, inl}
+use Rattle.std.proofs.Common.{inr}
 use Rattle.std.proofs.lemmas.Bool.{cases_lt}
 use Rattle.std.proofs.lemmas.Grind.{get_or-set_at}
 use Rattle.std.specs.Global.{Box}
@@ -21,12 +22,15 @@ loop-line-preserved c line d low =
     (elim (cases_lt line c.loop-line.line) [
       | inl before ↦
           let other : line ≡ c.loop-line.line → ⊥ = λ e. omega arith in
-          subst (IsBegun header size) (sym (get_or-set_other out c.loop-line.line line c.begin.new.container d other)) (c.loop-line.invariant line d before)
+          subst (IsBegun header size) (sym (get_or-set_other out c.loop-line.line line c.begin.new.container d other))
+          (c.loop-line.invariant line d before)
       | inr last ↦
           let same : line ≡ c.loop-line.line = omega arith in
           IsBegun-as _ _ _ _ _ _
           (c.h4_of.ensures ∙ ap (λ n. h4_by c.args.ticks (slice_index_or c.args.nibbles.now n [])) (sym same))
-          (c.filled-filled.ensures ∙ ap (λ b. if b then c.args.size else 0) (c.carriers-carry.ensures c.loop-line.line (omega arith)) ∙ ap (λ n. if carries c.args.active.now n then c.args.size else 0) (sym same))
+          (c.filled-filled.ensures ∙ ap (λ b. if b then c.args.size else 0)
+          (c.carriers-carry.ensures c.loop-line.line (omega arith))
+          ∙ ap (λ n. if carries c.args.active.now n then c.args.size else 0) (sym same))
           (sym (get_or-set_at out c.loop-line.line line c.begin.new.container d same (omega (arith, long))))
           c.begin.ensures
     ])

@@ -6,5 +6,6 @@ abbrev pub invariant-loop-rank : goal.invariant-loop-rank
 invariant-loop-rank l = record {
   size : length l.carry ≡ 128;
   all : (rank : ℕ) → rank < l.rank → slice_index_or l.carry (slice_index l.active rank) false ≡ true;
-  only : (line : ℕ) → slice_index_or l.carry line false ≡ true → (rank : ℕ) × (rank < l.rank) × (slice_index l.active rank ≡ line);
+  only : (line : ℕ) → slice_index_or l.carry line false ≡ true → (rank : ℕ) × (rank < l.rank) ×
+      (slice_index l.active rank ≡ line);
 }

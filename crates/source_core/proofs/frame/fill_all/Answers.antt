@@ -1,5 +1,6 @@
 -- The row of one member is put into its container.
-use Rattle.std.proofs.Common.{◌≡◌, ℕ, ◌+◌, ◌*◌, ◌<◌, List, refl, take, drop, length, slice_index, slice_index_or, slice_set, sym, ◌∙◌, ap, subst, arith}
+use Rattle.std.proofs.Common.{◌≡◌, ℕ, ◌+◌, ◌*◌, ◌<◌, List, refl, take, drop, length, slice_index, slice_index_or}
+use Rattle.std.proofs.Common.{slice_set, sym, ◌∙◌, ap, subst, arith}
 use Rattle.session_model.specs.Piece.{stream_of}
 use Rattle.session_model.specs.Client.{reached}
 use Rattle.std.specs.Box.{with_value}
@@ -20,13 +21,18 @@ returns-in-len1-clause-spreads c stream place stands =
     let next = (c.fill_one.ensures.stands stream place stands).within in
     let out = c.args.out.now in
     let own = c.index-out-from.result in
-    let after = slice_set out c.from.result (with_value (slice_index_or out c.from.result own) c.fill_one.new.container) in
+    let after = slice_set out c.from.result (with_value (slice_index_or out c.from.result own) c.fill_one.new.container)
+    in
     let first : slice_index active 0 < length out = c.requires.members.among 0 (omega (arith, one)) in
     let low : c.from.result < length out = omega (arith, first, c.from.ensures) in
-    subst (λ n. Spreads 0 size (take n (drop place (stream_of (reached (place + n) stream).pieces))) active (held out) (held after)) (sym all)
+    subst (λ n. Spreads 0 size (take n (drop place (stream_of (reached (place + n) stream).pieces))) active (held out)
+    (held after)) (sym all)
     (spreads-one size octets active (held out) (held after) one c.requires.members.distinct
-    (lines-stay (length out) out active refl c.requires.members.among) (next-size place size (reached (place + size) stream).pieces next)
+    (lines-stay (length out) out active refl c.requires.members.among)
+    (next-size place size (reached (place + size) stream).pieces next)
     (λ d. held-set out c.from.result (with_value (slice_index_or out c.from.result own) c.fill_one.new.container)
     ∙ ap (slice_set (held out) c.from.result)
-    (c.fill_one.ensures.octets stream place stands ∙ ap (with_octets 0 octets) (c.container_mut-container.ensures.value ∙ c.deref_mut.ensures.value ∙ sym (held-at out c.from.result own d low)))
+    (c.fill_one.ensures.octets stream place stands
+    ∙ ap (with_octets 0 octets) (c.container_mut-container.ensures.value ∙ c.deref_mut.ensures.value
+    ∙ sym (held-at out c.from.result own d low)))
     ∙ ap (λ n. slice_set (held out) n (with_octets 0 octets (slice_index_or (held out) n d))) c.from.ensures))

@@ -22,4 +22,5 @@ returns-clause-dealt c scenario cells t i low = is-dealt scenario cells t i low
 
 pub returns-clause-others : goal.returns-clause-others
 returns-clause-others c scenario cells t line none =
-    ap (λ found. payload_by found (length (active_at scenario cells t)) scenario.size (payload_of scenario cells t)) none
+    ap (λ found. payload_by found (length (active_at scenario cells t)) scenario.size (payload_of scenario cells t))
+    none

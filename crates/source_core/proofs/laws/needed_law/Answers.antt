@@ -1,5 +1,6 @@
 -- The number of the frame says which return cell a tick needs.
-use Rattle.std.proofs.Common.{◌≡◌, ◌≤◌, ℕ, ◌+◌, ◌-◌, ◌*◌, ◌/◌, ◌%◌, ◌==◌, ◌&&◌, nat_le, true, false, if◌then◌else◌, Some, None, refl, ◌∙◌, ap, arith}
+use Rattle.std.proofs.Common.{◌≡◌, ◌≤◌, ℕ, ◌+◌, ◌-◌, ◌*◌, ◌/◌, ◌%◌, ◌==◌, ◌&&◌, nat_le, true, false, if◌then◌else◌}
+use Rattle.std.proofs.Common.{Some, None, refl, ◌∙◌, ap, arith}
 use Rattle.std.proofs.lemmas.Bool.{eq-eqb, le-leb}
 use Rattle.std.proofs.lemmas.Option.{none-some}
 use Rattle.source_core.specs.Terminal.{needed_at}
@@ -8,7 +9,9 @@ use Rattle.source_core.proofs.laws.needed_law.Goals as goal
 
 from-some : (lag t k : ℕ) → needed_at lag t ≡ Some k → t ≡ 16 * (k + lag) + 8
 from-some lag t k =
-    elim (t % 16 == 8 && nat_le lag (t / 16)) as (λ b. (t % 16 == 8 && nat_le lag (t / 16)) ≡ b → (if b then Some (t / 16 - lag) else None) ≡ Some k → t ≡ 16 * (k + lag) + 8) [
+    elim (t % 16 == 8 && nat_le lag (t / 16))
+    as (λ b. (t % 16 == 8 && nat_le lag (t / 16)) ≡ b → (if b then Some (t / 16 - lag) else None) ≡ Some k →
+    t ≡ 16 * (k + lag) + 8) [
       | true ↦ λ e h.
           let both = test-both (t % 16) 8 lag (t / 16) e in
           let at = both.0 in

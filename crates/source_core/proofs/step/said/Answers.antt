@@ -7,5 +7,6 @@ use Rattle.source_core.proofs.step.said.Goals as goal
 pub returns-clause-below : goal.returns-clause-below
 returns-clause-below c =
     let packet = c.args.packet in
-    let octets : IsPacket packet = record { mst = omega arith; sq = omega arith; mfi2 = omega arith; act = omega arith } in
+    let octets : IsPacket packet = record { mst = omega arith; sq = omega arith; mfi2 = omega arith; act = omega arith }
+    in
     subst (All (λ nibble. nibble < 16)) (sym c.nibbles.ensures) (packet_nibbles_below packet octets)

@@ -6,6 +6,7 @@ use Rattle.source_core.proofs.step.say_all.Given as goal
 
 abbrev pub invariant-loop-line : goal.invariant-loop-line
 invariant-loop-line l = record {
-  said : (line : ℕ) (d : List ℕ) → line < l.line → slice_index_or l.nibbles line d ≡ packet_nibbles (forward_packet l.table.source.table line (l.table.steps - 1));
+  said : (line : ℕ) (d : List ℕ) → line < l.line →
+      slice_index_or l.nibbles line d ≡ packet_nibbles (forward_packet l.table.source.table line (l.table.steps - 1));
   below : (line : ℕ) (d : List ℕ) → line < l.line → All (λ nibble. nibble < 16) (slice_index_or l.nibbles line d);
 }

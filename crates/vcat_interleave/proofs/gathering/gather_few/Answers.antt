@@ -1,5 +1,6 @@
 -- One more square of places goes on where those before it end.
-use Rattle.std.proofs.Common.{◌≡◌, ℕ, ◌+◌, ◌-◌, ◌*◌, ◌≤◌, take, drop, length, ◌++◌, refl, sym, ap, ap₂, ◌∙◌, arith, length-drop}
+use Rattle.std.proofs.Common.{◌≡◌, ℕ, ◌+◌, ◌-◌, ◌*◌, ◌≤◌, take, drop, length, ◌++◌, refl, sym, ap, ap₂, ◌∙◌, arith}
+use Rattle.std.proofs.Common.{length-drop}
 use Rattle.std.proofs.lemmas.List.{length-take-le}
 use Rattle.vc_cell.specs.Held.{held}
 use Rattle.session_model.specs.Interleave.{octets_from}
@@ -25,10 +26,13 @@ loop-k-preserved c =
     let room = c.requires.out (omega (arith, c.loop-k-test.true)) in
     let few = c.requires.few (omega (arith, c.loop-k-test.true)) in
     let reach : done * x + 16 * x + 16 ≤ length row + x = omega (arith, within, room, c.loop-k.auto.out) in
-    let size : length piece ≡ rest = c.gather_square.auto.out ∙ (let e : length (take rest (drop (done * x) row)) ≡ rest = length-take-le rest (drop (done * x) row) (omega (arith, length-drop (done * x) row)) in e) in
+    let size : length piece ≡ rest = c.gather_square.auto.out
+    ∙ (let e : length (take rest (drop (done * x) row)) ≡ rest =
+    length-take-le rest (drop (done * x) row) (omega (arith, length-drop (done * x) row)) in e) in
     let next : (c.loop-k.k + 1) * 16 * x ≡ done * x + 16 * x = omega arith in
     ap (λ n. take n (take (done * x) row ++ (piece ++ drop rest (drop (done * x) row)))) next
-    ∙ take-behind (done * x) (16 * x) row piece (drop rest (drop (done * x) row)) (omega (arith, reach, few)) (omega (arith, reach, few, size))
+    ∙ take-behind (done * x) (16 * x) row piece (drop rest (drop (done * x) row)) (omega (arith, reach, few))
+    (omega (arith, reach, few, size))
     ∙ ap₂ (λ a b. a ++ b) c.loop-k.invariant c.gather_square.ensures
     ∙ sym (octets_from-add c.args.place done 16 parts)
     ∙ ap (λ n. octets_from c.args.place n parts) (let e : done + 16 ≡ (c.loop-k.k + 1) * 16 = omega arith in e)

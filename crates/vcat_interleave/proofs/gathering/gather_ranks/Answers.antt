@@ -17,7 +17,8 @@ loop-rank-preserved c p r low below =
           ap (λ n. slice_index c.put_rank.new.row (p * x + n)) same
           ∙ c.put_rank.ensures.placed p (omega (arith, c.piece.ensures.size))
           ∙ c.piece.ensures.octets p low
-          ∙ ap (λ n. octet_at (payloads_of (held c.args.containers.now) c.args.active.now) n (c.args.place + p)) (sym same)
+          ∙ ap (λ n. octet_at (payloads_of (held c.args.containers.now) c.args.active.now) n (c.args.place + p))
+          (sym same)
       | inr other ↦
           c.put_rank.ensures.others (p * x + r) (λ is. other (sym (rank-place x p r (omega arith)).0 ∙ is))
           ∙ c.loop-rank.invariant p r low (omega arith)
@@ -26,4 +27,5 @@ loop-rank-preserved c p r low below =
 pub returns : goal.returns
 returns c =
     is-row (held c.args.containers.now) c.args.active.now c.args.place c.args.places c.loop-rank.out
-    (c.loop-rank.auto.out ∙ c.requires.out) (λ p rank low below. c.loop-rank.invariant p rank low (omega (arith, c.loop-rank-test.false, below)))
+    (c.loop-rank.auto.out ∙ c.requires.out)
+    (λ p rank low below. c.loop-rank.invariant p rank low (omega (arith, c.loop-rank-test.false, below)))

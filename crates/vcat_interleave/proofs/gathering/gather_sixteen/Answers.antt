@@ -34,4 +34,9 @@ pub returns : goal.returns
 returns c =
     is-row (held c.args.containers.now) c.args.active.now c.args.place 16 c.loop-k.out
     (c.loop-k.auto.out ∙ c.requires.out) (λ p rank low below. c.loop-k.invariant p rank low
-    (omega (arith, (div_ceil_times (length c.args.active.now) 16 (omega arith)).0, c.div_ceil-k-end.ensures, c.loop-k-test.false)))
+    (omega (
+      arith,
+      (div_ceil_times (length c.args.active.now) 16 (omega arith)).0,
+      c.div_ceil-k-end.ensures,
+      c.loop-k-test.false,
+    )))

@@ -17,7 +17,8 @@ gather_ranks-requires-clause-out c =
     let all : length row ≡ c.args.places * x = c.gather_few.auto.out ∙ c.requires.out in
     let fits : done * x ≤ length row = omega (arith, mul-le done x c.args.places x few (omega arith), all) in
     ap length (take_rest row (done * x))
-    ∙ rest-size c.args.places done x (length (drop (done * x) row)) few (omega (arith, length-drop (done * x) row, fits, all))
+    ∙ rest-size c.args.places done x (length (drop (done * x) row)) few
+    (omega (arith, length-drop (done * x) row, fits, all))
 
 pub returns : goal.returns
 returns c =
@@ -25,8 +26,10 @@ returns c =
     let done = c.squares_below-squares.result * 16 in
     let row = c.gather_few.new.out in
     let back = c.gather_ranks.new.out in
-    let none : drop (length row - done * x) (drop (done * x) row) ≡ [] = drop_all (length row - done * x) (drop (done * x) row) (omega (arith, length-drop (done * x) row)) in
+    let none : drop (length row - done * x) (drop (done * x) row) ≡ [] =
+    drop_all (length row - done * x) (drop (done * x) row) (omega (arith, length-drop (done * x) row)) in
     ap (λ l. take (done * x) row ++ (back ++ l)) none
     ∙ ap (λ l. take (done * x) row ++ l) (append-nil back)
-    ∙ rows-add done c.args.places c.args.place (payloads_of (held c.args.containers.now) c.args.active.now) (take (done * x) row) back
+    ∙ rows-add done c.args.places c.args.place (payloads_of (held c.args.containers.now) c.args.active.now)
+    (take (done * x) row) back
     (c.squares_below-squares.ensures.within c.args.places c.requires.out) c.gather_few.ensures c.gather_ranks.ensures

@@ -13,7 +13,8 @@ returns c =
     let x = length c.args.active.now in
     let out = c.put_places.new.out in
     let parts = payloads_of (held c.args.containers.now) c.args.active.now in
-    is-row (held c.args.containers.now) c.args.active.now c.args.place 16 (take (16 * x) out) (length-take-le (16 * x) out (omega (arith, c.put_places.auto.out, c.requires.out, c.requires.few)))
+    is-row (held c.args.containers.now) c.args.active.now c.args.place 16 (take (16 * x) out)
+    (length-take-le (16 * x) out (omega (arith, c.put_places.auto.out, c.requires.out, c.requires.few)))
     (λ p rank low below.
     get_or-take (16 * x) out (p * x + rank) 0 (within-row x 16 p rank low below)
     ∙ c.put_places.ensures p rank low below

@@ -20,9 +20,11 @@ loop-k-preserved c =
     let done = c.loop-k.k * 16 in
     let parts = payloads_of (held c.args.containers.now) c.args.active.now in
     let piece = c.gather_sixteen.new.out in
-    let size = ap length c.gather_sixteen.ensures ∙ length-octets_from (c.args.place + done) 16 parts ∙ ap (λ n. 16 * n) (length-payloads (held c.args.containers.now) c.args.active.now) in
+    let size = ap length c.gather_sixteen.ensures ∙ length-octets_from (c.args.place + done) 16 parts
+    ∙ ap (λ n. 16 * n) (length-payloads (held c.args.containers.now) c.args.active.now) in
     let within = done-within done c.args.squares c.loop-k.k x refl c.loop-k-test.true in
-    take-put_mid (done * x) ((done + 16) * x - done * x) c.loop-k.out piece ((c.loop-k.k + 1) * 16 * x) (omega (arith, size)) (omega (arith, within, c.loop-k.auto.out, c.requires.out))
+    take-put_mid (done * x) ((done + 16) * x - done * x) c.loop-k.out piece ((c.loop-k.k + 1) * 16 * x)
+    (omega (arith, size)) (omega (arith, within, c.loop-k.auto.out, c.requires.out))
     ∙ ap₂ (λ a b. a ++ b) c.loop-k.invariant c.gather_sixteen.ensures
     ∙ sym (octets_from-add c.args.place done 16 parts)
     ∙ ap (λ n. octets_from c.args.place n parts) (let e : done + 16 ≡ (c.loop-k.k + 1) * 16 = omega arith in e)

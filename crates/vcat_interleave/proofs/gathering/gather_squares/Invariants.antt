@@ -6,4 +6,5 @@ use Rattle.vcat_interleave.specs.Members.{payloads_of}
 use Rattle.vcat_interleave.proofs.gathering.gather_squares.Given as goal
 
 abbrev pub invariant-loop-k : goal.invariant-loop-k
-invariant-loop-k l = take (l.k * 16 * l.x) l.out ≡ octets_from l.place (l.k * 16) (payloads_of (held l.containers) l.active)
+invariant-loop-k l = take (l.k * 16 * l.x) l.out ≡ octets_from l.place (l.k * 16)
+    (payloads_of (held l.containers) l.active)

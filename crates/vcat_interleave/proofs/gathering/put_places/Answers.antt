@@ -16,5 +16,6 @@ loop-j-preserved c j i low below =
           ∙ ap (λ n. octet_at c.args.rows.now n i) (sym same)
       | inr other ↦
           let before : j * x + i < k * x = omega (arith, later j k x (omega (arith, low, other)), below) in
-          c.put_octets.ensures.others (j * x + i) (inl before) ∙ c.loop-j.invariant j i (omega (arith, low, other)) below
+          c.put_octets.ensures.others (j * x + i) (inl before)
+          ∙ c.loop-j.invariant j i (omega (arith, low, other)) below
     ]

@@ -8,5 +8,6 @@ use Rattle.vcat_interleave.proofs.gathering.rows_of.Given as goal
 abbrev pub invariant-loop-i : goal.invariant-loop-i
 invariant-loop-i l = record {
   size : length l.rows ≡ 16;
-  done : (i j : ℕ) → i < l.i → j < 16 → octet_at l.rows i j ≡ octet_at (payloads_of (held l.containers) l.active) (l.rank + i) (l.place + j);
+  done : (i j : ℕ) → i < l.i → j < 16 →
+      octet_at l.rows i j ≡ octet_at (payloads_of (held l.containers) l.active) (l.rank + i) (l.place + j);
 }

@@ -1,5 +1,6 @@
 -- A place that is written is no other one of the rank, and none of another rank.
-use Rattle.std.proofs.Common.{◌≢◌, ◌+◌, ◌*◌, ◌%◌, ◌<◌, length, get_or-set_other, get_or-set_same, below_more, ◌∙◌, ap, arith}
+use Rattle.std.proofs.Common.{◌≢◌, ◌+◌, ◌*◌, ◌%◌, ◌<◌, length, get_or-set_other, get_or-set_same, below_more, ◌∙◌, ap}
+use Rattle.std.proofs.Common.{arith}
 use Rattle.vcat_interleave.proofs.RowLaws.{rank-place, other-place, within-row}
 use Rattle.vcat_interleave.proofs.member.put_rank.Goals as goal
 

@@ -5,5 +5,7 @@ use Rattle.vcat_interleave.proofs.spreading.put_member.Goals as goal
 
 pub returns-clause-put : goal.returns-clause-put
 returns-clause-put c d =
-    put-in-box c.args.containers.now c.args.line c.args.place 16 c.index-containers-line.result c.container_mut.result.now c.args.octets c.put_octets.new.out d
-    c.requires.line (c.container_mut.ensures.value ∙ c.deref_mut.ensures.value) (sym c.fits-octets.0) c.put_octets.ensures.octets
+    put-in-box c.args.containers.now c.args.line c.args.place 16 c.index-containers-line.result
+    c.container_mut.result.now c.args.octets c.put_octets.new.out d
+    c.requires.line (c.container_mut.ensures.value ∙ c.deref_mut.ensures.value)
+    (sym c.fits-octets.0) c.put_octets.ensures.octets

@@ -8,7 +8,8 @@ use Rattle.vcat_interleave.proofs.SpreadLaws.{spreads-none, spreads-next, lines-
 use Rattle.vcat_interleave.proofs.spreading.spread_square.Goals as goal
 
 pub loop-i-init : goal.loop-i-init
-loop-i-init c = spreads-none c.args.rank (c.args.rank + 0) c.args.place 16 c.args.row.now c.args.active.now (held c.args.containers.now) (omega arith)
+loop-i-init c = spreads-none c.args.rank (c.args.rank + 0) c.args.place 16 c.args.row.now c.args.active.now
+    (held c.args.containers.now) (omega arith)
 
 pub loop-i-preserved : goal.loop-i-preserved
 loop-i-preserved c =
@@ -23,7 +24,11 @@ loop-i-preserved c =
     ∙ c.rows_between.ensures p c.loop-i.i (omega (arith, c.put_member.ensures.octets)) small)
     ∙ ap (λ n. part_of rank x n row) c.put_member.ensures.octets in
     let next : suc rank ≡ c.args.rank + (c.loop-i.i + 1) = omega arith in
-    subst (λ n. SpreadsOver c.args.rank n c.args.place 16 row c.args.active.now (held c.args.containers.now) (held c.put_member.new.containers)) next
-    (spreads-next c.args.rank rank c.args.place 16 row c.args.active.now (held c.args.containers.now) (held c.loop-i.containers) (held c.put_member.new.containers)
-    c.requires.distinct (lines-stay (length c.args.containers.now) c.loop-i.containers c.args.active.now c.loop-i.auto.containers c.requires.lines)
-    (omega arith) (omega (arith, c.loop-i-test.true, c.requires.ranks)) (λ d. rw (c.from.ensures, is) at (c.put_member.ensures.put d)) c.loop-i.invariant)
+    subst (λ n. SpreadsOver c.args.rank n c.args.place 16 row c.args.active.now (held c.args.containers.now)
+    (held c.put_member.new.containers)) next
+    (spreads-next c.args.rank rank c.args.place 16 row c.args.active.now (held c.args.containers.now)
+    (held c.loop-i.containers) (held c.put_member.new.containers)
+    c.requires.distinct (lines-stay (length c.args.containers.now) c.loop-i.containers c.args.active.now
+    c.loop-i.auto.containers c.requires.lines)
+    (omega arith) (omega (arith, c.loop-i-test.true, c.requires.ranks))
+    (λ d. rw (c.from.ensures, is) at (c.put_member.ensures.put d)) c.loop-i.invariant)

@@ -17,14 +17,16 @@ pub returns-clause-placed : goal.returns-clause-placed
 returns-clause-placed c i h =
     let at = c.args.at in
     let out = c.args.out.now in
-    let all = ap (λ l. slice_index l (at + i)) (returns-clause-octets c ∙ ap (λ n. take at out ++ (c.args.row ++ drop (at + n) out)) (sym c.fits-row.0)) in
+    let all = ap (λ l. slice_index l (at + i))
+    (returns-clause-octets c ∙ ap (λ n. take at out ++ (c.args.row ++ drop (at + n) out)) (sym c.fits-row.0)) in
     all ∙ put-placed at i out c.args.row (omega (arith, c.fits-row.0)) (omega (arith, c.fits-row.0))
 
 pub returns-clause-others : goal.returns-clause-others
 returns-clause-others c n where_else =
     let at = c.args.at in
     let out = c.args.out.now in
-    let all = ap (λ l. slice_index l n) (returns-clause-octets c ∙ ap (λ n. take at out ++ (c.args.row ++ drop (at + n) out)) (sym c.fits-row.0)) in
+    let all = ap (λ l. slice_index l n)
+    (returns-clause-octets c ∙ ap (λ n. take at out ++ (c.args.row ++ drop (at + n) out)) (sym c.fits-row.0)) in
     all ∙ elim where_else [
       | inl before ↦ put-before at n out c.args.row (omega (arith, c.fits-row.0)) before
       | inr after ↦ put-after at n out c.args.row (omega (arith, c.fits-row.0)) (omega (arith, c.fits-row.0))

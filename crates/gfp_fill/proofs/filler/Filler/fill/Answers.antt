@@ -20,7 +20,10 @@ loop-filled-preserved c =
       within = omega (arith, c.fill_some-filled.ensures.within);
       writes = λ stream place stands.
           let so_far = c.loop-filled.invariant.writes stream place stands in
-          rw (take-written at n out part _ c.loop-filled.invariant.within (omega (arith, c.fill_some-filled.ensures.within, c.fill_some-filled.auto.out)))
-          (written-both c.loop-filled.local c.fill_some-filled.new.self c.loop-filled.waiting c.fill_some-filled.new.waiting stream place (take at out) (take n part) so_far
-          (c.fill_some-filled.ensures.writes (reached (place + length (take at out)) stream) (place + length (take at out)) so_far.stands));
+          rw (take-written at n out part _ c.loop-filled.invariant.within
+          (omega (arith, c.fill_some-filled.ensures.within, c.fill_some-filled.auto.out)))
+          (written-both c.loop-filled.local c.fill_some-filled.new.self c.loop-filled.waiting
+          c.fill_some-filled.new.waiting stream place (take at out) (take n part) so_far
+          (c.fill_some-filled.ensures.writes (reached (place + length (take at out)) stream)
+          (place + length (take at out)) so_far.stands));
     }

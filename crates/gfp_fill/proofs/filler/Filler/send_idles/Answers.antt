@@ -4,4 +4,8 @@ use Rattle.gfp_fill.proofs.IdleLaws.{first_of_idle}
 use Rattle.gfp_fill.proofs.filler.Filler.send_idles.Goals as goal
 
 pub returns-clause-octets : goal.returns-clause-octets
-returns-clause-octets c = (1, first_of_idle c.send_headers.result ∙ sym (ap₂ ◌++◌ c.send_headers.ensures.octets c.send_headers.ensures.rest))
+returns-clause-octets c = (
+  1,
+  first_of_idle c.send_headers.result
+      ∙ sym (ap₂ ◌++◌ c.send_headers.ensures.octets c.send_headers.ensures.rest),
+)

@@ -8,13 +8,15 @@ pub invariant_of-self : goal.invariant_of-self
 invariant_of-self c =
     let store = c.self.invariant.0 in
     let items = c.in-Some.ensures.items in
-    let holds = All-head HoldsFrame c.in-Some.frame c.pop_front.new.self.items (All-same HoldsFrame _ _ (sym items) store.frames) in (
+    let holds = All-head HoldsFrame c.in-Some.frame c.pop_front.new.self.items
+    (All-same HoldsFrame _ _ (sym items) store.frames) in (
       record {
         count = omega (arith, c.in-Some.ensures.cases);
         places = omega arith;
         spares = omega arith;
         frames = All-rest HoldsFrame c.in-Some.frame _ _ items store.frames;
-        room = All-same HasRoom _ _ c.put_back.ensures.items (All-push HasRoom _ _ store.room (subst HasRoom (sym c.replace-sent.ensures.value) store.sending));
+        room = All-same HasRoom _ _ c.put_back.ensures.items
+            (All-push HasRoom _ _ store.room (subst HasRoom (sym c.replace-sent.ensures.value) store.sending));
         sending = subst HasRoom (sym c.replace-sent.ensures.after) holds.1;
       },
       omega arith,

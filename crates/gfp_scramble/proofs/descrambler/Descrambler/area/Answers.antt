@@ -10,7 +10,8 @@ pub returns-clause-stands : goal.returns-clause-stands
 returns-clause-stands c settled octets stands =
     let front = c.split_at_mut-words.result.0.now in
     let back = c.split_at_mut-words.result.1.now in
-    subst (Stands c.octets.new.self settled) (append_assoc octets front back ∙ ap (λ l. octets ++ l) (sym c.split_at_mut-words.ensures.value))
+    subst (Stands c.octets.new.self settled)
+    (append_assoc octets front back ∙ ap (λ l. octets ++ l) (sym c.split_at_mut-words.ensures.value))
     (c.octets.ensures.stands settled (octets ++ front) (c.words.ensures.stands settled octets stands))
 
 pub returns-clause-answer : goal.returns-clause-answer

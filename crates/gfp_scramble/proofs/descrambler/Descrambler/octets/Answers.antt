@@ -15,7 +15,9 @@ loop-octet-preserved c =
     let size = c.loop-octet.auto.area in
     let so_far = c.loop-octet.invariant in
     record {
-      stands = λ settled octets stands. subst (Stands c.byte.new.self settled) (given_more i was area fits size so_far.back octets) (c.byte.ensures.stands settled (octets ++ take i was) (so_far.stands settled octets stands));
+      stands = λ settled octets stands. subst (Stands c.byte.new.self settled)
+          (given_more i was area fits size so_far.back octets)
+          (c.byte.ensures.stands settled (octets ++ take i was) (so_far.stands settled octets stands));
       front = λ settled octets stands. front_more i was area fits size so_far.back
           (unknown settled) descrambled_octets length-descrambled_octets octets c.byte.result
           (so_far.front settled octets stands)

@@ -6,7 +6,8 @@ use Rattle.gfp_scramble.proofs.descrambler.Descrambler.octets.Given as goal
 
 abbrev pub invariant-loop-octet : goal.invariant-loop-octet
 invariant-loop-octet l = record {
-  stands : (settled : Bool) (octets : List ℕ) → Stands l.fn.self settled octets → Stands l.self settled (octets ++ take l.octet-index l.fn.area);
+  stands : (settled : Bool) (octets : List ℕ) → Stands l.fn.self settled octets →
+      Stands l.self settled (octets ++ take l.octet-index l.fn.area);
   front : (settled : Bool) (octets : List ℕ) → Stands l.fn.self settled octets →
       drop (unknown settled) (descrambled_octets (octets ++ take l.octet-index l.fn.area))
       ≡ drop (unknown settled) (descrambled_octets octets ++ take l.octet-index l.area);

@@ -17,7 +17,9 @@ loop-i-preserved c =
     let so_far = c.loop-i.invariant in
     let same = c.eight.auto.area in
     record {
-      stands = λ settled octets stands. subst (Stands c.eight.new.self settled) (given_eight i was area piece fits size so_far.back same octets) (c.eight.ensures.stands settled (octets ++ take (8 * i) was) (so_far.stands settled octets stands));
+      stands = λ settled octets stands. subst (Stands c.eight.new.self settled)
+          (given_eight i was area piece fits size so_far.back same octets)
+          (c.eight.ensures.stands settled (octets ++ take (8 * i) was) (so_far.stands settled octets stands));
       front = λ settled octets stands. front_eight i was area piece fits size so_far.back same
           (unknown settled) descrambled_octets length-descrambled_octets octets (so_far.front settled octets stands)
           (c.eight.ensures.answer settled (octets ++ take (8 * i) was) (so_far.stands settled octets stands));

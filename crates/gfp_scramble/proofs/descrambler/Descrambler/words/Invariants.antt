@@ -6,7 +6,8 @@ use Rattle.gfp_scramble.proofs.descrambler.Descrambler.words.Given as goal
 
 abbrev pub invariant-loop-i : goal.invariant-loop-i
 invariant-loop-i l = record {
-  stands : (settled : Bool) (octets : List ℕ) → Stands l.fn.self settled octets → Stands l.self settled (octets ++ take (8 * l.i) l.fn.area);
+  stands : (settled : Bool) (octets : List ℕ) → Stands l.fn.self settled octets →
+      Stands l.self settled (octets ++ take (8 * l.i) l.fn.area);
   front : (settled : Bool) (octets : List ℕ) → Stands l.fn.self settled octets →
       drop (unknown settled) (descrambled_octets (octets ++ take (8 * l.i) l.fn.area))
       ≡ drop (unknown settled) (descrambled_octets octets ++ take (8 * l.i) l.area);

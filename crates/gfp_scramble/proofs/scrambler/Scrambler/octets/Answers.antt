@@ -15,7 +15,10 @@ loop-octet-preserved c =
     let size = c.loop-octet.auto.area in
     let so_far = c.loop-octet.invariant in
     record {
-      stands = λ octets stands. subst (Stands c.byte.new.self) (given_more i was area fits size so_far.back octets) (c.byte.ensures.stands (octets ++ take i was) (so_far.stands octets stands));
-      front = λ octets stands. front_more i was area fits size so_far.back 0 scrambled_octets length-scrambled_octets octets c.byte.result (so_far.front octets stands) (c.byte.ensures.answer (octets ++ take i was) (so_far.stands octets stands));
+      stands = λ octets stands. subst (Stands c.byte.new.self) (given_more i was area fits size so_far.back octets)
+          (c.byte.ensures.stands (octets ++ take i was) (so_far.stands octets stands));
+      front = λ octets stands. front_more i was area fits size so_far.back 0 scrambled_octets length-scrambled_octets
+          octets c.byte.result (so_far.front octets stands)
+          (c.byte.ensures.answer (octets ++ take i was) (so_far.stands octets stands));
       back = back_more i was area fits size so_far.back c.byte.result;
     }

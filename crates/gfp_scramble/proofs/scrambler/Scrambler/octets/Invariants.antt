@@ -7,6 +7,7 @@ use Rattle.gfp_scramble.proofs.scrambler.Scrambler.octets.Given as goal
 abbrev pub invariant-loop-octet : goal.invariant-loop-octet
 invariant-loop-octet l = record {
   stands : (octets : List ℕ) → Stands l.fn.self octets → Stands l.self (octets ++ take l.octet-index l.fn.area);
-  front : (octets : List ℕ) → Stands l.fn.self octets → scrambled_octets (octets ++ take l.octet-index l.fn.area) ≡ scrambled_octets octets ++ take l.octet-index l.area;
+  front : (octets : List ℕ) → Stands l.fn.self octets →
+      scrambled_octets (octets ++ take l.octet-index l.fn.area) ≡ scrambled_octets octets ++ take l.octet-index l.area;
   back : drop l.octet-index l.area ≡ drop l.octet-index l.fn.area;
 }

@@ -17,7 +17,11 @@ loop-i-preserved c =
     let so_far = c.loop-i.invariant in
     let same = c.eight.auto.area in
     record {
-      stands = λ octets stands. subst (Stands c.eight.new.self) (given_eight i was area piece fits size so_far.back same octets) (c.eight.ensures.stands (octets ++ take (8 * i) was) (so_far.stands octets stands));
-      front = λ octets stands. front_eight i was area piece fits size so_far.back same 0 scrambled_octets length-scrambled_octets octets (so_far.front octets stands) (c.eight.ensures.answer (octets ++ take (8 * i) was) (so_far.stands octets stands));
+      stands = λ octets stands. subst (Stands c.eight.new.self)
+          (given_eight i was area piece fits size so_far.back same octets)
+          (c.eight.ensures.stands (octets ++ take (8 * i) was) (so_far.stands octets stands));
+      front = λ octets stands. front_eight i was area piece fits size so_far.back same 0 scrambled_octets
+          length-scrambled_octets octets (so_far.front octets stands)
+          (c.eight.ensures.answer (octets ++ take (8 * i) was) (so_far.stands octets stands));
       back = back_eight i was area piece fits size so_far.back same;
     }

@@ -7,6 +7,7 @@ use Rattle.gfp_scramble.proofs.scrambler.Scrambler.words.Given as goal
 abbrev pub invariant-loop-i : goal.invariant-loop-i
 invariant-loop-i l = record {
   stands : (octets : List ℕ) → Stands l.fn.self octets → Stands l.self (octets ++ take (8 * l.i) l.fn.area);
-  front : (octets : List ℕ) → Stands l.fn.self octets → scrambled_octets (octets ++ take (8 * l.i) l.fn.area) ≡ scrambled_octets octets ++ take (8 * l.i) l.area;
+  front : (octets : List ℕ) → Stands l.fn.self octets →
+      scrambled_octets (octets ++ take (8 * l.i) l.fn.area) ≡ scrambled_octets octets ++ take (8 * l.i) l.area;
   back : drop (8 * l.i) l.area ≡ drop (8 * l.i) l.fn.area;
 }

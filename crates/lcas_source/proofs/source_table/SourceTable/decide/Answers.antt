@@ -11,14 +11,17 @@ change-requires-clause-room c = λ line commands waits.
     let f = c.self.inside in
     let course = course_in f.lines f.table f.planned f.pending f.taken f.steps in
     let settled = c.settle.ensures ∙ ap told_on c.take-self-inside.ensures.table in
-    rw settled (settled-room f.lines (f.taken % 16) (said_by (option_map told_in c.args.back)) course.source line commands c.self.invariant.lines c.self.invariant.fits waits)
+    rw settled (settled-room f.lines (f.taken % 16) (said_by (option_map told_in c.args.back)) course.source line
+    commands c.self.invariant.lines c.self.invariant.fits waits)
 
 pub invariant_of-self : goal.invariant_of-self
 invariant_of-self c =
     let f = c.self.inside in
     let course = course_in f.lines f.table f.planned f.pending f.taken f.steps in
     let settled = c.settle.ensures ∙ ap told_on c.take-self-inside.ensures.table in
-    let fields = decided-fields (f.taken % 16) (said_by (option_map told_in c.args.back)) course.source c.settle.new.self c.change.new.table c.change.new.pending.items
+    let fields = decided-fields (f.taken % 16) (said_by (option_map told_in c.args.back)) course.source
+    c.settle.new.self c.change.new.table c.change.new.pending.items
     settled c.change.ensures.table c.change.ensures.waiting in
     rw c.take-self-inside.ensures.taken
-    (IsTable-decided course f.bits c.go_on.new.bits (said_by (option_map told_in c.args.back)) (option_map told_in c.args.back) _ fields c.go_on.ensures c.self.invariant)
+    (IsTable-decided course f.bits c.go_on.new.bits (said_by (option_map told_in c.args.back))
+    (option_map told_in c.args.back) _ fields c.go_on.ensures c.self.invariant)

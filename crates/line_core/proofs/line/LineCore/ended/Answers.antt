@@ -12,10 +12,12 @@ returns-clause-given c calls stands =
     let order = c.self.invariant.order in (
       λ ended.
           let past = ltb-true c.from.result c.self.inside.flushed ended in
-          end-given (carried calls.windows) calls.delay calls.total calls.containers (carries_of calls) (omega (arith, own.delay, own.total, own.pushed, own.flushed, past, order)),
+          end-given (carried calls.windows) calls.delay calls.total calls.containers (carries_of calls)
+          (omega (arith, own.delay, own.total, own.pushed, own.flushed, past, order)),
       λ has.
           elim (cases_lt c.from.result c.self.inside.flushed) [
             | inl past ↦ lt-ltb c.from.result c.self.inside.flushed past
-            | inr early ↦ absurd (end-open (carried calls.windows) calls.delay calls.total calls.containers (carries_of calls) (omega (arith, own.delay, own.total, own.pushed, own.flushed, early)) has)
+            | inr early ↦ absurd (end-open (carried calls.windows) calls.delay calls.total calls.containers
+                (carries_of calls) (omega (arith, own.delay, own.total, own.pushed, own.flushed, early)) has)
           ],
     )

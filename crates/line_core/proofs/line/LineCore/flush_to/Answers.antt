@@ -26,6 +26,7 @@ returns-else-left-eq0-clause-cells c calls stands =
     let total = ap (λ (line : Line). line.total) c.self.view_is in
     let flushed = ap (λ (line : Line). line.flushed) c.self.view_is in
     let delay = ap (λ (line : Line). line.delay) c.self.view_is in
-    let next : c.self.inside.total - (c.from.result - c.self.inside.flushed) ≡ c.self.inside.pushed + c.self.inside.flushed - c.self.inside.delay = omega arith in
+    let next : c.self.inside.total - (c.from.result - c.self.inside.flushed)
+    ≡ c.self.inside.pushed + c.self.inside.flushed - c.self.inside.delay = omega arith in
     flush-cells _ calls c.at-fate.result _ own (omega arith) (omega arith) (omega arith)
     (c.at-fate.ensures ∙ ap (carried c.self.inside.windows) next) c.let_go.ensures.cells

@@ -9,7 +9,13 @@ pub returns : goal.returns
 returns c = record {
   stands = λ place cells t stands.
       let inside = c.self.inside in
-      let old : Numbers = record { lock = inside.lock; next = inside.next; bad = inside.bad; whole = inside.whole; ended = inside.ended } in
+      let old : Numbers = record {
+        lock = inside.lock;
+        next = inside.next;
+        bad = inside.bad;
+        whole = inside.whole;
+        ended = inside.ended;
+      } in
       let before : Stands old place cells t = subst (λ v. Stands v place cells t) (sym c.self.view_is) stands in
       let is : IsOpen old = subst IsOpen (sym c.self.view_is) c.requires.open in
       let lock = lock-of old place cells t is before in

@@ -11,36 +11,58 @@ use Rattle.line_reader.proofs.numbers.LineNumbers.good.Goals.{in-Unknown, in-Loc
 pub returns-clause-kept : goal.returns-clause-kept
 returns-clause-kept c kept place cells t stands =
     let inside = c.self.inside in
-    let old : Numbers = record { lock = inside.lock; next = inside.next; bad = inside.bad; whole = inside.whole; ended = inside.ended } in
+    let old : Numbers = record {
+      lock = inside.lock;
+      next = inside.next;
+      bad = inside.bad;
+      whole = inside.whole;
+      ended =
+          inside.ended;
+    } in
     let before : Stands old place cells t = subst (λ v. Stands v place cells t) (sym c.self.view_is) stands in
     let is : IsOpen old = subst IsOpen (sym c.self.view_is) c.requires.open in
     let container : Container = c.args.container.now in
     let lock = lock-of old place cells t is before in
     elim c.match-good.branch [
-      | in-Unknown w ↦ absurd (let e : false ≡ true = sym is.whole ∙ sym (ap (λ s. s.whole) w.self-inside-is) ∙ kept in cc)
-      | in-Locks w ↦ absurd (let e : false ≡ true = sym is.whole ∙ sym (ap (λ s. s.whole) w.self-inside-is) ∙ kept in cc)
+      | in-Unknown w ↦ absurd (let e : false ≡ true = sym is.whole ∙ sym (ap (λ s. s.whole) w.self-inside-is)
+          ∙ kept in cc)
+      | in-Locks w ↦ absurd (let e : false ≡ true = sym is.whole ∙ sym (ap (λ s. s.whole) w.self-inside-is)
+          ∙ kept in cc)
       | in-At w ↦
           let number = w.in-At.field-0 in
-          rw w.self-inside-is (Stands-good old place cells t container (At number) c.good.new.self inside.bad true container is before
-          (w.in-At.ensures.place (signs_of cells) lock) (c.good.ensures.stands (signs_of cells) lock) (at-left number inside.next inside.bad container is.bad))
+          rw w.self-inside-is (Stands-good old place cells t container (At number) c.good.new.self inside.bad true
+          container is before
+          (w.in-At.ensures.place (signs_of cells) lock) (c.good.ensures.stands (signs_of cells) lock)
+          (at-left number inside.next inside.bad container is.bad))
     ]
 
 pub returns-clause-bad : goal.returns-clause-bad
 returns-clause-bad c bad place cells t stands =
     let inside = c.self.inside in
-    let old : Numbers = record { lock = inside.lock; next = inside.next; bad = inside.bad; whole = inside.whole; ended = inside.ended } in
+    let old : Numbers = record {
+      lock = inside.lock;
+      next = inside.next;
+      bad = inside.bad;
+      whole = inside.whole;
+      ended =
+          inside.ended;
+    } in
     let before : Stands old place cells t = subst (λ v. Stands v place cells t) (sym c.self.view_is) stands in
     let is : IsOpen old = subst IsOpen (sym c.self.view_is) c.requires.open in
     let container : Container = c.args.container.now in
     let lock = lock-of old place cells t is before in
     elim c.match-good.branch [
       | in-Unknown w ↦
-          rw w.self-inside-is (Stands-good old place cells t container Unknown c.good.new.self 1 inside.whole place is before
-          (w.in-Unknown.ensures.place (signs_of cells) lock) (c.good.ensures.stands (signs_of cells) lock) (ap (λ whole. None ∷ last_of whole place) (sym is.whole)))
+          rw w.self-inside-is (Stands-good old place cells t container Unknown c.good.new.self 1 inside.whole place is
+          before
+          (w.in-Unknown.ensures.place (signs_of cells) lock) (c.good.ensures.stands (signs_of cells) lock)
+          (ap (λ whole. None ∷ last_of whole place) (sym is.whole)))
       | in-Locks w ↦
           let number = w.in-Locks.number in
-          rw w.self-inside-is (Stands-good old place cells t container (Locks number) c.good.new.self (w.ahead_of.result + 1) inside.whole place is before
+          rw w.self-inside-is (Stands-good old place cells t container (Locks number) c.good.new.self
+          (w.ahead_of.result + 1) inside.whole place is before
           (w.in-Locks.ensures.place (signs_of cells) lock) (c.good.ensures.stands (signs_of cells) lock)
-          (locks-left inside.next number w.ahead_of.result container place inside.whole w.ahead_of.ensures.value is.whole))
+          (locks-left inside.next number w.ahead_of.result container place inside.whole w.ahead_of.ensures.value
+          is.whole))
       | in-At w ↦ absurd (let e : false ≡ true = sym bad ∙ ap (λ s. s.whole) w.self-inside-is in cc)
     ]

@@ -9,5 +9,6 @@ returns-then-self-gt0 c = record {
   stands = λ place cells t stands.
       let inside = c.self.inside in
       let before = subst (λ v. Stands v place cells t) (sym c.self.view_is) stands in
-      pass-bads inside.lock inside.next ((inside.next + 1) % 4096) t inside.bad inside.whole inside.ended place cells refl (grind (arith, c.if-self-gt0.true)) before;
+      pass-bads inside.lock inside.next ((inside.next + 1) % 4096) t inside.bad inside.whole inside.ended place cells
+      refl (grind (arith, c.if-self-gt0.true)) before;
 }

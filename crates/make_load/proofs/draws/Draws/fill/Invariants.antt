@@ -5,6 +5,7 @@ use Rattle.make_load.proofs.draws.Draws.fill.Given as goal
 
 abbrev pub invariant-loop-i : goal.invariant-loop-i
 invariant-loop-i l = record {
-  drawn : draws (length l.fn.octets) 256 l.fn.self.state ≡ take l.i l.octets ++ draws (length l.fn.octets - l.i) 256 l.self.state;
+  drawn : draws (length l.fn.octets) 256 l.fn.self.state ≡ take l.i l.octets ++ draws
+      (length l.fn.octets - l.i) 256 l.self.state;
   state : after_draws (length l.fn.octets) l.fn.self.state ≡ after_draws (length l.fn.octets - l.i) l.self.state;
 }

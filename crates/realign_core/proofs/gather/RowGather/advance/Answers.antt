@@ -24,7 +24,8 @@ returns-clause-stands c cells stands =
     let sizes = length-map boxes (λ (b : Box Container). b.value) ∙ c.self.invariant.1 in
     let passed : ArePassed (length old) j places old next =
     subst (λ xs. ArePassed (length xs) j places xs next) c.deref_mut.ensures.value
-    (subst (λ ps. ArePassed (length c.deref_mut.result.now) j (held ps) c.deref_mut.result.now next) c.deref.ensures.value c.pass_all.ensures.passed) in
+    (subst (λ ps. ArePassed (length c.deref_mut.result.now) j (held ps) c.deref_mut.result.now next)
+    c.deref.ensures.value c.pass_all.ensures.passed) in
     let size : length next ≡ inside.lines.len = omega (arith, passed.size, inside.lines.ok.0) in
     let is_next : (with_items inside.lines next).items ≡ next = with_items_is inside.lines next size in
     elim c.if-j.branch [
@@ -32,13 +33,28 @@ returns-clause-stands c cells stands =
           let now = w.self-inside-is in
           let packets = w.read_all.new.packets in
           let read : AreRead (length next) next packets =
-          subst (λ xs. AreRead (length xs) xs packets) (w.deref-then-j.ensures.value ∙ is_next) w.read_all.ensures.read in
+          subst (λ xs. AreRead (length xs) xs packets) (w.deref-then-j.ensures.value ∙ is_next) w.read_all.ensures.read
+          in
           let is_read : (with_items inside.packets packets).items ≡ packets =
-          with_items_is inside.packets packets (omega (arith, read.size, passed.size, c.self.invariant.2, inside.packets.ok.0)) in
-          rw (ap (λ s. s.lines.items) now ∙ is_next, ap (λ s. held s.places.items) now, ap (λ s. s.packets.items) now ∙ is_read, ap (λ s. s.rows) now)
-          (read_stands old next places inside.packets.items packets inside.rows j cells sizes passed number w.if-j.true read before)
+          with_items_is inside.packets packets
+          (omega (arith, read.size, passed.size, c.self.invariant.2, inside.packets.ok.0)) in
+          rw (
+            ap (λ s. s.lines.items) now ∙ is_next,
+            ap (λ s. held s.places.items) now,
+            ap (λ s. s.packets.items) now
+                ∙ is_read,
+            ap (λ s. s.rows) now,
+          )
+          (read_stands old next places inside.packets.items packets inside.rows j cells sizes passed number w.if-j.true
+          read before)
       | else-j w ↦
           let now = w.self-inside-is in
-          rw (ap (λ s. s.lines.items) now ∙ is_next, ap (λ s. held s.places.items) now, ap (λ s. s.packets.items) now, ap (λ s. s.rows) now)
-          (passed_stands old next places inside.packets.items inside.rows j cells sizes passed number w.if-j.false before)
+          rw (
+            ap (λ s. s.lines.items) now ∙ is_next,
+            ap (λ s. held s.places.items) now,
+            ap (λ s. s.packets.items) now,
+            ap (λ s. s.rows) now,
+          )
+          (passed_stands old next places inside.packets.items inside.rows j cells sizes passed number w.if-j.false
+          before)
     ]

@@ -12,8 +12,15 @@ use Rattle.realign_core.proofs.gather.RowGather.containers.Goals as goal
 pub returns-clause-whole : goal.returns-clause-whole
 returns-clause-whole c cells m own container stands told is =
     let inside = c.self.inside in
-    let old : Gather = record { lines = inside.lines.items; places = held inside.places.items; packets = inside.packets.items; rows = inside.rows } in
+    let old : Gather = record {
+      lines = inside.lines.items;
+      places = held inside.places.items;
+      packets =
+          inside.packets.items;
+      rows = inside.rows;
+    } in
     let before : Stands old cells = subst (λ v. Stands v cells) (sym c.self.view_is) stands in
     let is' = subst (λ rows. verdict own rows ≡ Some (Some container)) (sym (ap (λ v. v.rows) c.self.view_is)) is in
     ap (λ boxes. slice_get (held boxes) m) c.deref.ensures.value
-    ∙ whole_container old cells m own container (length-map inside.places.items (λ (b : Box Container). b.value) ∙ c.self.invariant.1) before told is'
+    ∙ whole_container old cells m own container
+    (length-map inside.places.items (λ (b : Box Container). b.value) ∙ c.self.invariant.1) before told is'

@@ -12,6 +12,7 @@ returns c = record {
       let before = subst (λ v. LineStands v c.args.place.now own t) (sym c.self.view_is) stands in
       record {
         numbers = c.cell.ensures.stands own t before.numbers;
-        nibbles = nibbles-stay inside.nibbles inside.numbers c.args.place.now own (cell_of c.args.cell ∷ []) t before.numbers before.nibbles;
+        nibbles = nibbles-stay inside.nibbles inside.numbers c.args.place.now own
+            (cell_of c.args.cell ∷ []) t before.numbers before.nibbles;
       };
 }

@@ -13,6 +13,7 @@ returns c = record {
       let before = subst (λ v. LineStands v place own t) (sym c.self.view_is) stands in
       record {
         numbers = c.cell_boxed.ensures.stands own t before.numbers;
-        nibbles = nibbles-stay inside.nibbles inside.numbers place own (cell_with c.args.sign c.args.container.now.value ∷ []) t before.numbers before.nibbles;
+        nibbles = nibbles-stay inside.nibbles inside.numbers place own
+            (cell_with c.args.sign c.args.container.now.value ∷ []) t before.numbers before.nibbles;
       };
 }

@@ -9,6 +9,8 @@ pub returns-clause-stands : goal.returns-clause-stands
 returns-clause-stands c scenario cells stands =
     let f = c.self.inside.maker in
     let before = subst (λ core. Stands core scenario cells) (sym c.self.view_is) stands in
-    subst (λ core. Stands (terminal_of f.lag f.size f.ticks c.push.new.self f.filler f.table f.active.items f.nibbles.items) (with_frame scenario core.ticks c.args.frame.now) cells) c.self.view_is
-    (Stands-with_frame f.lag f.size f.ticks f.queue c.push.new.self f.filler f.table f.active.items f.nibbles.items scenario cells c.args.frame.now
+    subst (λ core. Stands (terminal_of f.lag f.size f.ticks c.push.new.self f.filler f.table f.active.items
+    f.nibbles.items) (with_frame scenario core.ticks c.args.frame.now) cells) c.self.view_is
+    (Stands-with_frame f.lag f.size f.ticks f.queue c.push.new.self f.filler f.table f.active.items f.nibbles.items
+    scenario cells c.args.frame.now
     (λ stream place written. c.push.ensures.stands f.filler stream place written) before)

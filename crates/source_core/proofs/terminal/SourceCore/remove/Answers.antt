@@ -12,7 +12,8 @@ pub invariant_of-self : goal.invariant_of-self
 invariant_of-self c =
     let f = c.self.inside.maker in
     record {
-      made = IsTerminal-asked f.lag f.size f.ticks f.queue f.filler f.table c.remove.new.self f.active.items f.nibbles.items (length f.row.items) (remove c.args.line) c.remove.ensures.asked c.self.invariant.made;
+      made = IsTerminal-asked f.lag f.size f.ticks f.queue f.filler f.table c.remove.new.self f.active.items
+          f.nibbles.items (length f.row.items) (remove c.args.line) c.remove.ensures.asked c.self.invariant.made;
       places = c.self.invariant.places ∙ sym (ap (λ (course : Course). course.lines) c.remove.ensures.asked);
     }
 
@@ -20,5 +21,7 @@ pub returns-clause-stands : goal.returns-clause-stands
 returns-clause-stands c scenario cells stands =
     let f = c.self.inside.maker in
     let before = subst (λ core. Stands core scenario cells) (sym c.self.view_is) stands in
-    subst (λ core. Stands (terminal_of f.lag f.size f.ticks f.queue f.filler c.remove.new.self f.active.items f.nibbles.items) (with_command scenario core.ticks (remove c.args.line)) cells) c.self.view_is
-    (Stands-with_command f.lag f.size f.ticks f.queue f.filler f.table c.remove.new.self f.active.items f.nibbles.items scenario cells (remove c.args.line) c.remove.ensures.asked before)
+    subst (λ core. Stands (terminal_of f.lag f.size f.ticks f.queue f.filler c.remove.new.self f.active.items
+    f.nibbles.items) (with_command scenario core.ticks (remove c.args.line)) cells) c.self.view_is
+    (Stands-with_command f.lag f.size f.ticks f.queue f.filler f.table c.remove.new.self f.active.items f.nibbles.items
+    scenario cells (remove c.args.line) c.remove.ensures.asked before)
