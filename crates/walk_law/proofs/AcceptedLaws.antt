@@ -41,7 +41,7 @@ module _ (scenario : Scenario) (cells : List (Option Told)) where
   judged before (offer ∷ offers) =
       kept (frame_refusal offer.frame (stream_met scenario cells offer.due before)) offer.frame ++ judged (before ++ offer ∷ []) offers
 
-  judged-append : (before xs ys : List DueFrame) → judged before (xs ++ ys) ≡ judged before xs ++ judged (before ++ xs) ys
+  pub judged-append : (before xs ys : List DueFrame) → judged before (xs ++ ys) ≡ judged before xs ++ judged (before ++ xs) ys
   unfolding judged
   judged-append before [] ys = ap (λ l. judged l ys) (sym (append-nil before))
   judged-append before (x ∷ xs) ys =
@@ -114,22 +114,22 @@ module _ (scenario : Scenario) (cells : List (Option Told)) where
       ∙ sym (map-append frame_of (offers_before scenario cells n) (accepted_offers (stream_before scenario cells n) now))
 
 -- ---- the items of a script
-abbrev offers_by : Item → List DueFrame
+abbrev pub offers_by : Item → List DueFrame
 offers_by item = offer_of item.due item.kind
 
 frame-kept : (why : Option AcceptFault) (octets : List ℕ) → frame_by (option_map frame_fault why) (Frame octets) ≡ kept why octets
 frame-kept None octets = refl
 frame-kept (Some why) octets = refl
 
-no-frame-add : (why : Option Refusal) (line : ℕ) → frame_by why (Add line) ≡ []
+pub no-frame-add : (why : Option Refusal) (line : ℕ) → frame_by why (Add line) ≡ []
 no-frame-add None line = refl
 no-frame-add (Some why) line = refl
 
-no-frame-remove : (why : Option Refusal) (line : ℕ) → frame_by why (Remove line) ≡ []
+pub no-frame-remove : (why : Option Refusal) (line : ℕ) → frame_by why (Remove line) ≡ []
 no-frame-remove None line = refl
 no-frame-remove (Some why) line = refl
 
-kind-judged : (scenario : Scenario) (cells : List (Option Told)) (due : ℕ) (front : List Item) (kind : ItemKind) (more : List DueFrame) →
+pub kind-judged : (scenario : Scenario) (cells : List (Option Told)) (due : ℕ) (front : List Item) (kind : ItemKind) (more : List DueFrame) →
     frame_by (kind_refusal scenario cells due front kind) kind ++ judged scenario cells (offers_of front ++ offer_of due kind) more
     ≡ judged scenario cells (offers_of front) (offer_of due kind ++ more)
 unfolding judged

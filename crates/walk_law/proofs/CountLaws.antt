@@ -224,17 +224,24 @@ product-few t size lines ticks octets few =
     let e = mul-le-mul_left 1000000 c in
     omega (arith, d, e)
 
-pub delivered-few : (script : Script) (rows : ℕ) → IsValid script → rows ≤ script.config.ticks → length (delivered_of script rows) ≤ 299520000000
-delivered-few script rows valid low =
-    let scenario : Scenario = scenario_of script in
-    let cells : List (Option Told) = session_cells scenario in
+-- the octets of a script's session are counted in fewer than 64 bits
+pub place-most : (script : Script) (rows : ℕ) → IsValid script → rows ≤ script.config.ticks →
+    place_of (scenario_of script) (session_cells (scenario_of script)) rows ≤ 299520000000
+place-most script rows valid low =
     let network = valid.network in
     let ticks = network.ticks in
     let lines = network.lines in
     let each = network.windows_each in
-    let few = deliver-few 9600 (rows_of scenario cells rows) in
-    let octets = rows-length scenario cells rows rows (omega arith) in
-    let place = place-few scenario cells rows in
+    let place = place-few (scenario_of script) (session_cells (scenario_of script)) rows in
     let size : script.config.size ≤ 2340 = elim network.size [ inl small ↦ omega arith | inr large ↦ omega arith ] in
     let most = product-few rows script.config.size (length script.config.windows) (omega arith) size (omega arith) in
-    omega (arith, few, octets, place, most)
+    omega (arith, place, most)
+
+pub delivered-few : (script : Script) (rows : ℕ) → IsValid script → rows ≤ script.config.ticks → length (delivered_of script rows) ≤ 299520000000
+delivered-few script rows valid low =
+    let scenario : Scenario = scenario_of script in
+    let cells : List (Option Told) = session_cells scenario in
+    let few = deliver-few 9600 (rows_of scenario cells rows) in
+    let octets = rows-length scenario cells rows rows (omega arith) in
+    let place = place-most script rows valid low in
+    omega (arith, few, octets, place)
