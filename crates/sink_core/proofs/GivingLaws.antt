@@ -9,12 +9,12 @@ use Rattle.session_model.specs.Outcome.{outcomes}
 use Rattle.session_model.specs.Delivery.{frame_in}
 use Rattle.gfp_delineate.specs.declared.Step.{Step}
 use Rattle.gfp_delineate.specs.declared.Step.TheVariants.{Nothing}
-use Rattle.gfp_delineate.specs.Receiver.{Receiver, StandsIn, told_outcomes}
+use Rattle.gfp_mark.specs.Marks.{Marked as Receiver, StandsIn, told_outcomes}
 use Rattle.gfp_delineate.proofs.Frames.{told, frames_told}
 use Rattle.loss_law.specs.Added.{frames_in, next_frames}
 use Rattle.loss_law.proofs.SegmentLaws.{next-none, next-more}
 use Rattle.loss_law.proofs.GrowLaws.{adds}
-use Rattle.gfp_delineate.specs.Receiver.{Advances, Brings}
+use Rattle.gfp_mark.specs.Marks.{Advances, Brings}
 use Rattle.sink_core.specs.Receives.{IsKnown, Grows, Gives, IsIdle}
 
 pub known-grows : (was now : Receiver) (more : List ℕ) → IsKnown was → Grows was now more → IsKnown now
@@ -42,14 +42,14 @@ gives-more stands was then' a b before middle after grows one two first octets h
 
 -- the frames that octets add are those that the answer tells
 pub next-told : (receiver : Receiver) (step : Step) (first : Bool) (octets more : List ℕ) →
-    outcomes 9600 first (octets ++ more) ≡ outcomes 9600 first octets ++ told_outcomes receiver step → next_frames 9600 first octets more ≡ told receiver step
+    outcomes 9600 first (octets ++ more) ≡ outcomes 9600 first octets ++ told_outcomes receiver step → next_frames 9600 first octets more ≡ told receiver.receiver step
 next-told receiver step first octets more outcome =
     let before : List (List ℕ) = frames_in 9600 first octets in
     ap (drop (length before))
     (ap (flat_map frame_in) outcome
     ∙ flat_map-append frame_in (outcomes 9600 first octets) (told_outcomes receiver step)
-    ∙ ap (λ l. before ++ l) (frames_told receiver step))
-    ∙ drop_at before (told receiver step) (length before) refl
+    ∙ ap (λ l. before ++ l) (frames_told receiver.receiver step))
+    ∙ drop_at before (told receiver.receiver step) (length before) refl
 
 -- ---- octets that change nothing
 pub idle-none : (receiver : Receiver) (more : List ℕ) → more ≡ [] → IsIdle receiver more

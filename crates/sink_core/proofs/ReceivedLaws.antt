@@ -6,7 +6,7 @@ use Rattle.std.proofs.lemmas.List.{append-nil}
 use Rattle.vc_cell.specs.declared.Cell.{Cell}
 use Rattle.session_model.specs.Rows.{governing, row_under, row_at}
 use Rattle.session_model.specs.Segment.{StreamRow, Segments, segments_of}
-use Rattle.gfp_delineate.specs.Receiver.{Receiver, StandsIn}
+use Rattle.gfp_mark.specs.Marks.{Marked as Receiver, StandsIn}
 use Rattle.loss_law.specs.Added.{added, whole_row, lost_row}
 use Rattle.loss_law.proofs.SegmentLaws.{segments_of-push, added-whole, added-lost}
 use Rattle.sink_core.specs.Receives.{Receives, Grows, Gives}

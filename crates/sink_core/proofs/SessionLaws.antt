@@ -67,6 +67,10 @@ pub session-frames : (scenario : Scenario) (returns : List (Option Told)) (cells
     given_frames scenario.size cells n ≡ deliver 9600 (rows_of scenario returns n)
 session-frames scenario returns cells n are = let agree = rows-agree scenario returns cells n are in agree.frames
 
+pub session-last : (scenario : Scenario) (returns : List (Option Told)) (cells : List (List Cell)) (n : ℕ) → AreSessionRows scenario returns cells n →
+    (segments_of (received_rows scenario.size cells n)).last.octets ≡ (segments_of (rows_of scenario returns n)).last.octets
+session-last scenario returns cells n are = let agree = rows-agree scenario returns cells n are in agree.octets
+
 pub session-rows : (scenario : Scenario) (returns : List (Option Told)) (cells : List (List Cell)) (n : ℕ) → length scenario.windows ≤ 128 → TellRows scenario returns cells n → AreSessionRows scenario returns cells n
 session-rows scenario returns cells n few tell t low =
     let tells = tell t low in

@@ -3,7 +3,7 @@ use Rattle.std.specs.Prelude.{◌≡◌, ℕ, ◌<◌, List, length}
 use Rattle.vc_cell.specs.declared.Cell.{Cell}
 use Rattle.session_model.specs.Rows.{governing, active_of}
 use Rattle.line_law.specs.StableRows.{AreDecidedAt}
-use Rattle.gfp_delineate.specs.Receiver.{Receiver}
+use Rattle.gfp_mark.specs.Marks.{Marked as Receiver}
 use Rattle.lcas_sink.specs.Stands.{Sink}
 use Rattle.lcas_sink.specs.Stands as sink_table
 use Rattle.sink_core.specs.Given.{received_rows, read_rows, packet_rows}

@@ -1,6 +1,6 @@
 -- What a receiver has got of rows.
 use Rattle.std.specs.Prelude.{◌≡◌, ℕ, Bool, List, [], ◌++◌}
-use Rattle.gfp_delineate.specs.Receiver.{Receiver, StandsIn}
+use Rattle.gfp_mark.specs.Marks.{Marked as Receiver, StandsIn}
 use Rattle.session_model.specs.Segment.{StreamRow, segments_of}
 use Rattle.loss_law.specs.Added.{next_frames}
 use Rattle.session_model.specs.Limits.{longest_frame}

@@ -5,11 +5,11 @@ ghost use Rattle.session_model.specs.Rows.{return_at};
 ghost use Rattle.vc_cell.specs.declared.Cell.{Cell};
 ghost use Rattle.session_model.specs.Scenario.{Scenario};
 ghost use Rattle.session_model.specs.Table.{Told};
-ghost use Rattle.session_model.specs.Segment.{deliver};
+ghost use Rattle.session_model.specs.Segment.{segments_of, deliver};
 ghost use Rattle.session_model.specs.SessionStream.{rows_of};
 ghost use Rattle.line_law.specs.StableRows.{IsLonger, AreDecidedAt};
 ghost use Rattle.realign_core.specs.Gather.{with_cell};
-ghost use Rattle.sink_core.specs.Given.{given_frames, added_frames, back_at};
+ghost use Rattle.sink_core.specs.Given.{received_rows, given_frames, added_frames, back_at};
 ghost use Rattle.sink_core.specs.Core.{Core, Stands};
 ghost use Rattle.sink_core.specs.Session.{AreSessionRows, TellRows};
 ghost use Rattle.session_model.specs.Limits.{longest_frame};
@@ -41,6 +41,10 @@ pub fn session_sink_law()
     ensures frames { (scenario : Scenario) (returns : List (Option Told)) (cells : List (List Cell))
         (n : ℕ) → AreSessionRows scenario returns cells n →
         given_frames scenario.size cells n ≡ deliver longest_frame (rows_of scenario returns n) }
+    ensures last { (scenario : Scenario) (returns : List (Option Told)) (cells : List (List Cell))
+        (n : ℕ) → AreSessionRows scenario returns cells n →
+        (segments_of (received_rows scenario.size cells n)).last.octets
+        ≡ (segments_of (rows_of scenario returns n)).last.octets }
     ensures rows { (scenario : Scenario) (returns : List (Option Told)) (cells : List (List Cell))
         (n : ℕ) → length scenario.windows ≤ 128 → TellRows scenario returns cells n →
         AreSessionRows scenario returns cells n }

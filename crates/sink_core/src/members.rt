@@ -4,7 +4,7 @@ ghost use Rattle.std.specs.Prelude.{◌≡◌, ℕ, ◌+◌, ◌*◌, ◌/◌, �
 ghost use Rattle.std.specs.Int.{to_le_bytes, w64};
 ghost use Rattle.std.specs.Option.{option_to_list};
 ghost use Rattle.vc_cell.specs.Held.{held};
-ghost use Rattle.gfp_delineate.specs.Receiver.{frame_of, StandsIn};
+ghost use Rattle.gfp_mark.specs.Marks.{frame_of, StandsIn};
 ghost use Rattle.gfp_delineate.specs.Repeated.{idles_from};
 ghost use Rattle.session_model.specs.Core.{core_header};
 ghost use Rattle.session_model.specs.Interleave.{octets_from};
@@ -14,7 +14,8 @@ ghost use Rattle.sink_core.specs.Receives.{IsKnown, Grows, Gives, IsIdle};
 ghost use Rattle.session_model.specs.Limits.{longest_frame, vc4_size};
 
 use crate::frames::FrameOut;
-use gfp_delineate::{Delineator, Step, word_run};
+use gfp_delineate::{Step, word_run};
+use gfp_mark::MarkedDelineator;
 use vc_cell::{HeldContainer, PAYLOAD};
 use vcat_interleave::gather_places;
 
@@ -25,7 +26,7 @@ pub(crate) const BLOCK: usize = 4096;
 const SIDE: usize = 16;
 
 /// Gives the frame that a receiver holds to `out`.
-fn give<F: FrameOut>(delineator: &Delineator, out: &mut F)
+fn give<F: FrameOut>(delineator: &MarkedDelineator, out: &mut F)
     requires held { IsSome (frame_of delineator.now) }
     requires short { IfSome (frame_of delineator.now) (λ frame. length frame ≤ longest_frame) }
     ensures { (start : Start) (frames : List (List ℕ)) → F.stands_for out.old start frames →
@@ -35,7 +36,7 @@ fn give<F: FrameOut>(delineator: &Delineator, out: &mut F)
 }
 
 /// Gives octets to a receiver, up to the first that completes a frame, and that frame to `out`. The answer is their number.
-fn take_some<F: FrameOut>(delineator: &mut Delineator, piece: &[u8], out: &mut F) -> usize
+fn take_some<F: FrameOut>(delineator: &mut MarkedDelineator, piece: &[u8], out: &mut F) -> usize
     requires { IsKnown delineator.old }
     ensures within { result ≤ length piece.now }
     ensures some { 0 < length piece.now → 0 < result }
@@ -52,7 +53,7 @@ fn take_some<F: FrameOut>(delineator: &mut Delineator, piece: &[u8], out: &mut F
 }
 
 /// Gives octets to a receiver, and the frames that they complete to `out`.
-fn take_piece<F: FrameOut>(delineator: &mut Delineator, piece: &[u8], out: &mut F)
+fn take_piece<F: FrameOut>(delineator: &mut MarkedDelineator, piece: &[u8], out: &mut F)
     requires { IsKnown delineator.old }
     ensures grows { Grows delineator.old delineator.new piece.now }
     ensures gives { (start : Start) →
@@ -182,7 +183,7 @@ fn are_idle(
 /// How many places from one on have the octets of idle frames that change nothing of a receiver: all that are left, to a multiple of
 /// eight, or none.
 fn idle_places(
-    delineator: &Delineator,
+    delineator: &MarkedDelineator,
     containers: &[Box<HeldContainer>],
     active: &[u8],
     place: usize,
@@ -217,7 +218,7 @@ fn only_payload(containers: &[Box<HeldContainer>], line: u8, size: usize) -> &[u
 /// are idle frames that change nothing, they aren't gathered. `active` has the lines that carry payload, by rank, and `containers` has
 /// the container of each line, each in a box.
 pub(crate) fn take_members<F: FrameOut>(
-    delineator: &mut Delineator,
+    delineator: &mut MarkedDelineator,
     block: &mut [u8],
     containers: &[Box<HeldContainer>],
     active: &[u8],
@@ -254,7 +255,7 @@ pub(crate) fn take_members<F: FrameOut>(
 }
 
 /// Tells a receiver of a break of the stream.
-pub(crate) fn take_break(delineator: &mut Delineator)
+pub(crate) fn take_break(delineator: &mut MarkedDelineator)
     ensures { (first : Bool) (octets : List ℕ) → StandsIn delineator.old longest_frame first octets →
         StandsIn delineator.new longest_frame false [] }
 {

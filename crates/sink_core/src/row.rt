@@ -17,7 +17,7 @@ ghost use Rattle.session_model.specs.Limits.{vc4_size};
 use crate::active::leading_act;
 use crate::frames::FrameOut;
 use crate::members::{take_break, take_members};
-use gfp_delineate::Delineator;
+use gfp_mark::MarkedDelineator;
 use line_reader::Verdict;
 use realign_core::RowGather;
 
@@ -58,7 +58,7 @@ fn is_whole(rows: &RowGather, active: &[u8]) -> bool
 
 /// Takes row `t`, which is the next one: its octets, where it is whole, or the break of the stream.
 pub(crate) fn take_row<F: FrameOut>(
-    delineator: &mut Delineator,
+    delineator: &mut MarkedDelineator,
     active: &[u8],
     block: &mut [u8],
     size: u16,

@@ -1,6 +1,6 @@
 //! The sink.
 
-ghost use Rattle.std.specs.Prelude.{◌≡◌, ℕ, ◌+◌, ◌%◌, ◌<◌, ◌≤◌, ◌==◌, ◌&&◌, ◌⊎◌, ◌↔◌, nat_lt, List, ◌++◌, length, IfOk, IsSome, IsTrue};
+ghost use Rattle.std.specs.Prelude.{◌≡◌, ℕ, ◌+◌, ◌^◌, ◌%◌, ◌<◌, ◌≤◌, ◌==◌, ◌&&◌, ◌⊎◌, ◌↔◌, nat_lt, List, ◌++◌, length, IfOk, IsSome, IsTrue};
 ghost use Rattle.vc_cell.specs.declared.Cell.{Cell};
 ghost use Rattle.realign_core.specs.Gather.{Stands as Gathers, line_count, open_line};
 ghost use Rattle.outside_io.specs.Start.{Start};
@@ -8,15 +8,17 @@ ghost use Rattle.std.specs.Vec.{vec_capacity};
 ghost use Rattle.session_model.specs.Rows.{governing, active_of};
 ghost use Rattle.vcat_interleave.specs.Members.{AreLines};
 ghost use Rattle.lcas_sink.specs.Stands.{Stands as HasTold};
-ghost use Rattle.sink_core.specs.Given.{answer_at, added_frames, back_at, read_rows, packet_rows, rows_taken, waiting_for, back_of, IsPacketEnd, IsWaiting, Allows};
+ghost use Rattle.sink_core.specs.Given.{answer_at, added_frames, back_at, received_rows, read_rows, packet_rows, rows_taken, waiting_for, back_of, IsPacketEnd, IsWaiting, Allows};
 ghost use Rattle.sink_core.specs.Core.{Stands};
 ghost use Rattle.session_model.specs.Valid.{IsSize};
+ghost use Rattle.session_model.specs.Segment.{segments_of};
+ghost use Rattle.gfp_mark.specs.Marks.{first_place};
 
 use crate::active::find_active;
 use crate::frames::FrameOut;
 use crate::members::BLOCK;
 use crate::row::{FIRST_ROW, take_row};
-use gfp_delineate::Delineator;
+use gfp_mark::MarkedDelineator;
 use lcas_packet::Packet;
 use lcas_sink::SinkTable;
 use realign_core::{RowAnswer, RowGather};
@@ -50,7 +52,7 @@ pub struct SinkCore {
     lines: u8,
     size: u16,
     taken: u32,
-    delineator: Delineator,
+    delineator: MarkedDelineator,
     table: SinkTable,
     /// The lines that carry payload in the next row, by rank.
     active: Vec<u8>,
@@ -99,7 +101,7 @@ impl SinkCore {
             lines,
             size,
             taken: 0,
-            delineator: Delineator::new(alloc, LONGEST)?,
+            delineator: MarkedDelineator::new(alloc, LONGEST)?,
             table: SinkTable::new(lines),
             active: Vec::with_capacity(alloc, LINES)?,
             block: vec![in alloc; 0; BLOCK]?,
@@ -153,6 +155,15 @@ impl SinkCore {
                 TakeAnswer::Taken { back }
             }
         }
+    }
+
+    /// The place that is confirmed first in the segment that goes on with the next row, counted from its first octet.
+    pub fn first_confirmed(&self) -> Option<u64>
+        ensures { (cells : List (List Cell)) → Stands self.now cells →
+            let octets = (segments_of (received_rows self.now.size cells self.now.taken)).last.octets in
+            length octets < 2 ^ 64 → result ≡ first_place octets }
+    {
+        self.delineator.first_confirmed()
     }
 
     /// How many rows were taken.

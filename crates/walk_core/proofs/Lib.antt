@@ -11,4 +11,5 @@ pub mod LandLaws
 pub mod LandSteps
 pub mod TotalLaws
 pub mod TakenLaws
+pub mod MarkLaws
 pub mod CarrySteps

@@ -8,6 +8,7 @@
 mod counted;
 mod moved;
 mod opening;
+mod rows;
 mod walk;
 
 pub use moved::{Moved, StepNote};

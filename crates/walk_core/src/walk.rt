@@ -10,10 +10,8 @@ ghost use Rattle.session_model.specs.Table.{Told};
 ghost use Rattle.session_model.specs.Sent.{frame_of};
 ghost use Rattle.session_model.specs.Source.{source_at};
 ghost use Rattle.progress_law.specs.Progress.{HasLine};
-ghost use Rattle.walk_law.specs.Walk.{walk_plan};
 ghost use Rattle.walk_law.specs.Landed.{landed_scenario, told_before, refusals_of, totals_of, IsPlaced};
 ghost use Rattle.walk_law.specs.Step.{last_packet, table_in};
-ghost use Rattle.outside_io.specs.Start.{Start};
 ghost use Rattle.source_core.specs.Terminal.{needed, SameKind};
 ghost use Rattle.source_core.specs.Given.{with_cell, Stands, Stands as HasMade};
 ghost use Rattle.walk_core.specs.Moved.{counts_after, moved_of, delivered_since, GivesRows};
@@ -21,7 +19,7 @@ ghost use Rattle.std.specs.Global.{Vec, Box};
 ghost use Rattle.vc_cell.specs.Held.{held};
 ghost use Rattle.vc_cell.specs.declared.Container.{Container};
 ghost use Rattle.session_model.specs.declared.script.Script.{Script};
-ghost use Rattle.walk_law.specs.Walk.{path_on};
+ghost use Rattle.walk_law.specs.Walk.{walk_plan, path_on, IsWalked};
 ghost use Rattle.walk_parts.specs.Ringed.{Ringed, ring_of};
 ghost use Rattle.walk_core.specs.Opened.{IsNew};
 ghost use Rattle.walk_core.specs.Waiting.{send_ring, receive_ring};
@@ -30,29 +28,27 @@ ghost use Rattle.walk_core.specs.Carry.{carry_cause, CanCarry, IsSentOn, IsCarri
 ghost use Rattle.std.specs.Vec.{vec_capacity};
 ghost use Rattle.walk_core.specs.Landing.{stall_by, met_by, with_kind, IsParted};
 ghost use Rattle.walk_core.specs.Parts.{note_of, line_counts, sent_frames, HasSent, HasLine as HasLineOn};
-ghost use Rattle.walk_core.specs.Take.{take_cause, CanPop, HasPopped, CanTake, HasRow};
-ghost use Rattle.sink_core.specs.Given.{added_frames};
+ghost use Rattle.walk_core.specs.Take.{take_cause};
 ghost use Rattle.vc_cell.specs.declared.Cell.{Cell};
-ghost use Rattle.realign_core.specs.Gather.{line_count};
+ghost use Rattle.session_model.specs.Segment.{segments_of};
+ghost use Rattle.walk_law.specs.Delivered.{session_rows};
+ghost use Rattle.gfp_mark.specs.Marks.{first_place};
 
-use crate::counted::{CountedOut, take_back};
 use crate::moved::{Moved, StepNote};
 use crate::opening::{Ends, Opened, Paths, Returns, SENDS, open};
+use crate::rows::{ends_packet, pop_lines, take_row};
 use lcas_packet::Packet;
 use lcas_source::SourceTable;
 use line_reader::CellRef;
 use realign_core::RowGather;
 use report_text::{Refusal, Totals};
 use session_model::{Event, Item, ItemKind, Script, StallCause};
-use sink_core::{FrameOut, SinkCore, TakeAnswer};
+use sink_core::{FrameOut, SinkCore};
 use source_core::SourceCore;
 use std::alloc::{AllocError, Global};
 use std::marker::Model;
 use vc_cell::{BackCell, Container, HeldContainer};
 use walk_parts::{ReturnPath, WalkLine, held_item, next_command, next_frame};
-
-/// The first row that ends a packet.
-const FIRST_END: u32 = 23;
 
 /// A walk of a script.
 #[derive(Drop)]
@@ -181,6 +177,22 @@ impl Walk {
         }
     }
 
+    /// The script. It can be walked, and the counts of the walk are those of some list of its events.
+    pub fn script(&self) -> &Script
+        ensures script { result.now ≡ self.now.script }
+        ensures valid { IsValid self.now.script }
+        ensures walked { IsWalked self.now.script self.now.counts }
+    {
+        &self.script
+    }
+
+    /// How many frames have landed, refused ones among them.
+    pub fn landed_frames(&self) -> u32
+        ensures { result ≡ self.now.counts.frames }
+    {
+        self.frames
+    }
+
     /// The items that were refused, in the order of the script.
     pub fn refusals(&self) -> &[(u32, Refusal)]
         ensures { result.now ≡ refusals_of self.now.script self.now.counts }
@@ -231,6 +243,14 @@ impl Walk {
             ≡ slice_get (receive_ring self.now.script self.now.counts line) place }
     {
         self.lines[usize::from(line)].waiting(place)
+    }
+
+    /// The place that is confirmed first in the segment that goes on with the next row, counted from its first octet.
+    pub fn first_confirmed(&self) -> Option<u64>
+        ensures { result ≡ first_place
+            (segments_of (session_rows self.now.script self.now.counts.rows)).last.octets }
+    {
+        self.sink.first_confirmed()
     }
 
     /// A walk of a script before any event, of what was opened for it.
@@ -505,37 +525,6 @@ impl Walk {
     }
 }
 
-/// Takes the next row, which is decided on each line. Answers its return packet, where one ends with it, and how many frames were
-/// counted, after `got` before.
-fn take_row<F: FrameOut>(
-    sink: &mut SinkCore,
-    rows: &mut RowGather,
-    got: u64,
-    out: &mut F,
-) -> (Option<Packet>, u64)
-    requires lines { line_count rows.old ≡ sink.old.lines }
-    requires rows { rows.old.rows ≡ sink.old.taken }
-    requires few { sink.old.taken < 4294967295 }
-    ensures takes { (cells : List (List Cell)) → CanTake cells sink.old rows.old →
-        HasRow cells sink.old sink.new rows.new result.0 }
-    ensures counted { (cells : List (List Cell)) → CanTake cells sink.old rows.old → result.1
-        ≡ min (got + length (added_frames sink.old.size cells sink.old.taken sink.new.taken))
-        18446744073709551615 }
-    ensures gives { (cells : List (List Cell)) → CanTake cells sink.old rows.old →
-        (start : Start) (given : List (List ℕ)) → F.stands_for out.old start given →
-        F.stands_for out.new start
-        (given ++ added_frames sink.old.size cells sink.old.taken sink.new.taken) }
-{
-    let mut counted = CountedOut::new(out, got);
-    let answer = sink.take(rows, &mut counted);
-    let CountedOut { out: back, got } = counted;
-    take_back(back);
-    match answer {
-        TakeAnswer::Taken { back } => (back, got),
-        TakeAnswer::Waiting { .. } => (None, got),
-    }
-}
-
 /// The items of a script.
 fn items_of(script: &Script) -> &[Item]
     ensures { result.now ≡ script.now.items }
@@ -548,13 +537,6 @@ fn lost_of(script: &Script) -> &[(u32, u32)]
     ensures { result.now ≡ script.now.config.lost }
 {
     &script.config.lost.0
-}
-
-/// Whether a row ends a packet.
-fn ends_packet(row: u32) -> bool
-    ensures { result ≡ (nat_le 23 row && row % 16 == 7) }
-{
-    row >= FIRST_END && row % 16 == 7
 }
 
 /// Why an item at a place doesn't land.
@@ -758,20 +740,4 @@ fn carry_on(own: &mut WalkLine, m: usize, sent: &mut Vec<Vec<Box<HeldContainer>>
         let slot = own.carried() as usize % SENDS;
         own.push(&mut sent[slot][m]);
     }
-}
-
-/// Pops cells line by line until each decides the next row, or up to the first line that doesn't.
-fn pop_lines(lines: &mut Vec<WalkLine>, rows: &mut RowGather) -> Option<u8>
-    requires few { length lines.old.items ≤ 128 }
-    ensures pops { (script : Script) → CanPop script lines.old.items rows.old →
-        HasPopped script lines.old.items lines.new.items rows.new result }
-    ensures lines { line_count rows.new ≡ line_count rows.old }
-    ensures rows { rows.new.rows ≡ rows.old.rows }
-{
-    for m in 0..lines.len() {
-        if !lines[m].pop_into(rows, m as u8) {
-            return Some(m as u8);
-        }
-    }
-    None
 }

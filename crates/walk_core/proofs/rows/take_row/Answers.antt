@@ -2,7 +2,7 @@
 use Rattle.std.proofs.Common.{rules, ◌≡◌, ◌+◌, ◌++◌, [], min, refl, sym, ◌∙◌, subst, arith}
 use Rattle.sink_core.specs.Given.{added_frames}
 use Rattle.walk_core.specs.Counted.{counting, passing}
-use Rattle.walk_core.proofs.walk.take_row.Goals as goal
+use Rattle.walk_core.proofs.rows.take_row.Goals as goal
 
 pub returns-in-Taken-clause-counted : goal.returns-in-Taken-clause-counted
 returns-in-Taken-clause-counted g c cells can =

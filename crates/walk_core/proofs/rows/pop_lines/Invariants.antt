@@ -4,7 +4,7 @@ use Rattle.session_model.specs.declared.script.Script.{Script}
 use Rattle.realign_core.specs.Gather.{line_count}
 use Rattle.walk_core.specs.Take.{CanPop}
 use Rattle.walk_core.proofs.TakeLaws.{Popping}
-use Rattle.walk_core.proofs.walk.pop_lines.Given as goal
+use Rattle.walk_core.proofs.rows.pop_lines.Given as goal
 
 abbrev pub invariant-loop-m : goal.invariant-loop-m
 invariant-loop-m l = record {

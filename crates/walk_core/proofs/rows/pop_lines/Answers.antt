@@ -4,7 +4,7 @@ use Rattle.realign_core.proofs.GatherLaws.{length-slice_set}
 use Rattle.walk_parts.proofs.ItemLaws.{at-index}
 use Rattle.walk_core.specs.Parts.{calls_on}
 use Rattle.walk_core.proofs.TakeLaws.{popping-none, popping-all, is-next, popping-next, popping-waits}
-use Rattle.walk_core.proofs.walk.pop_lines.Goals as goal
+use Rattle.walk_core.proofs.rows.pop_lines.Goals as goal
 
 pub loop-m-init : goal.loop-m-init
 loop-m-init c = record { size = refl; count = refl; rows = refl; pops = λ script can. popping-none script c.args.lines.now.items c.args.rows.now can }
