@@ -28,7 +28,8 @@ ghost use Rattle.walk_core.specs.Waiting.{send_ring, receive_ring};
 ghost use Rattle.line_reader.specs.Told.{cell_of};
 ghost use Rattle.walk_core.specs.Carry.{carry_cause, CanCarry, IsSentOn, IsCarriedAt, HasRoom};
 ghost use Rattle.std.specs.Vec.{vec_capacity};
-ghost use Rattle.walk_core.specs.Landing.{stall_by, met_by, with_kind, IsParted};
+ghost use Rattle.group_source.specs.Lands.{met_by, with_kind};
+ghost use Rattle.walk_core.specs.Landing.{stall_by, IsParted};
 ghost use Rattle.walk_core.specs.Parts.{note_of, line_counts, sent_frames, HasSent, HasLine as HasLineOn};
 ghost use Rattle.walk_core.specs.Take.{take_cause, CanPop, HasPopped, CanTake, HasRow};
 ghost use Rattle.sink_core.specs.Given.{added_frames};
@@ -38,6 +39,7 @@ ghost use Rattle.realign_core.specs.Gather.{line_count};
 use crate::counted::{CountedOut, take_back};
 use crate::moved::{Moved, StepNote};
 use crate::opening::{Ends, Opened, Paths, Returns, SENDS, open};
+use group_source::{held_item, next_command, next_frame};
 use lcas_packet::Packet;
 use lcas_source::SourceTable;
 use line_reader::CellRef;
@@ -49,7 +51,7 @@ use source_core::SourceCore;
 use std::alloc::{AllocError, Global};
 use std::marker::Model;
 use vc_cell::{BackCell, Container, HeldContainer};
-use walk_parts::{ReturnPath, WalkLine, held_item, next_command, next_frame};
+use walk_parts::{ReturnPath, WalkLine};
 
 /// The first row that ends a packet.
 const FIRST_END: u32 = 23;
