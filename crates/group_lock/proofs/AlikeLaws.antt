@@ -27,7 +27,7 @@ use Rattle.source_core.specs.Given.{ComesAlike, has_come, Stands as HasMade}
 use Rattle.source_core.proofs.LandedLaws.{alike-landed}
 use Rattle.walk_law.specs.Landed.{Numbered, kind_refusal}
 use Rattle.group_lock.specs.Journal.{Setting, journal_scenario, items_in, entry_of, IsLegal}
-use Rattle.group_lock.specs.Lands.{met_by, with_kind}
+use Rattle.group_source.specs.Lands.{met_by, with_kind}
 
 -- ---- one more item
 pub offers-push : (items : List Item) (item : Item) → offers_of (items ++ item ∷ []) ≡ offers_of items ++ offer_of item.due item.kind

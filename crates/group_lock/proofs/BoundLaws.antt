@@ -29,14 +29,14 @@ use Rattle.group_lock.specs.declared.answer.TickAnswer.{TickAnswer}
 use Rattle.group_lock.specs.declared.answer.TickAnswer.TheVariants.{Ticked, Held, TxFull, BackMissing, Done}
 use Rattle.group_lock.specs.declared.group.GroupState.{GroupState}
 use Rattle.group_lock.specs.Journal.{items_in}
-use Rattle.group_lock.specs.Inbox.{told_from}
+use Rattle.group_source.specs.Inbox.{told_from}
 use Rattle.group_lock.specs.Rings.{SameOuts, SameIns}
 use Rattle.group_lock.specs.Parts.{AreSent, ArePast}
 use Rattle.group_lock.specs.Group.{IsOf, SameScript, is_ticked, lines_of, lag_of, lost_of, items_of, ticks_of, frames_of, commands_of, slots_of, bytes_of, taken_of, source_of}
 use Rattle.group_lock.specs.Calls.{Ticks}
 use Rattle.group_lock.specs.Session.{counts_of, refusal_by, refusals_by, accepted_frames_by, accepted_commands_by, octets_in, AreItemsOf, HasLandedOf, IsBound}
-use Rattle.group_lock.proofs.PlaceLaws.{bare-dues}
-use Rattle.group_lock.proofs.CellLaws.{taken-more}
+use Rattle.group_lock.proofs.BareLaws.{bare-dues}
+use Rattle.group_source.proofs.CellLaws.{taken-more}
 use Rattle.group_lock.proofs.AlikeLaws.{alike-cells, refusal-alike, container-alike, sent-alike, sent-next}
 use Rattle.group_lock.proofs.KeepLaws.{there-at}
 

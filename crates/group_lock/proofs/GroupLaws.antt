@@ -15,16 +15,16 @@ use Rattle.walk_law.specs.Landed.{is_client, IsPlaced, refused_by}
 use Rattle.group_lock.specs.declared.answer.SubmitFault.{SubmitFault}
 use Rattle.group_lock.specs.declared.answer.SubmitFault.TheVariants.{NotNext, Early, JournalFull}
 use Rattle.group_lock.specs.declared.group.GroupState.{GroupState}
-use Rattle.group_lock.specs.Item.{size_of as octet_count}
+use Rattle.group_source.specs.Item.{size_of as octet_count}
 use Rattle.group_lock.specs.Answer.{fault_of, has_landed, refusal_told}
 use Rattle.group_lock.specs.Journal.{entry_of, fits}
-use Rattle.group_lock.specs.Landed.{due_at}
-use Rattle.group_lock.specs.Lands.{met_by, with_kind}
+use Rattle.group_source.specs.Landed.{due_at}
+use Rattle.group_source.specs.Lands.{met_by, with_kind}
 use Rattle.group_lock.specs.Parts.{setting_in}
 use Rattle.group_lock.specs.Group.{parts_of, Stands, SameScript, SameRings, items_of, frames_of, commands_of, journal_of, slots_of, bytes_of, refusals_of, taken_of, source_of, ticks_of, next_of, refusal_of, is_number, fault_met, fault_in, counted_by, HasCounted, with_landed}
 use Rattle.group_lock.specs.Calls.{Submits}
 use Rattle.group_lock.proofs.AlikeLaws.{met-journal}
-use Rattle.group_lock.proofs.PlaceLaws.{next-due}
+use Rattle.group_source.proofs.LandingLaws.{next-due}
 
 pub stands-of : (g : GroupState) → Stands g
 stands-of g = record { legal = g.keeps.legal; made = g.keeps.made; sent = g.keeps.sent; due = g.keeps.due; refused = g.keeps.refused; ahead = g.keeps.ahead; behind = g.keeps.behind }

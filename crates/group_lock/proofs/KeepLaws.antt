@@ -22,13 +22,13 @@ use Rattle.source_core.specs.Given.{IsFresh, with_cell, Stands as HasMade}
 use Rattle.walk_law.specs.Landed.{Numbered, kind_refusal, IsPlaced}
 use Rattle.walk_law.proofs.LandLaws.{ahead-next}
 use Rattle.group_lock.specs.Journal.{Journal, Setting, journal_scenario, items_in, entry_of, IsLegal}
-use Rattle.group_lock.specs.Landed.{Landed, due_at, AreAhead, AreBehind}
-use Rattle.group_lock.specs.Lands.{with_kind}
-use Rattle.group_lock.specs.Inbox.{Inbox, empty_inbox, come_from, told_from, told_taken, HasCome}
+use Rattle.group_source.specs.Landed.{Landed, due_at, AreAhead, AreBehind}
+use Rattle.group_source.specs.Lands.{with_kind}
+use Rattle.group_source.specs.Inbox.{Inbox, empty_inbox, come_from, told_from, told_taken, HasCome}
 use Rattle.group_lock.specs.Rings.{AreUnused, SameOuts, HaveLooked, ArePushed, HasMoved}
 use Rattle.group_lock.specs.Parts.{Parts, setting_in, scenario_in, told_in_parts, AreSent, AreDue, ArePast, AreRefused, Keeps}
 use Rattle.group_lock.proofs.RefusedLaws.{refused-on, none-refused}
-use Rattle.group_lock.proofs.CellLaws.{come-length, taken-more, cell_for, rest_for, Takes, takes}
+use Rattle.group_source.proofs.CellLaws.{come-length, taken-more, cell_for, rest_for, Takes, takes}
 use Rattle.group_lock.proofs.AlikeLaws.{journal-push, alike-kind, alike-cells, refusal-alike, legal-alike, push-cases, legal-push, container-in, sent-alike, sent-next}
 
 pub there-at : {X : Type 0} (xs : List X) (m : ℕ) → m < length xs → (x : X) × (slice_get xs m ≡ Some x)

@@ -14,7 +14,7 @@ use Rattle.member_ring.specs.Ends.{out_passed, in_passed, SameIn}
 use Rattle.source_core.specs.Given.{Stands as HasMade}
 use Rattle.walk_law.specs.Landed.{landed_items, landed_scenario}
 use Rattle.group_lock.specs.declared.group.GroupState.{GroupState}
-use Rattle.group_lock.specs.Inbox.{told_taken, HasCome}
+use Rattle.group_source.specs.Inbox.{told_taken, HasCome}
 use Rattle.group_lock.specs.Journal.{IsLegal}
 use Rattle.group_lock.specs.Parts.{Parts, parts, scenario_in, told_in_parts, AreRefused, Keeps}
 use Rattle.group_lock.specs.Group.{ticks_of, lag_of, lost_of, source_of, taken_of}

@@ -1,6 +1,5 @@
-pub mod CellLaws
+pub mod BareLaws
 pub mod AlikeLaws
-pub mod PlaceLaws
 pub mod RingLaws
 pub mod RefusedLaws
 pub mod EntryLaws

@@ -11,10 +11,10 @@ use Rattle.session_law.proofs.AlikeLaws.{Alike}
 use Rattle.report_text.specs.declared.report.Refusal.{Refusal}
 use Rattle.walk_law.specs.Landed.{Numbered, is_client, kind_refusal, IsPlaced}
 use Rattle.group_lock.specs.Journal.{items_in}
-use Rattle.group_lock.specs.Landed.{Landed, next_number, due_at}
+use Rattle.group_source.specs.Landed.{Landed, next_number, due_at}
 use Rattle.group_lock.specs.Parts.{IsRefused, AreRefused}
 use Rattle.group_lock.proofs.AlikeLaws.{refusal-alike}
-use Rattle.group_lock.proofs.PlaceLaws.{all-left, all-right, number-there, next-kind}
+use Rattle.group_source.proofs.LandingLaws.{all-left, all-right, number-there, next-kind}
 
 -- sessions that are alike up to some ticks refuse the same, whatever is entered later
 pub refused-on : (one : Scenario) (a : List (Option Told)) (other : Scenario) (b : List (Option Told)) (t now : ℕ) (items : List Item) (entries more : List Numbered) (refusals : List (ℕ × Refusal)) →

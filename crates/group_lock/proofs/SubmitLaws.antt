@@ -12,7 +12,7 @@ use Rattle.walk_law.specs.Landed.{Numbered, is_client, refused_by, IsPlaced}
 use Rattle.group_lock.specs.declared.answer.SubmitFault.{SubmitFault}
 use Rattle.group_lock.specs.declared.answer.SubmitFault.TheVariants.{NotNext, Early, Frame as Frame_fault, Command as Command_fault, JournalFull}
 use Rattle.group_lock.specs.Answer.{fault_of, has_landed, is_full, refusal_told}
-use Rattle.group_lock.specs.Landed.{AreBefore, AreAfter}
+use Rattle.group_source.specs.Landed.{AreBefore, AreAfter}
 use Rattle.group_lock.specs.Session.{refusal_by, refusals_by, accepted_frames_by, accepted_commands_by, AreItemsOf, IsBound}
 use Rattle.session_model.specs.Table.{Told}
 use Rattle.walk_law.proofs.ReportLaws.{IsInserted, landed-frame, landed-command, placed, one-more}
@@ -38,9 +38,10 @@ use Rattle.source_core.specs.Given.{Stands as HasMade}
 use Rattle.source_core.proofs.LandedLaws.{alike-landed, first-alike}
 use Rattle.walk_law.specs.Landed.{landed_from, landed_items, landed_scenario, kind_refusal, source_met, IsOfferAt, IsOrderAt}
 use Rattle.walk_law.proofs.LandLaws.{frame-dues, command-dues, offer-at, order-at}
-use Rattle.walk_parts.specs.Place.{is_frame, is_command, place_of}
+use Rattle.group_source.specs.Place.{is_frame, is_command, place_of}
 use Rattle.group_lock.specs.declared.group.GroupState.{GroupState}
-use Rattle.group_lock.specs.Item.{bare, size_of as octet_count}
+use Rattle.group_source.specs.Item.{size_of as octet_count}
+use Rattle.group_lock.specs.Item.{bare}
 use Rattle.group_lock.specs.Journal.{entry_of, items_in, fits}
 use Rattle.std.specs.Global.{Vec}
 use Rattle.std.proofs.lemmas.List.{append-nil, map_push}
@@ -49,97 +50,27 @@ use Rattle.vc_cell.specs.declared.BackCell.{BackCell}
 use Rattle.member_ring.specs.declared.ends.RingOut.{RingOut}
 use Rattle.member_ring.specs.declared.ends.RingIn.{RingIn}
 use Rattle.member_ring.specs.Ends.{in_passed}
-use Rattle.group_lock.specs.Inbox.{told_taken}
+use Rattle.group_source.specs.Inbox.{told_taken}
 use Rattle.group_lock.specs.Rings.{SameOuts, SameIns}
 use Rattle.group_lock.specs.Parts.{AreSent, ArePast}
 use Rattle.group_lock.specs.Calls.{Submits}
 use Rattle.group_lock.proofs.AlikeLaws.{push-cases, offers-push, orders-push}
 use Rattle.group_lock.proofs.BoundLaws.{of-then}
 use Rattle.group_lock.proofs.MostLaws.{most-next}
-use Rattle.group_lock.specs.Landed.{next_number, due_in, due_at}
-use Rattle.group_lock.specs.Lands.{met_by, with_kind}
+use Rattle.group_source.specs.Landed.{next_number, due_in, due_at}
+use Rattle.group_source.specs.Lands.{met_by, with_kind}
 use Rattle.group_lock.specs.Group.{IsOf, HasCounted, parts_of, items_of, ticks_of, frames_of, commands_of, taken_of, source_of, next_of, refusal_of, is_number, fault_met, fault_in, slots_of, bytes_of, journal_of, refusals_of, lag_of, lost_of, entries_by, with_landed, room_for}
 use Rattle.group_lock.specs.Session.{counts_of, IsItemOf, octets_in, HasRoom, HasLandedOf}
-use Rattle.group_lock.proofs.PlaceLaws.{bare-dues, bare-place, frame-blind, command-blind, number-there, item-there, next-due, all-left, all-right}
+use Rattle.group_source.proofs.PlaceLaws.{count_of, place-found, offers-size, orders-size}
+use Rattle.group_source.proofs.LandingLaws.{number-there, item-there, next-due, all-left, all-right, placed-same}
+use Rattle.group_lock.proofs.BareLaws.{bare-dues, bare-place, frame-blind, command-blind}
 use Rattle.group_lock.proofs.GroupLaws.{refused-is, fault_by, met_in}
-
--- ---- a list in two parts by a number has them in one way
-split-same : (number : ℕ) (front back other rest : List (ℕ × Refusal)) → front ++ back ≡ other ++ rest → AreBefore number front → AreAfter number back → AreBefore number other → AreAfter number rest →
-    (front ≡ other) × (back ≡ rest)
-split-same number [] back [] rest e low high few many = (refl, e)
-split-same number [] back (first ∷ other) rest e low high few many =
-    let here = few 0 first (omega arith) in
-    let after : All (λ (refused : ℕ × Refusal). number < refused.0) (first ∷ (other ++ rest)) = subst (All (λ (refused : ℕ × Refusal). number < refused.0)) e high in
-    let there = after 0 first (omega arith) in
-    absurd (omega arith)
-split-same number (first ∷ front) back [] rest e low high few many =
-    let here = low 0 first (omega arith) in
-    let after : All (λ (refused : ℕ × Refusal). number < refused.0) (first ∷ (front ++ back)) = subst (All (λ (refused : ℕ × Refusal). number < refused.0)) (sym e) many in
-    let there = after 0 first (omega arith) in
-    absurd (omega arith)
-split-same number (first ∷ front) back (second ∷ other) rest e low high few many =
-    let same : first ≡ second = cc in
-    let tails : front ++ back ≡ other ++ rest = ap (drop 1) e in
-    let (a, b) = split-same number front back other rest tails (All-tail (λ (refused : ℕ × Refusal). refused.0 < number) first front low) high
-    (All-tail (λ (refused : ℕ × Refusal). refused.0 < number) second other few) many in
-    (ap (λ x. x ∷ front) same ∙ ap (λ l. second ∷ l) a, b)
-
--- so a refusal is put in its place in one way
-pub placed-same : (number : ℕ) (put was now other : List (ℕ × Refusal)) → IsPlaced number put was now → IsPlaced number put was other → now ≡ other
-placed-same number put was now other one two =
-    let (a, b) = split-same number one.front one.back two.front two.back (sym one.was_so ∙ two.was_so) one.before one.after two.before two.after in
-    one.is_so ∙ ap (λ l. l ++ put ++ one.back) a ∙ ap (λ l. two.front ++ put ++ l) b ∙ sym two.is_so
 
 -- ---- what holds of each of them, and of one more
 pub inserted-all : (P : Numbered → Type 0) (item : Numbered) (was now : List Numbered) → IsInserted item was now → All P was → P item → All P now
 inserted-all P item was now put all here =
     let parts : All P (put.front ++ put.back) = subst (All P) put.was_so all in
     subst (All P) (sym put.is_so) (All-append P put.front (item ∷ put.back) (all-left P put.front put.back parts) (All-cons P item put.back here (all-right P put.front put.back parts)))
-
--- ---- so many items of a kind are before the next one
-unfoldable count_of : (ItemKind → Bool) → List Item → ℕ
-count_of is [] = 0
-count_of is (item ∷ items) = if is item.kind then suc (count_of is items) else count_of is items
-
--- the item at the place of number k is of the kind, and so many are before it
-place-found : (is : ItemKind → Bool) (items : List Item) (k : ℕ) (item : Item) → slice_get items (place_of is k items) ≡ Some item →
-    (is item.kind ≡ true) × (count_of is (take (place_of is k items) items) ≡ k)
-unfolding place_of count_of
-place-found is [] k item there = absurd cc
-place-found is (first ∷ items) zero item there =
-    elim (cases_Bool (is first.kind)) [
-      | inl e ↦ (let f : Some first ≡ Some item = rw e at there in let same : first ≡ item = cc in (ap (λ (i : Item). is i.kind) (sym same) ∙ e, rw e refl))
-      | inr e ↦ (let (a, b) = place-found is items zero item (rw e at there) in (a, rw (e, e) b))
-    ]
-place-found is (first ∷ items) (suc k) item there =
-    elim (cases_Bool (is first.kind)) [
-      | inl e ↦ (let (a, b) = place-found is items k item (rw e at there) in (a, rw (e, e) (ap suc b)))
-      | inr e ↦ (let (a, b) = place-found is items (suc k) item (rw e at there) in (a, rw (e, e) b))
-    ]
-
-offers-total_by : (due : ℕ) (kind : ItemKind) (items : List Item) → length (offers_of items) ≡ count_of is_frame items →
-    length (offer_of due kind ++ offers_of items) ≡ (if is_frame kind then suc (count_of is_frame items) else count_of is_frame items)
-unfolding count_of
-offers-total_by due (Frame octets) items rest = ap suc rest
-offers-total_by due (Add line) items rest = rest
-offers-total_by due (Remove line) items rest = rest
-
-offers-total : (items : List Item) → length (offers_of items) ≡ count_of is_frame items
-unfolding count_of
-offers-total [] = refl
-offers-total (item ∷ items) = offers-total_by item.due item.kind items (offers-total items)
-
-orders-total_by : (due : ℕ) (kind : ItemKind) (items : List Item) → length (orders_of items) ≡ count_of is_command items →
-    length (order_of due kind ++ orders_of items) ≡ (if is_command kind then suc (count_of is_command items) else count_of is_command items)
-unfolding count_of
-orders-total_by due (Frame octets) items rest = rest
-orders-total_by due (Add line) items rest = ap suc rest
-orders-total_by due (Remove line) items rest = ap suc rest
-
-orders-total : (items : List Item) → length (orders_of items) ≡ count_of is_command items
-unfolding count_of
-orders-total [] = refl
-orders-total (item ∷ items) = orders-total_by item.due item.kind items (orders-total items)
 
 -- ---- the item that lands
 -- it is the script's, and is due
@@ -173,7 +104,7 @@ pub offer-next : (script : Script) (g : GroupState) (number : ℕ) (octets : Lis
 offer-next script g number octets of_script next here =
     let at = frame-place script g number of_script next in
     let found = place-found is_frame script.items (frames_of g) (record { due = ticks_of g; kind = Frame octets }) (sym (ap (slice_get script.items) at) ∙ here) in
-    record { there = here; is = refl; before = offers-total (take number script.items) ∙ ap (λ n. count_of is_frame (take n script.items)) at ∙ found.1 }
+    record { there = here; is = refl; before = offers-size (take number script.items) ∙ ap (λ n. count_of is_frame (take n script.items)) at ∙ found.1 }
 
 pub order-next : (script : Script) (g : GroupState) (number : ℕ) (kind : ItemKind) (order : DueCommand) → IsOf script g → next_number g.landing false ≡ Some number →
     order_of (ticks_of g) kind ≡ order ∷ [] → slice_get script.items number ≡ Some (record { due = ticks_of g; kind = kind }) →
@@ -181,7 +112,7 @@ pub order-next : (script : Script) (g : GroupState) (number : ℕ) (kind : ItemK
 order-next script g number kind order of_script next is here =
     let at = command-place script g number of_script next in
     let found = place-found is_command script.items (commands_of g) (record { due = ticks_of g; kind = kind }) (sym (ap (slice_get script.items) at) ∙ here) in
-    record { there = here; is = is; before = orders-total (take number script.items) ∙ ap (λ n. count_of is_command (take n script.items)) at ∙ found.1 }
+    record { there = here; is = is; before = orders-size (take number script.items) ∙ ap (λ n. count_of is_command (take n script.items)) at ∙ found.1 }
 
 -- ---- what has landed is the script's, up to the ticks made
 module _ (script : Script) (g : GroupState) (of_script : IsOf script g) where

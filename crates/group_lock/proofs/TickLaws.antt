@@ -21,7 +21,7 @@ use Rattle.group_lock.specs.declared.answer.TickAnswer.{TickAnswer}
 use Rattle.group_lock.specs.declared.answer.TickAnswer.TheVariants.{Ticked, Held, TxFull, BackMissing, Done}
 use Rattle.group_lock.specs.declared.group.GroupState.{GroupState}
 use Rattle.group_lock.specs.Journal.{journal_scenario}
-use Rattle.group_lock.specs.Inbox.{told_taken}
+use Rattle.group_source.specs.Inbox.{told_taken}
 use Rattle.group_lock.specs.Rings.{SameOuts, HasLooked, HaveLooked, AreFree, IsFirstFull, IsDrained}
 use Rattle.group_lock.specs.Group.{parts_of, lost_of, items_of, frames_of, commands_of, journal_of, lines_of, lag_of, size_of, SameScript, SameLanded, ticks_of, total_of, taken_of, source_of, inbox_of, held_of, replay_of, is_ticked, IsFreeToTick, AreMoved, IsMissing, ArePushedOf}
 use Rattle.group_lock.specs.Calls.{Ticks, Comes, Looks, Makes}

@@ -11,7 +11,7 @@ use Rattle.group_lock.specs.declared.answer.SubmitFault.{SubmitFault}
 use Rattle.group_lock.specs.declared.answer.TickAnswer.{TickAnswer}
 use Rattle.group_lock.specs.declared.answer.TickAnswer.TheVariants.{Ticked, Held, TxFull, BackMissing, Done}
 use Rattle.group_lock.specs.Answer.{has_landed, refusal_told}
-use Rattle.group_lock.specs.Landed.{due_at}
+use Rattle.group_source.specs.Landed.{due_at}
 use Rattle.group_lock.specs.Rings.{SameOuts, IsFirstFull, HaveLooked}
 use Rattle.group_lock.specs.declared.group.GroupState.{GroupState}
 use Rattle.group_lock.specs.Group.{SameScript, inbox_of, ticks_of, total_of, journal_of, refusals_of, items_of, taken_of, source_of, replay_of, Stands, fault_in, entries_by, HasCounted, LeavesRoom, with_landed, SameRings, SameLanded, is_ticked, held_of, IsFreeToTick, AreMoved, IsMissing, ArePushedOf, NothingPushed}

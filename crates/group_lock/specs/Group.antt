@@ -21,11 +21,12 @@ use Rattle.group_lock.specs.declared.answer.SubmitFault.{SubmitFault}
 use Rattle.group_lock.specs.declared.answer.SubmitFault.TheVariants.{NotNext, Early, JournalFull}
 use Rattle.group_lock.specs.declared.answer.TickAnswer.{TickAnswer}
 use Rattle.group_lock.specs.declared.answer.TickAnswer.TheVariants.{Ticked, Held, TxFull, BackMissing, Done}
-use Rattle.group_lock.specs.Item.{bare_items, size_of as octet_count}
-use Rattle.group_lock.specs.Lands.{with_kind}
+use Rattle.group_source.specs.Item.{size_of as octet_count}
+use Rattle.group_lock.specs.Item.{bare_items}
+use Rattle.group_source.specs.Lands.{with_kind}
 use Rattle.group_lock.specs.Answer.{fault_of}
 use Rattle.group_lock.specs.Journal.{entry_of, items_in, fits, IsLegal}
-use Rattle.group_lock.specs.Landed.{next_number, due_at, AreAhead, AreBehind}
+use Rattle.group_source.specs.Landed.{next_number, due_at, AreAhead, AreBehind}
 use Rattle.group_lock.specs.Rings.{IsDrained, AreFree}
 use Rattle.group_lock.specs.Parts.{Parts, parts, scenario_in, told_in_parts, AreSent, AreDue, AreRefused}
 use Rattle.group_lock.specs.declared.group.GroupState.{GroupState}

@@ -1,28 +1,14 @@
--- An item that is handed in, and what is kept of an item of a script.
-use Rattle.std.specs.Prelude.{ℕ, List, [], map, length}
+-- What is kept of an item of a script.
+use Rattle.std.specs.Prelude.{ℕ, List, [], map}
 use Rattle.session_model.specs.declared.script.Item.{Item}
 use Rattle.session_model.specs.declared.script.ItemKind.{ItemKind}
 use Rattle.session_model.specs.declared.script.ItemKind.TheVariants.{Frame, Add, Remove}
-use Rattle.group_lock.specs.declared.item.ItemRef.{ItemRef}
-use Rattle.group_lock.specs.declared.item.ItemRef.TheVariants.{Frame as frame_ref, Add as add_ref, Remove as remove_ref}
-
--- what it is
-abbrev pub kind_of : ItemRef → ItemKind
-kind_of (frame_ref octets) = Frame octets.now
-kind_of (add_ref line) = Add line
-kind_of (remove_ref line) = Remove line
 
 -- the octets of a frame; a command has none
 abbrev pub octets_of : ItemKind → List ℕ
 octets_of (Frame octets) = octets
 octets_of (Add line) = []
 octets_of (Remove line) = []
-
--- how many octets it has
-abbrev pub size_of : ItemKind → ℕ
-size_of (Frame octets) = length octets
-size_of (Add line) = 0
-size_of (Remove line) = 0
 
 -- an item without the octets of its frame
 abbrev pub bare_kind : ItemKind → ItemKind

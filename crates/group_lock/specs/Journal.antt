@@ -5,7 +5,7 @@ use Rattle.session_model.specs.declared.script.ItemKind.{ItemKind}
 use Rattle.session_model.specs.Scenario.{Scenario, offers_of, orders_of}
 use Rattle.session_model.specs.Table.{Told}
 use Rattle.walk_law.specs.Landed.{Numbered, kind_refusal}
-use Rattle.group_lock.specs.Item.{size_of}
+use Rattle.group_source.specs.Item.{size_of}
 
 -- an accepted item, with the number of ticks made when it landed
 abbrev pub entry_of : ℕ → ℕ → ItemKind → Numbered

@@ -2,9 +2,6 @@ pub mod Item
 pub mod Answer
 pub mod Journal
 pub mod Entries
-pub mod Landed
-pub mod Lands
-pub mod Inbox
 pub mod Rings
 pub mod Parts
 pub mod Group

@@ -9,8 +9,8 @@ use Rattle.group_lock.specs.declared.opening.Notes.{Notes}
 use Rattle.group_lock.specs.declared.opening.Opened.{Opened}
 use Rattle.group_lock.specs.declared.group.GroupState.{GroupState}
 use Rattle.group_lock.specs.Item.{bare_items}
-use Rattle.group_lock.specs.Landed.{none_landed}
-use Rattle.group_lock.specs.Inbox.{empty_inbox}
+use Rattle.group_source.specs.Landed.{none_landed}
+use Rattle.group_source.specs.Inbox.{empty_inbox}
 use Rattle.group_lock.specs.Group.{IsOf, lines_of, lag_of, size_of, ticks_of, frames_of, commands_of, journal_of, refusals_of, inbox_of, source_of}
 
 -- the source has made nothing, and there is a box for each line

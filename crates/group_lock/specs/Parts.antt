@@ -16,8 +16,8 @@ use Rattle.source_core.specs.Given.{Stands as HasMade}
 use Rattle.walk_law.specs.Landed.{Numbered, is_client, kind_refusal}
 use Rattle.report_text.specs.declared.report.Refusal.{Refusal}
 use Rattle.group_lock.specs.Journal.{Journal, Setting, journal_scenario, items_in, IsLegal}
-use Rattle.group_lock.specs.Landed.{Landed, due_at, AreAhead, AreBehind}
-use Rattle.group_lock.specs.Inbox.{Inbox, told_taken, HasCome}
+use Rattle.group_source.specs.Landed.{Landed, due_at, AreAhead, AreBehind}
+use Rattle.group_source.specs.Inbox.{Inbox, told_taken, HasCome}
 
 -- the source; how many ticks there are; what has landed; the journal; the inbox; the send rings and the return ring
 pub record Parts : Type 0 where

@@ -7,7 +7,7 @@ use Rattle.vc_cell.specs.declared.BackCell.{BackCell}
 use Rattle.member_ring.specs.declared.ends.RingOut.{RingOut}
 use Rattle.member_ring.specs.declared.ends.RingIn.{RingIn}
 use Rattle.member_ring.specs.Ends.{out_passed, out_free, out_misses, in_passed, in_items, in_misses, SameOut, SameIn}
-use Rattle.group_lock.specs.Inbox.{Inbox, HasCome}
+use Rattle.group_source.specs.Inbox.{Inbox, HasCome}
 
 -- ---- lists of ends, by place
 -- the same ends of the same rings, at another moment

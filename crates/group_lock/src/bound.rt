@@ -5,7 +5,7 @@ ghost use Rattle.group_lock.specs.Session.{IsBound};
 
 use crate::answer::{SubmitFault, TickAnswer};
 use crate::group::GroupState;
-use crate::item::ItemRef;
+use group_source::ItemRef;
 use std::marker::{Brand, PhantomData};
 
 /// Which session it is: its script, and the ends of the rings of its group as they were made. Each call of the function that makes the
@@ -50,7 +50,7 @@ pub struct BoundGroup<Y: Session> {
 impl<Y: Session> BoundGroup<Y> {
     ghost use Rattle.std.specs.Prelude.{◌≡◌, false};
     ghost use Rattle.session_model.specs.Accepted.{refusal_in};
-    ghost use Rattle.group_lock.specs.Item.{kind_of};
+    ghost use Rattle.group_source.specs.Item.{kind_of};
     ghost use Rattle.group_lock.specs.Answer.{is_full};
     ghost use Rattle.group_lock.specs.Calls.{Submits, Ticks};
     ghost use Rattle.group_lock.specs.Session.{IsItemOf};

@@ -7,17 +7,15 @@ ghost use Rattle.session_model.specs.Sent.{frame_of};
 ghost use Rattle.vc_cell.specs.Held.{held};
 ghost use Rattle.source_core.specs.Terminal.{SameKind, needed};
 ghost use Rattle.source_core.specs.Given.{with_cell, Stands as HasMade};
-ghost use Rattle.group_lock.specs.Item.{kind_of};
-ghost use Rattle.group_lock.specs.Lands.{met_by, with_kind};
+ghost use Rattle.group_source.specs.Item.{kind_of};
+ghost use Rattle.group_source.specs.Lands.{met_by, with_kind};
 ghost use Rattle.group_lock.specs.Parts.{parts, Keeps};
 
 use crate::answer::{SubmitFault, TickAnswer, refused};
-use crate::inbox::Inbox;
-use crate::item::ItemRef;
 use crate::journal::Journal;
-use crate::landing::Landing;
 use crate::opening::{Making, Notes, Opened, open};
 use crate::sends::{first_full, push_frame, take_cells};
+use group_source::{Inbox, ItemRef, Landing};
 use member_ring::{RingIn, RingOut};
 use report_text::{Refusal, Totals};
 use session_model::Script;
@@ -52,7 +50,7 @@ impl GroupState {
     ghost use Rattle.member_ring.specs.Ends.{in_passed};
     ghost use Rattle.source_core.specs.Given.{IsFresh};
     ghost use Rattle.group_lock.specs.Journal.{fits};
-    ghost use Rattle.group_lock.specs.Landed.{due_at};
+    ghost use Rattle.group_source.specs.Landed.{due_at};
     ghost use Rattle.group_lock.specs.Rings.{AreUnused, AreFree, IsFirstFull};
     ghost use Rattle.group_lock.specs.Group.{parts_of, lines_of, lag_of, size_of, IsOf, ticks_of, total_of, items_of, frames_of, commands_of, journal_of, slots_of, bytes_of, refusals_of, inbox_of, source_of, totals_of, next_of, refusal_of, held_of};
     ghost use Rattle.group_lock.specs.Opened.{IsOpened, IsBegun};
@@ -97,7 +95,7 @@ impl GroupState {
             taken: 0,
             frames: self.journal.frames(),
             commands: self.journal.commands(),
-            refused: self.landing.refused(),
+            refused: self.landing.all_refused(),
             got: 0,
         }
     }

@@ -6,14 +6,10 @@
 mod answer;
 mod bound;
 mod group;
-mod inbox;
-mod item;
 mod journal;
-mod landing;
 mod opening;
 mod sends;
 
 pub use answer::{SubmitFault, TickAnswer};
 pub use bound::{BoundGroup, Session};
 pub use group::GroupState;
-pub use item::ItemRef;

@@ -2,12 +2,12 @@
 
 ghost use Rattle.std.specs.Prelude.{◌≡◌, length, IfOk};
 ghost use Rattle.session_model.specs.Valid.{IsValid, IsNetwork};
+ghost use Rattle.group_lock.specs.Item.{bare, bare_items};
 ghost use Rattle.group_lock.specs.Opened.{IsMaking, AreNotes, IsOpened};
 
-use crate::inbox::Inbox;
 use crate::journal::Journal;
-use crate::landing::Landing;
-use session_model::{Config, Item, Script};
+use group_source::{Inbox, Landing, blank_boxes};
+use session_model::{Config, Item, ItemKind, Octets, Script};
 use source_core::SourceCore;
 use std::alloc::{AllocError, Global};
 use vc_cell::HeldContainer;
@@ -59,7 +59,7 @@ fn open_making(alloc: Global, config: &Config) -> Result<Making, AllocError>
 {
     Ok(Making {
         source: SourceCore::new(alloc, config.lines, config.lag, config.size)?,
-        frame: boxes(alloc, config.lines)?,
+        frame: blank_boxes(alloc, u16::from(config.lines))?,
     })
 }
 
@@ -71,21 +71,10 @@ fn open_notes(alloc: Global, script: &Script, entries: u32, bytes: u64) -> Resul
     ensures bytes { IfOk result (λ notes. notes.journal.bytes ≡ bytes) }
 {
     Ok(Notes {
-        landing: Landing::new(alloc, items_of(script))?,
+        landing: Landing::new(alloc, bare_copy(alloc, items_of(script))?)?,
         journal: Journal::new(alloc, entries, bytes)?,
         inbox: Inbox::new(alloc, lost_of(script), script.config.lag)?,
     })
-}
-
-/// An empty box for each line.
-fn boxes(alloc: Global, lines: u8) -> Result<Vec<Box<HeldContainer>>, AllocError>
-    ensures { IfOk result (λ boxes. length boxes.items ≡ lines) }
-{
-    let mut boxes = Vec::with_capacity(alloc, usize::from(lines))?;
-    for _ in 0..lines {
-        boxes.push(Box::new(alloc, HeldContainer::new())?)?;
-    }
-    Ok(boxes)
 }
 
 /// The items of a script.
@@ -100,4 +89,30 @@ fn lost_of(script: &Script) -> &[(u32, u32)]
     ensures { result.now ≡ script.now.config.lost }
 {
     &script.config.lost.0
+}
+
+/// The items without the octets of the frames.
+fn bare_copy(alloc: Global, items: &[Item]) -> Result<Vec<Item>, AllocError>
+    ensures { IfOk result (λ copy. copy.items ≡ bare_items items.now) }
+{
+    let mut copy = Vec::with_capacity(alloc, items.len())?;
+    for item in items {
+        copy.push(bare_item(alloc, item))?;
+    }
+    Ok(copy)
+}
+
+/// The item without the octets of its frame.
+fn bare_item(alloc: Global, item: &Item) -> Item
+    ensures { result ≡ bare item.now }
+{
+    let kind = match item.kind {
+        ItemKind::Frame(_) => ItemKind::Frame(Octets(Vec::new(alloc))),
+        ItemKind::Add(line) => ItemKind::Add(line),
+        ItemKind::Remove(line) => ItemKind::Remove(line),
+    };
+    Item {
+        due: item.due,
+        kind,
+    }
 }

@@ -5,7 +5,7 @@ ghost use Rattle.vc_cell.specs.declared.Container.{Container};
 ghost use Rattle.vc_cell.specs.Held.{held};
 ghost use Rattle.group_lock.specs.Rings.{AreFree, IsFirstFull, HaveLooked, ArePushed, IsDrained, HasMoved};
 
-use crate::inbox::Inbox;
+use group_source::Inbox;
 use member_ring::{RingIn, RingOut};
 use vc_cell::{BackCell, Container, HeldContainer};
 

@@ -3,12 +3,13 @@
 ghost use Rattle.std.specs.Prelude.{◌≡◌, length, IfSome};
 
 use failure_window::Window;
+use group_source::{held_item, next_command, next_frame};
 use lcas_packet::Packet;
 use realign_core::{RowAnswer, RowGather};
 use session_model::{Item, ItemKind, Octets};
 use std::alloc::Global;
 use vc_cell::{BackCell, Container, Ctrl, HeldContainer, PAYLOAD};
-use walk_parts::{ReturnPath, WalkLine, held_item, next_command, next_frame};
+use walk_parts::{ReturnPath, WalkLine};
 
 const CONTAINER: Container = Container {
     h4: 5,

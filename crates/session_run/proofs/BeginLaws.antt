@@ -19,7 +19,7 @@ use Rattle.member_ring.specs.Ends.{in_passed, SameOut, SameIn}
 use Rattle.source_core.specs.Given.{IsFresh, Stands as HasMade}
 use Rattle.walk_law.specs.Landed.{Numbered, is_client, landed_from, landed_items, landed_scenario}
 use Rattle.group_lock.specs.declared.group.GroupState.{GroupState}
-use Rattle.group_lock.specs.Inbox.{told_from}
+use Rattle.group_source.specs.Inbox.{told_from}
 use Rattle.group_lock.specs.Journal.{items_in}
 use Rattle.group_lock.specs.Rings.{SameOuts, SameIns, AreUnused}
 use Rattle.group_lock.specs.Parts.{ArePast}

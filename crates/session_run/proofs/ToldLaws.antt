@@ -13,8 +13,8 @@ use Rattle.session_model.specs.Rows.{return_at}
 use Rattle.session_model.specs.Counts.{used_in}
 use Rattle.terminal_law.specs.Course.{back_of, told_of}
 use Rattle.terminal_law.proofs.ListLaws.{same-range}
-use Rattle.group_lock.specs.Inbox.{come_by, come_from, told_taken}
-use Rattle.group_lock.proofs.CellLaws.{taken-more}
+use Rattle.group_source.specs.Inbox.{come_by, come_from, told_taken}
+use Rattle.group_source.proofs.CellLaws.{taken-more}
 
 -- return cells that are given by their numbers, and what comes of them
 come-range : (scenario : Scenario) (f : ℕ → BackCell) (a n : ℕ) →

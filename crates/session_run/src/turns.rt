@@ -1,12 +1,13 @@
 //! The turns at the group: each takes the lock, makes one call of the group and gives the lock back.
 ghost use Rattle.std.specs.Prelude.{◌≡◌, IfSome};
-ghost use Rattle.group_lock.specs.Item.{kind_of};
+ghost use Rattle.group_source.specs.Item.{kind_of};
 ghost use Rattle.group_lock.specs.Group.{HasCounted};
 ghost use Rattle.group_lock.specs.Session.{IsItemOf};
 ghost use Rattle.session_parts.specs.Flags.{heeded};
 ghost use Rattle.session_run.specs.Turns.{bringer};
 
-use group_lock::{BoundGroup, ItemRef, Session, SubmitFault, TickAnswer};
+use group_lock::{BoundGroup, Session, SubmitFault, TickAnswer};
+use group_source::ItemRef;
 use member_ring::{Gate, Who};
 use session_model::{Item, ItemKind};
 use session_parts::Heed;

@@ -4,7 +4,8 @@ ghost use Rattle.session_model.specs.Valid.{IsValid};
 ghost use Rattle.group_lock.specs.Rings.{AreUnused};
 
 use crate::scripts::read;
-use group_lock::{GroupState, ItemRef, SubmitFault, TickAnswer};
+use group_lock::{GroupState, SubmitFault, TickAnswer};
+use group_source::ItemRef;
 use member_ring::{LineEnds, RingIn, RingOut, back_ring, line_rings};
 use report_text::{Refusal, Totals};
 use session_model::Script;

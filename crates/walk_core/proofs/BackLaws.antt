@@ -18,7 +18,8 @@ use Rattle.walk_law.specs.Walk.{walk_plan, IsWalked}
 use Rattle.walk_law.specs.Rings.{said_packet, back_cell, return_ring, inbox}
 use Rattle.walk_law.proofs.PlanLaws.{has-plan, valid-walks}
 use Rattle.walk_law.proofs.ReturnLaws as return_laws
-use Rattle.walk_parts.specs.Return.{Return, is_lost_in, come, and_moved, moved_by}
+use Rattle.walk_parts.specs.Return.{Return, come, and_moved, moved_by}
+use Rattle.group_source.specs.Inbox.{is_lost_in}
 use Rattle.walk_core.specs.declared.moved.StepNote.{StepNote}
 use Rattle.walk_core.specs.declared.moved.Moved.TheVariants.{Yes, Stalled}
 use Rattle.walk_core.specs.Moved.{answer_by, moved_of, counts_after}

@@ -7,7 +7,7 @@ use Rattle.session_model.specs.declared.walk.Event.TheVariants.{Carry}
 use Rattle.session_model.specs.declared.walk.StallCause.{StallCause}
 use Rattle.walk_law.specs.Walk.{path_on}
 use Rattle.walk_parts.specs.Ringed.{Ringed, ring_of}
-use Rattle.walk_parts.proofs.ItemLaws.{at-index}
+use Rattle.group_source.proofs.ItemLaws.{at-index}
 use Rattle.walk_core.specs.declared.moved.StepNote.{StepNote}
 use Rattle.walk_core.specs.declared.moved.Moved.TheVariants.{Yes, Stalled}
 use Rattle.walk_core.specs.Moved.{Walked, moved_of, counts_after}

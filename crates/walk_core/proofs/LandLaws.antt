@@ -18,68 +18,16 @@ use Rattle.report_text.specs.declared.report.Refusal.TheVariants.{Frame as frame
 use Rattle.source_core.specs.Terminal.{Terminal}
 use Rattle.source_core.specs.Given.{with_frame, with_command}
 use Rattle.walk_law.specs.Walk.{walk_plan}
-use Rattle.walk_parts.specs.Place.{is_frame, is_command, place_of}
-use Rattle.walk_parts.proofs.PlaceLaws.{due_found, frame-due, command-due}
+use Rattle.group_source.specs.Place.{is_frame, is_command, place_of}
+use Rattle.group_source.proofs.PlaceLaws.{due_found, frame-due, command-due}
 use Rattle.report_text.specs.declared.report.Refusal.{Refusal}
 use Rattle.walk_law.specs.Landed.{refusal_at}
-use Rattle.walk_core.specs.Landing.{stall_by, met_by, with_kind}
+use Rattle.group_source.specs.Lands.{met_by, with_kind}
+use Rattle.walk_core.specs.Landing.{stall_by}
 use Rattle.walk_core.specs.declared.moved.Moved.{Moved}
 use Rattle.walk_core.specs.declared.moved.Moved.TheVariants.{Stalled}
 use Rattle.walk_core.specs.Moved.{answer_by, refusal_of_item, refusal_in_event, moved_of, counts_after}
 use Rattle.walk_core.proofs.EventLaws.{stalled-moved}
-
--- ---- where the next item of a kind stands
-unfoldable pub count_of : (ItemKind → Bool) → List Item → ℕ
-count_of is [] = 0
-count_of is (item ∷ items) = if is item.kind then suc (count_of is items) else count_of is items
-
-pub count-few : (is : ItemKind → Bool) (items : List Item) → count_of is items ≤ length items
-unfolding count_of
-count-few is [] = omega arith
-count-few is (item ∷ items) =
-    let rest = count-few is items in
-    elim (cases_Bool (is item.kind)) [ inl e ↦ rw e (omega (arith, rest)) | inr e ↦ rw e (omega (arith, rest)) ]
-
--- the item at the place of number k is of the kind, and so many are before it
-pub place-found : (is : ItemKind → Bool) (items : List Item) (k : ℕ) (item : Item) → slice_get items (place_of is k items) ≡ Some item →
-    (is item.kind ≡ true) × (count_of is (take (place_of is k items) items) ≡ k)
-unfolding place_of count_of
-place-found is [] k item there = absurd cc
-place-found is (first ∷ items) zero item there =
-    elim (cases_Bool (is first.kind)) [
-      | inl e ↦ (let f : Some first ≡ Some item = rw e at there in let same : first ≡ item = cc in (ap (λ (i : Item). is i.kind) (sym same) ∙ e, rw e refl))
-      | inr e ↦ (let (a, b) = place-found is items zero item (rw e at there) in (a, rw (e, e) b))
-    ]
-place-found is (first ∷ items) (suc k) item there =
-    elim (cases_Bool (is first.kind)) [
-      | inl e ↦ (let (a, b) = place-found is items k item (rw e at there) in (a, rw (e, e) (ap suc b)))
-      | inr e ↦ (let (a, b) = place-found is items (suc k) item (rw e at there) in (a, rw (e, e) b))
-    ]
-
--- ---- frames are counted as offers, and commands as orders
-offers-size_by : (due : ℕ) (kind : ItemKind) (items : List Item) → length (offers_of items) ≡ count_of is_frame items →
-    length (offer_of due kind ++ offers_of items) ≡ (if is_frame kind then suc (count_of is_frame items) else count_of is_frame items)
-unfolding count_of
-offers-size_by due (Frame octets) items rest = ap suc rest
-offers-size_by due (Add line) items rest = rest
-offers-size_by due (Remove line) items rest = rest
-
-pub offers-size : (items : List Item) → length (offers_of items) ≡ count_of is_frame items
-unfolding count_of
-offers-size [] = refl
-offers-size (item ∷ items) = offers-size_by item.due item.kind items (offers-size items)
-
-orders-size_by : (due : ℕ) (kind : ItemKind) (items : List Item) → length (orders_of items) ≡ count_of is_command items →
-    length (order_of due kind ++ orders_of items) ≡ (if is_command kind then suc (count_of is_command items) else count_of is_command items)
-unfolding count_of
-orders-size_by due (Frame octets) items rest = rest
-orders-size_by due (Add line) items rest = ap suc rest
-orders-size_by due (Remove line) items rest = ap suc rest
-
-pub orders-size : (items : List Item) → length (orders_of items) ≡ count_of is_command items
-unfolding count_of
-orders-size [] = refl
-orders-size (item ∷ items) = orders-size_by item.due item.kind items (orders-size items)
 
 -- ---- why the next item doesn't land
 stall-cause : (ticks : ℕ) (found : Option Item) (s next : Counts) → (land_due ticks (option_map (λ (item : Item). item.due) found) s next).cause ≡ stall_by ticks found

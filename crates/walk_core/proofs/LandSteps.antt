@@ -27,9 +27,10 @@ use Rattle.walk_law.proofs.PlanLaws.{valid-walks}
 use Rattle.walk_law.proofs.LandLaws.{frame-waits, command-waits, offer-at, order-at}
 use Rattle.walk_law.proofs.SourceLaws.{meets-stream, meets-source}
 use Rattle.walk_law.proofs.ReportLaws.{frame-placed, command-placed, frame-totals, command-totals}
-use Rattle.walk_parts.specs.Place.{is_frame, is_command, place_of}
+use Rattle.group_source.specs.Place.{is_frame, is_command, place_of}
 use Rattle.walk_core.specs.declared.moved.StepNote.{StepNote}
-use Rattle.walk_core.specs.Landing.{stall_by, met_by, with_kind}
+use Rattle.group_source.specs.Lands.{met_by, with_kind}
+use Rattle.walk_core.specs.Landing.{stall_by}
 use Rattle.walk_core.specs.Parts.{Parts, Landing, counts_of, note_of, HasSource, HasSent, HasBack, HasLanded, line_counts, IsWalk}
 use Rattle.session_model.specs.declared.walk.Event.{Event}
 use Rattle.session_model.specs.declared.walk.StallCause.{StallCause}
@@ -41,9 +42,9 @@ use Rattle.walk_core.specs.declared.moved.Moved.{Moved}
 use Rattle.walk_core.specs.declared.moved.Moved.TheVariants.{Stalled}
 use Rattle.walk_core.specs.Moved.{Walked, moved_of, counts_after}
 use Rattle.walk_core.proofs.EventLaws.{walked-next}
-use Rattle.walk_parts.proofs.PlaceLaws.{place-next}
+use Rattle.group_source.proofs.PlaceLaws.{count_of, count-few, place-next, place-found, offers-size, orders-size}
 use Rattle.walk_core.proofs.CarryLaws.{same-some}
-use Rattle.walk_core.proofs.LandLaws.{count_of, count-few, place-found, offers-size, orders-size, offer-here, order-here, item-there, IsNext, frame-next, command-next, answer_of, next-cause, next-stays, next-moves}
+use Rattle.walk_core.proofs.LandLaws.{offer-here, order-here, item-there, IsNext, frame-next, command-next, answer_of, next-cause, next-stays, next-moves}
 
 take-next : {X : Type 0} (xs : List X) (n : ℕ) (x : X) → slice_get xs n ≡ Some x → take (n + 1) xs ≡ take n xs ++ x ∷ []
 take-next xs n x there =

@@ -11,7 +11,7 @@ use Rattle.walk_law.specs.Walk.{walk_plan}
 use Rattle.walk_law.specs.Landed.{refusal_at}
 use Rattle.walk_law.specs.Delivered.{delivered_of}
 use Rattle.outside_io.specs.Start.{Start}
-use Rattle.walk_parts.specs.Place.{is_frame, is_command, place_of}
+use Rattle.group_source.specs.Place.{is_frame, is_command, place_of}
 use Rattle.walk_core.specs.declared.moved.Moved.{Moved}
 use Rattle.walk_core.specs.declared.moved.Moved.TheVariants.{Yes, Stalled, Refused}
 

@@ -17,7 +17,7 @@ use Rattle.walk_law.specs.Rings.{sent_at, delay_on, taken_by, return_ring, inbox
 use Rattle.walk_law.specs.Landed.{landed_scenario, told_before, refusals_of, totals_of}
 use Rattle.walk_law.specs.Delivered.{delivered_of}
 use Rattle.walk_law.specs.Step.{last_packet, cell_taken}
-use Rattle.walk_parts.specs.Place.{is_frame, is_command, place_of}
+use Rattle.group_source.specs.Place.{is_frame, is_command, place_of}
 use Rattle.walk_parts.specs.Ringed.{Ringed, ring_of, Has}
 use Rattle.walk_parts.specs.Return.{Return}
 use Rattle.walk_core.specs.declared.moved.StepNote.{StepNote}

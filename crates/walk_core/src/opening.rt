@@ -8,6 +8,7 @@ ghost use Rattle.session_model.specs.Valid.{IsValid, IsNetwork};
 ghost use Rattle.walk_parts.specs.Return.{empty_return};
 ghost use Rattle.walk_core.specs.Opened.{AreOpened, AreRings, IsNewSource, IsNewSink, IsNewGather, IsNew};
 
+use group_source::blank_boxes;
 use realign_core::RowGather;
 use report_text::Refusal;
 use session_model::{Config, Script};
@@ -15,7 +16,7 @@ use sink_core::SinkCore;
 use source_core::SourceCore;
 use std::alloc::{AllocError, Global};
 use vc_cell::HeldContainer;
-use walk_parts::{ReturnPath, WalkLine, blank_boxes};
+use walk_parts::{ReturnPath, WalkLine};
 
 /// The frames that the send rings hold.
 pub(crate) const SENDS: usize = 32;

@@ -26,7 +26,8 @@ ghost use Rattle.walk_core.specs.Waiting.{send_ring, receive_ring};
 ghost use Rattle.line_reader.specs.Told.{cell_of};
 ghost use Rattle.walk_core.specs.Carry.{carry_cause, CanCarry, IsSentOn, IsCarriedAt, HasRoom};
 ghost use Rattle.std.specs.Vec.{vec_capacity};
-ghost use Rattle.walk_core.specs.Landing.{stall_by, met_by, with_kind, IsParted};
+ghost use Rattle.group_source.specs.Lands.{met_by, with_kind};
+ghost use Rattle.walk_core.specs.Landing.{stall_by, IsParted};
 ghost use Rattle.walk_core.specs.Parts.{note_of, line_counts, sent_frames, HasSent, HasLine as HasLineOn};
 ghost use Rattle.walk_core.specs.Take.{take_cause};
 ghost use Rattle.vc_cell.specs.declared.Cell.{Cell};
@@ -37,6 +38,7 @@ ghost use Rattle.gfp_mark.specs.Marks.{first_place};
 use crate::moved::{Moved, StepNote};
 use crate::opening::{Ends, Opened, Paths, Returns, SENDS, open};
 use crate::rows::{ends_packet, pop_lines, take_row};
+use group_source::{held_item, next_command, next_frame};
 use lcas_packet::Packet;
 use lcas_source::SourceTable;
 use line_reader::CellRef;
@@ -48,7 +50,7 @@ use source_core::SourceCore;
 use std::alloc::{AllocError, Global};
 use std::marker::Model;
 use vc_cell::{BackCell, Container, HeldContainer};
-use walk_parts::{ReturnPath, WalkLine, held_item, next_command, next_frame};
+use walk_parts::{ReturnPath, WalkLine};
 
 /// A walk of a script.
 #[derive(Drop)]

@@ -1,4 +1,2 @@
-pub mod ItemLaws
-pub mod PlaceLaws
 pub mod RingLaws
 pub mod PopLaws

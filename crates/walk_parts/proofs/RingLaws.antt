@@ -16,7 +16,7 @@ use Rattle.session_model.specs.declared.window.Window.{Window}
 use Rattle.session_model.specs.Path.{path}
 use Rattle.line_core.specs.Line.{Line, Calls, opened, carries_of, path_cells, Stands}
 use Rattle.realign_core.proofs.GatherLaws.{length-slice_set}
-use Rattle.walk_parts.proofs.ItemLaws.{at-index}
+use Rattle.group_source.proofs.ItemLaws.{at-index}
 use Rattle.walk_parts.specs.Ringed.{Ringed, cell_in, cell_at, with_sign, count_of, Has}
 
 -- two numbers less than r apart differ modulo r

@@ -1,10 +1,10 @@
 -- The return path of a walk.
-use Rattle.std.specs.Prelude.{ℕ, ◌+◌, nat_le, nat_lt, ◌&&◌, Bool, true, false, List, [], ◌∷◌, ◌++◌, Option, Some, None}
-use Rattle.std.specs.List.{list_any}
+use Rattle.std.specs.Prelude.{ℕ, ◌+◌, Bool, true, false, List, [], ◌∷◌, ◌++◌, Option, Some, None}
 use Rattle.vc_cell.specs.declared.BackCell.{BackCell}
 use Rattle.vc_cell.specs.declared.BackCell.TheVariants.{Packet as Nibbles, Lost}
 use Rattle.session_model.specs.declared.packet.Packet.{Packet}
 use Rattle.session_model.specs.Packet.{packet_nibbles}
+use Rattle.group_source.specs.Inbox.{is_lost_in}
 
 -- the return packets that haven't come, oldest first; the return cells that have come and weren't taken, for which there is some room;
 -- and how many have come
@@ -13,10 +13,6 @@ pub record Return : Type 0 where
   pub inbox : List BackCell
   pub room : ℕ
   pub backs : ℕ
-
--- a window among these holds return packet k
-abbrev pub is_lost_in : List (ℕ × ℕ) → ℕ → Bool
-is_lost_in lost k = list_any (λ window. nat_le window.0 k && nat_lt k window.1) lost
 
 -- what comes of a return packet
 abbrev pub come : Bool → Packet → BackCell

@@ -12,8 +12,8 @@ ghost use Rattle.realign_core.specs.Gather.{Stands as Gathers, line_count, IsOpe
 ghost use Rattle.session_model.specs.Rows.{first_open};
 ghost use Rattle.walk_parts.specs.Ringed.{Ringed, ring_of, Has, popped_cells, IsNext, IsPopped, popped_until, leaves_open, with_sign, count_of, is_at};
 
-use crate::boxes::blank_boxes;
 use failure_window::{Window, Windows};
+use group_source::blank_boxes;
 use line_core::{CarrySign, LineCore};
 use line_reader::{CellRef, CellSign};
 use realign_core::{RowAnswer, RowGather};

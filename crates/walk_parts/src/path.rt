@@ -1,9 +1,10 @@
 //! The return path of a walk: the return ring, and the inbox of the source.
 
 ghost use Rattle.std.specs.Prelude.{◌≡◌, ◌+◌, ◌<◌, ◌≤◌, ◌↔◌, [], length, drop, slice_get, IfOk, IsTrue};
-ghost use Rattle.walk_parts.specs.Return.{empty_return, is_lost_in, come, listed, and_said, and_moved};
+ghost use Rattle.walk_parts.specs.Return.{empty_return, come, listed, and_said, and_moved};
 
 use circular_buffer::HeapCircularBuffer;
+use group_source::is_lost;
 use lcas_packet::Packet;
 use std::alloc::{AllocError, Global};
 use std::marker::Model;
@@ -107,16 +108,4 @@ fn cell_of(lost: bool, packet: Packet) -> BackCell
     } else {
         BackCell::Packet(packet.nibbles())
     }
-}
-
-/// Whether one of some windows holds return packet `k`.
-fn is_lost(lost: &[(u32, u32)], k: u32) -> bool
-    ensures { result ≡ is_lost_in lost.now k }
-{
-    for window in lost {
-        if window.0 <= k && k < window.1 {
-            return true;
-        }
-    }
-    false
 }

@@ -6,10 +6,10 @@ use Rattle.vc_cell.specs.declared.BackCell.{BackCell}
 use Rattle.member_ring.specs.declared.ends.RingIn.{RingIn}
 use Rattle.member_ring.specs.Ends.{in_passed, SameIn}
 use Rattle.member_ring.proofs.EndLaws.{in-then}
-use Rattle.walk_parts.specs.Return.{is_lost_in}
-use Rattle.group_lock.specs.Inbox.{Inbox, come_by, with_come, HasCome}
+use Rattle.group_source.specs.Inbox.{is_lost_in}
+use Rattle.group_source.specs.Inbox.{Inbox, come_by, with_come, HasCome}
 use Rattle.group_lock.specs.Rings.{HasMoved}
-use Rattle.group_lock.proofs.CellLaws.{come-put}
+use Rattle.group_source.proofs.CellLaws.{come-put}
 use Rattle.group_lock.proofs.RingLaws.{less}
 use Rattle.group_lock.proofs.sends.take_cells.Goals as goal
 

@@ -1,7 +1,7 @@
 -- A line pops until it decides the next row, or is the first that doesn't.
 use Rattle.std.proofs.Common.{refl, sym, ◌∙◌, arith}
 use Rattle.realign_core.proofs.GatherLaws.{length-slice_set}
-use Rattle.walk_parts.proofs.ItemLaws.{at-index}
+use Rattle.group_source.proofs.ItemLaws.{at-index}
 use Rattle.walk_core.specs.Parts.{calls_on}
 use Rattle.walk_core.proofs.TakeLaws.{popping-none, popping-all, is-next, popping-next, popping-waits}
 use Rattle.walk_core.proofs.rows.pop_lines.Goals as goal

@@ -4,7 +4,7 @@ use Rattle.std.specs.Global.{Vec, Box}
 use Rattle.std.specs.Vec.{with_item}
 use Rattle.vc_cell.specs.declared.Container.{Container}
 use Rattle.walk_parts.specs.Ringed.{Has}
-use Rattle.walk_parts.proofs.ItemLaws.{at-index}
+use Rattle.group_source.proofs.ItemLaws.{at-index}
 use Rattle.line_core.specs.Line.{and_push}
 use Rattle.walk_law.specs.Rings.{sent_at}
 use Rattle.walk_core.specs.Parts.{calls_on, frame_in, sent_frames}

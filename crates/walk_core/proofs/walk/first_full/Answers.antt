@@ -1,6 +1,6 @@
 -- The first line whose ring is full, or none.
 use Rattle.std.proofs.Common.{sym, ◌∙◌, arith}
-use Rattle.walk_parts.proofs.ItemLaws.{at-index}
+use Rattle.group_source.proofs.ItemLaws.{at-index}
 use Rattle.walk_core.proofs.TickLaws.{full-here, full-next, full-none}
 use Rattle.walk_core.proofs.walk.first_full.Goals as goal
 

@@ -1,7 +1,7 @@
 -- The source is asked, and the journal where the source would take the item.
 use Rattle.std.proofs.Common.{◌||◌, sym, ◌∙◌, ap}
 use Rattle.std.specs.Option.{is_some}
-use Rattle.group_lock.specs.Item.{kind_of}
+use Rattle.group_source.specs.Item.{kind_of}
 use Rattle.group_lock.specs.Journal.{fits}
 use Rattle.group_lock.proofs.GroupLaws.{refused-is}
 use Rattle.group_lock.proofs.group.GroupState.finds_room.Goals as goal

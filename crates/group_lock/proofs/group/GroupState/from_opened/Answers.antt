@@ -1,7 +1,7 @@
 -- Nothing has come of the group yet.
 use Rattle.std.proofs.Common.{◌≡◌, length, refl, sym, ◌∙◌, ap, arith}
-use Rattle.group_lock.specs.Inbox.{Inbox, empty_inbox}
-use Rattle.group_lock.specs.Landed.{Landed}
+use Rattle.group_source.specs.Inbox.{Inbox, empty_inbox}
+use Rattle.group_source.specs.Landed.{Landed}
 use Rattle.group_lock.specs.Parts.{Parts, parts}
 use Rattle.group_lock.proofs.KeepLaws.{keeps-begin}
 use Rattle.group_lock.proofs.group.GroupState.from_opened.Goals as goal

@@ -3,13 +3,13 @@ use Rattle.std.proofs.Common.{◌≡◌, ℕ, ◌+◌, ◌≤◌, Bool, Some, if
 use Rattle.report_text.specs.declared.report.Refusal.{Refusal}
 use Rattle.source_core.specs.Terminal.{Terminal}
 use Rattle.walk_law.specs.Landed.{is_client, IsPlaced, refused_by}
-use Rattle.group_lock.specs.Item.{kind_of}
+use Rattle.group_source.specs.Item.{kind_of}
 use Rattle.group_lock.specs.Journal.{entry_of}
 use Rattle.group_lock.specs.Parts.{parts, scenario_in, told_in_parts, Keeps}
 use Rattle.session_model.specs.Counts.{dues_of}
 use Rattle.group_lock.specs.declared.group.GroupState.{GroupState}
-use Rattle.group_lock.specs.Landed.{next_number, due_at, AreBehind}
-use Rattle.group_lock.proofs.PlaceLaws.{next-due, behind-next}
+use Rattle.group_source.specs.Landed.{next_number, due_at, AreBehind}
+use Rattle.group_source.proofs.LandingLaws.{next-due, behind-next}
 use Rattle.group_lock.proofs.RefusedLaws.{refused-put, refused-now}
 use Rattle.group_lock.proofs.KeepLaws.{keeps-accepted, keeps-refused}
 use Rattle.group_lock.proofs.GroupLaws.{refused-is, submits-accepted, submits-refused, room-there}

@@ -4,8 +4,8 @@ use Rattle.std.specs.Option.{option_eq}
 use Rattle.std.proofs.lemmas.Bool.{eqb-true}
 use Rattle.std.proofs.Common.{eq-eqb}
 use Rattle.group_lock.specs.declared.answer.SubmitFault.TheVariants.{NotNext, Early, JournalFull}
-use Rattle.group_lock.specs.Item.{kind_of}
-use Rattle.group_lock.specs.Landed.{next_number}
+use Rattle.group_source.specs.Item.{kind_of}
+use Rattle.group_source.specs.Landed.{next_number}
 use Rattle.group_lock.proofs.GroupLaws.{submits-none, asked-next, asked-early, asked-full, room-found}
 use Rattle.group_lock.proofs.group.GroupState.submit.Goals as goal
 

@@ -1,7 +1,7 @@
 -- Nothing has landed, was sent, or was taken.
 use Rattle.std.proofs.Common.{◌+◌, drop, ◌∙◌, ap}
 use Rattle.std.specs.Vec.{vec_capacity}
-use Rattle.walk_parts.specs.Place.{is_frame, is_command, place_of}
+use Rattle.group_source.specs.Place.{is_frame, is_command, place_of}
 use Rattle.walk_core.proofs.OpenLaws.{new-counts, new-walk}
 use Rattle.walk_core.proofs.walk.Walk.from_opened.Goals as goal
 

@@ -1,7 +1,7 @@
 -- What waits in a send ring.
 use Rattle.std.proofs.Common.{rules, ◌%◌, ◌<◌, ◌≤◌, min, length, slice_get, slice_index_or, Some, refl, ◌∙◌, ap, sym, subst, arith}
 use Rattle.session_model.specs.Counts.{in_send}
-use Rattle.walk_parts.proofs.ItemLaws.{at-index}
+use Rattle.group_source.proofs.ItemLaws.{at-index}
 use Rattle.walk_core.specs.Moved.{Walked}
 use Rattle.walk_core.specs.Parts.{line_counts}
 use Rattle.walk_core.specs.Waiting.{send_ring}

@@ -5,7 +5,7 @@ use Rattle.session_model.specs.declared.walk.Event.TheVariants.{Tick}
 use Rattle.session_model.specs.Counts.{step}
 use Rattle.walk_law.specs.Walk.{walk_plan}
 use Rattle.vc_cell.specs.Held.{held}
-use Rattle.walk_parts.proofs.ItemLaws.{at-index}
+use Rattle.group_source.proofs.ItemLaws.{at-index}
 use Rattle.walk_core.specs.Moved.{Walked, counts_after}
 use Rattle.walk_core.proofs.CarryLaws.{frame-size}
 use Rattle.walk_core.proofs.TickLaws.{tick-stays, some-needed, tick-counts, sent-placed, sent-read, tick-kept_at}

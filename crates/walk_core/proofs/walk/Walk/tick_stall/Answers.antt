@@ -5,7 +5,7 @@ use Rattle.session_model.specs.declared.walk.Event.TheVariants.{Tick}
 use Rattle.session_model.specs.declared.walk.StallCause.TheVariants.{BackMissing}
 use Rattle.session_model.specs.Counts.{step, held, full, dues_of, frame_dues, command_dues}
 use Rattle.walk_law.specs.Walk.{walk_plan}
-use Rattle.walk_parts.specs.Place.{is_frame, is_command, place_of}
+use Rattle.group_source.specs.Place.{is_frame, is_command, place_of}
 use Rattle.walk_core.specs.Moved.{Walked}
 use Rattle.walk_core.specs.Parts.{line_counts}
 use Rattle.walk_core.proofs.TickLaws.{lines-made, missing-cause}

@@ -1,0 +1,4 @@
+pub mod ItemLaws
+pub mod PlaceLaws
+pub mod LandingLaws
+pub mod CellLaws

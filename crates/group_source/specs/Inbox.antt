@@ -1,0 +1,50 @@
+-- The return cells that come to the source of a group.
+use Rattle.std.specs.Prelude.{◌≡◌, ℕ, suc, ◌+◌, ◌≤◌, Bool, true, false, List, [], ◌∷◌, ◌++◌, ◌&&◌, nat_le, nat_lt, map, drop, take, length, Option}
+use Rattle.std.specs.List.{list_any}
+use Rattle.vc_cell.specs.declared.BackCell.{BackCell}
+use Rattle.vc_cell.specs.declared.BackCell.TheVariants.{Lost}
+use Rattle.session_model.specs.Table.{Told}
+use Rattle.session_model.specs.Told.{told_in}
+use Rattle.session_model.specs.Counts.{used_in}
+
+-- the return windows; the return cells that no decision step has taken, oldest first, and how many there is room for; how many have come
+pub record Inbox : Type 0 where
+  pub lost : List (ℕ × ℕ)
+  pub cells : List BackCell
+  pub room : ℕ
+  pub come : ℕ
+
+abbrev pub empty_inbox : List (ℕ × ℕ) → ℕ → Inbox
+empty_inbox lost lag = record { lost = lost; cells = []; room = lag + 1; come = 0 }
+
+-- a window among these holds return packet k
+abbrev pub is_lost_in : List (ℕ × ℕ) → ℕ → Bool
+is_lost_in lost k = list_any (λ window. nat_le window.0 k && nat_lt k window.1) lost
+
+-- what comes of a return cell: where a return window holds it, it is lost
+abbrev pub come_by : Bool → BackCell → BackCell
+come_by true cell = Lost
+come_by false cell = cell
+
+-- and of some, of which the first is number k
+unfoldable pub come_from : List (ℕ × ℕ) → ℕ → List BackCell → List BackCell
+come_from lost k [] = []
+come_from lost k (cell ∷ cells) = come_by (is_lost_in lost k) cell ∷ come_from lost (suc k) cells
+
+-- what the return cells tell that were received
+abbrev pub told_from : List (ℕ × ℕ) → List BackCell → List (Option Told)
+told_from lost cells = map told_in (come_from lost 0 cells)
+
+-- what those tell that the decision steps of some ticks have taken: the first ones
+abbrev pub told_taken : List (ℕ × ℕ) → ℕ → ℕ → List BackCell → List (Option Told)
+told_taken lost lag ticks cells = take (used_in lag ticks) (told_from lost cells)
+
+-- one more has come
+abbrev pub with_come : Inbox → BackCell → Inbox
+with_come inbox cell = record inbox { cells = inbox.cells ++ come_by (is_lost_in inbox.lost inbox.come) cell ∷ []; come = inbox.come + 1 }
+
+-- the inbox holds what has come of these received cells, but the first ones, which were taken
+pub record HasCome (inbox : Inbox) (received : List BackCell) (used : ℕ) : Type 0 where
+  pub come : inbox.come ≡ length received
+  pub within : used ≤ length received
+  pub cells : inbox.cells ≡ drop used (come_from inbox.lost 0 received)

@@ -1,0 +1,5 @@
+pub mod Item
+pub mod Place
+pub mod Lands
+pub mod Landed
+pub mod Inbox

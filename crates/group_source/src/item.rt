@@ -1,0 +1,48 @@
+//! What lands, as it is handed in.
+
+/// An item that is handed in.
+#[derive(Clone, Copy, Debug)]
+pub enum ItemRef<'a> {
+    /// The client sends this Ethernet frame.
+    Frame(&'a [u8]),
+    /// The operator adds a line to the group.
+    Add(u8),
+    /// The operator removes a line from the group.
+    Remove(u8),
+}
+
+impl ItemRef<'_> {
+    ghost use Rattle.std.specs.Prelude.{◌≡◌, if◌then◌else◌};
+    ghost use Rattle.walk_law.specs.Landed.{is_client};
+    ghost use Rattle.group_source.specs.Item.{kind_of, size_of};
+
+    /// Whether it is the client's.
+    pub fn is_frame(self) -> bool
+        ensures { result ≡ is_client (kind_of self.entry) }
+    {
+        match self {
+            ItemRef::Frame(_) => true,
+            ItemRef::Add(_) | ItemRef::Remove(_) => false,
+        }
+    }
+
+    /// How many frames it is.
+    pub fn frames(self) -> u32
+        ensures { result ≡ (if is_client (kind_of self.entry) then 1 else 0) }
+    {
+        match self {
+            ItemRef::Frame(_) => 1,
+            ItemRef::Add(_) | ItemRef::Remove(_) => 0,
+        }
+    }
+
+    /// How many octets it has.
+    pub fn len(self) -> usize
+        ensures { result ≡ size_of (kind_of self.entry) }
+    {
+        match self {
+            ItemRef::Frame(octets) => octets.len(),
+            ItemRef::Add(_) | ItemRef::Remove(_) => 0,
+        }
+    }
+}
