@@ -22,11 +22,11 @@ usage = codes "usage: vcat_walk walk, trace, decode, make NUMBER LINES TICKS, or
 -- ---- a line for each command
 abbrev pub command_of : List (List ℕ) → Option WalkCommand
 command_of words =
-    option_or (walk_words words)
-    (option_or (trace_words words)
-    (option_or (decode_words words)
-    (option_or (make_words words)
-    (stream_words words))))
+    option_or (option_or (option_or (option_or (walk_words words)
+    (trace_words words))
+    (decode_words words))
+    (make_words words))
+    (stream_words words)
 
 abbrev pub task_at : WalkCommand → Task
 task_at Walk = reads walk_answer

@@ -1,10 +1,10 @@
 //! `stream`: the script lines of a client that sends at a rate are written.
-ghost use Rattle.std.specs.Prelude.{◌≡◌, None, map, option_map, string_bytes};
+ghost use Rattle.std.specs.Prelude.{◌≡◌, None, map, string_bytes};
 ghost use Rattle.rate_load.specs.Lines.{IsRateLoad};
 ghost use Rattle.cmd_words.specs.Words.{number_in};
 ghost use Rattle.command_parts.specs.Task.{makes};
 ghost use Rattle.command_parts.specs.Ends.{Ends, lent, no_source};
-ghost use Rattle.walk_command.specs.Stream.{ticks_of, load_of, stream_words, stream_answer};
+ghost use Rattle.walk_command.specs.Stream.{ticks_of, rate_of, numbers_in, stream_words, stream_answer};
 
 use crate::command::WalkCommand;
 use crate::end::{WalkEnd, cut, done, stopped};
@@ -23,26 +23,39 @@ fn ticks_of(first: &[u8], end: &[u8]) -> Option<(u32, u32)>
 }
 
 /// The load of three words and two ticks.
-fn load_of(
+fn rate_of(
     octets: &[u8],
     mbits: &[u8],
     ticks: Option<(u32, u32)>,
     number: &[u8],
-) -> Option<RateLoad>
-    ensures { result ≡ load_of (number_in 64 9600 octets.now) (number_in 1 400000 mbits.now)
+) -> Option<WalkCommand>
+    ensures { result ≡ rate_of (number_in 64 9600 octets.now) (number_in 1 400000 mbits.now)
         ticks (number_in 0 18446744073709551615 number.now) }
 {
     let octets = number_within(octets, 64, 9_600)? as u16;
     let mbits = number_within(mbits, 1, 400_000)? as u32;
     let (first, end) = ticks?;
     let number = number_within(number, 0, u64::MAX)?;
-    Some(RateLoad {
+    Some(WalkCommand::Stream(RateLoad {
         octets,
         mbits,
         first,
         end,
         number,
-    })
+    }))
+}
+
+/// The load of five words.
+fn numbers_in(words: &[String]) -> Option<WalkCommand>
+    ensures { result ≡ numbers_in (map string_bytes words.now) }
+{
+    match words {
+        [octets, mbits, first, end, number] => {
+            let ticks = ticks_of(first.as_bytes(), end.as_bytes());
+            rate_of(octets.as_bytes(), mbits.as_bytes(), ticks, number.as_bytes())
+        }
+        _ => None,
+    }
 }
 
 /// The words `stream OCTETS MBITS FIRST END NUMBER`.
@@ -50,11 +63,7 @@ pub fn words(words: &[String]) -> Option<WalkCommand>
     ensures { result ≡ stream_words (map string_bytes words.now) }
 {
     match words {
-        [word, octets, mbits, first, end, number] if word.as_str() == "stream" => {
-            let ticks = ticks_of(first.as_bytes(), end.as_bytes());
-            load_of(octets.as_bytes(), mbits.as_bytes(), ticks, number.as_bytes())
-                .map(WalkCommand::Stream)
-        }
+        [word, numbers @ ..] if word.as_str() == "stream" => numbers_in(numbers),
         _ => None,
     }
 }
