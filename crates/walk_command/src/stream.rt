@@ -19,7 +19,11 @@ fn ticks_of(first: &[u8], end: &[u8]) -> Option<(u32, u32)>
 {
     let first = number_within(first, 0, 1_000_000)? as u32;
     let end = number_within(end, 0, 1_000_000)? as u32;
-    if first < end { Some((first, end)) } else { None }
+    if first < end {
+        Some((first, end))
+    } else {
+        None
+    }
 }
 
 /// The load of three words and two ticks.
@@ -52,7 +56,12 @@ fn numbers_in(words: &[String]) -> Option<WalkCommand>
     match words {
         [octets, mbits, first, end, number] => {
             let ticks = ticks_of(first.as_bytes(), end.as_bytes());
-            rate_of(octets.as_bytes(), mbits.as_bytes(), ticks, number.as_bytes())
+            rate_of(
+                octets.as_bytes(),
+                mbits.as_bytes(),
+                ticks,
+                number.as_bytes(),
+            )
         }
         _ => None,
     }

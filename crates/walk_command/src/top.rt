@@ -75,7 +75,8 @@ fn no_command<E: ByteSink>(notes: &mut E) -> WalkEnd
     ensures walk { result.walk ≡ None }
     ensures told { Tells E.written E.faults notes.old notes.new usage }
 {
-    let text = b"usage: vcat_walk walk, trace, decode, make NUMBER LINES TICKS, or stream OCTETS MBITS FIRST END NUMBER\n";
+    let text =
+        b"usage: vcat_walk walk, trace, decode, make NUMBER LINES TICKS, or stream OCTETS MBITS FIRST END NUMBER\n";
     let status = tell_usage(text, notes);
     WalkEnd { status, walk: None }
 }
