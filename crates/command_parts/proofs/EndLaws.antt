@@ -5,8 +5,8 @@ use Rattle.outside_io.specs.Faults.{one_more}
 use Rattle.outside_io.specs.Transfer.{GivesAll}
 use Rattle.command_parts.specs.declared.stop.Refusal.{Refusal}
 use Rattle.command_parts.specs.declared.stop.Refusal.TheVariants.{Line, Limit}
-use Rattle.command_parts.specs.Task.{Answer, Task, writes, writes_both, refuses, none, reads, makes, IsCommand, Reads, IsGood, IsQuiet, IsQuietTask, refused_status}
-use Rattle.command_parts.specs.Ends.{Lent, Kept, Quiet, FailedOnce, TakesPart, TakesSome, IsTold, HasRead, IsLong, Meets, WritesAll, WritesPart, until, since, IsDone, IsNoCommand, IsUnread, IsCut, IsRefused, IsShort, IsTooLong, Ends, done, no_command, unread, cut, refused, short, too_long}
+use Rattle.command_parts.specs.Task.{Answer, Task, writes, writes_both, refuses, exceeds, none, reads, makes, IsCommand, Reads, IsGood, IsQuiet, IsQuietTask, refused_status}
+use Rattle.command_parts.specs.Ends.{Lent, Kept, Quiet, FailedOnce, TakesPart, TakesSome, IsTold, HasRead, IsLong, Meets, WritesAll, WritesPart, until, since, IsDone, IsNoCommand, IsUnread, IsCut, IsRefused, IsShort, IsTooLong, IsBeyond, Ends, done, no_command, unread, cut, refused, short, too_long, beyond}
 use Rattle.command_parts.specs.Status.{is_status, HasReadAt, HasRunAt, Rises}
 
 -- ---- the text that was read is the one that the source tells, where it tells it
@@ -41,6 +41,7 @@ part-rises out notes middle (writes o) text part told = inl (rises-one (out.faul
 part-rises out notes middle (writes_both o n) text (inl part) told = inl (rises-one (out.faults out.old) (out.faults out.new) part.0.counted)
 part-rises out notes middle (writes_both o n) text (inr part) told = inr (rises-then notes middle text part.1.counted told)
 part-rises out notes middle (refuses w n) text part told = absurd part
+part-rises out notes middle exceeds text part told = absurd part
 
 quiet-answer : {S : Type 0} (source : Lent S) (task : Task) (answer : Answer) → Meets source task answer → IsQuietTask task → IsQuiet answer
 quiet-answer source (none usage) answer meets quiet = absurd meets
@@ -51,16 +52,19 @@ quiet-all : {K E : Type 0} (out : Lent K) (notes : Lent E) (answer : Answer) →
 quiet-all out notes (writes o) all quiet = all.1
 quiet-all out notes (writes_both o n) all quiet = absurd quiet
 quiet-all out notes (refuses w n) all quiet = absurd all
+quiet-all out notes exceeds all quiet = absurd all
 
 quiet-part : {K E : Type 0} (out : Lent K) (notes : Lent E) (answer : Answer) → WritesPart out notes answer → IsQuiet answer → FailedOnce out × Kept notes
 quiet-part out notes (writes o) part quiet = (part.0.counted, part.1)
 quiet-part out notes (writes_both o n) part quiet = absurd quiet
 quiet-part out notes (refuses w n) part quiet = absurd part
+quiet-part out notes exceeds part quiet = absurd part
 
 all-quiet : {K E : Type 0} (out : Lent K) (notes : Lent E) (answer : Answer) → WritesAll out notes answer → Quiet out
 all-quiet out notes (writes o) all = all.0.quiet
 all-quiet out notes (writes_both o n) all = all.0.quiet
 all-quiet out notes (refuses w n) all = absurd all
+all-quiet out notes exceeds all = absurd all
 
 meets-quiet : {S : Type 0} (source : Lent S) (task : Task) (answer : Answer) → Meets source task answer → Quiet source
 meets-quiet source (none usage) answer meets = absurd meets
@@ -115,6 +119,7 @@ module _ {S K E : Type 0} (source : Lent S) (out : Lent K) (notes : Lent E) (tas
   known (refused why is it) = elim (refused-is why) [ inl e ↦ rw (is ∙ e) refl | inr e ↦ rw (is ∙ e) refl ]
   known (short is it) = rw is refl
   known (too_long is it) = rw is refl
+  known (beyond is it) = rw is refl
 
   pub no-command : Ends source out notes task s → s ≡ 2 → IsNoCommand source out notes task
   no-command (done is it) at = absurd (omega (arith, is, at))
@@ -124,6 +129,7 @@ module _ {S K E : Type 0} (source : Lent S) (out : Lent K) (notes : Lent E) (tas
   no-command (refused why is it) at = absurd (not-refused why s 2 is at (λ z. omega (arith, z)) (λ z. omega (arith, z)))
   no-command (short is it) at = absurd (omega (arith, is, at))
   no-command (too_long is it) at = absurd (omega (arith, is, at))
+  no-command (beyond is it) at = absurd (omega (arith, is, at))
 
   pub is-unread : Ends source out notes task s → s ≡ 3 → IsUnread source out notes task
   is-unread (done is it) at = absurd (omega (arith, is, at))
@@ -133,6 +139,7 @@ module _ {S K E : Type 0} (source : Lent S) (out : Lent K) (notes : Lent E) (tas
   is-unread (refused why is it) at = absurd (not-refused why s 3 is at (λ z. omega (arith, z)) (λ z. omega (arith, z)))
   is-unread (short is it) at = absurd (omega (arith, is, at))
   is-unread (too_long is it) at = absurd (omega (arith, is, at))
+  is-unread (beyond is it) at = absurd (omega (arith, is, at))
 
   pub is-done : Ends source out notes task s → s ≡ 0 → IsDone source out notes task
   is-done (done is it) at = it
@@ -142,6 +149,7 @@ module _ {S K E : Type 0} (source : Lent S) (out : Lent K) (notes : Lent E) (tas
   is-done (refused why is it) at = absurd (not-refused why s 0 is at (λ z. omega (arith, z)) (λ z. omega (arith, z)))
   is-done (short is it) at = absurd (omega (arith, is, at))
   is-done (too_long is it) at = absurd (omega (arith, is, at))
+  is-done (beyond is it) at = absurd (omega (arith, is, at))
 
   pub is-cut : Ends source out notes task s → s ≡ 4 → IsCut source out notes task
   is-cut (done is it) at = absurd (omega (arith, is, at))
@@ -151,6 +159,7 @@ module _ {S K E : Type 0} (source : Lent S) (out : Lent K) (notes : Lent E) (tas
   is-cut (refused why is it) at = absurd (not-refused why s 4 is at (λ z. omega (arith, z)) (λ z. omega (arith, z)))
   is-cut (short is it) at = absurd (omega (arith, is, at))
   is-cut (too_long is it) at = absurd (omega (arith, is, at))
+  is-cut (beyond is it) at = absurd (omega (arith, is, at))
 
   pub is-short : Ends source out notes task s → s ≡ 7 → IsShort source out notes task
   is-short (done is it) at = absurd (omega (arith, is, at))
@@ -160,15 +169,17 @@ module _ {S K E : Type 0} (source : Lent S) (out : Lent K) (notes : Lent E) (tas
   is-short (refused why is it) at = absurd (not-refused why s 7 is at (λ z. omega (arith, z)) (λ z. omega (arith, z)))
   is-short (short is it) at = it
   is-short (too_long is it) at = absurd (omega (arith, is, at))
+  is-short (beyond is it) at = absurd (omega (arith, is, at))
 
-  pub is-long : Ends source out notes task s → s ≡ 8 → IsTooLong source out notes task
+  pub is-long : Ends source out notes task s → s ≡ 8 → IsTooLong source out notes task ⊎ IsBeyond source out notes task
   is-long (done is it) at = absurd (omega (arith, is, at))
   is-long (no_command is it) at = absurd (omega (arith, is, at))
   is-long (unread is it) at = absurd (omega (arith, is, at))
   is-long (cut is it) at = absurd (omega (arith, is, at))
   is-long (refused why is it) at = absurd (not-refused why s 8 is at (λ z. omega (arith, z)) (λ z. omega (arith, z)))
   is-long (short is it) at = absurd (omega (arith, is, at))
-  is-long (too_long is it) at = it
+  is-long (too_long is it) at = inl it
+  is-long (beyond is it) at = inr it
 
   pub is-refused : Ends source out notes task s → (s ≡ 5) ⊎ (s ≡ 6) → (why : Refusal) × (s ≡ refused_status why) × IsRefused source out notes task why
   is-refused (done is it) either = elim either [ inl at ↦ absurd (omega (arith, is, at)) | inr at ↦ absurd (omega (arith, is, at)) ]
@@ -178,6 +189,7 @@ module _ {S K E : Type 0} (source : Lent S) (out : Lent K) (notes : Lent E) (tas
   is-refused (refused why is it) either = (why, is, it)
   is-refused (short is it) either = elim either [ inl at ↦ absurd (omega (arith, is, at)) | inr at ↦ absurd (omega (arith, is, at)) ]
   is-refused (too_long is it) either = elim either [ inl at ↦ absurd (omega (arith, is, at)) | inr at ↦ absurd (omega (arith, is, at)) ]
+  is-refused (beyond is it) either = elim either [ inl at ↦ absurd (omega (arith, is, at)) | inr at ↦ absurd (omega (arith, is, at)) ]
 
   pub none-is : Ends source out notes task s → (usage : List ℕ) → task ≡ none usage → s ≡ 2
   none-is (done is it) usage e = absurd (command-none usage task (meets-command source task it.answer it.meets) e)
@@ -187,6 +199,7 @@ module _ {S K E : Type 0} (source : Lent S) (out : Lent K) (notes : Lent E) (tas
   none-is (refused why is it) usage e = absurd (command-none usage task (meets-command source task (refuses why it.note) it.meets) e)
   none-is (short is it) usage e = absurd (command-none usage task it.command e)
   none-is (too_long is it) usage e = absurd (reads-none usage task it.reads e)
+  none-is (beyond is it) usage e = absurd (command-none usage task (meets-command source task exceeds it.meets) e)
 
   pub nothing : Ends source out notes task s → s ≢ 0 → s ≢ 4 → Kept out
   nothing (done is it) zero four = absurd (zero is)
@@ -196,6 +209,7 @@ module _ {S K E : Type 0} (source : Lent S) (out : Lent K) (notes : Lent E) (tas
   nothing (refused why is it) zero four = it.nothing
   nothing (short is it) zero four = it.nothing
   nothing (too_long is it) zero four = it.nothing
+  nothing (beyond is it) zero four = it.nothing
 
   pub read-quiet : Ends source out notes task s → s ≢ 3 → Quiet source
   read-quiet (done is it) three = meets-quiet source task it.answer it.meets
@@ -205,6 +219,7 @@ module _ {S K E : Type 0} (source : Lent S) (out : Lent K) (notes : Lent E) (tas
   read-quiet (refused why is it) three = meets-quiet source task (refuses why it.note) it.meets
   read-quiet (short is it) three = it.quiet
   read-quiet (too_long is it) three = it.long.quiet
+  read-quiet (beyond is it) three = meets-quiet source task exceeds it.meets
 
   pub write-quiet : Ends source out notes task s → s ≢ 4 → Quiet out
   write-quiet (done is it) four = all-quiet out notes it.answer it.written
@@ -214,6 +229,7 @@ module _ {S K E : Type 0} (source : Lent S) (out : Lent K) (notes : Lent E) (tas
   write-quiet (refused why is it) four = ap out.faults it.nothing
   write-quiet (short is it) four = ap out.faults it.nothing
   write-quiet (too_long is it) four = ap out.faults it.nothing
+  write-quiet (beyond is it) four = ap out.faults it.nothing
 
   pub not-read : Ends source out notes task s → (¬ Reads task) → Kept source
   not-read (done is it) never = meets-unread source task it.answer it.meets never
@@ -223,6 +239,7 @@ module _ {S K E : Type 0} (source : Lent S) (out : Lent K) (notes : Lent E) (tas
   not-read (refused why is it) never = meets-unread source task (refuses why it.note) it.meets never
   not-read (short is it) never = it.unread never
   not-read (too_long is it) never = absurd (never it.reads)
+  not-read (beyond is it) never = meets-unread source task exceeds it.meets never
 
   pub read-text : Ends source out notes task s → Reads task → HasReadAt s → (text : List ℕ) × HasRead source text
   read-text (done is it) does at = meets-text source task it.answer it.meets does
@@ -232,6 +249,7 @@ module _ {S K E : Type 0} (source : Lent S) (out : Lent K) (notes : Lent E) (tas
   read-text (refused why is it) does at = meets-text source task (refuses why it.note) it.meets does
   read-text (short is it) does at = elim at [ inl a ↦ absurd (omega (arith, is, a)) | inr x ↦ elim x [ inl a ↦ absurd (omega (arith, is, a)) | inr y ↦ elim y [ inl a ↦ absurd (omega (arith, is, a)) | inr a ↦ absurd (omega (arith, is, a)) ] ] ]
   read-text (too_long is it) does at = elim at [ inl a ↦ absurd (omega (arith, is, a)) | inr x ↦ elim x [ inl a ↦ absurd (omega (arith, is, a)) | inr y ↦ elim y [ inl a ↦ absurd (omega (arith, is, a)) | inr a ↦ absurd (omega (arith, is, a)) ] ] ]
+  read-text (beyond is it) does at = elim at [ inl a ↦ absurd (omega (arith, is, a)) | inr x ↦ elim x [ inl a ↦ absurd (omega (arith, is, a)) | inr y ↦ elim y [ inl a ↦ absurd (omega (arith, is, a)) | inr a ↦ absurd (omega (arith, is, a)) ] ] ]
 
   -- ---- reading
   pub fits : Ends source out notes task s → Reads task → HasReadAt s → IfSome (source.octets source.old) (λ text. length text ≤ 67108864)
@@ -241,9 +259,15 @@ module _ {S K E : Type 0} (source : Lent S) (out : Lent K) (notes : Lent E) (tas
   pub ended : Ends source out notes task s → Reads task → HasReadAt s → IsAtEnd (source.octets source.new)
   ended ends does at = let (text, read) = read-text ends does at in read.given.end
 
-  pub only-reading : Ends source out notes task s → (s ≡ 3) ⊎ (s ≡ 8) → Reads task
-  only-reading ends (inl at) = (is-unread ends at).reads
-  only-reading ends (inr at) = (is-long ends at).reads
+  pub only-reading : Ends source out notes task s → s ≡ 3 → Reads task
+  only-reading ends at = (is-unread ends at).reads
+
+  -- an input was too long, or the text to be written is
+  pub why-long : Ends source out notes task s → s ≡ 8 → (Reads task × IsLong source) ⊎ Meets source task exceeds
+  why-long ends at = elim (is-long ends at) [ inl it ↦ inl (it.reads, it.long) | inr it ↦ inr it.meets ]
+
+  pub told-long : Ends source out notes task s → s ≡ 8 → IsTold notes (codes "fault: too long\n")
+  told-long ends at = elim (is-long ends at) [ inl it ↦ it.told | inr it ↦ it.told ]
 
   -- ---- writing
   pub write-failed : Ends source out notes task s → s ≡ 4 → Rises (out.faults out.old) (out.faults out.new) ⊎ Rises (notes.faults notes.old) (notes.faults notes.new)
@@ -288,6 +312,8 @@ module _ {S K E : Type 0} (source : Lent S) (out : Lent K) (notes : Lent E) (ans
   complete (cut is it) = if-some _ (source.octets source.old) (λ text known few good. inr (inr (inr (part-rises out notes it.middle it.answer (codes "fault: write failed\n") it.part it.told))))
   complete (refused why is it) =
       known-text source _ it.meets.0 it.meets.1 (λ few good. absurd (subst IsGood it.meets.2 good))
+  complete (beyond is it) =
+      known-text source _ it.meets.0 it.meets.1 (λ few good. absurd (subst IsGood it.meets.2 good))
   complete (short is it) = if-some _ (source.octets source.old) (λ text known few good. inr (inl is))
   complete (too_long is it) = long-good (source.octets source.old) it.long.much
     where
@@ -315,3 +341,19 @@ module _ {S K E : Type 0} (source : Lent S) (out : Lent K) (notes : Lent E) (ans
   complete-made (refused why is it) good = absurd (subst IsGood it.meets.1 good)
   complete-made (short is it) good = inr (inl is)
   complete-made (too_long is it) good = absurd it.reads
+  complete-made (beyond is it) good = absurd (subst IsGood it.meets.1 good)
+
+  -- a text that is too long is not written
+  pub made-beyond : Ends source out notes (makes answer) s → answer ≡ exceeds → (s ≡ 7) ⊎ (s ≡ 8)
+  made-beyond (done is it) e = absurd (let P : Answer → Type 0 = λ answer. WritesAll out notes answer in subst P (sym it.meets.1 ∙ e) it.written)
+  made-beyond (no_command is it) e = absurd (let f = it.none in cc)
+  made-beyond (unread is it) e = absurd it.reads
+  made-beyond (cut is it) e = absurd (let P : Answer → Type 0 = λ answer. WritesPart out (until it.middle notes) answer in subst P (sym it.meets.1 ∙ e) it.part)
+  made-beyond (refused why is it) e = absurd (let f : exceeds ≡ refuses why it.note = sym e ∙ it.meets.1 in cc)
+  made-beyond (short is it) e = inl is
+  made-beyond (too_long is it) e = inr is
+  made-beyond (beyond is it) e = inr is
+
+  -- and only such a one
+  pub beyond-made : Ends source out notes (makes answer) s → s ≡ 8 → answer ≡ exceeds
+  beyond-made ends at = elim (is-long source out notes (makes answer) s ends at) [ inl it ↦ absurd it.reads | inr it ↦ it.meets.1 ]

@@ -7,8 +7,8 @@ use Rattle.script_read.specs.declared.fault.ScriptFault.TheVariants as fault
 use Rattle.script_read.specs.Script.{script_of}
 use Rattle.command_parts.specs.declared.stop.Stop.{Stop}
 use Rattle.command_parts.specs.declared.stop.Stop.TheVariants.{Read, TooLong, Refused, Write, Memory}
-use Rattle.command_parts.specs.Task.{Answer, Task, refuses, none, reads, makes, IsCommand}
-use Rattle.command_parts.specs.Ends.{Lent, Kept, Quiet, IsTold, HasRead, Meets, WritesAll, WritesPart, until, since, Ends, no_source, done, no_command, cut, refused, unread, short, too_long}
+use Rattle.command_parts.specs.Task.{Answer, Task, refuses, exceeds, none, reads, makes, IsCommand}
+use Rattle.command_parts.specs.Ends.{Lent, Kept, Quiet, IsTold, HasRead, Meets, WritesAll, WritesPart, until, since, Ends, no_source, done, no_command, cut, refused, unread, short, too_long, beyond}
 use Rattle.command_parts.specs.Faults.{fault_text, why_of, IsRefusedFor}
 use Rattle.command_parts.specs.declared.stop.Fault.{Fault}
 use Rattle.command_parts.specs.declared.stop.Refusal.{Refusal}
@@ -68,6 +68,10 @@ module _ {S K E : Type 0} (source : Lent S) (out : Lent K) (notes : Lent E) wher
       → IsTold (since middle notes) (note_of Write) → Ends source out notes task status
   ends-cut task answer middle status meets is part told = cut is (record { answer = answer; meets = meets; middle = middle; part = part; told = told })
 
+  -- the text to be written is too long
+  pub ends-beyond : (task : Task) (status : ℕ) → Meets source task exceeds → status ≡ 8 → Kept out → IsTold notes (note_of TooLong) → Ends source out notes task status
+  ends-beyond task status meets is nothing told = beyond is (record { meets = meets; nothing = nothing; told = told })
+
   -- memory was short behind an input that was read, or where none is read
   pub ends-short : (task : Task) (answer : Answer) (status : ℕ) → Meets source task answer → status ≡ 7 → Kept out → IsTold notes (note_of Memory)
       → Ends source out notes task status
@@ -92,6 +96,7 @@ module _ {S K E : Type 0} (source : Lent S) (out : Lent K) (notes : Lent E) wher
   made-beside answer status kept (short is it) =
       short is (record { command = tt; quiet = ap source.faults kept; unread = λ never. kept; nothing = it.nothing; told = it.told })
   made-beside answer status kept (too_long is it) = absurd it.reads
+  made-beside answer status kept (beyond is it) = beyond is (record { meets = (kept, it.meets.1); nothing = it.nothing; told = it.told })
 
 -- what stopped while it read has run nothing
 pub stops-not-run : {S : Type 0} (source : Lent S) (answer : List ℕ → Answer) (stop : Stop) (status : ℕ) → StopsReading source answer stop → status ≡ status_at stop → HasRunAt status → ⊥

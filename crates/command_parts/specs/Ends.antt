@@ -4,7 +4,7 @@ use Rattle.outside_io.specs.Faults.{one_more}
 use Rattle.outside_io.specs.Transfer.{GivesAll, Appends, AppendsPart, Tells}
 use Rattle.got_lines.specs.Told.{AppendsSome}
 use Rattle.command_parts.specs.declared.stop.Refusal.{Refusal}
-use Rattle.command_parts.specs.Task.{Answer, Task, writes, writes_both, refuses, none, reads, makes, IsCommand, Reads, refused_status}
+use Rattle.command_parts.specs.Task.{Answer, Task, writes, writes_both, refuses, exceeds, none, reads, makes, IsCommand, Reads, refused_status}
 use Rattle.session_model.specs.Limits.{longest_input}
 
 -- ---- the source and the two sinks
@@ -66,12 +66,14 @@ abbrev pub WritesAll : {K E : Type 0} → Lent K → Lent E → Answer → Type 
 WritesAll out notes (writes text) = Takes out text × Kept notes
 WritesAll out notes (writes_both text told) = Takes out text × Takes notes told
 WritesAll out notes (refuses why note) = ⊥
+WritesAll out notes exceeds = ⊥
 
 -- a part of it, up to the first call that failed on either sink
 abbrev pub WritesPart : {K E : Type 0} → Lent K → Lent E → Answer → Type 0
 WritesPart out notes (writes text) = TakesPart out text × Kept notes
 WritesPart out notes (writes_both text told) = (TakesPart out text × TakesSome notes told) ⊎ (TakesSome out text × TakesPart notes told)
 WritesPart out notes (refuses why note) = ⊥
+WritesPart out notes exceeds = ⊥
 
 -- notes up to a moment, and from then on
 abbrev pub until : {E : Type 0} → E → Lent E → Lent E
@@ -132,6 +134,12 @@ pub record IsTooLong {S K E : Type 0} (source : Lent S) (out : Lent K) (notes : 
   pub nothing : Kept out
   pub told : IsTold notes (codes "fault: too long\n")
 
+-- 8: the text to be written is too long
+pub record IsBeyond {S K E : Type 0} (source : Lent S) (out : Lent K) (notes : Lent E) (task : Task) : Type 0 where
+  pub meets : Meets source task exceeds
+  pub nothing : Kept out
+  pub told : IsTold notes (codes "fault: too long\n")
+
 -- by the status, which is one of these
 pub data Ends {S K E : Type 0} (source : Lent S) (out : Lent K) (notes : Lent E) (task : Task) (status : ℕ) : Type 0 where
   done : status ≡ 0 → IsDone source out notes task → Ends source out notes task status
@@ -141,6 +149,7 @@ pub data Ends {S K E : Type 0} (source : Lent S) (out : Lent K) (notes : Lent E)
   refused : (why : Refusal) → status ≡ refused_status why → IsRefused source out notes task why → Ends source out notes task status
   short : status ≡ 7 → IsShort source out notes task → Ends source out notes task status
   too_long : status ≡ 8 → IsTooLong source out notes task → Ends source out notes task status
+  beyond : status ≡ 8 → IsBeyond source out notes task → Ends source out notes task status
 
 -- where nothing is read
 abbrev pub no_source : Lent (Unit {0})

@@ -3,12 +3,13 @@ use Rattle.std.specs.Prelude.{◌≡◌, ◌≢◌, ℕ, List}
 use Rattle.command_parts.specs.declared.stop.Refusal.{Refusal}
 use Rattle.command_parts.specs.declared.stop.Refusal.TheVariants.{Line, Limit}
 
--- what a command makes of its input: the text that it writes on `out`; its texts on `out` and on notes; or why the input isn't what it
--- takes, and the note on that
+-- what a command makes of its input: the text that it writes on `out`; its texts on `out` and on notes; why the input isn't what it
+-- takes, and the note on that; or that the text would be longer than an input may be
 pub data Answer : Type 0 where
   writes : (out : List ℕ) → Answer
   writes_both : (out notes : List ℕ) → Answer
   refuses : (why : Refusal) → (note : List ℕ) → Answer
+  exceeds : Answer
 
 pub data Task : Type 0 where
   -- they are no command, and the program has this usage
@@ -34,12 +35,14 @@ abbrev pub IsGood : Answer → Type 0
 IsGood (writes out) = Unit {0}
 IsGood (writes_both out notes) = Unit {0}
 IsGood (refuses why note) = ⊥
+IsGood exceeds = ⊥
 
 -- nothing is written on notes where all goes well
 abbrev pub IsQuiet : Answer → Type 0
 IsQuiet (writes out) = Unit {0}
 IsQuiet (writes_both out notes) = ⊥
 IsQuiet (refuses why note) = Unit {0}
+IsQuiet exceeds = Unit {0}
 
 abbrev pub IsQuietTask : Task → Type 0
 IsQuietTask (none usage) = Unit {0}

@@ -2,8 +2,8 @@
 ghost use Rattle.std.specs.Prelude.{◌≡◌, ◌≢◌, ◌⊎◌, ◌↔◌, ◌≤◌, ℕ, List, length, IfSome, IsTrue, codes};
 ghost use Rattle.std.specs.Io.KnownBytes.{IsAtEnd};
 ghost use Rattle.command_parts.specs.declared.stop.Refusal.{Refusal};
-ghost use Rattle.command_parts.specs.Task.{Answer, Task, none, reads, makes, refuses, Reads, IsGood, IsQuietTask, refused_status};
-ghost use Rattle.command_parts.specs.Ends.{Lent, Kept, Quiet, FailedOnce, IsTold, IsLong, WritesAll, WritesPart, until, since, Ends};
+ghost use Rattle.command_parts.specs.Task.{Answer, Task, none, reads, makes, refuses, exceeds, Reads, IsGood, IsQuietTask, refused_status};
+ghost use Rattle.command_parts.specs.Ends.{Lent, Kept, Quiet, FailedOnce, IsTold, IsLong, Meets, WritesAll, WritesPart, until, since, Ends};
 ghost use Rattle.command_parts.specs.Status.{is_status, HasReadAt, Rises};
 ghost use Rattle.session_model.specs.Limits.{longest_input};
 
@@ -18,11 +18,12 @@ pub fn end_law<S, K, E>()
     ensures no_command { (source : Lent S) (out : Lent K) (notes : Lent E) (task : Task) (s : ℕ) →
         Ends source out notes task s → (usage : List ℕ) → task ≡ none usage → s ≡ 2 }
     ensures reading { (source : Lent S) (out : Lent K) (notes : Lent E) (task : Task) (s : ℕ) →
-        Ends source out notes task s → (s ≡ 3) ⊎ (s ≡ 8) → Reads task }
+        Ends source out notes task s → s ≡ 3 → Reads task }
 
     // What is read, and the faults of the source.
     ensures long { (source : Lent S) (out : Lent K) (notes : Lent E) (task : Task) (s : ℕ) →
-        Ends source out notes task s → s ≡ 8 → IsLong source }
+        Ends source out notes task s → s ≡ 8 →
+        (Reads task × IsLong source) ⊎ Meets source task exceeds }
     ensures fits { (source : Lent S) (out : Lent K) (notes : Lent E) (task : Task) (s : ℕ) →
         Ends source out notes task s → Reads task → HasReadAt s →
         IfSome (source.octets source.old) (λ text. length text ≤ longest_input) }
@@ -102,4 +103,8 @@ pub fn made_law<S, K, E>()
         Ends source out notes (makes answer) s → IsGood answer → (s ≡ 0) ⊎ ((s ≡ 7)
         ⊎ (Rises (out.faults out.old) (out.faults out.new)
         ⊎ Rises (notes.faults notes.old) (notes.faults notes.new))) }
+    ensures beyond { (source : Lent S) (out : Lent K) (notes : Lent E) (answer : Answer) (s : ℕ) →
+        Ends source out notes (makes answer) s → answer ≡ exceeds → (s ≡ 7) ⊎ (s ≡ 8) }
+    ensures long { (source : Lent S) (out : Lent K) (notes : Lent E) (answer : Answer) (s : ℕ) →
+        Ends source out notes (makes answer) s → s ≡ 8 → answer ≡ exceeds }
 {}

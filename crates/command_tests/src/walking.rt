@@ -15,6 +15,7 @@ fn answer_rows() -> &'static str {
     trace;lines 1|delays 0|ring 1|lag 1|ticks 41|add 0 0| => 0+;total ticks 41 taken 41 frames 0 commands 1 refused 0 got 0|;packet 0 chg 1 act 0 back none add:0|packet 1 chg 1 act 1 back 7f/1 eos:0|packet 2 chg 1 act 1 back ff/1 eos:0|\n\
     make 1 1 1; => 0+;made lines 1 ticks 1|total ticks 1 taken 1 frames 1 commands 1 refused 0 got 0|octets 0 sum 0|;\n\
     make 7 2 400; => 0+;made lines 2 ticks 400|total ticks 400 taken 400 frames 50 commands 2 refused 0 got 50|octets 43246 sum 5512389|;\n\
+    stream 64 400000 0 1000000 1; => 8;;fault: too long|\n\
     walk;lines 2|delays 0 63|ring 64|lag 5|ticks 1| => 0+;total ticks 1 taken 1 frames 0 commands 0 refused 0 got 0|;"
 }
 
@@ -36,14 +37,14 @@ fn faulty_rows() -> &'static str {
 /// Words that are no command.
 fn usage_rows() -> &'static str {
     "\
-    ; => 2;;usage: vcat_walk walk, trace, decode, or make NUMBER LINES TICKS|\n\
-    walk ; => 2;;usage: vcat_walk walk, trace, decode, or make NUMBER LINES TICKS|\n\
-    walk x; => 2;;usage: vcat_walk walk, trace, decode, or make NUMBER LINES TICKS|\n\
-    Walk; => 2;;usage: vcat_walk walk, trace, decode, or make NUMBER LINES TICKS|\n\
-    walk walk; => 2;;usage: vcat_walk walk, trace, decode, or make NUMBER LINES TICKS|\n\
-    -h; => 2;;usage: vcat_walk walk, trace, decode, or make NUMBER LINES TICKS|\n\
-    run 2; => 2;;usage: vcat_walk walk, trace, decode, or make NUMBER LINES TICKS|\n\
-    make 1 1; => 2;;usage: vcat_walk walk, trace, decode, or make NUMBER LINES TICKS|"
+    ; => 2;;usage: vcat_walk walk, trace, decode, make NUMBER LINES TICKS, or stream OCTETS MBITS FIRST END NUMBER|\n\
+    walk ; => 2;;usage: vcat_walk walk, trace, decode, make NUMBER LINES TICKS, or stream OCTETS MBITS FIRST END NUMBER|\n\
+    walk x; => 2;;usage: vcat_walk walk, trace, decode, make NUMBER LINES TICKS, or stream OCTETS MBITS FIRST END NUMBER|\n\
+    Walk; => 2;;usage: vcat_walk walk, trace, decode, make NUMBER LINES TICKS, or stream OCTETS MBITS FIRST END NUMBER|\n\
+    walk walk; => 2;;usage: vcat_walk walk, trace, decode, make NUMBER LINES TICKS, or stream OCTETS MBITS FIRST END NUMBER|\n\
+    -h; => 2;;usage: vcat_walk walk, trace, decode, make NUMBER LINES TICKS, or stream OCTETS MBITS FIRST END NUMBER|\n\
+    run 2; => 2;;usage: vcat_walk walk, trace, decode, make NUMBER LINES TICKS, or stream OCTETS MBITS FIRST END NUMBER|\n\
+    make 1 1; => 2;;usage: vcat_walk walk, trace, decode, make NUMBER LINES TICKS, or stream OCTETS MBITS FIRST END NUMBER|"
 }
 
 /// Frames that are carried whole or not, in containers of either size; and those that a failure of 40 containers with a slip of 39 covers:
@@ -148,12 +149,16 @@ fn put_rows() -> &'static str {
     0+;got 5a*9600|got 5a*9600|got 5a*9600|total ticks 700 taken 700 frames 3 commands 4 refused 0 got 3|;\n\
     decode;0001 => 4;;fault: write failed| THEN 0;end octets 2 packets 0|;\n\
     make 7 2 400; => 4+;;fault: write failed| THEN 0+;made lines 2 ticks 400|total ticks 400 taken 400 frames 50 commands 2 refused 0 got 50|octets 43246 sum 5512389|;\n\
+    stream 64 1 0 5 1; => 4;;fault: write failed| THEN \
+    4;frame 0 02000000000202000000000188b5d659cce65af39af629bafbf27c20ba0c1a1fd4356b8dde623db024a051a09f121cc58e5aca6adc1dffe48ab8cd1682076840|;fault: write failed| THEN \
+    0;frame 0 02000000000202000000000188b5d659cce65af39af629bafbf27c20ba0c1a1fd4356b8dde623db024a051a09f121cc58e5aca6adc1dffe48ab8cd1682076840|\
+    frame 4 02000000000202000000000188b5f4052fa2aae87cc21d28d6b377064916ec35679fb378a227a21df1ac8784e946af0581abb742127138f3387e961879d60483|;\n\
     decode;000102030405060708090a1b0c0d0e0f001112130405060708090a1b0c0d0e0f0021321304151647 => \
     4;;fault: write failed| THEN 4;at 8 add sq 0 gid 1 act 0 chg 1 mst 00 ack 0|;fault: write failed|"
 }
 
-/// Inputs that seven octets at a time are read in so many calls, and what is answered where no call fails. `make` and a usage read
-/// nothing.
+/// Inputs that seven octets at a time are read in so many calls, and what is answered where no call fails. `make`, `stream` and a usage
+/// read nothing.
 fn read_rows() -> &'static str {
     "\
     walk;lines 3|delays 0 0 0|ring 1|lag 1|ticks 700|add 0 0|add 0 1|add 0 2|remove 600 1| => 13 TIMES 3;;fault: read failed| THEN 0+;total ticks 700 taken 700 frames 0 commands 4 refused 0 got 0|;\n\
@@ -164,7 +169,8 @@ fn read_rows() -> &'static str {
     walk;x| => 2 TIMES 3;;fault: read failed| THEN 5;;fault: line 1: word|\n\
     walk;lines 2|delays 0 63|ring 63|lag 5|ticks 1| => 7 TIMES 3;;fault: read failed| THEN 6;;fault: spread 63 0 0 63|\n\
     make 1 1 1; => 0+;made lines 1 ticks 1|total ticks 1 taken 1 frames 1 commands 1 refused 0 got 0|octets 0 sum 0|;\n\
-    make 1 1; => 2;;usage: vcat_walk walk, trace, decode, or make NUMBER LINES TICKS|"
+    stream 64 1 0 1 1; => 0;frame 0 02000000000202000000000188b5d659cce65af39af629bafbf27c20ba0c1a1fd4356b8dde623db024a051a09f121cc58e5aca6adc1dffe48ab8cd1682076840|;\n\
+    make 1 1; => 2;;usage: vcat_walk walk, trace, decode, make NUMBER LINES TICKS, or stream OCTETS MBITS FIRST END NUMBER|"
 }
 
 #[test]

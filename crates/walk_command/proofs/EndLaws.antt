@@ -1,6 +1,5 @@
 -- How a traced walk ends: its text and its trace are written, or prefixes of them.
-use Rattle.std.proofs.Common.{◌≡◌, ℕ, false, not, List, [], ◌++◌, Option, IfSome, Ok, inl, inr, sym, ◌∙◌, ap, subst, arith}
-use Rattle.std.proofs.lemmas.Option.{IfSome_then}
+use Rattle.std.proofs.Common.{◌≡◌, ℕ, false, not, List, [], ◌++◌, Option, sym, ◌∙◌, ap, subst, arith}
 use Rattle.outside_io.specs.Transfer.{Appends}
 use Rattle.outside_io.proofs.Parts.{Appends-none}
 use Rattle.session_model.specs.declared.script.Script.{Script}
@@ -14,7 +13,6 @@ use Rattle.walk_law.specs.Delivered.{delivered_of}
 use Rattle.walk_law.specs.Landed.{refusals_of, totals_of}
 use Rattle.walk_law.specs.Report.{refused_texts, report_of}
 use Rattle.walk_core.specs.Moved.{Walked}
-use Rattle.script_read.specs.Script.{script_of}
 use Rattle.walk_command.specs.Ended.{StopsBoth}
 use Rattle.headline_law.specs.Texts.{counts_in, walk_text}
 use Rattle.walk_command.specs.Trace.{decisions_text, trace_text}

@@ -1,26 +1,20 @@
 -- How the rooms of the commands end.
-use Rattle.std.proofs.Common.{◌≡◌, ◌≤◌, ◌⊎◌, ℕ, List, [], ◌∷◌, length, map, Option, Some, None, IfSome, Result, Ok, Err, refl, sym, ◌∙◌, ap, subst, inl, inr, arith}
-use Rattle.std.specs.Prelude.{String, string_bytes}
-use Rattle.std.specs.declared.alloc.Global.{Global}
-use Rattle.outside_io.specs.Faults.{one_more}
+use Rattle.std.proofs.Common.{◌≡◌, ◌≤◌, ℕ, List, length, Option, Some, IfSome, Result, Ok, Err, refl, sym, ◌∙◌, ap, subst, inl, inr, arith}
 use Rattle.outside_io.specs.Transfer.{AppendsPart}
 use Rattle.session_model.specs.declared.script.Script.{Script}
 use Rattle.session_model.specs.Counts.{Counts}
-use Rattle.session_model.specs.Valid.{IsWithin}
 use Rattle.script_read.specs.declared.fault.ScriptFault.{ScriptFault}
 use Rattle.script_read.specs.Script.{script_of}
 use Rattle.headline_law.specs.Texts.{counts_in, walk_text}
 use Rattle.headline_law.specs.Headline.{IsWalkHeadline}
 use Rattle.headline_law.proofs.HeadlineLaws.{walk_headline}
 use Rattle.walk_core.specs.Moved.{Walked}
-use Rattle.command_parts.specs.Task.{Answer, Task, writes, reads, IsCommand}
-use Rattle.command_parts.specs.Ends.{Lent, Takes, HasRead, WritesAll, Ends}
+use Rattle.command_parts.specs.Task.{Answer, reads}
+use Rattle.command_parts.specs.Ends.{Lent, Takes, WritesAll, Ends}
 use Rattle.command_parts.specs.Scripts.{HasScript, answer_of, script_answer}
 use Rattle.command_parts.proofs.EndLaws.{is-done, known-text}
 use Rattle.walk_command.specs.declared.command.WalkCommand.{WalkCommand}
-use Rattle.walk_command.specs.declared.command.WalkCommand.TheVariants.{Walk, Trace, Decode, Make}
-use Rattle.walk_command.specs.Commands.{command_in, task_for, task_of}
-use Rattle.walk_command.specs.Ended.{IsWalkOf, HandsScript, StopsBoth}
+use Rattle.walk_command.specs.Ended.{HandsScript, StopsBoth}
 
 -- the walk of a script
 walk-is : (walk : Walked) (script : Script) (s : Counts) → walk.script ≡ script → walk.counts ≡ s → walk ≡ record { script = script; counts = s }

@@ -3,6 +3,7 @@ pub mod Walk
 pub mod Trace
 pub mod Decode
 pub mod Make
+pub mod Stream
 pub mod Commands
 pub mod Ended
 pub mod Written

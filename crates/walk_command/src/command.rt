@@ -1,7 +1,8 @@
 //! The commands of the program, a line for each.
 
-use crate::{decode, make, trace, walk};
+use crate::{decode, make, stream, trace, walk};
 use cmd_words::FromWords;
+use rate_load::RateLoad;
 
 /// What the program is told to do.
 #[derive(Clone, Copy, Debug, PartialEq, Eq)]
@@ -14,6 +15,8 @@ pub enum WalkCommand {
     Decode,
     /// `make`: make the walk of the load of a number, of 1 to 64 lines and 1 to 1,000,000 ticks.
     Make { number: u64, lines: u8, ticks: u32 },
+    /// `stream`: write the script lines of a client that sends at a rate.
+    Stream(RateLoad),
 }
 
 impl FromWords for WalkCommand {
@@ -26,5 +29,6 @@ impl FromWords for WalkCommand {
             .or(trace::words(words))
             .or(decode::words(words))
             .or(make::words(words))
+            .or(stream::words(words))
     }
 }

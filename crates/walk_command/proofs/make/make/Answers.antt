@@ -1,5 +1,5 @@
 -- The walk of the load drains, and its lines are written or a write fails.
-use Rattle.std.proofs.Common.{◌≡◌, ℕ, List, refl, sym, ◌∙◌, ap, subst}
+use Rattle.std.proofs.Common.{ℕ, List, refl, sym, ◌∙◌, ap, subst}
 use Rattle.outside_io.specs.Transfer.{Appends, AppendsPart}
 use Rattle.session_model.specs.declared.script.Script.{Script}
 use Rattle.session_model.specs.Counts.{begin}

@@ -1,0 +1,11 @@
+-- One command after another.
+use Rattle.std.proofs.Common.{◌∙◌, ap₂}
+use Rattle.std.specs.Option.{option_or}
+use Rattle.walk_command.proofs.command.WalkCommandFromWords.from_words.Goals as goal
+
+pub returns : goal.returns
+returns c =
+    let traces = c.or.ensures ∙ ap₂ option_or c.words.ensures c.words-2.ensures in
+    let decodes = c.or-2.ensures ∙ ap₂ option_or traces c.words-3.ensures in
+    let makes = c.or-3.ensures ∙ ap₂ option_or decodes c.words-4.ensures in
+    c.or-4.ensures ∙ ap₂ option_or makes c.words-5.ensures
