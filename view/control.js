@@ -104,7 +104,6 @@ Life.control = (() => {
     window.addEventListener("hashchange", () => {
       if (!page.lay || location.hash === page.written) return;
       page.fromFragment();
-      page.showDetail(null);
       page.resize();
       byId("bar").scrollIntoView({ block: "nearest" });
     });

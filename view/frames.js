@@ -131,6 +131,7 @@ Life.frames = (() => {
     });
   }
 
+  /* Draws them all, and gives where the marks of frames lie that climbed. */
   function drawFrames(s) {
     const { g, m, X, a, b } = s;
     const { strings, frames } = m.told ? stringsOf(s) : { strings: [], frames: 0 };
@@ -149,6 +150,7 @@ Life.frames = (() => {
     drawMarks(s, strings, rails);
     if (!m.told) drawAtDue(s, "untold", m.accepted, rails.top);
     drawAtDue(s, "refused", m.refused, rails.top);
+    return new Map(strings.filter((q) => q.y).map((q) => [q.frame.item, { x: q.x, y: q.y }]));
   }
 
   return { drawFrames };

@@ -147,6 +147,17 @@ Life.lanes = (() => {
     if (level) { bar(g, c.muted, x, y, 1, h); bar(g, c.muted, x + w - 1, y, 1, h); }
   }
 
+  /* The status octets, but for those whose packet is cut by an edge. */
+  function drawStatuses(s, lane, first, end) {
+    const { g, m, X, x0, x1 } = s, back = m.trace.back;
+    g.textAlign = "center"; g.font = "11px " + FONT; g.fillStyle = colours.ink;
+    for (let j = first; j < end; j++) {
+      const x = X(frameOf(j) + 8);
+      if (back[j][2] === "/" && x > x0 + 7 && x < x1 - 7) g.fillText(back[j].slice(0, 2), x, lane.y + lane.h / 2 + 2);
+    }
+    g.font = "12px " + FONT;
+  }
+
   function drawBack(s) {
     const { g, lay, m, X, k, a, b } = s, c = colours, lane = lay.lane("back"), back = m.trace.back;
     bar(g, c.rule, X(a), lane.y + lane.h - 1, X(b) - X(a), 1);
@@ -161,11 +172,7 @@ Life.lanes = (() => {
       drawLevel(s, lane, frameOf(j), frameOf(next), back[j][3] === "1");
       j = next;
     }
-    if (words) {
-      g.textAlign = "center"; g.font = "11px " + FONT; g.fillStyle = c.ink;
-      for (let j = first; j < end; j++) if (back[j][2] === "/") g.fillText(back[j].slice(0, 2), X(frameOf(j) + 8), lane.y + lane.h / 2 + 2);
-      g.font = "12px " + FONT;
-    }
+    if (words) drawStatuses(s, lane, first, end);
     for (const j of losts) {
       const x = X(frameOf(j)), w = 16 * k - 1;
       lostPacket(g, x, lane.y, w, lane.h);

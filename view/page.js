@@ -9,7 +9,8 @@ Life.page = (() => {
     "<kbd>N</kbd> <kbd>P</kbd> from mark to mark, <kbd>Esc</kbd> to let go";
   const hint = () => (page.lay.narrow ? "Touch anything to see what it is. Drag to move, part two fingers to zoom." :
     "Point at anything to see what it is; a click holds it. Drag or " + KEYS + (byId("tall").hidden ? "." : ", <kbd>L</kbd> for tall lanes."));
-  const page = { model: null, lay: null, view: { start: 0, end: 1 }, hold: null, tall: false, width: 0, pointer: null, times: [], written: "" };
+  const page = { model: null, lay: null, view: { start: 0, end: 1 }, hold: null, tall: false, width: 0, pointer: null, places: new Map(),
+    times: [], written: "" };
   let pending = false, timer = 0, canvases = {}, strip = null;
 
   const scale = () => (page.width - page.lay.right - page.lay.gutter) / (page.view.end - page.view.start);
@@ -37,7 +38,6 @@ Life.page = (() => {
     Life.tables.showSpoken(m);
     page.fromFragment();
     page.resize();
-    page.showDetail(null);
   };
 
   function showFaults(m) {
@@ -64,6 +64,7 @@ Life.page = (() => {
     const flat = Life.layout.layoutOf(page.model, page.width, room, false);
     byId("tall").hidden = flat.laneHeight >= 13;
     byId("tall").setAttribute("aria-pressed", String(page.tall));
+    page.showDetail(null);
     page.draw();
   };
 
@@ -83,7 +84,8 @@ Life.page = (() => {
 
   page.draw = () => {
     const started = performance.now(), { model, lay, view, width } = page;
-    const drawn = drawPlot(canvases.plot, model, lay, view, width);
+    const { drawn, places } = drawPlot(canvases.plot, model, lay, view, width);
+    page.places = places;
     drawStrip(canvases.over, model, lay, view, width, strip);
     page.drawAbove();
     page.times.push(performance.now() - started);
@@ -94,13 +96,17 @@ Life.page = (() => {
     clearTimeout(timer);
     timer = setTimeout(() => rest(drawn), 250);
   };
-  page.drawAbove = () => drawAbove(canvases.marks, page.model, page.lay, page.X, page.width, page.pointer, page.hold);
+  page.drawAbove = () => {
+    const printed = matchMedia("print").matches;
+    if (!printed) canvases.marks.clearRect(0, 0, page.width, page.lay.height);
+    drawAbove(printed ? canvases.plot : canvases.marks, page);
+  };
 
   /* After a rest: the fragment keeps the place, and what is in sight is said. */
   function rest(drawn) {
     const { view, model, hold, tall } = page, a = Math.round(view.start), b = Math.round(view.end), parts = [];
     if (a > 0 || b < model.ticks) parts.push("at=" + a + "-" + b);
-    if (tall) parts.push("tall");
+    if (tall) parts.push("lanes=tall");
     if (hold) parts.push("hold=" + hold);
     page.written = parts.length ? "#" + parts.join("&") : "";
     if (location.hash !== page.written) history.replaceState(null, "", location.pathname + location.search + page.written);
@@ -118,7 +124,7 @@ Life.page = (() => {
       const span = clamp(at[2] - at[1], Math.min(n, LEAST_SPAN), n), start = clamp(+at[1], 0, n - span);
       page.view = { start, end: start + span };
     } else if (!parts.get("hold")) page.view = { start: 0, end: n };
-    page.tall = parts.has("tall");
+    page.tall = parts.get("lanes") === "tall";
     page.hold = heldOr(parts.get("hold"));
     markRow();
   };

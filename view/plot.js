@@ -12,7 +12,7 @@ Life.plot = (() => {
   function sceneOf(g, m, lay, view, width) {
     const x0 = lay.gutter, x1 = width - lay.right, k = (x1 - x0) / (view.end - view.start);
     const s = { g, m, lay, view, width, x0, x1, k, X: (t) => x0 + (t - view.start) * k, a: Math.max(0, view.start), b: Math.min(m.ticks, view.end),
-      drawn: { cells: {}, spoiled: 0, frames: {}, commands: 0, lost: 0, fails: 0 } };
+      places: new Map(), drawn: { cells: {}, spoiled: 0, frames: {}, commands: 0, lost: 0, fails: 0 } };
     /* From here on only a lane is drawn on, and a little to its sides. */
     s.clipTo = (lane, left, right) => {
       g.restore(); g.save();
@@ -32,11 +32,11 @@ Life.plot = (() => {
     Life.lanes.drawLines(s);
     Life.lanes.drawBack(s);
     Life.rows.drawRows(s);
-    Life.frames.drawFrames(s);
+    s.places = Life.frames.drawFrames(s);
     s.clipTo(lay.lane("command"), 7, 12);
     Life.rows.drawCommands(s);
     g.restore();
-    return s.drawn;
+    return s;
   }
 
   /* The strip with the whole session is drawn once for a size and its colours; only the window on it changes. */
@@ -99,17 +99,19 @@ Life.plot = (() => {
   const around = (g, lane, from, end, least) => g.strokeRect(from, lane.y - 2, Math.max(least, end - from), lane.h + 4);
   function ring(g, x, y, r) { g.beginPath(); g.arc(x, y, r, 0, 7); g.stroke(); }
 
-  function drawHeldFrame(g, m, lay, X, item) {
+  /* A frame that is held: its string, and a ring about its mark, which may have climbed. */
+  function drawHeldFrame(g, m, lay, X, item, places) {
     const f = m.byItem.get(item), lane = lay.lane("frames"), top = lane.y + 9, bottom = lane.y + lane.h - 9;
-    const above = f.fate === "refused" || f.fate === "untold", y = above ? top : f.fate === "waits" ? bottom - 22 : bottom;
-    g.beginPath(); g.moveTo(X(f.due), top); g.lineTo(X(f.out), y); g.stroke();
-    ring(g, X(above ? f.due : f.out), y, 8.5);
+    const above = f.fate === "refused" || f.fate === "untold", end = above ? top : f.fate === "waits" ? bottom - 22 : bottom;
+    const place = places.get(item) || { x: X(above ? f.due : f.out), y: end };
+    g.beginPath(); g.moveTo(X(f.due), top); g.lineTo(X(f.out), end); g.stroke();
+    ring(g, place.x, place.y, 8.5);
   }
 
-  function drawHeld(g, m, lay, X, hold) {
+  function drawHeld(g, m, lay, X, hold, places) {
     const [kind, ...words] = hold.split("."), [a, b] = words.map(Number);
     g.strokeStyle = colours.hold; g.lineWidth = 2;
-    if (kind === "frame") drawHeldFrame(g, m, lay, X, a);
+    if (kind === "frame") drawHeldFrame(g, m, lay, X, a, places);
     else if (kind === "command") { const lane = lay.lane("command"); ring(g, X(m.commands.find((q) => q.item === a).due), lane.y + lane.h / 2, 9); }
     else if (kind === "row") around(g, lay.lane("rows"), X(a) - 2, X(a + 1) + 1, 6);
     else if (kind === "back") around(g, lay.lane("back"), X(frameOf(a)) - 2, X(frameOf(a + 1)) + 1, 6);
@@ -120,12 +122,12 @@ Life.plot = (() => {
     }
   }
 
-  function drawAbove(g, m, lay, X, width, pointer, hold) {
-    g.clearRect(0, 0, width, lay.height);
+  /* What lies above the picture, which doesn't change with it. */
+  function drawAbove(g, { model: m, lay, X, width, pointer, hold, places }) {
     g.save();
     g.beginPath(); g.rect(lay.gutter - 1, 0, width - lay.gutter, lay.height); g.clip();
     if (pointer !== null) drawFront(g, m, lay, X, pointer);
-    if (hold) drawHeld(g, m, lay, X, hold);
+    if (hold) drawHeld(g, m, lay, X, hold, places);
     g.restore();
   }
 

@@ -115,16 +115,16 @@ Life.words = (() => {
   /* The premise on chance, as a verdict and what it means. */
   function premise(m) {
     const totals = m.fates.totals, breaks = m.fates.segments;
-    const exact = "so the frames shown as got are exactly those delivered, in order and each once.";
+    const exact = "so exactly the frames shown as got were delivered, in order and each once.";
     if (!totals) return ["", ""];
     if (!breaks.length) {
-      return ["The premise on chance holds:", "no break in the stream made the receiver look for a frame's start again, " + exact];
+      return ["The premise on chance holds:", "no break made the receiver look for a frame's start again, " + exact];
     }
     if (totals.starts) {
       const none = breaks.filter((s) => s.mark === "none").length;
-      return ["The premise on chance holds in this very walk:", "after " +
+      return ["The premise on chance holds in this walk:", "after " +
         (breaks.length === 1 ? "the one break" : "each of " + number(breaks.length) + " breaks") +
-        " the receiver took only true starts of frames" + (none ? " (in " + number(none) + " it found none)" : "") + ", " + exact];
+        " the receiver took only true frame starts" + (none ? " (in " + number(none) + " it found none)" : "") + ", " + exact];
     }
     const rows = breaks.filter((s) => s.mark === "false").map((s) => number(s.row));
     return ["The premise on chance doesn't hold in this walk:", "in row " + rows.join(", ") +

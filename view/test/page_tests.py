@@ -183,6 +183,7 @@ class Tests:
         b.media("print", dark=True)
         b.settle()
         printed = b.js(ground)
+        self.same("the layer above isn't printed", b.js("getComputedStyle(document.getElementById('marks')).display"), "none")
         b.media()
         b.settle()
         self.same("dark is another ground", light != dark, True)
