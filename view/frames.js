@@ -9,26 +9,30 @@ Life.frames = (() => {
   const STEP = 11;
 
   /* The frames in sight as strings between two heights, those of one fate on the same half pixels (in a crowd, on the same
-     two pixels) as one. */
+     two pixels) as one. There may be tens of thousands: they are read from plain arrays. */
   function stringsOf(s) {
-    const { m, X, a, b } = s, all = m.accepted, strings = [], last = {};
-    const low = firstWhere(all.length, (i) => all[i].out >= a), high = firstWhere(all.length, (i) => all[i].due > b);
-    const fine = high - low > 2 * (X(b) - X(a)) ? 0.5 : 2;
+    const { m, X, k, a, b, drawn } = s, { due: dues, out: outs, fate: fates } = m.columns, strings = [], n = dues.length;
+    const low = firstWhere(n, (i) => outs[i] >= a), high = Math.max(low, firstWhere(n, (i) => dues[i] > b));
+    const fine = high - low > 2 * (X(b) - X(a)) ? 0.5 : 2, scale = k * fine, origin = X(0) * fine + 0.5;
+    const last = FATES.map(() => null), counts = FATES.map(() => 0);
     for (let i = low; i < high; i++) {
-      const f = all[i], prior = last[f.fate];
-      s.drawn.frames[f.fate] = (s.drawn.frames[f.fate] || 0) + 1;
-      const due = Math.round(X(f.due) * fine) / fine, out = Math.round(X(f.out) * fine) / fine;
-      if (prior && due === prior.due && out === prior.out) { prior.n++; continue; }
-      strings.push(last[f.fate] = { due, out, fate: f.fate, frame: f, n: 1, x: 0, y: 0 });
+      const fate = fates[i], prior = last[fate];
+      counts[fate]++;
+      const due = Math.floor(origin + dues[i] * scale), out = Math.floor(origin + outs[i] * scale);
+      if (prior !== null && due === prior.place && out === prior.end) { prior.n++; continue; }
+      const string = { place: due, end: out, due: due / fine, out: out / fine, fate: FATES[fate], frame: m.accepted[i], n: 1, x: 0, y: 0 };
+      strings.push(string);
+      last[fate] = string;
     }
-    return { strings, frames: Math.max(0, high - low) };
+    counts.forEach((count, fate) => { if (count) drawn.frames[FATES[fate]] = count; });
+    return { strings, frames: high - low, crowd: fine < 1 };
   }
 
   /* The rails, and how crowded it is between them. */
-  function railsOf(s, strings, frames) {
+  function railsOf(s, { strings, frames, crowd }) {
     const lane = s.lay.lane("frames"), width = s.X(s.b) - s.X(s.a);
     return { lane, top: lane.y + 9, bottom: lane.y + lane.h - 9, waits: lane.y + lane.h - 31, dense: strings.length > width / 8 || frames > 400,
-      solid: strings.length > width / 3 };
+      solid: strings.length > width / 3, crowd };
   }
 
   function opacity(kind, rails) {
@@ -37,26 +41,35 @@ Life.frames = (() => {
     return rails.solid ? 0.3 : rails.dense ? 0.6 : 0.9;
   }
 
-  /* In a crowd a string that stands nearly upright is a bar or two, which are drawn much faster than a stroke. */
-  function drawString(g, q, top, end, crowd) {
-    const lean = Math.abs(q.out - q.due);
-    if (!crowd || lean > 2.5) { g.moveTo(q.due, top); g.lineTo(q.out, end); return; }
-    const middle = lean < 1 ? top : Math.round((top + end) / 2);
-    if (lean >= 1) g.fillRect(Math.floor(q.due), top, 1, middle - top);
-    g.fillRect(Math.floor(q.out), middle, 1, end - middle);
+  /* In a crowd strings that stand nearly upright are bars: of their upper halves where they begin, and of their lower ones
+     where they end. Bars that touch are one. */
+  const upright = (q) => Math.abs(q.out - q.due) <= 2.5;
+  function drawBars(g, strings, kind, end, top, bottom, wide) {
+    let from = 0, to = -1;
+    const flush = () => { if (to > from) g.fillRect(from, top, to - from, bottom - top); };
+    for (const q of strings) {
+      if (q.fate !== kind || !upright(q)) continue;
+      const x = Math.floor(q[end]);
+      if (x > to) { flush(); from = x; }
+      to = x + wide;
+    }
+    flush();
   }
 
   function drawStrings(s, strings, rails) {
-    const { g } = s;
+    const { g } = s, { top, solid } = rails, wide = rails.crowd ? 2 : 1;
     for (const kind of FATES) {
-      const waits = kind === "waits", end = waits ? rails.waits : rails.bottom;
+      const waits = kind === "waits", end = waits ? rails.waits : rails.bottom, middle = Math.round((top + end) / 2);
       g.strokeStyle = g.fillStyle = colours[FATE_COLOUR[kind]];
       g.lineWidth = kind === "got" && rails.dense ? 0.8 : 1.4;
-      g.setLineDash(waits && !rails.solid ? [3, 3] : []);
+      g.setLineDash(waits && !solid ? [3, 3] : []);
       faded(g, opacity(kind, rails), () => {
         g.beginPath();
-        for (const q of strings) if (q.fate === kind) drawString(g, q, rails.top, end, rails.solid);
+        for (const q of strings) if (q.fate === kind && !(solid && upright(q))) { g.moveTo(q.due, top); g.lineTo(q.out, end); }
         g.stroke();
+        if (!solid) return;
+        drawBars(g, strings, kind, "due", top, middle, wide);
+        drawBars(g, strings, kind, "out", middle, end, wide);
       });
     }
     g.setLineDash([]);
@@ -134,8 +147,8 @@ Life.frames = (() => {
   /* Draws them all, and gives where the marks of frames lie that climbed. */
   function drawFrames(s) {
     const { g, m, X, a, b } = s;
-    const { strings, frames } = m.told ? stringsOf(s) : { strings: [], frames: 0 };
-    const rails = railsOf(s, strings, frames);
+    const found = m.told ? stringsOf(s) : { strings: [], frames: 0, crowd: false }, { strings } = found;
+    const rails = railsOf(s, found);
     g.font = "12px " + FONT;
     bar(g, colours.rule, X(a), rails.top, X(b) - X(a), 1);
     bar(g, colours.rule, X(a), rails.bottom, X(b) - X(a), 1);
@@ -150,7 +163,9 @@ Life.frames = (() => {
     drawMarks(s, strings, rails);
     if (!m.told) drawAtDue(s, "untold", m.accepted, rails.top);
     drawAtDue(s, "refused", m.refused, rails.top);
-    return new Map(strings.filter((q) => q.y).map((q) => [q.frame.item, { x: q.x, y: q.y }]));
+    const places = new Map();
+    for (const q of strings) if (q.y) places.set(q.frame.item, q);
+    return places;
   }
 
   return { drawFrames };

@@ -29,8 +29,8 @@ Life.lanes = (() => {
         if (!TROUBLE.has(code)) return;
         last = first + 1; this.kept = last;
       }
-      const row = line * this.width;
-      this.pixels.fill(this.colours[code], row + first, row + Math.min(last, this.width));
+      const colour = this.colours[code], row = line * this.width, stop = row + Math.min(last, this.width);
+      for (let i = row + first; i < stop; i++) this.pixels[i] = colour;
     }
     draw(g, x, y, height) {
       this.canvas.getContext("2d").putImageData(this.image, 0, 0);

@@ -3,7 +3,7 @@
    in the model's `faults`, and a note of the program in its `note`. */
 Life.model = (() => {
   const { count, stepsOf, frameOf } = Life.basics;
-  const { readScript, readTrace, readFates, readReport } = Life.texts;
+  const { FATES, readScript, readTrace, readFates, readReport } = Life.texts;
   const nothing = (text) => text == null || text.trim() === "";
 
   /* What the program says of a script that it refuses, and the line that it names. */
@@ -89,6 +89,9 @@ Life.model = (() => {
     if (!note) tellMissing(model, texts);
     model.frames = framesOf(model);
     model.accepted = model.frames.filter((f) => f.fate !== "refused");
+    /* The accepted frames as plain arrays, for the drawing of many. */
+    model.columns = { due: Float64Array.from(model.accepted, (f) => f.due), out: Float64Array.from(model.accepted, (f) => f.out),
+      fate: Uint8Array.from(model.accepted, (f) => Math.max(0, FATES.indexOf(f.fate))) };
     model.refused = model.frames.filter((f) => f.fate === "refused");
     model.byItem = new Map(model.frames.map((f) => [f.item, f]));
     model.commands = script.items.filter((c) => c.kind !== "frame");
