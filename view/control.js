@@ -111,7 +111,8 @@ Life.control = (() => {
 
   function watchWindow() {
     let height = window.innerHeight;
-    new ResizeObserver(() => { if (page.lay && byId("chart").clientWidth !== page.width) page.resize(); }).observe(byId("chart"));
+    const widen = () => { if (page.lay && byId("chart").clientWidth !== page.width) page.resize(); };
+    new ResizeObserver(() => requestAnimationFrame(widen)).observe(byId("chart"));
     /* The bar of a telephone's browser comes and goes: a small change of height changes nothing. */
     window.addEventListener("resize", () => {
       if (!page.lay || Math.abs(window.innerHeight - height) < 120) return;
@@ -152,7 +153,18 @@ Life.control = (() => {
     byId("files").addEventListener("change", (e) => take([...e.target.files]));
   }
 
+  /* A picture that came to no end says so. */
+  function watchErrors() {
+    window.addEventListener("error", (e) => {
+      if (!e.error) return;
+      const faults = byId("faults");
+      faults.innerHTML = "<p><b>This picture isn't whole.</b> The page's script failed: " + escapeHtml(String(e.message)) + ".</p>";
+      faults.hidden = false;
+    });
+  }
+
   function start() {
+    watchErrors();
     for (const name of ["name", ...KINDS]) {
       const text = embedded(name);
       if (text !== null) texts[name] = name === "name" ? text.trim() : text;

@@ -89,7 +89,9 @@ Life.lanes = (() => {
     const { g, lay, X, k, a, b } = s;
     if (16 * k < 14 || lay.laneHeight < 8) return;
     faded(g, 0.45, () => {
-      for (let j = Math.max(0, packetOf(a)); frameOf(j) <= b; j++) bar(g, colours.bg, X(frameOf(j)) - 1, lay.lineTop, 1, lay.lineBottom - lay.lineTop);
+      for (let j = Math.max(0, packetOf(a)); frameOf(j) <= b; j++) {
+        bar(g, colours.bg, X(frameOf(j)) - 1, lay.lineTop, 1, lay.lineBottom - lay.lineTop);
+      }
     });
   }
 

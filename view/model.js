@@ -21,7 +21,8 @@ Life.model = (() => {
     else if (!script.lines || !script.ticks) faults.push("The script doesn't say how many lines and ticks there are.");
     if (nothing(texts.report)) faults.push("The report is missing: which commands were refused isn't told.");
     if (nothing(texts.fates)) {
-      faults.push("The fates are missing: which rows were spoiled and what became of each frame isn't told. Frames stand at the tick that they are due.");
+      faults.push("The fates are missing: which rows were spoiled and what became of each frame isn't told. " +
+        "Frames stand at the tick that they are due.");
     }
     const totals = model.totals, steps = totals ? stepsOf(totals.ticks) : 0;
     if (trace.packets < steps && !faults.some((f) => f.includes("of trace isn't"))) {

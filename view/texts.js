@@ -83,7 +83,8 @@ Life.texts = (() => {
   function readTrace(text, lines, faults) {
     const trace = { packets: 0, chg: [], act: [], back: [], runs: Array.from({ length: lines }, () => []) };
     const last = new Array(lines).fill("");
-    const all = linesOf(text);
+    /* What ./vcat says of a trial build may stand there too. */
+    const all = linesOf(text).filter((line) => !/^(vcat: |      VCAT_)/.test(line));
     for (let i = 0; i < all.length; i++) {
       const words = all[i].split(" "), cells = words.slice(8);
       if (words[0] !== "packet" || +words[1] !== trace.packets || cells.length !== lines || !/^[a-z]+:\d+$/.test(cells[lines - 1])) {
@@ -141,7 +142,9 @@ Life.texts = (() => {
       }
       fatesLine(fates, kind, words);
     }
-    if (!fates.totals) faults.push("The last line of fates, with the totals, is missing: the text was cut off, and frames may be missing too.");
+    if (!fates.totals) {
+      faults.push("The last line of fates, with the totals, is missing: the text was cut off, and frames may be missing too.");
+    }
     return fates;
   }
 
@@ -156,7 +159,9 @@ Life.texts = (() => {
       if (refused) report.refused.set(+refused[1], refused[2]);
       else if (w) report.totals = { ticks: +w[1], taken: +w[2], frames: +w[3], commands: +w[4], refused: +w[5], got: +w[6] };
     }
-    if (!report.totals) faults.push("The last line of the report, with the totals, is missing: the text was cut off, and refused items may be missing too.");
+    if (!report.totals) {
+      faults.push("The last line of the report, with the totals, is missing: the text was cut off, and refused items may be missing too.");
+    }
     return report;
   }
 

@@ -128,7 +128,8 @@ class Tests:
         self.same("a click holds", b.js("Life.page.hold"), "frame.7")
         b.wheel(x, y, -400)
         b.settle()
-        self.same("the wheel zooms about the pointer", (b.js("Life.page.span() < 1700"), abs(self.place(1100, "frames", "0")[0] - x) < 1), (True, True))
+        zoomed = b.js("Life.page.span() < 1700"), abs(self.place(1100, "frames", "0")[0] - x) < 1
+        self.same("the wheel zooms about the pointer", zoomed, (True, True))
         before = b.js("Life.page.view.start")
         b.mouse("Pressed", x, y, 1)
         for step in range(1, 11):
@@ -175,7 +176,8 @@ class Tests:
     def media(self, texts):
         b = self.browser
         self.open("media", texts)
-        ground = "[...document.getElementById('plot').getContext('2d').getImageData(4, 4, 1, 1).data, getComputedStyle(document.body).color].join()"
+        ground = """[...document.getElementById('plot').getContext('2d').getImageData(4, 4, 1, 1).data,
+            getComputedStyle(document.body).color].join()"""
         light = b.js(ground)
         b.media(dark=True)
         b.settle()
@@ -205,8 +207,8 @@ class Tests:
             if not node.get("ignored"):
                 names.setdefault(node["role"]["value"], []).append(node.get("name", {}).get("value", ""))
         self.same("each button has a name", [name for name in names["button"] if len(name) < 3], [])
-        self.same("the picture has its content as its name", [name for name in names["image"] if name.startswith("Frames 0 to 1,699. Client frames: 5 got, 3 cut")]
-                  != [], True)
+        seen = [name[:47] for name in names["image"]]
+        self.same("the picture has its content as its name", "Frames 0 to 1,699. Client frames: 5 got, 3 cut," in seen, True)
         self.same("the table is one", len(names["table"]), 1)
         b.key("+")
         b.settle(500)
@@ -225,7 +227,8 @@ class Tests:
         comment = b"# </script><b id=bold>a</b> & &lt; <!-- \\x3c \\\\ \\n a\rframe\n"
         notes, status = self.open("a <b> & \\x3c \\n", {**texts, "script": comment + texts["script"]})
         self.same("view of a text like a page", (notes, status), ("", 0))
-        self.same("a comment", b.js("document.getElementById('lede').textContent").startswith("</script><b id=bold>a</b> & &lt; <!-- \\x3c \\\\ \\n a\rframe"), True)
+        wanted = "</script><b id=bold>a</b> & &lt; <!-- \\x3c \\\\ \\n a\rframe"
+        self.same("a comment", b.js("document.getElementById('lede').textContent")[:len(wanted)], wanted)
         self.same("no element comes of it", b.js("document.getElementById('bold')"), None)
         self.same("a name", b.js("document.getElementById('name').textContent"), "a <b> & \\x3c \\n")
         self.same("nothing is missing", b.js(FAULTS), "")
@@ -246,6 +249,8 @@ class Tests:
         self.told("trace in a line", {**texts, "trace": trace[:1000]}, "are missing here")
         self.told("trace between lines", {**texts, "trace": b"".join(lines[:50])}, "ends with packet 49")
         self.told("no trace", {**texts, "trace": b""}, "text of trace is missing")
+        self.open("trial", {**texts, "trace": b"vcat: this answer is by a trial build\n      VCAT_PROVED=1 ./vcat trace\n" + trace})
+        self.same("what ./vcat says of a trial is no fault", self.browser.js(FAULTS), "")
         self.told("no report", {**texts, "report": b""}, "report is missing")
         self.told("report before the last", {**texts, "report": b"refused 0 unknown\n"}, "The last line of the report")
         self.told("no script", {**texts, "script": b"\n"}, "text of the script is missing", False)
@@ -254,8 +259,9 @@ class Tests:
         self.told("lines of another script", {**texts, "script": texts["script"].replace(b"lines 2", b"lines 3")}, "isn't that of packet 0")
         bad = fates.replace(b"true 1064", b"false 1064").replace(b"starts true", b"starts false")
         self.open("false_start", {**texts, "fates": bad})
-        self.same("a false start", (self.browser.js("document.getElementById('premise').className"),
-                                    "in row 1,064 the receiver took" in self.browser.js("document.getElementById('premise').textContent")), ("bad", True))
+        premise = "document.getElementById('premise')"
+        self.same("a false start is red", self.browser.js(premise + ".className"), "bad")
+        self.same("a false start is told", "in row 1,064 the receiver took" in self.browser.js(premise + ".textContent"), True)
         for width, kind in ((1280, "false_start-1280"), (400, "false_start-400")):
             self.browser.size(width, 800)
             self.browser.settle()
@@ -268,7 +274,8 @@ class Tests:
         notes, status = self.told("no command fates", {**texts, "fates": None}, "The fates are missing")
         self.same("no command fates", ("has no command fates" in notes, status), (True, 0))
         drawn, wanted = json.loads(b.js("document.getElementById('plot').dataset.drawn")), expected(texts)
-        self.same("states without fates", (drawn["cells"], drawn["fails"], drawn["commands"]), (wanted["cells"], wanted["fails"], wanted["commands"]))
+        for key in ("cells", "fails", "commands"):
+            self.same("without fates: " + key, drawn[key], wanted[key])
         self.same("frames without a fate", drawn["frames"], {"untold": 9})
         self.picture("no_fates-1280")
         _, status = self.told("fates that fail", {**texts, "fates": b""}, "The fates are missing", fates_status=7)
@@ -313,7 +320,11 @@ class Tests:
         times = b.js("""new Promise(done => { const page = Life.page, N = page.model.ticks, spans = [N, N / 4, 400, 64]; let i = 0;
             page.times.length = 0;
             const go = () => {
-                if (i === 240) { const t = page.times.slice().sort((a, b) => a - b); done([t[t.length >> 1], t[Math.floor(t.length * .95)], t[t.length - 1]]); return; }
+                if (i === 240) {
+                    const t = page.times.slice().sort((a, b) => a - b);
+                    done([t[t.length >> 1], t[Math.floor(t.length * .95)], t[t.length - 1]]);
+                    return;
+                }
                 const wide = spans[Math.floor(i / 60)], start = (N - wide) * (i % 60) / 60;
                 i++; page.look(start, start + wide); requestAnimationFrame(go); };
             requestAnimationFrame(go); })""")
@@ -340,7 +351,8 @@ def run(tests, program):
     for name in EXAMPLES:
         tests.counts(name, texts[name])
     example = texts["failed_member"]
-    for test in (tests.keys, tests.pointer, tests.fingers, tests.media, tests.spoken, tests.escaped, tests.without_fates, tests.refused, tests.dropped):
+    for test in (tests.keys, tests.pointer, tests.fingers, tests.media, tests.spoken, tests.escaped, tests.without_fates, tests.refused,
+                 tests.dropped):
         test(example)
     tests.cut(example, texts["slip"])
     for name, large in (("made", made()), ("bursts", walked(program, bursts()))):

@@ -151,8 +151,12 @@ def assembled(draw, script, trace, items, ticks, frames):
         row = min(due + 60, ticks - 1)
         got += fate == "got"
         lost += fate not in ("got", "waits")
-        fates.append("frame %d due %d %s" % (n, due, fate) + ("" if fate == "waits" else " %d %d" % (row, row) + (" %d" % row if fate == "cut" else "")))
+        rows = 0 if fate == "waits" else 3 if fate == "cut" else 2
+        fates.append("frame %d due %d %s" % (n, due, fate) + " %d" % row * rows)
     waits = frames - got - lost - refused
-    fates.append("fates ticks %d taken %d frames %d got %d lost %d waits %d refused %d starts true" % (ticks, ticks, got + lost + waits, got, lost, waits, refused))
-    report.append("total ticks %d taken %d frames %d commands %d refused %d got %d" % (ticks, ticks, got + lost + waits, len(items) - frames, len(report), got))
-    return {name: ("\n".join(text) + "\n").encode() for name, text in (("script", script), ("trace", trace), ("fates", fates), ("report", report))}
+    numbers = {"t": ticks, "frames": got + lost + waits, "got": got, "lost": lost, "waits": waits, "bad": refused, "all": len(report),
+               "commands": len(items) - frames}
+    fates.append("fates ticks %(t)d taken %(t)d frames %(frames)d got %(got)d lost %(lost)d waits %(waits)d refused %(bad)d starts true" % numbers)
+    report.append("total ticks %(t)d taken %(t)d frames %(frames)d commands %(commands)d refused %(all)d got %(got)d" % numbers)
+    named = (("script", script), ("trace", trace), ("fates", fates), ("report", report))
+    return {name: ("\n".join(lines) + "\n").encode() for name, lines in named}
