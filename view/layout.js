@@ -1,0 +1,117 @@
+"use strict";
+/* Which lane lies where, the axis of time above them and their names beside them. */
+Life.layout = (() => {
+  const { number, milliseconds, clamp } = Life.basics;
+  const { colours, FONT, bar } = Life.paint;
+
+  /* The lanes for a width and a room in height. The lines share what the others leave of it: from 2 to 30 pixels each, and
+     so much that each can be read where `tall` asks for it. */
+  function layoutOf(m, width, room, tall) {
+    const narrow = width < 620, lines = m.script.lines, breaks = m.fates.segments.length > 0;
+    const frames = narrow ? 84 : 104, others = 164 + frames + (breaks ? 12 : 0);
+    const share = clamp(Math.floor(clamp(room - others, 200, 560) / Math.max(1, lines)), 2, 30);
+    const laneHeight = tall ? Math.max(18, share) : share;
+    const gap = laneHeight >= 12 ? Math.min(5, Math.floor(laneHeight / 6)) : laneHeight >= 7 ? 1 : 0;
+    const height = Math.max(2, laneHeight - gap);
+    const lanes = [];
+    let y = 0;
+    const put = (kind, h, space, line) => { lanes.push({ kind, y, h, line }); y += h + space; };
+    put("axis", 44, 8);
+    put("command", 22, 8);
+    put("frames", frames, 8);
+    put("rows", 20, breaks ? 2 : 12);
+    if (breaks) put("segments", 12, 10);
+    const lineTop = y;
+    for (let line = 0; line < lines; line++) put("line", height, gap, line);
+    const lineBottom = y - gap;
+    y += 10 - gap;
+    put("back", 26, 12);
+    return { lanes, narrow, tall, height: y, gutter: narrow ? 62 : 128, right: 10, laneHeight: height, lineTop, lineBottom,
+      lines: lanes.filter((lane) => lane.kind === "line"), lane: (kind) => lanes.find((lane) => lane.kind === kind) };
+  }
+
+  /* A round step so that at most so many fall into a span. */
+  function roundStep(span, most) {
+    const raw = span / Math.max(1, most), power = Math.pow(10, Math.floor(Math.log10(raw)));
+    return [1, 2, 5, 10].map((k) => k * power).find((step) => step >= raw * 0.999999);
+  }
+
+  /* Frames above the line of time and milliseconds below it. */
+  function drawAxis(s) {
+    const { g, lay, view, X, x0, x1 } = s, c = colours, h = lay.lane("axis").h, middle = 22, span = view.end - view.start;
+    bar(g, c.panel, 0, 0, x1 + lay.right, h);
+    const most = (x1 - x0) / (lay.narrow ? 64 : 84), frames = Math.max(1, roundStep(span, most)), eighths = 8 * roundStep(span / 8, most);
+    const steps = (step) => {
+      const all = [];
+      for (let i = Math.ceil(view.start / step); i * step <= view.end + 1e-6; i++) all.push(i * step);
+      return all;
+    };
+    g.strokeStyle = c.faint; g.lineWidth = 1;
+    g.beginPath();
+    for (const t of steps(frames)) { const x = Math.round(X(t)) + 0.5; g.moveTo(x, h); g.lineTo(x, lay.height); }
+    g.stroke();
+    g.strokeStyle = c.muted;
+    g.beginPath();
+    g.moveTo(x0, middle + 0.5); g.lineTo(x1, middle + 0.5);
+    g.textAlign = "center";
+    const tick = (t, text, up) => {
+      const x = Math.round(X(t)) + 0.5, half = g.measureText(text).width / 2;
+      g.moveTo(x, middle); g.lineTo(x, up ? middle - 5 : middle + 5);
+      g.fillText(text, clamp(x, x0 + half - 4, x1 - half + lay.right - 2), up ? middle - 12 : middle + 13);
+    };
+    g.fillStyle = c.ink;
+    for (const t of steps(frames)) tick(t, number(Math.round(t)), true);
+    g.fillStyle = c.muted;
+    for (const t of steps(eighths)) tick(t, milliseconds(t), false);
+    g.stroke();
+    g.textAlign = "right";
+    g.fillStyle = c.ink; g.fillText("frame", x0 - 14, middle - 11);
+    g.fillStyle = c.muted; g.fillText(lay.narrow ? "ms" : "milliseconds", x0 - 14, middle + 13);
+    bar(g, c.rule, 0, h - 1, x1 + lay.right, 1);
+  }
+
+  /* The names of the lanes. */
+  function drawNames(s) {
+    const { g, lay, m, x0 } = s, c = colours, right = x0 - 14, frames = lay.lane("frames");
+    const say = (kind, text, colour = c.ink, down = null) => {
+      const lane = lay.lane(kind);
+      g.fillStyle = colour;
+      g.fillText(text, right, lane.y + (down === null ? lane.h / 2 : down) + 0.5);
+    };
+    g.textAlign = "right"; g.font = "12px " + FONT;
+    say("command", lay.narrow ? "comm." : "commands");
+    say("frames", "due", c.muted, 9);
+    say("frames", lay.narrow ? "frames" : "client frames");
+    say("frames", lay.narrow ? "row" : "last row", c.muted, frames.h - 9);
+    say("rows", "rows");
+    if (!lay.narrow && m.fates.segments.length) say("segments", "after a break", c.muted);
+    say("back", lay.narrow ? "return" : "return path");
+    drawLineNames(s, right);
+  }
+
+  /* The numbers of the lines and their delays: in digits where there is room, else as bars. */
+  function drawLineNames(s, right) {
+    const { g, lay, m } = s, c = colours, height = lay.laneHeight;
+    const most = Math.max(1, ...m.script.delays), read = height >= 13, every = read ? 1 : height >= 7 ? 4 : 16;
+    for (const lane of lay.lines) {
+      const delay = m.script.delays[lane.line] || 0, middle = lane.y + lane.h / 2;
+      if (lane.line % every === 0) {
+        g.fillStyle = c.ink; g.textAlign = "left";
+        g.fillText((read && !lay.narrow ? "line " : "") + lane.line, 12, read ? middle + 0.5 : lane.y + 5);
+      }
+      const length = Math.round((lay.narrow ? 18 : 40) * delay / most);
+      if (!read) { if (delay) bar(g, c.idle, right - length, lane.y + (lane.h > 5 ? 1 : 0), length, Math.max(2, lane.h - 1)); continue; }
+      g.textAlign = "right"; g.fillStyle = c.muted;
+      g.fillText("+" + number(delay), right, middle + 0.5);
+      if (!lay.narrow && delay) bar(g, c.muted, right - 32 - length * 0.5, middle - 1, length * 0.5, 3);
+    }
+    if (read || lay.narrow) return;
+    g.save();
+    g.translate(52, (lay.lineTop + lay.lineBottom) / 2); g.rotate(-Math.PI / 2);
+    g.textAlign = "center"; g.fillStyle = c.muted;
+    g.fillText(m.script.lines + " lines; bars: delay up to " + number(most) + " frames", 0, 0);
+    g.restore();
+  }
+
+  return { layoutOf, drawAxis, drawNames };
+})();

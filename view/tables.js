@@ -1,0 +1,148 @@
+"use strict";
+/* Totals and the premise at the head; below the picture the table of what was lost and refused, and the picture in words. */
+Life.tables = (() => {
+  const { byId, number, count, range, milliseconds, escapeHtml, frameOf } = Life.basics;
+  const { FATES } = Life.texts;
+  const { placeOf } = Life.model;
+  const { fit, fate, command } = Life.paint;
+  const { FATE_WORDS, CODES, cause, reason, refusal, segment, premise, held, upper } = Life.words;
+  const MOST = 200;
+  let rows = [], shown = 0;
+
+  /* ---- Totals and the premise ---- */
+
+  const lostOf = (m) => FATES.filter((kind) => !["got", "waits", "refused"].includes(kind))
+    .map((kind) => [m.accepted.filter((f) => f.fate === kind).length, kind]).filter(([n]) => n)
+    .map(([n, kind]) => number(n) + " " + kind).join(", ");
+
+  function totalsOf(m) {
+    const t = m.totals, s = m.script, bad = m.commands.filter((c) => c.why).length, cells = [];
+    const put = (name, value, more) => cells.push([name, number(value), more || ""]);
+    if (s.lines) put("Lines", s.lines, s.container === "vc3" ? "VC-3" : "VC-4");
+    if (t) {
+      const spoiled = m.fates.spoiled.reduce((n, run) => n + run.end - run.first, 0);
+      put("Ticks", t.ticks, milliseconds(t.ticks) + " ms");
+      put("Rows", t.taken, !m.told ? "" : spoiled ? number(spoiled) + " spoiled" : "all whole");
+    }
+    if (s.lines) put("Commands", m.commands.length, bad ? number(bad) + " refused" : "");
+    if (t) {
+      put("Frames", t.frames, "accepted");
+      put("Got", t.got);
+    }
+    if (m.fates.totals) {
+      put("Lost", t.lost, lostOf(m));
+      put("Waits", t.waits);
+      put("Refused", t.refused, t.refused === 1 ? "frame" : "frames");
+    } else if (m.report.totals) put("Refused", m.refused.length, m.refused.length === 1 ? "frame" : "frames");
+    return cells;
+  }
+
+  function showHead(m) {
+    byId("totals").innerHTML = (m.note ? [] : totalsOf(m)).map(([name, value, more]) =>
+      "<div><dt>" + name + "</dt><dd>" + value + (more ? " <small>" + more + "</small>" : "") + "</dd></div>").join("");
+    const [verdict, why] = premise(m), e = byId("premise"), bad = m.fates.totals !== null && !m.fates.totals.starts;
+    e.hidden = !verdict || m.note !== null;
+    e.innerHTML = "<b>" + verdict + "</b> " + why;
+    e.classList.toggle("bad", bad);
+  }
+
+  /* ---- The table of what was lost and refused ---- */
+
+  function rowsOf(m) {
+    const all = m.frames.filter((f) => f.fate !== "got" && f.fate !== "waits" && f.fate !== "untold").map((f) => ({ item: f.item, due: f.due,
+      octets: f.octets === undefined ? "" : number(f.octets), rows: f.first >= 0 ? range(f.first, f.last) : "", icon: f.fate,
+      word: FATE_WORDS[f.fate], why: reason(m, f), place: placeOf(f), hold: "frame." + f.item }));
+    for (const c of m.commands) {
+      if (c.why) {
+        all.push({ item: c.item, due: c.due, octets: "", rows: "", icon: c.kind, word: c.kind + " " + c.line + " refused", why: refusal(c),
+          place: c.due, hold: "command." + c.item });
+      }
+    }
+    return all.sort((one, other) => one.item - other.item);
+  }
+
+  function footOf(m) {
+    const waits = m.frames.filter((f) => f.fate === "waits"), s = m.script;
+    return (waits.length ? count(waits.length, "frame waits", "frames wait") + ": from item " + number(waits[0].item) +
+      " on they weren't wholly carried when the session ended. " : "") +
+      (s.events ? "The script has " + count(s.events, "event line") +
+        ": items land when their event comes, which may be after the tick that they are due, and those that haven't landed aren't told of. " : "");
+  }
+
+  function showTable(m) {
+    rows = rowsOf(m);
+    shown = 0;
+    byId("table").tBodies[0].textContent = "";
+    byId("table").tHead.hidden = !rows.length;
+    byId("caption").textContent = rows.length ? "An item's number leads to its place above." :
+      m.told ? "Nothing was lost or refused." : "Nothing was refused; what was lost isn't told.";
+    byId("foot").textContent = footOf(m);
+    showMore(m);
+  }
+
+  function rowHtml(m, r) {
+    const span = Math.min(m.ticks, 200), start = Math.max(0, Math.min(m.ticks - span, Math.round(r.place - span / 2)));
+    const cell = (name, text) => '<td class="n" data-k="' + name + '">' + text + "</td>";
+    const link = '<a href="#at=' + start + "-" + (start + span) + "&amp;hold=" + r.hold + '">' + number(r.item) + "</a>";
+    return '<tr data-hold="' + r.hold + '">' + cell("Item", link) + cell("due", number(r.due)) + cell("ms", milliseconds(r.due)) +
+      cell("octets", r.octets) + cell("rows", r.rows) + '<td class="f"><canvas data-icon="' + r.icon + '" aria-hidden="true"></canvas>' + r.word +
+      '</td><td class="w">' + upper(r.why) + "</td></tr>";
+  }
+
+  function showMore(m) {
+    const to = Math.min(rows.length, shown + MOST), left = rows.length - to, more = byId("more");
+    byId("table").tBodies[0].insertAdjacentHTML("beforeend", rows.slice(shown, to).map((r) => rowHtml(m, r)).join(""));
+    shown = to;
+    more.hidden = !left;
+    more.textContent = "Show " + number(Math.min(left, MOST)) + " more of " + number(left);
+    drawIcons();
+  }
+
+  function drawIcons() {
+    for (const e of document.querySelectorAll("td.f canvas")) {
+      const g = fit(e, 14, 14), kind = e.dataset.icon;
+      if (kind === "add" || kind === "remove") command(g, kind, true, 7, 7, 4.5); else fate(g, kind, 7, 7, 4.2);
+    }
+  }
+
+  /* ---- The picture in words, made when it is opened ---- */
+
+  const item = (html) => "<li>" + html + "</li>";
+  const list = (title, items) => {
+    const more = items.length - MOST;
+    return "<h3>" + title + "</h3><ul>" + items.slice(0, MOST).map((make) => item(make())).join("") +
+      (more > 0 ? item("and " + number(more) + " more, which aren't listed") : "") + "</ul>";
+  };
+
+  function lineWords(m, line) {
+    const runs = m.trace.runs[line], told = runs.slice(0, 40).map((r) => r.code + (r.code === "idle" ? "" : " " + r.sq) + " in frames " +
+      range(frameOf(r.from), Math.max(frameOf(r.from), Math.min(m.ticks, frameOf(r.end)) - 1)));
+    if (runs.length > 40) told.push("and " + number(runs.length - 40) + " more states");
+    const fails = m.failsOf[line].slice(0, 40).map((f) => range(f.first, f.end - 1) + (f.slip ? " with a slip of " + f.slip : ""));
+    return "<b>Line " + line + "</b>, delay " + number(m.script.delays[line] || 0) + ": " + (told.join("; ") || "no state is told") + "." +
+      (fails.length ? " Damaged containers: " + fails.join("; ") + "." : "");
+  }
+
+  function spokenHtml(m) {
+    const spoiled = m.fates.spoiled.map((r) => () => "<b>Rows " + range(r.first, r.end - 1) + "</b> are spoiled: " + cause(r) + ".");
+    const breaks = m.fates.segments.map((s) => () => upper(segment(s)));
+    const losts = [];
+    m.trace.back.forEach((told, packet) => { if (told === "lost") losts.push(() => held(m, "back." + packet)); });
+    const lines = Array.from({ length: m.script.lines }, (_, line) => () => lineWords(m, line));
+    const used = [...new Set(m.trace.runs.flatMap((runs) => runs.map((r) => r.code)))];
+    return (used.length ? "<p>" + used.map((code) => "<b>" + escapeHtml(code) + "</b>: " + (CODES[code] || escapeHtml(code))).join("; ") +
+      ". The number behind a state is the sequence number.</p>" : "") + list("Lines", lines) +
+      (m.told ? list("Rows", spoiled.length ? spoiled : [() => "All rows are whole."]) : "") +
+      (breaks.length ? list("After a break", breaks) : "") + (losts.length ? list("Lost return packets", losts) : "") +
+      (m.commands.length ? list("Commands", m.commands.map((c) => () => held(m, "command." + c.item))) : "");
+  }
+
+  function showSpoken(m) {
+    const e = byId("spoken");
+    byId("words").textContent = "";
+    e.ontoggle = () => { if (e.open && !byId("words").textContent) byId("words").innerHTML = spokenHtml(m); };
+    if (e.open) e.ontoggle();
+  }
+
+  return { showHead, showTable, showMore, drawIcons, showSpoken };
+})();

@@ -1,0 +1,385 @@
+#!/usr/bin/env python3
+"""Opens pages of ./vcat view in a headless Chromium, and compares what they show with the texts.
+
+    page_tests.py PROGRAM [PICTURES]
+
+PROGRAM is the program that answers walk, trace and fates. PICTURES is a folder for pictures of all pages, wide and narrow, light and dark."""
+import base64
+import json
+import os
+import re
+import sys
+import tempfile
+import time
+
+sys.dont_write_bytecode = True
+from browser import Browser, NoBrowser
+from texts import Pages, bursts, expected, made, totals, walked
+
+EXAMPLES = ("failed_member", "slip", "lost_return", "eight_lines", "queue", "refused")
+TOP = os.path.dirname(os.path.dirname(os.path.dirname(os.path.abspath(__file__))))
+RANGE = "document.querySelector('#range b').textContent"
+HELD = "document.getElementById('detail').classList.contains('held')"
+FAULTS = "document.getElementById('faults').hidden ? '' : document.getElementById('faults').textContent"
+
+
+class Tests:
+    """A browser, a maker of pages, and how many comparisons there were and failed."""
+
+    def __init__(self, browser, pages, pictures):
+        self.browser, self.pages, self.pictures = browser, pages, pictures
+        self.made = self.failed = 0
+
+    def same(self, what, found, wanted):
+        self.made += 1
+        if found != wanted:
+            self.failed += 1
+            print("page: %s: found %r, and %r is wanted" % (what, found, wanted), file=sys.stderr)
+
+    def open(self, name, texts, fragment="", **statuses):
+        path, notes, status = self.pages.make(name, texts, **statuses)
+        self.browser.open(path, fragment)
+        return notes, status
+
+    def picture(self, name):
+        if self.pictures:
+            self.browser.picture(os.path.join(self.pictures, name + ".png"))
+
+    # ---- Counts ----
+
+    def counts(self, name, texts):
+        """What a page drew, its totals, its premise and its table are those of the texts; at no width does it scroll sideways."""
+        b = self.browser
+        b.size(1280)
+        b.media()
+        self.same(name + ": view", self.open(name, texts), ("", 0))
+        drawn, wanted = json.loads(b.js("document.getElementById('plot').dataset.drawn")), expected(texts)
+        for key in wanted:
+            self.same(name + ": " + key, drawn[key], wanted[key])
+        head = dict(b.js("""[...document.querySelectorAll('#totals > div')].map(e => [e.querySelector('dt').textContent,
+            parseInt(e.querySelector('dd').firstChild.textContent.replace(/,/g, ''))])"""))
+        numbers, rows, starts = totals(texts)
+        self.same(name + ": totals", {key: head.get(key) for key in numbers}, numbers)
+        self.same(name + ": premise", b.js("document.getElementById('premise').className"), "" if starts else "bad")
+        self.same(name + ": table", b.js("document.querySelectorAll('tbody tr').length"), min(200, rows))
+        self.same(name + ": faults", b.js(FAULTS), "")
+        for width in (1280, 400):
+            b.size(width, 900 if width == 1280 else 800)
+            b.settle()
+            self.same("%s: width at %d" % (name, width), b.js("document.documentElement.scrollWidth"), width)
+            if width == 400:
+                self.same(name + ": the chart begins in the upper third at 400",
+                          b.js("document.getElementById('chart').getBoundingClientRect().top < 267"), True)
+            for dark in (False, True):
+                b.media(dark=dark)
+                b.settle(100)
+                self.picture("%s-%d%s" % (name, width, "-dark" if dark else ""))
+            b.media()
+        b.size(1280)
+
+    # ---- Keys, pointer, fingers, fragment: over failed_member ----
+
+    def keys(self, texts):
+        b = self.browser
+        self.open("keys", texts)
+        whole = b.js(RANGE)
+        b.key("+")
+        b.settle()
+        self.same("zoom by key", b.js(RANGE), "Frames 425\u20131,274")
+        b.key("ArrowRight")
+        b.settle()
+        fragment, place = b.js("location.hash"), b.js(RANGE)
+        self.same("fragment", bool(re.fullmatch(r"#at=\d+-\d+", fragment)), True)
+        self.open("keys", texts, fragment)
+        self.same("the fragment keeps the place", b.js(RANGE), place)
+        b.key("0")
+        b.settle()
+        self.same("all by key", (b.js(RANGE), b.js("location.hash")), (whole, ""))
+        b.key("n")
+        b.settle()
+        self.same("the next mark is held", (b.js(HELD), b.js("Life.page.hold")), (True, "command.0"))
+        fragment = b.js("location.hash")
+        self.open("keys", texts, fragment)
+        self.same("the fragment keeps what is held", b.js("Life.page.hold"), "command.0")
+        b.key("Escape")
+        b.settle()
+        self.same("let go", b.js(HELD), False)
+        b.js("document.querySelector('tbody a').click()")
+        b.settle()
+        self.same("a link of the table holds", b.js("document.querySelector('#detail b').textContent"), "Frame 4: cut.")
+        self.same("and marks its line", b.js("document.querySelectorAll('tr.held').length"), 1)
+        self.same("and leads there", b.js("Life.page.view.start < 1024 && Life.page.view.end > 1024"), True)
+        self.picture("held-1280")
+
+    def place(self, tick, lane, down):
+        """The point of the window at a tick and so far down a lane."""
+        return self.browser.js("""(r => [r.left + Life.page.X(%d), r.top + (l => l.y + %s)(Life.page.lay.lane('%s'))])
+            (document.getElementById('stack').getBoundingClientRect())""" % (tick, down, lane))
+
+    def pointer(self, texts):
+        b = self.browser
+        self.open("pointer", texts)
+        x, y = self.place(1100, "frames", "l.h - 9")
+        b.mouse("Moved", x, y)
+        self.same("pointing tells", b.js("document.querySelector('#detail b').textContent"), "Frame 7: unsettled.")
+        self.same("and holds nothing", b.js(HELD), False)
+        b.click(x, y)
+        b.settle()
+        self.same("a click holds", b.js("Life.page.hold"), "frame.7")
+        b.wheel(x, y, -400)
+        b.settle()
+        zoomed = b.js("Life.page.span() < 1700"), abs(self.place(1100, "frames", "0")[0] - x) < 1
+        self.same("the wheel zooms about the pointer", zoomed, (True, True))
+        before = b.js("Life.page.view.start")
+        b.mouse("Pressed", x, y, 1)
+        for step in range(1, 11):
+            b.mouse("Moved", x - 10 * step, y, 1)
+        b.mouse("Released", x - 100, y)
+        b.settle()
+        self.same("a drag moves", b.js("Life.page.view.start") > before, True)
+        self.same("and keeps what is held", b.js("Life.page.hold"), "frame.7")
+
+    def fingers(self, texts):
+        """Two fingers that part zoom, and the frames under them stay under them."""
+        b = self.browser
+        b.size(400, 800, touch=True)
+        self.open("fingers", texts)
+        (x, y), (x2, _) = self.place(600, "frames", "40"), self.place(1000, "frames", "40")
+        b.touch("Start", (x, y), (x2, y))
+        for step in range(1, 11):
+            b.touch("Move", (x - 6 * step, y), (x2 + 6 * step, y))
+        b.touch("End")
+        b.settle()
+        span = b.js("Life.page.span()")
+        self.same("a pinch zooms", round(span / 1700 * (x2 - x + 120) / (x2 - x), 2), 1)
+        self.same("about its middle", round(self.place(800, "frames", "0")[0] - (x + x2) / 2), 0)
+        self.same("and holds nothing", b.js(HELD), False)
+        start = b.js("Life.page.view.start")
+        b.touch("Start", (200, y))
+        for step in range(1, 11):
+            b.touch("Move", (200 - 8 * step, y))
+        b.touch("End")
+        b.settle()
+        self.same("one finger moves", b.js("Life.page.view.start") > start, True)
+        b.js("Life.page.all()")
+        b.settle()
+        x, y = self.place(1100, "frames", "40")
+        b.touch("Start", (x, y))
+        b.touch("End")
+        b.settle()
+        self.same("a tap holds", b.js("Life.page.hold"), "frame.7")
+        self.picture("held-400")
+        b.size(1280)
+
+    # ---- Dark, print, readers of screens ----
+
+    def media(self, texts):
+        b = self.browser
+        self.open("media", texts)
+        ground = """[...document.getElementById('plot').getContext('2d').getImageData(4, 4, 1, 1).data,
+            getComputedStyle(document.body).color].join()"""
+        light = b.js(ground)
+        b.media(dark=True)
+        b.settle()
+        dark = b.js(ground)
+        b.media("print", dark=True)
+        b.settle()
+        printed = b.js(ground)
+        self.same("the layer above isn't printed", b.js("getComputedStyle(document.getElementById('marks')).display"), "none")
+        b.media()
+        b.settle()
+        self.same("dark is another ground", light != dark, True)
+        self.same("print is light", printed, light)
+        data = base64.b64decode(b.call("Page.printToPDF", printBackground=True)["data"])
+        self.same("it prints", data[:5], b"%PDF-")
+        if self.pictures:
+            with open(os.path.join(self.pictures, "print.pdf"), "wb") as out:
+                out.write(data)
+
+    def spoken(self, texts):
+        """What a reader of screens is told: names of all that can be used, the picture's content, and all of it in words."""
+        b = self.browser
+        self.open("spoken", texts)
+        b.settle()
+        tree = b.call("Accessibility.getFullAXTree")["nodes"]
+        names = {}
+        for node in tree:
+            if not node.get("ignored"):
+                names.setdefault(node["role"]["value"], []).append(node.get("name", {}).get("value", ""))
+        self.same("each button has a name", [name for name in names["button"] if len(name) < 3], [])
+        seen = [name[:47] for name in names["image"]]
+        self.same("the picture has its content as its name", "Frames 0 to 1,699. Client frames: 5 got, 3 cut," in seen, True)
+        self.same("the table is one", len(names["table"]), 1)
+        b.key("+")
+        b.settle(500)
+        self.same("a new place is said", b.js("document.getElementById('said').textContent").startswith("Frames 425 to 1,274. Client frames:"), True)
+        b.js("document.getElementById('spoken').open = true")
+        b.settle()
+        words = b.js("document.getElementById('words').textContent")
+        for part in ("Line 1, delay 0: idle in frames 24\u201339", "dnu 1 in frames 1,064\u20131,319", "Damaged containers: 1,024\u20131,047",
+                     "Rows 1,024\u20131,031 are spoiled: a container of line 1", "a frame's start was found in row 1,064", "Item 1: add line 1"):
+            self.same("in words: " + part, part in words, True)
+
+    # ---- Texts that end an element, that aren't whole, that are of another script, that are dropped ----
+
+    def escaped(self, texts):
+        b = self.browser
+        comment = b"# </script><b id=bold>a</b> & &lt; <!-- \\x3c \\\\ \\n a\rframe\n"
+        notes, status = self.open("a <b> & \\x3c \\n", {**texts, "script": comment + texts["script"]})
+        self.same("view of a text like a page", (notes, status), ("", 0))
+        wanted = "</script><b id=bold>a</b> & &lt; <!-- \\x3c \\\\ \\n a\rframe"
+        self.same("a comment", b.js("document.getElementById('lede').textContent")[:len(wanted)], wanted)
+        self.same("no element comes of it", b.js("document.getElementById('bold')"), None)
+        self.same("a name", b.js("document.getElementById('name').textContent"), "a <b> & \\x3c \\n")
+        self.same("nothing is missing", b.js(FAULTS), "")
+
+    def told(self, what, texts, wanted, drawn=True, **statuses):
+        """A page says what is missing, and draws a picture or none."""
+        b = self.browser
+        given = self.open("told", texts, **statuses)
+        self.same(what + ": is told", wanted in b.js(FAULTS), True)
+        self.same(what + ": a picture", b.js("!document.getElementById('stack').hidden"), drawn)
+        return given
+
+    def cut(self, texts, other):
+        fates, trace, report = texts["fates"], texts["trace"], texts["report"]
+        lines = trace.splitlines(True)
+        self.told("fates in a line", {**texts, "fates": fates[:200]}, "isn't understood")
+        self.told("fates before the last", {**texts, "fates": b"".join(fates.splitlines(True)[:-1])}, "with the totals, is missing")
+        self.told("trace in a line", {**texts, "trace": trace[:1000]}, "are missing here")
+        self.told("trace between lines", {**texts, "trace": b"".join(lines[:50])}, "ends with packet 49")
+        self.told("no trace", {**texts, "trace": b""}, "text of trace is missing")
+        self.open("trial", {**texts, "trace": b"vcat: this answer is by a trial build\n      VCAT_PROVED=1 ./vcat trace\n" + trace})
+        self.same("what ./vcat says of a trial is no fault", self.browser.js(FAULTS), "")
+        self.told("no report", {**texts, "report": b""}, "report is missing")
+        self.told("report before the last", {**texts, "report": b"refused 0 unknown\n"}, "The last line of the report")
+        self.told("no script", {**texts, "script": b"\n"}, "text of the script is missing", False)
+        self.told("fates of another script", {**texts, "fates": other["fates"]}, "aren't of one script")
+        self.told("report of another script", {**texts, "report": other["report"]}, "aren't of one script")
+        self.told("lines of another script", {**texts, "script": texts["script"].replace(b"lines 2", b"lines 3")}, "isn't that of packet 0")
+        bad = fates.replace(b"true 1064", b"false 1064").replace(b"starts true", b"starts false")
+        self.open("false_start", {**texts, "fates": bad})
+        premise = "document.getElementById('premise')"
+        self.same("a false start is red", self.browser.js(premise + ".className"), "bad")
+        self.same("a false start is told", "in row 1,064 the receiver took" in self.browser.js(premise + ".textContent"), True)
+        for width, kind in ((1280, "false_start-1280"), (400, "false_start-400")):
+            self.browser.size(width, 800)
+            self.browser.settle()
+            self.picture(kind)
+        self.browser.size(1280)
+        self.same("what trace said is left in its place", report.startswith(b"got ") and lines[0].startswith(b"packet 0 "), True)
+
+    def without_fates(self, texts):
+        b = self.browser
+        notes, status = self.told("no command fates", {**texts, "fates": None}, "The fates are missing")
+        self.same("no command fates", ("has no command fates" in notes, status), (True, 0))
+        drawn, wanted = json.loads(b.js("document.getElementById('plot').dataset.drawn")), expected(texts)
+        for key in ("cells", "fails", "commands"):
+            self.same("without fates: " + key, drawn[key], wanted[key])
+        self.same("frames without a fate", drawn["frames"], {"untold": 9})
+        self.picture("no_fates-1280")
+        _, status = self.told("fates that fail", {**texts, "fates": b""}, "The fates are missing", fates_status=7)
+        self.same("fates that fail: status", status, 7)
+
+    def refused(self, texts):
+        """A script that is refused has a page with the note; where there is no trace for another reason there is no page."""
+        b = self.browser
+        script, note = texts["script"] + b"Add 0 0\n", b"fault: line %d: word\n" % (texts["script"].count(b"\n") + 1)
+        notes, status = self.told("a fault", {**texts, "script": script, "trace": note}, note.decode().strip(), False, trace_status=5)
+        self.same("a fault: view", (notes.encode(), status), (note, 5))
+        self.same("a fault: the line is shown", "is \u201cAdd 0 0\u201d" in b.js(FAULTS), True)
+        self.picture("fault-1280")
+        path, _, status = self.pages.make("long", {**texts, "trace": b"fault: too long\n"}, trace_status=8)
+        self.same("no page", (os.path.getsize(path), status), (0, 8))
+
+    def dropped(self, texts):
+        """view/life.html itself takes dropped texts, in any order."""
+        b = self.browser
+        b.open(os.path.join(TOP, "view/life.html"))
+        self.same("a page without texts says so", b.js("!document.getElementById('empty').hidden && document.getElementById('stack').hidden"), True)
+        names = {"fates": "a.txt", "script": "failed_member.vcat", "report": "b.txt", "trace": "c.txt"}
+        drop = """(() => { const data = new DataTransfer(); for (const [name, text] of %s) data.items.add(new File([text], name));
+            document.dispatchEvent(new DragEvent('drop', { dataTransfer: data, cancelable: true, bubbles: true })); })()"""
+        b.js(drop % json.dumps([[names[kind], texts[kind].decode()] for kind in names]))
+        b.settle()
+        drawn, wanted = json.loads(b.js("document.getElementById('plot').dataset.drawn")), expected(texts)
+        self.same("dropped", [drawn["cells"], drawn["frames"], b.js("document.getElementById('name').textContent")],
+                  [wanted["cells"], wanted["frames"], "failed_member"])
+        b.js(drop % json.dumps([["note.txt", "nothing of a walk"]]))
+        b.settle()
+        self.same("an unknown text is told", "Not one of the texts: note.txt" in b.js(FAULTS), True)
+
+    # ---- How long it takes ----
+
+    def speed(self, name, texts):
+        b = self.browser
+        path = self.pages.make(name, texts)[0]
+        began = time.time()
+        b.open(path)
+        opened = time.time() - began
+        times = b.js("""new Promise(done => { const page = Life.page, N = page.model.ticks, spans = [N, N / 4, 400, 64]; let i = 0;
+            page.times.length = 0;
+            const go = () => {
+                if (i === 240) {
+                    const t = page.times.slice().sort((a, b) => a - b);
+                    done([t[t.length >> 1], t[Math.floor(t.length * .95)], t[t.length - 1]]);
+                    return;
+                }
+                const wide = spans[Math.floor(i / 60)], start = (N - wide) * (i % 60) / 60;
+                i++; page.look(start, start + wide); requestAnimationFrame(go); };
+            requestAnimationFrame(go); })""")
+        print("page: %s opened in %.2f s; a drawing took %.1f ms at the median, %.1f in 95 of 100, %.1f at worst" % (name, opened, *times))
+        self.same(name + ": a drawing takes less than 16 ms at the median", times[0] < 16, True)
+        b.js("Life.page.all()")
+        b.settle()
+        self.same(name + ": all of it stands in one window", b.js("document.getElementById('chart').getBoundingClientRect().bottom") <= 900, True)
+        b.key("l")
+        b.settle()
+        self.same(name + ": tall lanes can be read", b.js("Life.page.lay.laneHeight >= 13"), True)
+        b.key("l")
+        b.settle()
+
+
+def run(tests, program):
+    texts = {}
+    for name in EXAMPLES:
+        with open(os.path.join(TOP, "examples", name + ".vcat"), "rb") as script:
+            texts[name] = walked(program, script.read())
+    if texts["failed_member"]["fates"] is None:
+        print("page: the program has no command fates, so that what pages say of frames can't be seen", file=sys.stderr)
+        return False
+    for name in EXAMPLES:
+        tests.counts(name, texts[name])
+    example = texts["failed_member"]
+    for test in (tests.keys, tests.pointer, tests.fingers, tests.media, tests.spoken, tests.escaped, tests.without_fates, tests.refused,
+                 tests.dropped):
+        test(example)
+    tests.cut(example, texts["slip"])
+    for name, large in (("made", made()), ("bursts", walked(program, bursts()))):
+        tests.counts(name, large)
+        tests.speed(name, large)
+    tests.same("what the pages threw", tests.browser.errors(), [])
+    return not tests.failed
+
+
+def main():
+    program, pictures = sys.argv[1], sys.argv[2] if len(sys.argv) > 2 else None
+    if pictures:
+        os.makedirs(pictures, exist_ok=True)
+    try:
+        browser = Browser()
+    except NoBrowser as reason:
+        print("page: no page was seen: %s" % reason, file=sys.stderr)
+        return 1
+    with tempfile.TemporaryDirectory() as folder:
+        tests = Tests(browser, Pages(TOP, os.path.join(folder, "pages")), pictures)
+        well = run(tests, os.path.abspath(program))
+        browser.close()
+    if well and tests.made < 100:
+        print("page: only %d comparisons were made" % tests.made, file=sys.stderr)
+        well = False
+    return 0 if well else 1
+
+
+if __name__ == "__main__":
+    sys.exit(main())

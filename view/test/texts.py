@@ -1,0 +1,162 @@
+"""Texts of walks, what a page has to show of them, and pages of them: by ./vcat view over a program that hands out given texts."""
+import os
+import random
+import re
+import shutil
+import subprocess
+
+KINDS = ("trace", "fates", "report")
+FATES = ("got", "cut", "hunting", "unsettled", "unconfirmed")
+
+
+def walked(program, script):
+    """The texts that a program writes of a script, with the script; a text that it has no command for is None."""
+    def run(word):
+        done = subprocess.run([program, word], input=script, capture_output=True)
+        return done.returncode, done.stdout, done.stderr
+    _, report, trace = run("trace")
+    status, fates, _ = run("fates")
+    return {"script": script, "trace": trace, "report": report, "fates": None if status == 2 else fates}
+
+
+def expected(texts):
+    """The counts of what a page draws of a whole session, from the texts."""
+    counts = {"cells": {}, "spoiled": 0, "frames": {}, "commands": 0, "lost": 0, "fails": 0}
+    ticks = 0
+    for line in texts["script"].decode("latin-1").splitlines():
+        words = line[:80].split()
+        if words[:1] == ["ticks"]:
+            ticks = int(words[1])
+        counts["fails"] += words[:1] == ["fail"]
+        counts["commands"] += words[:1] in (["add"], ["remove"])
+    for line in texts["trace"].decode().splitlines():
+        words = line.split(" ")
+        if 16 * int(words[1]) + 24 >= ticks:
+            continue
+        counts["lost"] += words[7] == "lost"
+        for cell in words[8:]:
+            code = cell.split(":")[0]
+            counts["cells"][code] = counts["cells"].get(code, 0) + 1
+    for line in (texts["fates"] or b"").decode().splitlines():
+        words = line.split(" ")
+        if words[0] == "spoiled":
+            counts["spoiled"] += int(words[2]) - int(words[1])
+        if words[0] == "frame":
+            counts["frames"][words[4]] = counts["frames"].get(words[4], 0) + 1
+    return counts
+
+
+def totals(texts):
+    """The numbers at the head of a page by the last line of the fates, and how many lines its table has."""
+    words = texts["fates"].decode().splitlines()[-1].split(" ")
+    numbers = dict(zip(("Ticks", "Rows", "Frames", "Got", "Lost", "Waits", "Refused"), map(int, words[2:15:2])))
+    refused = len(re.findall(r"^refused \d+ (?:unknown|already in|not in|pending)$", texts["report"].decode(), re.M))
+    return numbers, numbers["Lost"] + numbers["Refused"] + refused, words[-1] == "true"
+
+
+class Pages:
+    """Makes pages by a copy of ./vcat and view/ whose program hands out texts that are given it."""
+
+    def __init__(self, top, folder):
+        self.top, self.folder = top, folder
+        self.program = os.path.join(folder, "crates/vcat_walk/out/vcat_walk")
+        os.makedirs(os.path.dirname(self.program))
+        for name in ("vcat", "crates.txt"):
+            shutil.copy(os.path.join(top, name), folder)
+        shutil.copytree(os.path.join(top, "view"), os.path.join(folder, "view"))
+
+    def write(self, name, data):
+        with open(os.path.join(self.folder, name), "wb") as out:
+            out.write(data)
+
+    def make(self, name, texts, trace_status=0, fates_status=0):
+        """The path of a page of texts, and what ./vcat view said and its status."""
+        for kind in KINDS:
+            self.write(kind, texts[kind] or b"")
+        self.write("crates/vcat_walk/out/vcat_walk", b"""#!/bin/sh
+cat > /dev/null
+cd "%s" || exit 1
+case $1 in
+trace) cat report; cat trace >&2; exit %d ;;
+fates) cat fates; exit %d ;;
+esac
+""" % (self.folder.encode(), trace_status, 2 if texts["fates"] is None else fates_status))
+        os.chmod(self.program, 0o755)
+        self.write(name + ".vcat", texts["script"])
+        path = os.path.join(self.folder, name + ".html")
+        with open(path, "wb") as out:
+            done = subprocess.run([os.path.join(self.folder, "vcat"), "view", os.path.join(self.folder, name + ".vcat")], stdout=out,
+                                  stderr=subprocess.PIPE)
+        return path, done.stderr.decode(), done.returncode
+
+
+def bursts():
+    """A script of 128 lines and 8,500 ticks, with bursts of as many frames as may wait."""
+    draw = random.Random(1)
+    lines = ["lines 128", "delays " + " ".join(str(draw.randrange(41)) for _ in range(128)), "ring 64", "lag 4", "ticks 8500", "fail 3 5600 5672 0"]
+    items = [(0, "add 0 %d" % line) for line in range(64)] + [(66 * (line - 63), "add %d %d" % (66 * (line - 63), line)) for line in range(64, 128)]
+    for due in range(1000, 8500, 1000):
+        for n in range(257):
+            items.append((due, "frame %d %s" % (due, "%0128x" % draw.getrandbits(512))))
+    items.sort(key=lambda item: item[0])
+    return ("\n".join(lines + [text for _, text in items]) + "\n").encode()
+
+
+def made(lines=128, ticks=100000, frames=50000):
+    """Texts of the form of a walk's, drawn from a number: they are as large as a page has to bear, and no program wrote them."""
+    draw = random.Random(2)
+    packets = -(-(ticks - 8) // 16)
+    script = ["lines %d" % lines, "delays " + " ".join(str(draw.randrange(200)) for _ in range(lines)), "ring 256", "lag 16", "ticks %d" % ticks]
+    for line in range(lines):
+        at = 0
+        for _ in range(20):
+            at += draw.randrange(1000, 6000)
+            if at + 300 < ticks:
+                script.append("fail %d %d %d %d" % (line, at, at + draw.randrange(20, 300), draw.choice((0, 0, 5))))
+    columns = []
+    for line in range(lines):
+        cells = []
+        while len(cells) < packets:
+            code = draw.choice(("norm", "norm", "norm", "dnu", "add", "idle", "eos"))
+            cells += [code + ":" + ("255" if code == "idle" else str(draw.randrange(lines)))] * draw.randrange(4, 60)
+        columns.append(cells)
+    trace = ["packet %d chg %d act %d back %s " % (j, j >> 4 & 1, lines, "lost" if j % 97 == 50 else "ff/%d" % (j >> 4 & 1)) +
+             " ".join(column[j] for column in columns) for j in range(packets)]
+    commands = [(due, "%s %d %d" % (("add", "remove")[n & 1], due, n % lines)) for n, due in enumerate(range(0, ticks, ticks // 500))]
+    clients = [(n * ticks // frames, None) for n in range(frames)]
+    return assembled(draw, script, trace, sorted(commands + clients, key=lambda item: item[0]), ticks, frames)
+
+
+def assembled(draw, script, trace, items, ticks, frames):
+    """The made script, trace, fates and report of items in order."""
+    spoiled = [(row, row + draw.randrange(1, 60)) for row in range(100, ticks - 100, 250)]
+    fates = ["spoiled %d %d %s" % (first, end, ("container 3", "packet 7", "packet")[n % 3]) for n, (first, end) in enumerate(spoiled)]
+    fates += ["segment %d %d true %d" % (end, start, end) for (_, end), (start, _) in zip(spoiled, spoiled[1:])]
+    report, got, lost, refused, seen = [], 0, 0, 0, 0
+    waiting = frames - 100
+    for n, (due, text) in enumerate(items):
+        if text is not None:
+            script.append(text)
+            if n % 7 == 0:
+                report.append("refused %d not in" % n)
+            continue
+        script.append("frame %d %s" % (due, "0" * 128))
+        fate = "waits" if seen >= waiting else "refused" if seen % 89 == 3 else draw.choice(("got",) * 12 + FATES[1:])
+        seen += 1
+        if fate == "refused":
+            refused += 1
+            report.append("refused %d queue" % n)
+            fates.append("frame %d due %d refused queue" % (n, due))
+            continue
+        row = min(due + 60, ticks - 1)
+        got += fate == "got"
+        lost += fate not in ("got", "waits")
+        rows = 0 if fate == "waits" else 3 if fate == "cut" else 2
+        fates.append("frame %d due %d %s" % (n, due, fate) + " %d" % row * rows)
+    waits = frames - got - lost - refused
+    numbers = {"t": ticks, "frames": got + lost + waits, "got": got, "lost": lost, "waits": waits, "bad": refused, "all": len(report),
+               "commands": len(items) - frames}
+    fates.append("fates ticks %(t)d taken %(t)d frames %(frames)d got %(got)d lost %(lost)d waits %(waits)d refused %(bad)d starts true" % numbers)
+    report.append("total ticks %(t)d taken %(t)d frames %(frames)d commands %(commands)d refused %(all)d got %(got)d" % numbers)
+    named = (("script", script), ("trace", trace), ("fates", fates), ("report", report))
+    return {name: ("\n".join(lines) + "\n").encode() for name, lines in named}

@@ -1,0 +1,169 @@
+"use strict";
+/* Reads the texts that the program writes into plain lists: a script, the notes of trace, the text of fates and the
+   report. What can't be read is told in `faults`, a list of sentences, and what follows it is left out. */
+Life.texts = (() => {
+  const { byId, count } = Life.basics;
+  const KINDS = ["script", "trace", "fates", "report"];
+  const FATES = ["got", "cut", "hunting", "unsettled", "unconfirmed", "waits", "refused"];
+
+  /* In the page a backslash is doubled, and a less-than sign and a CR are \x3c and \x0d, so that no text ends its element
+     and none is changed on the way. */
+  function embedded(name) {
+    const e = byId("text-" + name);
+    if (!e) return null;
+    const marks = { x3c: "<", x0d: "\r", "\\": "\\" };
+    return e.textContent.replace(/^\n/, "").replace(/\\(x3c|x0d|\\)/g, (_, mark) => marks[mark]);
+  }
+
+  /* Which of the texts a dropped file is. */
+  function kindOf(text) {
+    if (/^(fault|usage): /.test(text)) return "trace";
+    if (/^packet \d+ chg /m.test(text)) return "trace";
+    if (/^fates ticks /m.test(text) || /^(spoiled|segment) \d/m.test(text)) return "fates";
+    if (/^total ticks /m.test(text)) return "report";
+    if (/^ *lines +\d/m.test(text)) return "script";
+    return null;
+  }
+
+  function linesOf(text) {
+    const all = text.split("\n");
+    if (all[all.length - 1] === "") all.pop();
+    return all;
+  }
+
+  /* ---- The script ---- */
+
+  /* `frame DUE HEX`, or `frame DUE ..N` where the octets were left out and N is their number. */
+  function frameItem(line, item) {
+    const [, due, hex = ""] = line.split(/ +/, 3);
+    const short = /^\.\.(\d+)$/.exec(hex);
+    return { item, kind: "frame", due: +due, octets: short ? +short[1] : hex.length / 2 };
+  }
+
+  const EVENTS = new Set(["client", "operator", "tick", "back", "take", "round", "carry", "drain"]);
+
+  function scriptLine(script, line, at, faults) {
+    const space = line.indexOf(" "), word = space < 0 ? line : line.slice(0, space);
+    /* A frame is by far the longest line, and isn't cut into words. */
+    if (word === "frame") { script.items.push(frameItem(line, script.items.length)); return; }
+    const words = line.split(/ +/), numbers = words.slice(1).map(Number);
+    switch (word) {
+      case "container": script.container = words[1]; break;
+      case "delays": script.delays = numbers; break;
+      case "lines": case "ring": case "lag": case "ticks": script[word] = numbers[0]; break;
+      case "fail": script.fails.push({ line: numbers[0], first: numbers[1], end: numbers[2], slip: numbers[3] }); break;
+      case "lost": script.losts.push({ first: numbers[0], end: numbers[1] }); break;
+      case "add": case "remove":
+        script.items.push({ item: script.items.length, kind: word, due: numbers[0], line: numbers[1] }); break;
+      default:
+        if (EVENTS.has(word)) script.events++;
+        else faults.push("Line " + at + " of the script begins with \u201c" + word.slice(0, 20) + "\u201d, which is no word of a script.");
+    }
+  }
+
+  function readScript(text, faults) {
+    const script = { container: "vc4", lines: 0, delays: [], ring: 0, lag: 0, ticks: 0, fails: [], losts: [], items: [], events: 0 };
+    const about = [];
+    script.text = linesOf(text);
+    let begun = false;
+    script.text.forEach((raw, i) => {
+      const line = raw.trim();
+      if (line === "") { if (about.length) begun = true; return; }
+      if (line[0] === "#") { if (!begun) about.push(line.replace(/^#+\s?/, "")); return; }
+      begun = true;
+      scriptLine(script, line, i + 1, faults);
+    });
+    /* The comment at the head, up to the first line that says something: what the script is about. */
+    script.comment = about.join(" ");
+    return script;
+  }
+
+  /* ---- The notes of trace: of each line its runs of equal CODE:SQ, over packets from `from` to below `end` ---- */
+
+  function readTrace(text, lines, faults) {
+    const trace = { packets: 0, chg: [], act: [], back: [], runs: Array.from({ length: lines }, () => []) };
+    const last = new Array(lines).fill("");
+    /* What ./vcat says of a trial build may stand there too. */
+    const all = linesOf(text).filter((line) => !/^(vcat: |      VCAT_)/.test(line));
+    for (let i = 0; i < all.length; i++) {
+      const words = all[i].split(" "), cells = words.slice(8);
+      if (words[0] !== "packet" || +words[1] !== trace.packets || cells.length !== lines || !/^[a-z]+:\d+$/.test(cells[lines - 1])) {
+        faults.push("Line " + (i + 1) + " of trace isn't that of packet " + trace.packets + " with " + count(lines, "line") +
+          ": the packets from " + trace.packets + " on are missing here.");
+        break;
+      }
+      const packet = trace.packets++;
+      trace.chg.push(+words[3]); trace.act.push(+words[5]); trace.back.push(words[7]);
+      cells.forEach((cell, line) => {
+        const runs = trace.runs[line];
+        if (cell === last[line]) { runs[runs.length - 1].end = packet + 1; return; }
+        last[line] = cell;
+        const colon = cell.indexOf(":");
+        runs.push({ from: packet, end: packet + 1, code: cell.slice(0, colon), sq: +cell.slice(colon + 1) });
+      });
+    }
+    return trace;
+  }
+
+  /* ---- The text of fates ---- */
+
+  const FATES_LINES = {
+    spoiled: /^spoiled (\d+) (\d+) (container|packet)(?: (\d+))?$/,
+    segment: /^segment (\d+) (\d+) (none|true|false)(?: (\d+))?$/,
+    frame: new RegExp("^frame (\\d+) due (\\d+) (?:(waits)|(refused) (queue|length \\d+)" +
+      "|(got|hunting|unsettled|unconfirmed) (\\d+) (\\d+)|(cut) (\\d+) (\\d+) (\\d+))$"),
+    fates: /^fates ticks (\d+) taken (\d+) frames (\d+) got (\d+) lost (\d+) waits (\d+) refused (\d+) starts (true|false)$/,
+  };
+  const optional = (word) => (word === undefined ? -1 : +word);
+
+  function fatesLine(fates, kind, w) {
+    switch (kind) {
+      case "spoiled": fates.spoiled.push({ first: +w[1], end: +w[2], cause: w[3], line: optional(w[4]) }); break;
+      case "segment": fates.segments.push({ first: +w[1], end: +w[2], mark: w[3], row: optional(w[4]) }); break;
+      case "frame":
+        fates.frames.push({ item: +w[1], due: +w[2], fate: w[3] || w[4] || w[6] || w[9], why: w[5] || "",
+          first: optional(w[7] || w[10]), last: optional(w[8] || w[11]), row: optional(w[12]) });
+        break;
+      default:
+        fates.totals = { ticks: +w[1], taken: +w[2], frames: +w[3], got: +w[4], lost: +w[5], waits: +w[6], refused: +w[7],
+          starts: w[8] === "true" };
+    }
+  }
+
+  function readFates(text, faults) {
+    const fates = { spoiled: [], segments: [], frames: [], totals: null };
+    const all = linesOf(text);
+    for (let i = 0; i < all.length; i++) {
+      const line = all[i], kind = line.slice(0, Math.max(0, line.indexOf(" ")));
+      const words = !fates.totals && Object.hasOwn(FATES_LINES, kind) ? FATES_LINES[kind].exec(line) : null;
+      if (!words) {
+        faults.push("Line " + (i + 1) + " of fates isn't understood: \u201c" + line.slice(0, 60) + "\u201d. What follows isn't shown.");
+        break;
+      }
+      fatesLine(fates, kind, words);
+    }
+    if (!fates.totals) {
+      faults.push("The last line of fates, with the totals, is missing: the text was cut off, and frames may be missing too.");
+    }
+    return fates;
+  }
+
+  /* ---- The report: its refused lines and its totals; got lines are passed over ---- */
+
+  function readReport(text, faults) {
+    const report = { refused: new Map(), totals: null };
+    const total = /^total ticks (\d+) taken (\d+) frames (\d+) commands (\d+) refused (\d+) got (\d+)$/;
+    for (const line of linesOf(text)) {
+      if (line.startsWith("got ")) continue;
+      const refused = /^refused (\d+) (.*)$/.exec(line), w = total.exec(line);
+      if (refused) report.refused.set(+refused[1], refused[2]);
+      else if (w) report.totals = { ticks: +w[1], taken: +w[2], frames: +w[3], commands: +w[4], refused: +w[5], got: +w[6] };
+    }
+    if (!report.totals) {
+      faults.push("The last line of the report, with the totals, is missing: the text was cut off, and refused items may be missing too.");
+    }
+    return report;
+  }
+
+  return { KINDS, FATES, embedded, kindOf, linesOf, readScript, readTrace, readFates, readReport };
+})();
