@@ -36,14 +36,14 @@ fn faulty_rows() -> &'static str {
 /// Words that are no command.
 fn usage_rows() -> &'static str {
     "\
-    ; => 2;;usage: vcat_walk walk, trace, decode, or make NUMBER LINES TICKS|\n\
-    walk ; => 2;;usage: vcat_walk walk, trace, decode, or make NUMBER LINES TICKS|\n\
-    walk x; => 2;;usage: vcat_walk walk, trace, decode, or make NUMBER LINES TICKS|\n\
-    Walk; => 2;;usage: vcat_walk walk, trace, decode, or make NUMBER LINES TICKS|\n\
-    walk walk; => 2;;usage: vcat_walk walk, trace, decode, or make NUMBER LINES TICKS|\n\
-    -h; => 2;;usage: vcat_walk walk, trace, decode, or make NUMBER LINES TICKS|\n\
-    run 2; => 2;;usage: vcat_walk walk, trace, decode, or make NUMBER LINES TICKS|\n\
-    make 1 1; => 2;;usage: vcat_walk walk, trace, decode, or make NUMBER LINES TICKS|"
+    ; => 2;;usage: vcat_walk walk, trace, decode, au4, or make NUMBER LINES TICKS|\n\
+    walk ; => 2;;usage: vcat_walk walk, trace, decode, au4, or make NUMBER LINES TICKS|\n\
+    walk x; => 2;;usage: vcat_walk walk, trace, decode, au4, or make NUMBER LINES TICKS|\n\
+    Walk; => 2;;usage: vcat_walk walk, trace, decode, au4, or make NUMBER LINES TICKS|\n\
+    walk walk; => 2;;usage: vcat_walk walk, trace, decode, au4, or make NUMBER LINES TICKS|\n\
+    -h; => 2;;usage: vcat_walk walk, trace, decode, au4, or make NUMBER LINES TICKS|\n\
+    run 2; => 2;;usage: vcat_walk walk, trace, decode, au4, or make NUMBER LINES TICKS|\n\
+    make 1 1; => 2;;usage: vcat_walk walk, trace, decode, au4, or make NUMBER LINES TICKS|"
 }
 
 /// Frames that are carried whole or not, in containers of either size; and those that a failure of 40 containers with a slip of 39 covers:
@@ -164,7 +164,7 @@ fn read_rows() -> &'static str {
     walk;x| => 2 TIMES 3;;fault: read failed| THEN 5;;fault: line 1: word|\n\
     walk;lines 2|delays 0 63|ring 63|lag 5|ticks 1| => 7 TIMES 3;;fault: read failed| THEN 6;;fault: spread 63 0 0 63|\n\
     make 1 1 1; => 0+;made lines 1 ticks 1|total ticks 1 taken 1 frames 1 commands 1 refused 0 got 0|octets 0 sum 0|;\n\
-    make 1 1; => 2;;usage: vcat_walk walk, trace, decode, or make NUMBER LINES TICKS|"
+    make 1 1; => 2;;usage: vcat_walk walk, trace, decode, au4, or make NUMBER LINES TICKS|"
 }
 
 #[test]
