@@ -7,6 +7,8 @@ mod door;
 #[cfg(test)]
 mod group;
 #[cfg(test)]
+mod pointers;
+#[cfg(test)]
 mod rows;
 #[cfg(test)]
 mod running;

@@ -8,23 +8,25 @@ use Rattle.command_parts.specs.Task.{Task, none, reads, makes}
 use Rattle.command_parts.specs.Ends.{Lent}
 use Rattle.walk_core.specs.Moved.{Walked}
 use Rattle.walk_command.specs.declared.command.WalkCommand.{WalkCommand}
-use Rattle.walk_command.specs.declared.command.WalkCommand.TheVariants.{Walk, Trace, Decode, Make, Stream}
+use Rattle.walk_command.specs.declared.command.WalkCommand.TheVariants.{Walk, Trace, Decode, Au4, Make, Stream}
 use Rattle.walk_command.specs.Walk.{walk_words, walk_answer}
 use Rattle.walk_command.specs.Trace.{trace_words, trace_answer}
 use Rattle.walk_command.specs.Decode.{decode_words, decode_answer}
+use Rattle.walk_command.specs.Au4.{au4_words, au4_answer}
 use Rattle.walk_command.specs.Make.{make_words, make_answer}
 use Rattle.walk_command.specs.Stream.{stream_words, stream_answer}
 use Rattle.walk_command.specs.Ended.{IsWalkOf, HandsScript}
 
 abbrev pub usage : List ℕ
-usage = codes "usage: vcat_walk walk, trace, decode, make NUMBER LINES TICKS, or stream OCTETS MBITS FIRST END NUMBER\n"
+usage = codes "usage: vcat_walk walk, trace, decode, au4, make NUMBER LINES TICKS, or stream OCTETS MBITS FIRST END NUMBER\n"
 
 -- ---- a line for each command
 abbrev pub command_of : List (List ℕ) → Option WalkCommand
 command_of words =
-    option_or (option_or (option_or (option_or (walk_words words)
+    option_or (option_or (option_or (option_or (option_or (walk_words words)
     (trace_words words))
     (decode_words words))
+    (au4_words words))
     (make_words words))
     (stream_words words)
 
@@ -32,6 +34,7 @@ abbrev pub task_at : WalkCommand → Task
 task_at Walk = reads walk_answer
 task_at Trace = reads trace_answer
 task_at Decode = reads decode_answer
+task_at Au4 = reads au4_answer
 task_at (Make number lines ticks) = makes (make_answer number lines ticks)
 task_at (Stream load) = makes (stream_answer load)
 
@@ -39,6 +42,7 @@ abbrev pub HandsBack : {S : Type 0} → Lent S → Option Walked → WalkCommand
 HandsBack source walk Walk = HandsScript source walk
 HandsBack source walk Trace = HandsScript source walk
 HandsBack source walk Decode = walk ≡ None
+HandsBack source walk Au4 = walk ≡ None
 HandsBack source walk (Make number lines ticks) = IsWalkOf (load number lines ticks) walk
 HandsBack source walk (Stream rate) = walk ≡ None
 
@@ -47,6 +51,7 @@ abbrev pub RunsScript : WalkCommand → Type 0
 RunsScript Walk = Unit {0}
 RunsScript Trace = Unit {0}
 RunsScript Decode = ⊥
+RunsScript Au4 = ⊥
 RunsScript (Make number lines ticks) = ⊥
 RunsScript (Stream rate) = ⊥
 

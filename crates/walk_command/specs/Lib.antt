@@ -2,6 +2,7 @@ pub mod HexLines
 pub mod Walk
 pub mod Trace
 pub mod Decode
+pub mod Au4
 pub mod Make
 pub mod Stream
 pub mod Commands

@@ -1,6 +1,6 @@
 //! The commands of the program, a line for each.
 
-use crate::{decode, make, stream, trace, walk};
+use crate::{au4, decode, make, stream, trace, walk};
 use cmd_words::FromWords;
 use rate_load::RateLoad;
 
@@ -13,6 +13,8 @@ pub enum WalkCommand {
     Trace,
     /// `decode`: write the control packets in H4 octets.
     Decode,
+    /// `au4`: carry numbered VC-4s over a link of AU-4 frames.
+    Au4,
     /// `make`: make the walk of the load of a number, of 1 to 64 lines and 1 to 1,000,000 ticks.
     Make { number: u64, lines: u8, ticks: u32 },
     /// `stream`: write the script lines of a client that sends at a rate.
@@ -28,6 +30,7 @@ impl FromWords for WalkCommand {
         walk::words(words)
             .or(trace::words(words))
             .or(decode::words(words))
+            .or(au4::words(words))
             .or(make::words(words))
             .or(stream::words(words))
     }

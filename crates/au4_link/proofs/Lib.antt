@@ -1,0 +1,5 @@
+pub mod VcLaws
+pub mod AcceptLaws
+pub mod DraftLaws
+pub mod CutLaws
+pub mod CarrySteps

@@ -1,0 +1,35 @@
+-- What a draft meets, and what a line may say that stands after those of a draft, as private clauses say it.
+use Rattle.std.specs.Prelude.{◌≡◌, ⊤, ℕ, ◌<◌, ◌≤◌, [], length}
+use Rattle.au4_pointer.specs.declared.Action.{Action}
+use Rattle.au4_pointer.specs.declared.Action.TheVariants.{Keep, Up, Down, New}
+use Rattle.au4_pointer.specs.Sent.{AreAccepted}
+use Rattle.au4_link.specs.declared.draft.Statement.{Statement}
+use Rattle.au4_link.specs.declared.draft.Statement.TheVariants as says
+use Rattle.au4_link.specs.declared.draft.Draft.{Draft}
+use Rattle.au4_link.specs.Lines.{least_next}
+
+-- a keyword's place may stand next
+abbrev pub IsPlaced : ℕ → ℕ → Type 0
+IsPlaced next at = (at ≤ 1 → next ≡ at) × (2 ≤ at → 2 ≤ next)
+
+pub record IsDraft (d : Draft) : Type 0 where
+  pub place : d.next ≤ 2
+  pub start : d.start ≤ 782
+  pub none : d.next ≤ 1 → d.actions ≡ []
+  pub some : 2 ≤ d.next → 1 ≤ d.frames
+  pub few : d.frames ≤ 100000
+  pub inside : length d.actions ≤ d.frames
+  pub accepted : AreAccepted d.actions
+
+-- an action that a frame may have
+abbrev pub IsAct : ℕ → Action → Type 0
+IsAct frame Keep = ⊥
+IsAct frame Up = 1 ≤ frame
+IsAct frame Down = 1 ≤ frame
+IsAct frame (New p) = p ≤ 782
+
+abbrev pub Fits : Draft → Statement → Type 0
+Fits d says.Nothing = ⊤
+Fits d (says.Start value) = (d.next ≡ 0) × (value ≤ 782)
+Fits d (says.Frames count) = (d.next ≡ 1) × (1 ≤ count) × (count ≤ 100000)
+Fits d (says.Act frame a) = (d.next ≡ 2) × (length d.actions ≤ frame) × (frame < d.frames) × (least_next d.actions ≤ frame) × IsAct frame a

@@ -1,0 +1,115 @@
+-- The lines of a link's text: what each may say after those before it, which fault it has first, and what it adds to them. This language is
+-- this project's own.
+use Rattle.std.specs.Prelude.{ℕ, ◌+◌, ◌-◌, ◌==◌, ◌&&◌, nat_lt, not, Bool, false, List, [], ◌∷◌, ◌++◌, length, replicate, Option, Some, None, drop, codes, bytes_eq, if◌then◌else◌}
+use Rattle.std.specs.Option.{option_or}
+use Rattle.text_lines.specs.declared.fault.LineKind.{LineKind}
+use Rattle.text_lines.specs.declared.fault.LineKind.TheVariants.{Word, Order, Missing}
+use Rattle.text_lines.specs.Words.{word_at, is_skipped, number_at}
+use Rattle.text_lines.specs.Fields.{Field, within, where_true, fields_fault}
+use Rattle.text_lines.specs.Language.{Language}
+use Rattle.au4_pointer.specs.declared.Action.{Action}
+use Rattle.au4_pointer.specs.declared.Action.TheVariants.{Keep, Up, Down, New}
+use Rattle.au4_link.specs.declared.keyword.Keyword.{Keyword}
+use Rattle.au4_link.specs.declared.keyword.Keyword.TheVariants as word
+use Rattle.au4_link.specs.declared.draft.Statement.{Statement}
+use Rattle.au4_link.specs.declared.draft.Statement.TheVariants as says
+use Rattle.au4_link.specs.declared.draft.Draft.{Draft}
+
+-- ---- the first word
+-- the words that may begin a line
+abbrev pub keyword_of : List ℕ → Option Keyword
+keyword_of w =
+    if bytes_eq w (codes "start") then Some word.Start
+    else if bytes_eq w (codes "frames") then Some word.Frames
+    else if bytes_eq w (codes "up") then Some word.Up
+    else if bytes_eq w (codes "down") then Some word.Down
+    else if bytes_eq w (codes "new") then Some word.New
+    else None
+
+-- the place of a line in a text: 0 and 1 are the lines that have to be there, 2 is that of actions
+abbrev pub place : Keyword → ℕ
+place word.Start = 0
+place word.Frames = 1
+place word.Up = 2
+place word.Down = 2
+place word.New = 2
+
+-- before place 2 each line has its place; from there on none comes back to an earlier part
+abbrev pub place_fault : ℕ → ℕ → Option LineKind
+place_fault next at =
+    option_or (where_true (nat_lt next 2 && not (at == next)) Missing)
+    (where_true (nat_lt at next) Order)
+
+-- ---- the other words
+-- what the words after a keyword have to be: a frame is one of the link's, and no move stands in frame 0
+abbrev pub fields : Draft → Keyword → List Field
+fields d word.Start = within 0 782 ∷ []
+fields d word.Frames = within 1 100000 ∷ []
+fields d word.Up = within 1 (d.frames - 1) ∷ []
+fields d word.Down = within 1 (d.frames - 1) ∷ []
+fields d word.New = within 0 (d.frames - 1) ∷ within 0 782 ∷ []
+
+-- ---- what the lines before it leave no room for
+-- the least frame that a line may name, where these are the actions up to the last frame that one named: three frames lie between two
+abbrev pub least_next : List Action → ℕ
+least_next [] = 0
+least_next (a ∷ more) = length (a ∷ more) + 3
+
+abbrev pub is_early : Draft → Keyword → List (List ℕ) → Bool
+is_early d word.Start ws = false
+is_early d word.Frames ws = false
+is_early d word.Up ws = nat_lt (number_at 0 ws) (least_next d.actions)
+is_early d word.Down ws = nat_lt (number_at 0 ws) (least_next d.actions)
+is_early d word.New ws = nat_lt (number_at 0 ws) (least_next d.actions)
+
+-- ---- the first fault of a line
+-- of the words after a first word that may stand there
+abbrev pub rest_fault : Draft → Keyword → List (List ℕ) → Option LineKind
+rest_fault d k ws =
+    option_or (where_true (not (length ws == length (fields d k))) Word)
+    (option_or (fields_fault (fields d k) 0 ws)
+    (where_true (is_early d k ws) Order))
+
+abbrev pub known_fault : Draft → List (List ℕ) → Option Keyword → Option LineKind
+known_fault d ws None = Some Word
+known_fault d ws (Some k) = option_or (place_fault d.next (place k)) (rest_fault d k ws)
+
+-- of the words of a line
+abbrev pub words_fault : Draft → List (List ℕ) → Option LineKind
+words_fault d ws = if is_skipped ws then None else known_fault d (drop 1 ws) (keyword_of (word_at 0 ws))
+
+-- ---- what a line without a fault says
+abbrev pub said : Keyword → List (List ℕ) → Statement
+said word.Start ws = says.Start (number_at 0 ws)
+said word.Frames ws = says.Frames (number_at 0 ws)
+said word.Up ws = says.Act (number_at 0 ws) Up
+said word.Down ws = says.Act (number_at 0 ws) Down
+said word.New ws = says.Act (number_at 0 ws) (New (number_at 1 ws))
+
+abbrev pub known_said : List (List ℕ) → Option Keyword → Statement
+known_said ws None = says.Nothing
+known_said ws (Some k) = said k ws
+
+abbrev pub words_said : List (List ℕ) → Statement
+words_said ws = if is_skipped ws then says.Nothing else known_said (drop 1 ws) (keyword_of (word_at 0 ws))
+
+-- ---- what it adds to what the lines before it say
+abbrev pub after : Draft → Statement → Draft
+after d says.Nothing = d
+after d (says.Start value) = record d { next = 1; start = value }
+after d (says.Frames count) = record d { next = 2; frames = count }
+after d (says.Act frame a) =
+    record d { actions = d.actions ++ replicate (frame - length d.actions) Keep ++ a ∷ [] }
+
+-- before the first line
+abbrev pub at_first : Draft
+at_first = record { next = 0; start = 0; frames = 0; actions = [] }
+
+-- ---- the lines one after another
+-- a line that has to be there isn't
+abbrev pub missing_line : Draft → Option LineKind
+missing_line d = where_true (nat_lt d.next 2) Missing
+
+abbrev pub link_lines : Language Draft LineKind
+link_lines =
+    record { first = at_first; fault = words_fault; after = λ d ws. after d (words_said ws); missing = missing_line }
