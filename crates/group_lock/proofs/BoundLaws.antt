@@ -35,7 +35,7 @@ use Rattle.group_lock.specs.Parts.{AreSent, ArePast}
 use Rattle.group_lock.specs.Group.{IsOf, SameScript, is_ticked, lines_of, lag_of, lost_of, items_of, ticks_of, frames_of, commands_of, slots_of, bytes_of, taken_of, source_of}
 use Rattle.group_lock.specs.Calls.{Ticks}
 use Rattle.group_lock.specs.Session.{counts_of, refusal_by, refusals_by, accepted_frames_by, accepted_commands_by, octets_in, AreItemsOf, HasLandedOf, IsBound}
-use Rattle.group_lock.proofs.BareLaws.{bare-dues}
+use Rattle.group_source.proofs.BareLaws.{bare-dues}
 use Rattle.group_source.proofs.CellLaws.{taken-more}
 use Rattle.group_lock.proofs.AlikeLaws.{alike-cells, refusal-alike, container-alike, sent-alike, sent-next}
 use Rattle.group_lock.proofs.KeepLaws.{there-at}

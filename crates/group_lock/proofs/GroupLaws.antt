@@ -101,7 +101,7 @@ submits-none g number kind fault none is = record {
   refusals = λ landed. absurd (let e : true ≡ false = sym landed ∙ none in cc);
   script = script-same g;
   rings = record { ticks = refl; inbox = refl; tx = refl; back = refl };
-  made = λ scenario cells has. subst (λ b. HasMade (g.source) (with_landed scenario (ticks_of g) kind b) cells) (sym none) has;
+  made = λ scenario cells has. subst (λ b. HasMade (g.source.core) (with_landed scenario (ticks_of g) kind b) cells) (sym none) has;
   stands = stands-of g;
 }
 

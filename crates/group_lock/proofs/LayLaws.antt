@@ -56,7 +56,7 @@ keeps-laid at size tx back k still popped =
     }
 
 module _ (script : Script) (g : GroupState) (tx : Vec (RingOut Container)) (back : RingIn BackCell)
-    (keeps : Keeps (parts g.source g.total g.landing g.journal g.inbox tx.items back) (length g.frame.items)) (still : AreStill g.tx.items tx.items) (same : SameIn g.back back)
+    (keeps : Keeps (parts g.source.core g.source.total g.source.landed g.journal g.source.inbox tx.items back) (length g.frame.items)) (still : AreStill g.tx.items tx.items) (same : SameIn g.back back)
     (popped : in_passed back ≡ in_passed g.back) where
   told : taken_of (record g { tx = tx; back = back; keeps = keeps }) ≡ taken_of g
   told = ap (told_taken (lost_of g) (lag_of g) (ticks_of g)) popped

@@ -1,4 +1,3 @@
-pub mod BareLaws
 pub mod AlikeLaws
 pub mod RingLaws
 pub mod RefusedLaws

@@ -1,19 +1,23 @@
 -- An item that lands leaves a group bound to its session.
-use Rattle.std.proofs.Common.{◌≡◌, ℕ, zero, suc, ◌+◌, ◌-◌, ◌<◌, ◌≤◌, nat_lt, nat_le, not, ◌&&◌, Bool, true, false, if◌then◌else◌, List, [], ◌∷◌, ◌++◌, map, filter, fold, take, drop, length, slice_get, get_or, All, Option, Some, None, is_none, option_map, inl, inr, refl, sym, ◌∙◌, ap, subst, arith, length-append}
+use Rattle.std.proofs.Common.{◌≡◌, ℕ, suc, ◌+◌, ◌-◌, ◌<◌, ◌≤◌, nat_lt, nat_le, not, ◌&&◌, Bool, true, false}
+use Rattle.std.proofs.Common.{if◌then◌else◌, List, [], ◌∷◌, ◌++◌, map, filter, fold, take, drop, length, slice_get}
+use Rattle.std.proofs.Common.{get_or, All, Option, Some, None, is_none, option_map, inl, inr, refl, sym, ◌∙◌, ap, subst}
+use Rattle.std.proofs.Common.{arith, length-append}
 use Rattle.std.proofs.Math.Logic.{∥∥₁_map, ∥∥₁_elim}
 use Rattle.std.proofs.Props.{props}
 use Rattle.std.proofs.lemmas.Bool.{cases_Bool, ltb-false, eqb-true}
 use Rattle.std.proofs.lemmas.Bool.Decides.{nat_tests}
-use Rattle.std.proofs.lemmas.List.Elements.{All-cons, All-append, All-tail}
+use Rattle.std.proofs.lemmas.List.Elements.{All-cons, All-append}
 use Rattle.std.proofs.lemmas.Option.{slice_get_within, slice_get-map}
 use Rattle.report_text.specs.declared.report.Refusal.{Refusal}
 use Rattle.session_model.specs.declared.script.Script.{Script}
 use Rattle.walk_law.specs.Landed.{Numbered, is_client, refused_by, IsPlaced}
 use Rattle.group_lock.specs.declared.answer.SubmitFault.{SubmitFault}
-use Rattle.group_lock.specs.declared.answer.SubmitFault.TheVariants.{NotNext, Early, Frame as Frame_fault, Command as Command_fault, JournalFull}
+use Rattle.group_lock.specs.declared.answer.SubmitFault.TheVariants.{NotNext, Early, Frame as Frame_fault}
+use Rattle.group_lock.specs.declared.answer.SubmitFault.TheVariants.{Command as Command_fault, JournalFull}
 use Rattle.group_lock.specs.Answer.{fault_of, has_landed, is_full, refusal_told}
-use Rattle.group_source.specs.Landed.{AreBefore, AreAfter}
-use Rattle.group_lock.specs.Session.{refusal_by, refusals_by, accepted_frames_by, accepted_commands_by, AreItemsOf, IsBound}
+use Rattle.group_lock.specs.Session.{refusal_by, refusals_by, accepted_frames_by, accepted_commands_by, AreItemsOf}
+use Rattle.group_lock.specs.Session.{IsBound}
 use Rattle.session_model.specs.Table.{Told}
 use Rattle.walk_law.proofs.ReportLaws.{IsInserted, landed-frame, landed-command, placed, one-more}
 use Rattle.std.proofs.lemmas.List.{length-map, length-drop, get_or-drop}
@@ -25,7 +29,8 @@ use Rattle.session_model.specs.declared.script.ItemKind.{ItemKind}
 use Rattle.session_model.specs.declared.script.ItemKind.TheVariants.{Frame, Add, Remove}
 use Rattle.session_model.specs.declared.table.Command.{Command}
 use Rattle.session_model.specs.declared.table.Command.TheVariants.{Add as add, Remove as remove}
-use Rattle.session_model.specs.Scenario.{Scenario, DueCommand, DueFrame, order_of, offer_of, orders_of, offers_of, scenario_of, steps_in, lands_at, comes_at}
+use Rattle.session_model.specs.Scenario.{Scenario, DueCommand, DueFrame, order_of, offer_of, orders_of, offers_of}
+use Rattle.session_model.specs.Scenario.{scenario_of, steps_in, lands_at, comes_at}
 use Rattle.session_model.specs.Source.{Source, asked_all, refusal}
 use Rattle.session_model.specs.Client.{Stream, stream_before, frame_refusal, refusal_while, offered}
 use Rattle.session_model.specs.Course.{Course}
@@ -36,12 +41,12 @@ use Rattle.report_text.specs.declared.report.Refusal.TheVariants.{Frame as frame
 use Rattle.source_core.specs.Terminal.{Terminal}
 use Rattle.source_core.specs.Given.{Stands as HasMade}
 use Rattle.source_core.proofs.LandedLaws.{alike-landed, first-alike}
-use Rattle.walk_law.specs.Landed.{landed_from, landed_items, landed_scenario, kind_refusal, source_met, IsOfferAt, IsOrderAt}
+use Rattle.walk_law.specs.Landed.{landed_from, landed_items, landed_scenario, kind_refusal, source_met, IsOfferAt}
+use Rattle.walk_law.specs.Landed.{IsOrderAt}
 use Rattle.walk_law.proofs.LandLaws.{frame-dues, command-dues, offer-at, order-at}
 use Rattle.group_source.specs.Place.{is_frame, is_command, place_of}
 use Rattle.group_lock.specs.declared.group.GroupState.{GroupState}
-use Rattle.group_source.specs.Item.{size_of as octet_count}
-use Rattle.group_lock.specs.Item.{bare}
+use Rattle.group_source.specs.Item.{size_of as octet_count, bare}
 use Rattle.group_lock.specs.Journal.{entry_of, items_in, fits}
 use Rattle.std.specs.Global.{Vec}
 use Rattle.std.proofs.lemmas.List.{append-nil, map_push}
@@ -59,60 +64,88 @@ use Rattle.group_lock.proofs.BoundLaws.{of-then}
 use Rattle.group_lock.proofs.MostLaws.{most-next}
 use Rattle.group_source.specs.Landed.{next_number, due_in, due_at}
 use Rattle.group_source.specs.Lands.{met_by, with_kind}
-use Rattle.group_lock.specs.Group.{IsOf, HasCounted, parts_of, items_of, ticks_of, frames_of, commands_of, taken_of, source_of, next_of, refusal_of, is_number, fault_met, fault_in, slots_of, bytes_of, journal_of, refusals_of, lag_of, lost_of, entries_by, with_landed, room_for}
+use Rattle.group_lock.specs.Group.{IsOf, HasCounted, parts_of, items_of, ticks_of, frames_of, commands_of, taken_of}
+use Rattle.group_lock.specs.Group.{source_of, next_of, refusal_of, is_number, fault_met, fault_in, slots_of, bytes_of}
+use Rattle.group_lock.specs.Group.{journal_of, refusals_of, lag_of, lost_of, entries_by, with_landed, room_for}
 use Rattle.group_lock.specs.Session.{counts_of, IsItemOf, octets_in, HasRoom, HasLandedOf}
 use Rattle.group_source.proofs.PlaceLaws.{count_of, place-found, offers-size, orders-size}
 use Rattle.group_source.proofs.LandingLaws.{number-there, item-there, next-due, all-left, all-right, placed-same}
-use Rattle.group_lock.proofs.BareLaws.{bare-dues, bare-place, frame-blind, command-blind}
+use Rattle.group_source.proofs.BareLaws.{bare-dues, bare-place, frame-blind, command-blind}
 use Rattle.group_lock.proofs.GroupLaws.{refused-is, fault_by, met_in}
 
 -- ---- what holds of each of them, and of one more
-pub inserted-all : (P : Numbered → Type 0) (item : Numbered) (was now : List Numbered) → IsInserted item was now → All P was → P item → All P now
+pub inserted-all : (P : Numbered → Type 0) (item : Numbered) (was now : List Numbered) → IsInserted item was now →
+    All P was → P item → All P now
 inserted-all P item was now put all here =
     let parts : All P (put.front ++ put.back) = subst (All P) put.was_so all in
-    subst (All P) (sym put.is_so) (All-append P put.front (item ∷ put.back) (all-left P put.front put.back parts) (All-cons P item put.back here (all-right P put.front put.back parts)))
+    subst (All P) (sym put.is_so)
+    (All-append P put.front (item ∷ put.back) (all-left P put.front put.back parts)
+    (All-cons P item put.back here (all-right P put.front put.back parts)))
 
 -- ---- the item that lands
 -- it is the script's, and is due
-pub item-here : (script : Script) (g : GroupState) (number : ℕ) (kind : ItemKind) → IsOf script g → next_of g kind ≡ Some number → due_at (items_of g) number ≤ ticks_of g → IsItemOf script number kind →
+pub item-here : (script : Script) (g : GroupState) (number : ℕ) (kind : ItemKind) → IsOf script g →
+    next_of g kind ≡ Some number → due_at (items_of g) number ≤ ticks_of g → IsItemOf script number kind →
     slice_get script.items number ≡ Some (record { due = ticks_of g; kind = kind })
 item-here script g number kind of_script next due is_item =
-    let (at, there) = number-there g.landing (is_client kind) number next in
+    let (at, there) = number-there g.source.landed (is_client kind) number next in
     let same = ap length of_script.items ∙ length-map script.items bare in
     let (item, found) = item-there script.items number (omega arith) in
     let bared : slice_get (items_of g) number ≡ Some (bare item) =
-    ap (λ (l : List Item). slice_get l number) of_script.items ∙ slice_get-map bare script.items number ∙ ap (option_map bare) found in
+    ap (λ (l : List Item). slice_get l number) of_script.items ∙ slice_get-map bare script.items number
+    ∙ ap (option_map bare) found in
     let when : due_at (items_of g) number ≡ item.due = ap due_in bared in
-    let late = next-due g.landing (is_client kind) number (ticks_of g) next g.keeps.ahead in
+    let late = next-due g.source.landed (is_client kind) number (ticks_of g) next g.keeps.ahead in
     let now : item.due ≡ ticks_of g = omega arith in
     let is : kind ≡ item.kind = is_item item found in
-    found ∙ ap (λ n. Some (record { due = n; kind = item.kind })) now ∙ ap (λ (k : ItemKind). Some (record { due = ticks_of g; kind = k })) (sym is)
+    found ∙ ap (λ n. Some (record { due = n; kind = item.kind })) now
+    ∙ ap (λ (k : ItemKind). Some (record { due = ticks_of g; kind = k })) (sym is)
 
-frame-place : (script : Script) (g : GroupState) (number : ℕ) → IsOf script g → next_number g.landing true ≡ Some number → number ≡ place_of is_frame (frames_of g) script.items
+frame-place : (script : Script) (g : GroupState) (number : ℕ) → IsOf script g → next_number g.source.landed true
+    ≡ Some number → number ≡ place_of is_frame (frames_of g) script.items
 frame-place script g number of_script next =
-    let (at, there) = number-there g.landing true number next in
-    at ∙ ap (place_of is_frame (frames_of g)) of_script.items ∙ bare-place is_frame frame-blind (frames_of g) script.items
+    let (at, there) = number-there g.source.landed true number next in
+    at ∙ ap (place_of is_frame (frames_of g)) of_script.items ∙ bare-place is_frame frame-blind
+    (frames_of g) script.items
 
-command-place : (script : Script) (g : GroupState) (number : ℕ) → IsOf script g → next_number g.landing false ≡ Some number → number ≡ place_of is_command (commands_of g) script.items
+command-place : (script : Script) (g : GroupState) (number : ℕ) → IsOf script g → next_number g.source.landed false
+    ≡ Some number → number ≡ place_of is_command (commands_of g) script.items
 command-place script g number of_script next =
-    let (at, there) = number-there g.landing false number next in
-    at ∙ ap (place_of is_command (commands_of g)) of_script.items ∙ bare-place is_command command-blind (commands_of g) script.items
+    let (at, there) = number-there g.source.landed false number next in
+    at ∙ ap (place_of is_command (commands_of g)) of_script.items ∙ bare-place is_command command-blind
+    (commands_of g) script.items
 
-pub offer-next : (script : Script) (g : GroupState) (number : ℕ) (octets : List ℕ) → IsOf script g → next_number g.landing true ≡ Some number →
+pub offer-next : (script : Script) (g : GroupState) (number : ℕ) (octets : List ℕ) → IsOf script g →
+    next_number g.source.landed true ≡ Some number →
     slice_get script.items number ≡ Some (record { due = ticks_of g; kind = Frame octets }) →
-    IsOfferAt script.items (frames_of g) (entry_of number (ticks_of g) (Frame octets)) (record { due = ticks_of g; frame = octets })
+    IsOfferAt script.items (frames_of g) (entry_of number (ticks_of g) (Frame octets))
+    (record { due = ticks_of g; frame = octets })
 offer-next script g number octets of_script next here =
     let at = frame-place script g number of_script next in
-    let found = place-found is_frame script.items (frames_of g) (record { due = ticks_of g; kind = Frame octets }) (sym (ap (slice_get script.items) at) ∙ here) in
-    record { there = here; is = refl; before = offers-size (take number script.items) ∙ ap (λ n. count_of is_frame (take n script.items)) at ∙ found.1 }
+    let found = place-found is_frame script.items (frames_of g) (record { due = ticks_of g; kind = Frame octets })
+    (sym (ap (slice_get script.items) at) ∙ here) in
+    record {
+      there = here;
+      is = refl;
+      before = offers-size (take number script.items)
+          ∙ ap (λ n. count_of is_frame (take n script.items)) at ∙ found.1;
+    }
 
-pub order-next : (script : Script) (g : GroupState) (number : ℕ) (kind : ItemKind) (order : DueCommand) → IsOf script g → next_number g.landing false ≡ Some number →
-    order_of (ticks_of g) kind ≡ order ∷ [] → slice_get script.items number ≡ Some (record { due = ticks_of g; kind = kind }) →
+pub order-next : (script : Script) (g : GroupState) (number : ℕ) (kind : ItemKind) (order : DueCommand) →
+    IsOf script g → next_number g.source.landed false ≡ Some number →
+    order_of (ticks_of g) kind ≡ order ∷ [] → slice_get script.items number ≡ Some
+    (record { due = ticks_of g; kind = kind }) →
     IsOrderAt script.items (commands_of g) (entry_of number (ticks_of g) kind) order
 order-next script g number kind order of_script next is here =
     let at = command-place script g number of_script next in
-    let found = place-found is_command script.items (commands_of g) (record { due = ticks_of g; kind = kind }) (sym (ap (slice_get script.items) at) ∙ here) in
-    record { there = here; is = is; before = orders-size (take number script.items) ∙ ap (λ n. count_of is_command (take n script.items)) at ∙ found.1 }
+    let found = place-found is_command script.items (commands_of g) (record { due = ticks_of g; kind = kind })
+    (sym (ap (slice_get script.items) at) ∙ here) in
+    record {
+      there = here;
+      is = is;
+      before = orders-size (take number script.items)
+          ∙ ap (λ n. count_of is_command (take n script.items)) at ∙ found.1;
+    }
 
 -- ---- what has landed is the script's, up to the ticks made
 module _ (script : Script) (g : GroupState) (of_script : IsOf script g) where
@@ -121,107 +154,168 @@ module _ (script : Script) (g : GroupState) (of_script : IsOf script g) where
       let n : ℕ = frames_of g + k in
       let size = length-drop (frames_of g) (offers_of script.items) in
       let here : slice_get (frame_dues (dues_of (items_of g))) n ≡ Some (get_or (offers_of script.items) n d).due =
-      ap (λ (l : List Item). slice_get (frame_dues (dues_of l)) n) of_script.items ∙ ap (λ l. slice_get (frame_dues l) n) (bare-dues script.items)
-      ∙ ap (λ l. slice_get l n) (frame-dues script.items) ∙ slice_get-map (λ (offer : DueFrame). offer.due) (offers_of script.items) n
-      ∙ ap (option_map (λ (offer : DueFrame). offer.due)) (slice_get-get_or (offers_of script.items) n d (omega arith)) in
+      ap (λ (l : List Item). slice_get (frame_dues (dues_of l)) n) of_script.items
+      ∙ ap (λ l. slice_get (frame_dues l) n) (bare-dues script.items)
+      ∙ ap (λ l. slice_get l n) (frame-dues script.items) ∙ slice_get-map (λ (offer : DueFrame). offer.due)
+      (offers_of script.items) n
+      ∙ ap (option_map (λ (offer : DueFrame). offer.due))
+      (slice_get-get_or (offers_of script.items) n d (omega arith)) in
       let late = g.keeps.ahead.of_frames n (get_or (offers_of script.items) n d).due (omega arith) here in
-      subst (λ (offer : DueFrame). ticks_of g ≤ offer.due) (sym (get_or-drop (frames_of g) (offers_of script.items) k d)) late
+      subst (λ (offer : DueFrame). ticks_of g ≤ offer.due)
+      (sym (get_or-drop (frames_of g) (offers_of script.items) k d)) late
 
   orders-after : All (λ (order : DueCommand). ticks_of g ≤ order.due) (drop (commands_of g) (orders_of script.items))
   orders-after k d inside =
       let n : ℕ = commands_of g + k in
       let size = length-drop (commands_of g) (orders_of script.items) in
       let here : slice_get (command_dues (dues_of (items_of g))) n ≡ Some (get_or (orders_of script.items) n d).due =
-      ap (λ (l : List Item). slice_get (command_dues (dues_of l)) n) of_script.items ∙ ap (λ l. slice_get (command_dues l) n) (bare-dues script.items)
-      ∙ ap (λ l. slice_get l n) (command-dues script.items) ∙ slice_get-map (λ (order : DueCommand). order.due) (orders_of script.items) n
-      ∙ ap (option_map (λ (order : DueCommand). order.due)) (slice_get-get_or (orders_of script.items) n d (omega arith)) in
+      ap (λ (l : List Item). slice_get (command_dues (dues_of l)) n) of_script.items
+      ∙ ap (λ l. slice_get (command_dues l) n) (bare-dues script.items)
+      ∙ ap (λ l. slice_get l n) (command-dues script.items) ∙ slice_get-map (λ (order : DueCommand). order.due)
+      (orders_of script.items) n
+      ∙ ap (option_map (λ (order : DueCommand). order.due))
+      (slice_get-get_or (orders_of script.items) n d (omega arith)) in
       let late = g.keeps.ahead.of_commands n (get_or (orders_of script.items) n d).due (omega arith) here in
-      subst (λ (order : DueCommand). ticks_of g ≤ order.due) (sym (get_or-drop (commands_of g) (orders_of script.items) k d)) late
+      subst (λ (order : DueCommand). ticks_of g ≤ order.due)
+      (sym (get_or-drop (commands_of g) (orders_of script.items) k d)) late
 
-  pub landed-alike : Alike (landed_scenario script (counts_of g)) (taken_of g) (scenario_of script) (taken_of g) (ticks_of g)
+  pub landed-alike : Alike (landed_scenario script (counts_of g)) (taken_of g) (scenario_of script) (taken_of g)
+      (ticks_of g)
   landed-alike =
       alike-landed (landed_scenario script (counts_of g)) (scenario_of script) (taken_of g) (taken_of g) (ticks_of g)
       (first-alike (scenario_of script) (commands_of g) (frames_of g) (ticks_of g) orders-after offers-after) refl
 
 -- ---- what the source says of it is what the script says
-met-frame : (core : Terminal) (script : Script) (s : Counts) (cells : List (Option Told)) (number : ℕ) (octets : List ℕ) → HasMade core (landed_scenario script s) cells →
-    Alike (landed_scenario script s) cells (scenario_of script) cells core.ticks → offers_of (take number script.items) ≡ take s.frames (offers_of script.items) →
-    met_by core (Frame octets) ≡ kind_refusal (scenario_of script) cells core.ticks (take number script.items) (Frame octets)
+met-frame : (core : Terminal) (script : Script) (s : Counts) (cells : List (Option Told)) (number : ℕ)
+    (octets : List ℕ) → HasMade core (landed_scenario script s) cells →
+    Alike (landed_scenario script s) cells (scenario_of script) cells core.ticks → offers_of (take number script.items)
+    ≡ take s.frames (offers_of script.items) →
+    met_by core (Frame octets) ≡ kind_refusal (scenario_of script) cells core.ticks (take number script.items)
+    (Frame octets)
 met-frame core script s cells number octets made alike earlier =
     ap (λ (waiting : List (List ℕ)). option_map frame_refused (refusal_while waiting octets)) made.stream.waits
-    ∙ ap (λ (stream : Stream). option_map frame_refused (frame_refusal octets (fold offered stream (map (λ (offer : DueFrame). offer.frame) (filter (comes_at core.ticks) (take s.frames (offers_of script.items)))))))
+    ∙ ap (λ (stream : Stream). option_map frame_refused
+    (frame_refusal octets
+    (fold offered stream
+    (map (λ (offer : DueFrame). offer.frame) (filter (comes_at core.ticks) (take s.frames (offers_of script.items)))))))
     (alike-stream (landed_scenario script s) cells (scenario_of script) cells core.ticks alike)
     ∙ ap (λ (offers : List DueFrame). kind_met offers) (sym earlier)
   where
     kind_met : List DueFrame → Option Refusal
-    kind_met offers = option_map frame_refused (frame_refusal octets (fold offered (stream_before (scenario_of script) cells core.ticks) (map (λ (offer : DueFrame). offer.frame) (filter (comes_at core.ticks) offers))))
+    kind_met offers =
+        option_map frame_refused (frame_refusal octets (fold offered (stream_before (scenario_of script) cells core.ticks)
+        (map (λ (offer : DueFrame). offer.frame) (filter (comes_at core.ticks) offers))))
 
-met-command : (core : Terminal) (script : Script) (s : Counts) (cells : List (Option Told)) (number : ℕ) (command : Command) → HasMade core (landed_scenario script s) cells →
-    Alike (landed_scenario script s) cells (scenario_of script) cells core.ticks → orders_of (take number script.items) ≡ take s.commands (orders_of script.items) →
+met-command : (core : Terminal) (script : Script) (s : Counts) (cells : List (Option Told)) (number : ℕ)
+    (command : Command) → HasMade core (landed_scenario script s) cells →
+    Alike (landed_scenario script s) cells (scenario_of script) cells core.ticks → orders_of (take number script.items)
+    ≡ take s.commands (orders_of script.items) →
     option_map command_refused (refusal core.lines command core.table.source)
-    ≡ option_map command_refused (refusal (length script.config.windows) command (source_met (scenario_of script) cells core.ticks (orders_of (take number script.items))))
+    ≡ option_map command_refused
+    (refusal (length script.config.windows) command
+    (source_met (scenario_of script) cells core.ticks (orders_of (take number script.items))))
 met-command core script s cells number command made alike earlier =
     ap (λ n. option_map command_refused (refusal n command core.table.source)) made.lines
-    ∙ ap (λ (course : Course). option_map command_refused (refusal (length script.config.windows) command course.source)) made.table
-    ∙ ap (λ (source : Source). option_map command_refused (refusal (length script.config.windows) command (asked_all (length script.config.windows) (map (λ (order : DueCommand). order.command) (filter (lands_at (steps_in core.ticks)) (take s.commands (orders_of script.items)))) source)))
-    (alike-after (landed_scenario script s) cells (scenario_of script) cells core.ticks (steps_in core.ticks) alike (omega arith))
-    ∙ ap (λ (orders : List DueCommand). option_map command_refused (refusal (length script.config.windows) command (source_met (scenario_of script) cells core.ticks orders))) (sym earlier)
+    ∙ ap (λ (course : Course). option_map command_refused
+    (refusal (length script.config.windows) command course.source)) made.table
+    ∙ ap (λ (source : Source). option_map command_refused
+    (refusal (length script.config.windows) command
+    (asked_all (length script.config.windows)
+    (map (λ (order : DueCommand). order.command)
+    (filter (lands_at (steps_in core.ticks)) (take s.commands (orders_of script.items)))) source)))
+    (alike-after (landed_scenario script s) cells (scenario_of script) cells core.ticks (steps_in core.ticks) alike
+    (omega arith))
+    ∙ ap (λ (orders : List DueCommand). option_map command_refused
+    (refusal (length script.config.windows) command (source_met (scenario_of script) cells core.ticks orders)))
+    (sym earlier)
 
 -- ---- why it is refused
-pub refusal-item : (script : Script) (g : GroupState) (number : ℕ) (kind : ItemKind) → IsOf script g → HasLandedOf script g → next_of g kind ≡ Some number →
-    slice_get script.items number ≡ Some (record { due = ticks_of g; kind = kind }) → refusal_of g kind ≡ refusal_by script (taken_of g) (entry_of number (ticks_of g) kind)
+pub refusal-item : (script : Script) (g : GroupState) (number : ℕ) (kind : ItemKind) → IsOf script g →
+    HasLandedOf script g → next_of g kind ≡ Some number →
+    slice_get script.items number ≡ Some (record { due = ticks_of g; kind = kind }) →
+    refusal_of g kind ≡ refusal_by script (taken_of g) (entry_of number (ticks_of g) kind)
 refusal-item script g number (Frame octets) of_script has next here =
-    let at = offer-at script.items (frames_of g) (entry_of number (ticks_of g) (Frame octets)) (record { due = ticks_of g; frame = octets }) (offer-next script g number octets of_script next here) in
-    sym (refused-is g (Frame octets)) ∙ ∥∥₁_elim has.made (hlevel props) (λ made. met-frame (source_of g) script (counts_of g) (taken_of g) number octets made (landed-alike script g of_script) at.1)
+    let at = offer-at script.items (frames_of g) (entry_of number (ticks_of g) (Frame octets))
+    (record { due = ticks_of g; frame = octets }) (offer-next script g number octets of_script next here) in
+    sym (refused-is g (Frame octets)) ∙ ∥∥₁_elim has.made (hlevel props)
+    (λ made. met-frame (source_of g) script (counts_of g) (taken_of g) number octets made
+    (landed-alike script g of_script) at.1)
 refusal-item script g number (Add line) of_script has next here =
     let order : DueCommand = record { due = ticks_of g; command = add line } in
-    let at = order-at script.items (commands_of g) (entry_of number (ticks_of g) (Add line)) order (order-next script g number (Add line) order of_script next refl here) in
-    sym (refused-is g (Add line)) ∙ ∥∥₁_elim has.made (hlevel props) (λ made. met-command (source_of g) script (counts_of g) (taken_of g) number (add line) made (landed-alike script g of_script) at.1)
+    let at = order-at script.items (commands_of g) (entry_of number (ticks_of g) (Add line)) order
+    (order-next script g number (Add line) order of_script next refl here) in
+    sym (refused-is g (Add line)) ∙ ∥∥₁_elim has.made (hlevel props)
+    (λ made. met-command (source_of g) script (counts_of g) (taken_of g) number (add line) made
+    (landed-alike script g of_script) at.1)
 refusal-item script g number (Remove line) of_script has next here =
     let order : DueCommand = record { due = ticks_of g; command = remove line } in
-    let at = order-at script.items (commands_of g) (entry_of number (ticks_of g) (Remove line)) order (order-next script g number (Remove line) order of_script next refl here) in
-    sym (refused-is g (Remove line)) ∙ ∥∥₁_elim has.made (hlevel props) (λ made. met-command (source_of g) script (counts_of g) (taken_of g) number (remove line) made (landed-alike script g of_script) at.1)
+    let at = order-at script.items (commands_of g) (entry_of number (ticks_of g) (Remove line)) order
+    (order-next script g number (Remove line) order of_script next refl here) in
+    sym (refused-is g (Remove line)) ∙ ∥∥₁_elim has.made (hlevel props)
+    (λ made. met-command (source_of g) script (counts_of g) (taken_of g) number (remove line) made
+    (landed-alike script g of_script) at.1)
 
 -- ---- what has landed with it
 pub record Next (script : Script) (a b : GroupState) (number : ℕ) (kind : ItemKind) : Type 0 where
-  pub inserted : IsInserted (entry_of number (ticks_of a) kind) (landed_items script (counts_of a)) (landed_items script (counts_of b))
-  pub scenario : with_kind (landed_scenario script (counts_of a)) (ticks_of a) kind ≡ landed_scenario script (counts_of b)
-  pub octets : octets_in (drop (frames_of a) (offers_of script.items)) ≡ octet_count kind + octets_in (drop (frames_of b) (offers_of script.items))
-  pub entries : length (drop (frames_of a) (offers_of script.items)) + length (drop (commands_of a) (orders_of script.items))
-      ≡ length (drop (frames_of b) (offers_of script.items)) + length (drop (commands_of b) (orders_of script.items)) + 1
+  pub inserted : IsInserted (entry_of number (ticks_of a) kind) (landed_items script (counts_of a))
+      (landed_items script (counts_of b))
+  pub scenario : with_kind (landed_scenario script (counts_of a)) (ticks_of a) kind ≡ landed_scenario script
+      (counts_of b)
+  pub octets : octets_in (drop (frames_of a) (offers_of script.items)) ≡ octet_count kind + octets_in
+      (drop (frames_of b) (offers_of script.items))
+  pub entries : length (drop (frames_of a) (offers_of script.items)) + length
+      (drop (commands_of a) (orders_of script.items))
+      ≡ length (drop (frames_of b) (offers_of script.items)) + length
+      (drop (commands_of b) (orders_of script.items)) + 1
 
-command-next : (script : Script) (a b : GroupState) (number : ℕ) (kind : ItemKind) (order : DueCommand) → IsOf script a → next_number a.landing false ≡ Some number → order_of (ticks_of a) kind ≡ order ∷ [] →
-    slice_get script.items number ≡ Some (record { due = ticks_of a; kind = kind }) → frames_of b ≡ frames_of a → commands_of b ≡ commands_of a + 1 →
-    IsInserted (entry_of number (ticks_of a) kind) (landed_items script (counts_of a)) (landed_items script (counts_of b))
-    × (with_items (scenario_of script) (take (commands_of a) (orders_of script.items) ++ order ∷ []) (take (frames_of a) (offers_of script.items)) ≡ landed_scenario script (counts_of b))
+command-next : (script : Script) (a b : GroupState) (number : ℕ) (kind : ItemKind) (order : DueCommand) →
+    IsOf script a → next_number a.source.landed false ≡ Some number → order_of (ticks_of a) kind ≡ order ∷ [] →
+    slice_get script.items number ≡ Some (record { due = ticks_of a; kind = kind }) → frames_of b ≡ frames_of a →
+    commands_of b ≡ commands_of a + 1 →
+    IsInserted (entry_of number (ticks_of a) kind) (landed_items script (counts_of a))
+    (landed_items script (counts_of b))
+    × (with_items (scenario_of script) (take (commands_of a) (orders_of script.items) ++ order ∷ [])
+    (take (frames_of a) (offers_of script.items)) ≡ landed_scenario script (counts_of b))
     × (commands_of a < length (orders_of script.items))
 command-next script a b number kind order of_script next is here frames commands =
     let at = order-next script a number kind order of_script next is here in
     let there = (order-at script.items (commands_of a) (entry_of number (ticks_of a) kind) order at).0 in
     let up : suc (commands_of a) ≡ commands_of b = omega arith in
-    let items : landed_items script (record (counts_of a) { commands = commands_of a + 1 }) ≡ landed_items script (counts_of b) =
-    ap (λ n. landed_from (frames_of a) n 0 script.items) (sym commands) ∙ ap (λ n. landed_from n (commands_of b) 0 script.items) (sym frames) in (
-      subst (IsInserted (entry_of number (ticks_of a) kind) (landed_items script (counts_of a))) items (landed-command script (counts_of a) (entry_of number (ticks_of a) kind) order at),
-      ap (λ (l : List DueCommand). with_items (scenario_of script) l (take (frames_of a) (offers_of script.items))) (sym (take-next (orders_of script.items) (commands_of a) order there))
-          ∙ ap (λ n. with_items (scenario_of script) (take n (orders_of script.items)) (take (frames_of a) (offers_of script.items))) up
-          ∙ ap (λ n. with_items (scenario_of script) (take (commands_of b) (orders_of script.items)) (take n (offers_of script.items))) (sym frames),
+    let items : landed_items script (record (counts_of a) { commands = commands_of a + 1 }) ≡ landed_items script
+    (counts_of b) =
+    ap (λ n. landed_from (frames_of a) n 0 script.items) (sym commands)
+    ∙ ap (λ n. landed_from n (commands_of b) 0 script.items) (sym frames) in (
+      subst (IsInserted (entry_of number (ticks_of a) kind) (landed_items script (counts_of a))) items
+          (landed-command script (counts_of a) (entry_of number (ticks_of a) kind) order at),
+      ap (λ (l : List DueCommand). with_items (scenario_of script) l (take (frames_of a) (offers_of script.items)))
+          (sym (take-next (orders_of script.items) (commands_of a) order there))
+          ∙ ap (λ n. with_items (scenario_of script) (take n (orders_of script.items))
+          (take (frames_of a) (offers_of script.items))) up
+          ∙ ap (λ n. with_items (scenario_of script) (take (commands_of b) (orders_of script.items))
+          (take n (offers_of script.items))) (sym frames),
       slice_get_within (orders_of script.items) (commands_of a) order there,
     )
 
 less-by : (n m size : ℕ) → n < size → m ≡ n + 1 → size - n ≡ size - m + 1
 less-by n m size low e = omega arith
 
-next-command : (script : Script) (a b : GroupState) (number : ℕ) (kind : ItemKind) (order : DueCommand) → IsOf script a → next_number a.landing false ≡ Some number → order_of (ticks_of a) kind ≡ order ∷ [] →
-    slice_get script.items number ≡ Some (record { due = ticks_of a; kind = kind }) → frames_of b ≡ frames_of a → commands_of b ≡ commands_of a + 1 → octet_count kind ≡ 0 →
-    with_kind (landed_scenario script (counts_of a)) (ticks_of a) kind ≡ with_items (scenario_of script) (take (commands_of a) (orders_of script.items) ++ order ∷ []) (take (frames_of a) (offers_of script.items)) →
+next-command : (script : Script) (a b : GroupState) (number : ℕ) (kind : ItemKind) (order : DueCommand) →
+    IsOf script a → next_number a.source.landed false ≡ Some number → order_of (ticks_of a) kind ≡ order ∷ [] →
+    slice_get script.items number ≡ Some (record { due = ticks_of a; kind = kind }) → frames_of b ≡ frames_of a →
+    commands_of b ≡ commands_of a + 1 → octet_count kind ≡ 0 →
+    with_kind (landed_scenario script (counts_of a)) (ticks_of a) kind ≡ with_items (scenario_of script)
+    (take (commands_of a) (orders_of script.items) ++ order ∷ []) (take (frames_of a) (offers_of script.items)) →
     Next script a b number kind
 next-command script a b number kind order of_script next is here frames commands none with_one =
     let made = command-next script a b number kind order of_script next is here frames commands in
     let one = length-drop (commands_of a) (orders_of script.items) in
     let two = length-drop (commands_of b) (orders_of script.items) in
     let step = less-by (commands_of a) (commands_of b) (length (orders_of script.items)) made.2 commands in
-    let same : length (drop (frames_of a) (offers_of script.items)) ≡ length (drop (frames_of b) (offers_of script.items)) = ap (λ n. length (drop n (offers_of script.items))) (sym frames) in
-    let octets : octets_in (drop (frames_of a) (offers_of script.items)) ≡ octets_in (drop (frames_of b) (offers_of script.items)) = ap (λ n. octets_in (drop n (offers_of script.items))) (sym frames) in
+    let same : length (drop (frames_of a) (offers_of script.items)) ≡ length
+    (drop (frames_of b) (offers_of script.items)) = ap (λ n. length (drop n (offers_of script.items))) (sym frames) in
+    let octets : octets_in (drop (frames_of a) (offers_of script.items)) ≡ octets_in
+    (drop (frames_of b) (offers_of script.items)) = ap (λ n. octets_in (drop n (offers_of script.items)))
+    (sym frames) in
     record {
       inserted = made.0;
       scenario = with_one ∙ made.1;
@@ -229,7 +323,8 @@ next-command script a b number kind order of_script next is here frames commands
       entries = omega arith;
     }
 
-pub next-of : (script : Script) (a b : GroupState) (number : ℕ) (kind : ItemKind) → IsOf script a → next_of a kind ≡ Some number → slice_get script.items number ≡ Some (record { due = ticks_of a; kind = kind }) →
+pub next-of : (script : Script) (a b : GroupState) (number : ℕ) (kind : ItemKind) → IsOf script a →
+    next_of a kind ≡ Some number → slice_get script.items number ≡ Some (record { due = ticks_of a; kind = kind }) →
     HasCounted a b kind true → Next script a b number kind
 next-of script a b number (Frame octets) of_script next here counted =
     let offer : DueFrame = record { due = ticks_of a; frame = octets } in
@@ -237,21 +332,33 @@ next-of script a b number (Frame octets) of_script next here counted =
     let there = (offer-at script.items (frames_of a) (entry_of number (ticks_of a) (Frame octets)) offer at).0 in
     let inside = slice_get_within (offers_of script.items) (frames_of a) offer there in
     let frames : frames_of b ≡ frames_of a + 1 = counted.frames in
-    let commands : commands_of b ≡ commands_of a = counted.commands ∙ (let e : commands_of a + 0 ≡ commands_of a = omega arith in e) in
+    let commands : commands_of b ≡ commands_of a =
+    counted.commands ∙ (let e : commands_of a + 0 ≡ commands_of a = omega arith in e) in
     let up : suc (frames_of a) ≡ frames_of b = omega arith in
-    let items : landed_items script (record (counts_of a) { frames = frames_of a + 1 }) ≡ landed_items script (counts_of b) =
-    ap (λ n. landed_from n (commands_of a) 0 script.items) (sym frames) ∙ ap (λ n. landed_from (frames_of b) n 0 script.items) (sym commands) in
+    let items : landed_items script (record (counts_of a) { frames = frames_of a + 1 }) ≡ landed_items script
+    (counts_of b) =
+    ap (λ n. landed_from n (commands_of a) 0 script.items) (sym frames)
+    ∙ ap (λ n. landed_from (frames_of b) n 0 script.items) (sym commands) in
     let one = length-drop (frames_of a) (offers_of script.items) in
     let two = length-drop (frames_of b) (offers_of script.items) in
     let step = less-by (frames_of a) (frames_of b) (length (offers_of script.items)) inside frames in
-    let same : length (drop (commands_of a) (orders_of script.items)) ≡ length (drop (commands_of b) (orders_of script.items)) = ap (λ n. length (drop n (orders_of script.items))) (sym commands) in
+    let same : length (drop (commands_of a) (orders_of script.items)) ≡ length
+    (drop (commands_of b) (orders_of script.items)) = ap (λ n. length (drop n (orders_of script.items)))
+    (sym commands) in
     record {
-      inserted = subst (IsInserted (entry_of number (ticks_of a) (Frame octets)) (landed_items script (counts_of a))) items (landed-frame script (counts_of a) (entry_of number (ticks_of a) (Frame octets)) offer at);
-      scenario = ap (λ (l : List DueFrame). with_items (scenario_of script) (take (commands_of a) (orders_of script.items)) l) (sym (take-next (offers_of script.items) (frames_of a) offer there))
-          ∙ ap (λ n. with_items (scenario_of script) (take (commands_of a) (orders_of script.items)) (take n (offers_of script.items))) up
-          ∙ ap (λ n. with_items (scenario_of script) (take n (orders_of script.items)) (take (frames_of b) (offers_of script.items))) (sym commands);
+      inserted = subst (IsInserted (entry_of number (ticks_of a) (Frame octets))
+          (landed_items script (counts_of a))) items
+          (landed-frame script (counts_of a) (entry_of number (ticks_of a) (Frame octets)) offer at);
+      scenario = ap (λ (l : List DueFrame). with_items (scenario_of script)
+          (take (commands_of a) (orders_of script.items)) l)
+          (sym (take-next (offers_of script.items) (frames_of a) offer there))
+          ∙ ap (λ n. with_items (scenario_of script) (take (commands_of a) (orders_of script.items))
+          (take n (offers_of script.items))) up
+          ∙ ap (λ n. with_items (scenario_of script) (take n (orders_of script.items))
+          (take (frames_of b) (offers_of script.items))) (sym commands);
       octets = sum_by-drop_more (λ (o : DueFrame). length o.frame) (offers_of script.items) (frames_of a) offer inside
-          ∙ ap (λ (o : DueFrame). length o.frame + octets_in (drop (frames_of a + 1) (offers_of script.items))) (get_or_from_slice_get (offers_of script.items) (frames_of a) offer offer there)
+          ∙ ap (λ (o : DueFrame). length o.frame + octets_in (drop (frames_of a + 1) (offers_of script.items)))
+          (get_or_from_slice_get (offers_of script.items) (frames_of a) offer offer there)
           ∙ ap (λ n. length octets + octets_in (drop n (offers_of script.items))) (sym frames);
       entries = omega arith;
     }
@@ -259,7 +366,8 @@ next-of script a b number (Add line) of_script next here counted =
     next-command script a b number (Add line) (record { due = ticks_of a; command = add line }) of_script next refl here
     (counted.frames ∙ (let e : frames_of a + 0 ≡ frames_of a = omega arith in e)) counted.commands refl refl
 next-of script a b number (Remove line) of_script next here counted =
-    next-command script a b number (Remove line) (record { due = ticks_of a; command = remove line }) of_script next refl here
+    next-command script a b number (Remove line)
+    (record { due = ticks_of a; command = remove line }) of_script next refl here
     (counted.frames ∙ (let e : frames_of a + 0 ≡ frames_of a = omega arith in e)) counted.commands refl refl
 
 -- ---- what an answer tells
@@ -267,7 +375,8 @@ number-is : (next : Option ℕ) (number : ℕ) → is_number next number ≡ tru
 number-is None number e = absurd cc
 number-is (Some n) number e = ap Some (eqb-true n number e)
 
-asks-by : (next : Option ℕ) (number ticks due : ℕ) (rest : Option SubmitFault) → has_landed (fault_by next number ticks due rest) ≡ true →
+asks-by : (next : Option ℕ) (number ticks due : ℕ) (rest : Option SubmitFault) →
+    has_landed (fault_by next number ticks due rest) ≡ true →
     (next ≡ Some number) × (due ≤ ticks) × (fault_by next number ticks due rest ≡ rest)
 asks-by next number ticks due rest h =
     elim (cases_Bool (is_number next number)) [
@@ -278,12 +387,14 @@ asks-by next number ticks due rest h =
       ]
     ]
 
-landed-met : (why : Option Refusal) (fits : Bool) (slots bytes : ℕ) → has_landed (fault_met why fits slots bytes) ≡ true → fault_met why fits slots bytes ≡ option_map fault_of why
+landed-met : (why : Option Refusal) (fits : Bool) (slots bytes : ℕ) → has_landed (fault_met why fits slots bytes)
+    ≡ true → fault_met why fits slots bytes ≡ option_map fault_of why
 landed-met (Some why) fits slots bytes h = refl
 landed-met None true slots bytes h = refl
 landed-met None false slots bytes h = absurd cc
 
-full-by : (next : Option ℕ) (number ticks due : ℕ) (rest : Option SubmitFault) → is_full (fault_by next number ticks due rest) ≡ true → (next ≡ Some number) × (due ≤ ticks) × (is_full rest ≡ true)
+full-by : (next : Option ℕ) (number ticks due : ℕ) (rest : Option SubmitFault) →
+    is_full (fault_by next number ticks due rest) ≡ true → (next ≡ Some number) × (due ≤ ticks) × (is_full rest ≡ true)
 full-by next number ticks due rest h =
     elim (cases_Bool (is_number next number)) [
       | inr other ↦ absurd (let f : false ≡ true = rw other at h in cc)
@@ -293,7 +404,8 @@ full-by next number ticks due rest h =
       ]
     ]
 
-full-met : (why : Option Refusal) (fits : Bool) (slots bytes : ℕ) → is_full (fault_met why fits slots bytes) ≡ true → fits ≡ false
+full-met : (why : Option Refusal) (fits : Bool) (slots bytes : ℕ) → is_full (fault_met why fits slots bytes) ≡ true →
+    fits ≡ false
 full-met (Some (frame_refused fault)) fits slots bytes h = absurd cc
 full-met (Some (command_refused fault)) fits slots bytes h = absurd cc
 full-met None true slots bytes h = absurd cc
@@ -305,58 +417,72 @@ told-rest (Some (frame_refused fault)) = refl
 told-rest (Some (command_refused fault)) = refl
 
 -- ---- the journal has room
-room-first : (script : Script) (g : GroupState) (number : ℕ) (kind : ItemKind) → IsOf script g → next_of g kind ≡ Some number → slice_get script.items number ≡ Some (record { due = ticks_of g; kind = kind }) → HasRoom script g →
+room-first : (script : Script) (g : GroupState) (number : ℕ) (kind : ItemKind) → IsOf script g →
+    next_of g kind ≡ Some number → slice_get script.items number ≡ Some (record { due = ticks_of g; kind = kind }) →
+    HasRoom script g →
     (0 < slots_of g) × (octet_count kind ≤ bytes_of g)
 room-first script g number (Frame octets) of_script next here room =
     let offer : DueFrame = record { due = ticks_of g; frame = octets } in
-    let there = (offer-at script.items (frames_of g) (entry_of number (ticks_of g) (Frame octets)) offer (offer-next script g number octets of_script next here)).0 in
+    let there = (offer-at script.items (frames_of g) (entry_of number (ticks_of g) (Frame octets)) offer
+    (offer-next script g number octets of_script next here)).0 in
     let inside = slice_get_within (offers_of script.items) (frames_of g) offer there in
     let long = length-drop (frames_of g) (offers_of script.items) in
     let entries = room.entries in
     let bytes = room.octets in
     let first = sum_by-drop_more (λ (o : DueFrame). length o.frame) (offers_of script.items) (frames_of g) offer inside
-    ∙ ap (λ (o : DueFrame). length o.frame + octets_in (drop (frames_of g + 1) (offers_of script.items))) (get_or_from_slice_get (offers_of script.items) (frames_of g) offer offer there) in
+    ∙ ap (λ (o : DueFrame). length o.frame + octets_in (drop (frames_of g + 1) (offers_of script.items)))
+    (get_or_from_slice_get (offers_of script.items) (frames_of g) offer offer there) in
     (omega arith, omega arith)
 room-first script g number (Add line) of_script next here room =
     let order : DueCommand = record { due = ticks_of g; command = add line } in
-    let there = (order-at script.items (commands_of g) (entry_of number (ticks_of g) (Add line)) order (order-next script g number (Add line) order of_script next refl here)).0 in
+    let there = (order-at script.items (commands_of g) (entry_of number (ticks_of g) (Add line)) order
+    (order-next script g number (Add line) order of_script next refl here)).0 in
     let inside = slice_get_within (orders_of script.items) (commands_of g) order there in
     let long = length-drop (commands_of g) (orders_of script.items) in
     let entries = room.entries in
     (omega arith, omega arith)
 room-first script g number (Remove line) of_script next here room =
     let order : DueCommand = record { due = ticks_of g; command = remove line } in
-    let there = (order-at script.items (commands_of g) (entry_of number (ticks_of g) (Remove line)) order (order-next script g number (Remove line) order of_script next refl here)).0 in
+    let there = (order-at script.items (commands_of g) (entry_of number (ticks_of g) (Remove line)) order
+    (order-next script g number (Remove line) order of_script next refl here)).0 in
     let inside = slice_get_within (orders_of script.items) (commands_of g) order there in
     let long = length-drop (commands_of g) (orders_of script.items) in
     let entries = room.entries in
     (omega arith, omega arith)
 
-pub not-full : (script : Script) (g : GroupState) (number : ℕ) (kind : ItemKind) (answer : Option SubmitFault) → IsOf script g → HasRoom script g → IsItemOf script number kind → answer ≡ fault_in g number kind →
+pub not-full : (script : Script) (g : GroupState) (number : ℕ) (kind : ItemKind) (answer : Option SubmitFault) →
+    IsOf script g → HasRoom script g → IsItemOf script number kind → answer ≡ fault_in g number kind →
     is_full answer ≡ false
 not-full script g number kind answer of_script room is_item is =
     elim (cases_Bool (is_full answer)) [
       | inr none ↦ none
       | inl full ↦
-          let (next, due, none) = full-by (next_of g kind) number (ticks_of g) (due_at (items_of g) number) (met_in g kind) (sym (ap is_full is) ∙ full) in
+          let (next, due, none) = full-by (next_of g kind) number (ticks_of g) (due_at (items_of g) number)
+          (met_in g kind) (sym (ap is_full is) ∙ full) in
           let few = full-met (refusal_of g kind) (fits (parts_of g).journal kind) (slots_of g) (bytes_of g) none in
           let here = item-here script g number kind of_script next due is_item in
           let (slots, bytes) = room-first script g number kind of_script next here room in
-          absurd (let f = fits-room (slots_of g) (bytes_of g) (octet_count kind) slots bytes in let e : true ≡ false = sym f ∙ few in cc)
+          absurd (let f = fits-room (slots_of g) (bytes_of g) (octet_count kind) slots bytes in
+          let e : true ≡ false = sym f ∙ few in cc)
     ]
   where
     fits-room : (slots bytes size : ℕ) → 0 < slots → size ≤ bytes → (nat_lt 0 slots && nat_le size bytes) ≡ true
     fits-room slots bytes size low high = grind (arith, nat_tests, low, high)
 
 -- ---- what is bound after it
-entries-next : (answer : Option SubmitFault) (script : Script) (was now : List Numbered) (number ticks : ℕ) (kind : ItemKind) → now ≡ was ++ entries_by answer number ticks kind → AreItemsOf script was →
+entries-next : (answer : Option SubmitFault) (script : Script) (was now : List Numbered) (number ticks : ℕ)
+    (kind : ItemKind) → now ≡ was ++ entries_by answer number ticks kind → AreItemsOf script was →
     slice_get script.items number ≡ Some (record { due = ticks; kind = kind }) → AreItemsOf script now
 entries-next None script was now number ticks kind same each here =
-    subst (AreItemsOf script) (sym same) (push-cases (λ i (entry : Numbered). slice_get script.items entry.number ≡ Some entry.item) was (entry_of number ticks kind) each here)
-entries-next (Some fault) script was now number ticks kind same each here = subst (AreItemsOf script) (sym (same ∙ append-nil was)) each
+    subst (AreItemsOf script) (sym same)
+    (push-cases (λ i (entry : Numbered). slice_get script.items entry.number ≡ Some entry.item) was
+    (entry_of number ticks kind) each here)
+entries-next (Some fault) script was now number ticks kind same each here =
+    subst (AreItemsOf script) (sym (same ∙ append-nil was)) each
 
 -- how many of the entries are frames, and commands
-kind-size : (kind : ItemKind) (ticks : ℕ) → (length (offer_of ticks kind) ≡ (if is_client kind && true then 1 else 0)) × (length (order_of ticks kind) ≡ (if not (is_client kind) && true then 1 else 0))
+kind-size : (kind : ItemKind) (ticks : ℕ) → (length (offer_of ticks kind) ≡ (if is_client kind && true then 1 else 0))
+    × (length (order_of ticks kind) ≡ (if not (is_client kind) && true then 1 else 0))
 kind-size (Frame octets) ticks = (refl, refl)
 kind-size (Add line) ticks = (refl, refl)
 kind-size (Remove line) ticks = (refl, refl)
@@ -367,7 +493,8 @@ none-size false = refl
 
 refused-next : (was now : List Numbered) (kind : ItemKind) → now ≡ was →
     (length (offers_of (items_in now)) ≡ length (offers_of (items_in was)) + (if is_client kind && false then 1 else 0))
-    × (length (orders_of (items_in now)) ≡ length (orders_of (items_in was)) + (if not (is_client kind) && false then 1 else 0))
+    × (length (orders_of (items_in now)) ≡ length (orders_of (items_in was)) +
+    (if not (is_client kind) && false then 1 else 0))
 refused-next was now kind same =
     let a = none-size (is_client kind) in
     let b = none-size (not (is_client kind)) in
@@ -375,53 +502,75 @@ refused-next was now kind same =
     let d = ap (λ (l : List Numbered). length (orders_of (items_in l))) same in
     (omega arith, omega arith)
 
-offers-next : (answer : Option SubmitFault) (was now : List Numbered) (number ticks : ℕ) (kind : ItemKind) → has_landed answer ≡ true → now ≡ was ++ entries_by answer number ticks kind →
-    (length (offers_of (items_in now)) ≡ length (offers_of (items_in was)) + (if is_client kind && is_none (refusal_told answer) then 1 else 0))
-    × (length (orders_of (items_in now)) ≡ length (orders_of (items_in was)) + (if not (is_client kind) && is_none (refusal_told answer) then 1 else 0))
+offers-next : (answer : Option SubmitFault) (was now : List Numbered) (number ticks : ℕ) (kind : ItemKind) →
+    has_landed answer ≡ true → now ≡ was ++ entries_by answer number ticks kind →
+    (length (offers_of (items_in now)) ≡ length (offers_of (items_in was)) +
+    (if is_client kind && is_none (refusal_told answer) then 1 else 0))
+    × (length (orders_of (items_in now)) ≡ length (orders_of (items_in was)) +
+    (if not (is_client kind) && is_none (refusal_told answer) then 1 else 0))
 offers-next None was now number ticks kind landed same =
     let item : Item = record { due = ticks; kind = kind } in
-    let all : items_in now ≡ items_in was ++ item ∷ [] = ap items_in same ∙ map_push (λ (entry : Numbered). entry.item) was (entry_of number ticks kind) in
+    let all : items_in now ≡ items_in was ++ item ∷ [] =
+    ap items_in same ∙ map_push (λ (entry : Numbered). entry.item) was (entry_of number ticks kind) in
     let (a, b) = kind-size kind ticks in (
-      ap length (ap offers_of all ∙ offers-push (items_in was) item) ∙ length-append (offers_of (items_in was)) (offer_of ticks kind) ∙ ap (λ n. length (offers_of (items_in was)) + n) a,
-      ap length (ap orders_of all ∙ orders-push (items_in was) item) ∙ length-append (orders_of (items_in was)) (order_of ticks kind) ∙ ap (λ n. length (orders_of (items_in was)) + n) b,
+      ap length (ap offers_of all ∙ offers-push (items_in was) item) ∙ length-append (offers_of (items_in was))
+          (offer_of ticks kind) ∙ ap (λ n. length (offers_of (items_in was)) + n) a,
+      ap length (ap orders_of all ∙ orders-push (items_in was) item) ∙ length-append (orders_of (items_in was))
+          (order_of ticks kind) ∙ ap (λ n. length (orders_of (items_in was)) + n) b,
     )
 offers-next (Some (NotNext next)) was now number ticks kind landed same = absurd cc
 offers-next (Some (Early now_)) was now number ticks kind landed same = absurd cc
 offers-next (Some (JournalFull slots bytes)) was now number ticks kind landed same = absurd cc
-offers-next (Some (Frame_fault why)) was now number ticks kind landed same = refused-next was now kind (same ∙ append-nil was)
-offers-next (Some (Command_fault why)) was now number ticks kind landed same = refused-next was now kind (same ∙ append-nil was)
+offers-next (Some (Frame_fault why)) was now number ticks kind landed same =
+    refused-next was now kind (same ∙ append-nil was)
+offers-next (Some (Command_fault why)) was now number ticks kind landed same =
+    refused-next was now kind (same ∙ append-nil was)
 
-past-all : (ticks : ℕ) (items : List Numbered) → ArePast ticks items → All (λ (item : Numbered). item.item.due ≤ ticks) items
+past-all : (ticks : ℕ) (items : List Numbered) → ArePast ticks items →
+    All (λ (item : Numbered). item.item.due ≤ ticks) items
 past-all ticks items past k d inside = past k (get_or items k d) (slice_get-get_or items k d inside)
 
-all-past : (ticks : ℕ) (items : List Numbered) → All (λ (item : Numbered). item.item.due ≤ ticks) items → ArePast ticks items
+all-past : (ticks : ℕ) (items : List Numbered) → All (λ (item : Numbered). item.item.due ≤ ticks) items →
+    ArePast ticks items
 all-past ticks items all i item there =
-    subst (λ (one : Numbered). one.item.due ≤ ticks) (get_or_from_slice_get items i item item there) (all i item (slice_get_within items i item there))
+    subst (λ (one : Numbered). one.item.due ≤ ticks) (get_or_from_slice_get items i item item there)
+    (all i item (slice_get_within items i item there))
 
-module _ (script : Script) (a b : GroupState) (number : ℕ) (kind : ItemKind) (answer : Option SubmitFault) (of_script : IsOf script a) (has : HasLandedOf script a)
-    (call : Submits a b number kind answer) (landed : has_landed answer ≡ true) (is_item : IsItemOf script number kind) where
+module _ (script : Script) (a b : GroupState) (number : ℕ) (kind : ItemKind) (answer : Option SubmitFault)
+    (of_script : IsOf script a) (has : HasLandedOf script a)
+    (call : Submits a b number kind answer) (landed : has_landed answer ≡ true)
+    (is_item : IsItemOf script number kind) where
   abbrev entry : Numbered
   entry = entry_of number (ticks_of a) kind
 
-  asks : (next_of a kind ≡ Some number) × (due_at (items_of a) number ≤ ticks_of a) × (answer ≡ option_map fault_of (refusal_of a kind))
+  asks : (next_of a kind ≡ Some number) × (due_at (items_of a) number ≤ ticks_of a)
+      × (answer ≡ option_map fault_of (refusal_of a kind))
   asks =
-      let (next, due, same) = asks-by (next_of a kind) number (ticks_of a) (due_at (items_of a) number) (met_in a kind) (sym (ap has_landed call.fault) ∙ landed) in
-      let met : answer ≡ met_in a kind = call.fault ∙ same in
-      (next, due, met ∙ landed-met (refusal_of a kind) (fits (parts_of a).journal kind) (slots_of a) (bytes_of a) (sym (ap has_landed met) ∙ landed))
+      let (next, due, same) = asks-by (next_of a kind) number (ticks_of a) (due_at (items_of a) number) (met_in a kind)
+      (sym (ap has_landed call.fault) ∙ landed) in
+      let met : answer ≡ met_in a kind = call.fault ∙ same in (
+        next,
+        due,
+        met ∙ landed-met (refusal_of a kind) (fits (parts_of a).journal kind) (slots_of a) (bytes_of a)
+            (sym (ap has_landed met) ∙ landed),
+      )
 
   here : slice_get script.items number ≡ Some (record { due = ticks_of a; kind = kind })
   here = item-here script a number kind of_script asks.0 asks.1 is_item
 
   told : refusal_told answer ≡ refusal_by script (taken_of a) (entry_of number (ticks_of a) kind)
-  told = ap refusal_told asks.2 ∙ told-rest (refusal_of a kind) ∙ refusal-item script a number kind of_script has asks.0 here
+  told = ap refusal_told asks.2 ∙ told-rest (refusal_of a kind)
+      ∙ refusal-item script a number kind of_script has asks.0 here
 
   pub next-is : Next script a b number kind
   next-is = next-of script a b number kind of_script asks.0 here (subst (HasCounted a b kind) landed call.landed)
 
   taken : taken_of b ≡ taken_of a
   taken =
-      ap (λ l. told_taken l (lag_of b) (ticks_of b) (in_passed b.back)) call.script.lost ∙ ap (λ n. told_taken (lost_of a) n (ticks_of b) (in_passed b.back)) call.script.lag
-      ∙ ap (λ n. told_taken (lost_of a) (lag_of a) n (in_passed b.back)) call.rings.ticks ∙ ap (λ (end_ : RingIn BackCell). told_taken (lost_of a) (lag_of a) (ticks_of a) (in_passed end_)) call.rings.back
+      ap (λ l. told_taken l (lag_of b) (ticks_of b) (in_passed b.back)) call.script.lost
+      ∙ ap (λ n. told_taken (lost_of a) n (ticks_of b) (in_passed b.back)) call.script.lag
+      ∙ ap (λ n. told_taken (lost_of a) (lag_of a) n (in_passed b.back)) call.rings.ticks
+      ∙ ap (λ (end_ : RingIn BackCell). told_taken (lost_of a) (lag_of a) (ticks_of a) (in_passed end_)) call.rings.back
 
   pub landed-submits : HasLandedOf script b
   landed-submits =
@@ -429,31 +578,51 @@ module _ (script : Script) (a b : GroupState) (number : ℕ) (kind : ItemKind) (
       let most = most-next script a b kind has (subst (HasCounted a b kind) landed call.landed) next-is.entries in
       let cells : List (Option Told) = taken_of a in
       let sizes = offers-next answer (journal_of a) (journal_of b) number (ticks_of a) kind landed call.journal in
-      let frames = one-more (λ item. is_client item.item.kind && is_none (refusal_by script cells item)) entry (landed_items script (counts_of a)) (landed_items script (counts_of b)) put in
-      let commands = one-more (λ item. not (is_client item.item.kind) && is_none (refusal_by script cells item)) entry (landed_items script (counts_of a)) (landed_items script (counts_of b)) put in
+      let frames = one-more (λ item. is_client item.item.kind && is_none (refusal_by script cells item)) entry
+      (landed_items script (counts_of a)) (landed_items script (counts_of b)) put in
+      let commands = one-more (λ item. not (is_client item.item.kind) && is_none (refusal_by script cells item)) entry
+      (landed_items script (counts_of a)) (landed_items script (counts_of b)) put in
       record {
-        entries = entries-next answer script (journal_of a) (journal_of b) number (ticks_of a) kind call.journal has.entries here;
+        entries = entries-next answer script (journal_of a) (journal_of b) number
+            (ticks_of a) kind call.journal has.entries here;
         past = subst (λ n. ArePast n (landed_items script (counts_of b))) (sym call.rings.ticks)
             (all-past (ticks_of a) (landed_items script (counts_of b))
-            (inserted-all (λ (item : Numbered). item.item.due ≤ ticks_of a) entry (landed_items script (counts_of a)) (landed_items script (counts_of b)) put
+            (inserted-all (λ (item : Numbered). item.item.due ≤ ticks_of a) entry (landed_items script (counts_of a))
+            (landed_items script (counts_of b)) put
             (past-all (ticks_of a) (landed_items script (counts_of a)) has.past) (omega arith)));
         most_frames = most.0;
         most_commands = most.1;
-        refusals = placed-same number (refused_by number (refusal_told answer)) (refusals_of a) (refusals_of b) (refusals_by script cells (landed_items script (counts_of b))) (call.refusals landed)
-            (subst (λ (l : List (ℕ × Refusal)). IsPlaced number (refused_by number (refusal_told answer)) l (refusals_by script cells (landed_items script (counts_of b)))) (sym has.refusals)
-            (subst (λ (w : Option Refusal). IsPlaced number (refused_by number w) (refusals_by script cells (landed_items script (counts_of a))) (refusals_by script cells (landed_items script (counts_of b)))) (sym told)
-            (placed (refusal_by script cells) entry (landed_items script (counts_of a)) (landed_items script (counts_of b)) put)))
+        refusals = placed-same number (refused_by number (refusal_told answer)) (refusals_of a) (refusals_of b)
+            (refusals_by script cells (landed_items script (counts_of b))) (call.refusals landed)
+            (subst (λ (l : List (ℕ × Refusal)). IsPlaced number (refused_by number (refusal_told answer)) l
+            (refusals_by script cells (landed_items script (counts_of b)))) (sym has.refusals)
+            (subst (λ (w : Option Refusal). IsPlaced number (refused_by number w)
+            (refusals_by script cells (landed_items script (counts_of a)))
+            (refusals_by script cells (landed_items script (counts_of b)))) (sym told)
+            (placed (refusal_by script cells) entry (landed_items script (counts_of a))
+            (landed_items script (counts_of b)) put)))
             ∙ sym (ap (λ c. refusals_by script c (landed_items script (counts_of b))) taken);
         frames = sizes.0 ∙ ap (λ n. n + (if is_client kind && is_none (refusal_told answer) then 1 else 0)) has.frames
-            ∙ ap (λ (w : Option Refusal). length (accepted_frames_by script cells (landed_items script (counts_of a))) + (if is_client kind && is_none w then 1 else 0)) told
-            ∙ sym frames ∙ sym (ap (λ c. length (accepted_frames_by script c (landed_items script (counts_of b)))) taken);
-        commands = sizes.1 ∙ ap (λ n. n + (if not (is_client kind) && is_none (refusal_told answer) then 1 else 0)) has.commands
-            ∙ ap (λ (w : Option Refusal). length (accepted_commands_by script cells (landed_items script (counts_of a))) + (if not (is_client kind) && is_none w then 1 else 0)) told
-            ∙ sym commands ∙ sym (ap (λ c. length (accepted_commands_by script c (landed_items script (counts_of b)))) taken);
-        sent = subst (λ (v : Vec (RingOut Container)). AreSent (scenario_of script) (taken_of b) (ticks_of b) v.items) (sym call.rings.tx)
-            (subst (λ n. AreSent (scenario_of script) (taken_of b) n a.tx.items) (sym call.rings.ticks) (subst (λ c. AreSent (scenario_of script) c (ticks_of a) a.tx.items) (sym taken) has.sent));
-        made = ∥∥₁_map has.made (λ made. subst (HasMade (source_of b) (landed_scenario script (counts_of b))) (sym taken)
-            (subst (λ (s : Scenario). HasMade (source_of b) s cells) (ap (λ b_. with_landed (landed_scenario script (counts_of a)) (ticks_of a) kind b_) landed ∙ next-is.scenario)
+            ∙ ap (λ (w : Option Refusal). length (accepted_frames_by script cells (landed_items script (counts_of a))) +
+            (if is_client kind && is_none w then 1 else 0)) told
+            ∙ sym frames ∙ sym (ap
+            (λ c. length (accepted_frames_by script c (landed_items script (counts_of b)))) taken);
+        commands = sizes.1 ∙ ap
+            (λ n. n + (if not (is_client kind) && is_none (refusal_told answer) then 1 else 0)) has.commands
+            ∙ ap (λ (w : Option Refusal). length
+            (accepted_commands_by script cells (landed_items script (counts_of a))) +
+            (if not (is_client kind) && is_none w then 1 else 0)) told
+            ∙ sym commands ∙ sym
+            (ap (λ c. length (accepted_commands_by script c (landed_items script (counts_of b)))) taken);
+        sent = subst (λ (v : Vec (RingOut Container)). AreSent (scenario_of script) (taken_of b) (ticks_of b) v.items)
+            (sym call.rings.tx)
+            (subst (λ n. AreSent (scenario_of script) (taken_of b) n a.tx.items) (sym call.rings.ticks)
+            (subst (λ c. AreSent (scenario_of script) c (ticks_of a) a.tx.items) (sym taken) has.sent));
+        made = ∥∥₁_map has.made
+            (λ made. subst (HasMade (source_of b) (landed_scenario script (counts_of b))) (sym taken)
+            (subst (λ (s : Scenario). HasMade (source_of b) s cells)
+            (ap (λ b_. with_landed (landed_scenario script (counts_of a)) (ticks_of a) kind b_) landed
+            ∙ next-is.scenario)
             (call.made (landed_scenario script (counts_of a)) cells made)));
       }
 
@@ -461,7 +630,8 @@ room-taken : (answer : Option SubmitFault) (n m size : ℕ) → m + room_for ans
 room-taken None n m size e = omega arith
 room-taken (Some fault) n m size e = omega arith
 
-pub bound-submits : (script : Script) (tx : List (RingOut Container)) (back : List (RingIn BackCell)) (a b : GroupState) (number : ℕ) (kind : ItemKind) (answer : Option SubmitFault) →
+pub bound-submits : (script : Script) (tx : List (RingOut Container)) (back : List (RingIn BackCell)) (a b : GroupState)
+    (number : ℕ) (kind : ItemKind) (answer : Option SubmitFault) →
     IsBound script tx back a → Submits a b number kind answer → IsItemOf script number kind → IsBound script tx back b
 bound-submits script tx back a b number kind answer is call is_item =
     elim (cases_Bool (has_landed answer)) [

@@ -21,9 +21,14 @@ use Rattle.group_lock.specs.declared.answer.TickAnswer.{TickAnswer}
 use Rattle.group_lock.specs.declared.answer.TickAnswer.TheVariants.{Ticked, Held, TxFull, BackMissing, Done}
 use Rattle.group_lock.specs.declared.group.GroupState.{GroupState}
 use Rattle.group_lock.specs.Journal.{journal_scenario}
+use Rattle.group_source.specs.declared.source.EarlyCause.{EarlyCause}
+use Rattle.group_source.specs.declared.source.EarlyCause.TheVariants.{Done as Early_done, Held as Early_held}
 use Rattle.group_source.specs.Inbox.{told_taken}
+use Rattle.group_source.specs.Source.{early_in}
+use Rattle.group_source.proofs.SourceLaws.{early-none, early-done, early-held}
+use Rattle.group_lock.specs.Answer.{stop_of}
 use Rattle.group_lock.specs.Rings.{SameOuts, HasLooked, HaveLooked, AreFree, IsFirstFull, IsDrained}
-use Rattle.group_lock.specs.Group.{parts_of, lost_of, items_of, frames_of, commands_of, journal_of, lines_of, lag_of, size_of, SameScript, SameLanded, ticks_of, total_of, taken_of, source_of, inbox_of, held_of, replay_of, is_ticked, IsFreeToTick, AreMoved, IsMissing, ArePushedOf}
+use Rattle.group_lock.specs.Group.{parts_of, side_of, lost_of, items_of, frames_of, commands_of, journal_of, lines_of, lag_of, size_of, SameScript, SameLanded, ticks_of, total_of, taken_of, source_of, inbox_of, held_of, replay_of, is_ticked, IsFreeToTick, AreMoved, IsMissing, ArePushedOf}
 use Rattle.group_lock.specs.Calls.{Ticks, Comes, Looks, Makes}
 use Rattle.group_lock.proofs.KeepLaws.{there-at, empty-come}
 use Rattle.group_lock.proofs.GroupLaws.{stands-of}
@@ -177,6 +182,16 @@ free-before a b comes low is =
     let total = comes.script.total in
     let ticks = ap (λ (t : Terminal). t.ticks) comes.source in
     record { left = omega arith; held = sym (is ∙ held-same a b comes.script comes.landed comes.source) }
+
+-- by what the source says of its tick
+pub free-early : (a b : GroupState) → Comes a b → early_in (side_of b) ≡ None → IsFreeToTick a
+free-early a b comes none = let (low, is) = early-none (side_of b) none in free-before a b comes low (sym is)
+
+pub ticks-early : (a b : GroupState) (cause : EarlyCause) (answer : TickAnswer) → answer ≡ stop_of cause → Comes a b → early_in (side_of b) ≡ Some cause → Ticks a b answer
+ticks-early a b Early_done answer same comes is = subst (Ticks a b) (sym same) (ticks-done a b comes (early-done (side_of b) is))
+ticks-early a b (Early_held item) answer same comes is =
+    let (low, found) = early-held (side_of b) item is in
+    subst (Ticks a b) (sym same) (ticks-held a b item comes low (sym found))
 
 not-done : (a : GroupState) → IsFreeToTick a → total_of a ≤ ticks_of a → ⊥
 not-done a free low = let left = free.left in omega arith

@@ -1,9 +1,13 @@
--- What it means that an item isn't accepted.
+-- What it means that an item isn't accepted, and that no ring stops a tick.
 use Rattle.std.specs.Prelude.{Bool, true, false, Option, Some, None}
 use Rattle.report_text.specs.declared.report.Refusal.{Refusal}
 use Rattle.report_text.specs.declared.report.Refusal.TheVariants.{Frame as frame_refused, Command as command_refused}
 use Rattle.group_lock.specs.declared.answer.SubmitFault.{SubmitFault}
 use Rattle.group_lock.specs.declared.answer.SubmitFault.TheVariants.{NotNext, Early, Frame, Command, JournalFull}
+use Rattle.group_source.specs.declared.source.EarlyCause.{EarlyCause}
+use Rattle.group_source.specs.declared.source.EarlyCause.TheVariants.{Done as Early_done, Held as Early_held}
+use Rattle.group_lock.specs.declared.answer.TickAnswer.{TickAnswer}
+use Rattle.group_lock.specs.declared.answer.TickAnswer.TheVariants.{Held, Done}
 
 -- the answer for an item that is refused
 abbrev pub fault_of : Refusal → SubmitFault
@@ -36,3 +40,8 @@ is_full (Some (Early now)) = false
 is_full (Some (Frame why)) = false
 is_full (Some (Command why)) = false
 is_full (Some (JournalFull entries bytes)) = true
+
+-- the answer of a tick that no ring stops
+abbrev pub stop_of : EarlyCause → TickAnswer
+stop_of Early_done = Done
+stop_of (Early_held item) = Held item

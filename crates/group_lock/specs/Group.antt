@@ -21,9 +21,9 @@ use Rattle.group_lock.specs.declared.answer.SubmitFault.{SubmitFault}
 use Rattle.group_lock.specs.declared.answer.SubmitFault.TheVariants.{NotNext, Early, JournalFull}
 use Rattle.group_lock.specs.declared.answer.TickAnswer.{TickAnswer}
 use Rattle.group_lock.specs.declared.answer.TickAnswer.TheVariants.{Ticked, Held, TxFull, BackMissing, Done}
-use Rattle.group_source.specs.Item.{size_of as octet_count}
-use Rattle.group_lock.specs.Item.{bare_items}
+use Rattle.group_source.specs.Item.{size_of as octet_count, bare_items}
 use Rattle.group_source.specs.Lands.{with_kind}
+use Rattle.group_source.specs.Source.{Source}
 use Rattle.group_lock.specs.Answer.{fault_of}
 use Rattle.group_lock.specs.Journal.{entry_of, items_in, fits, IsLegal}
 use Rattle.group_source.specs.Landed.{next_number, due_at, AreAhead, AreBehind}
@@ -32,7 +32,11 @@ use Rattle.group_lock.specs.Parts.{Parts, parts, scenario_in, told_in_parts, Are
 use Rattle.group_lock.specs.declared.group.GroupState.{GroupState}
 
 abbrev pub parts_of : GroupState → Parts
-parts_of g = parts g.source g.total g.landing g.journal g.inbox g.tx.items g.back
+parts_of g = parts g.source.core g.source.total g.source.landed g.journal g.source.inbox g.tx.items g.back
+
+-- its source side
+abbrev pub side_of : GroupState → Source
+side_of g = g.source
 
 -- ---- what it keeps of its script
 abbrev pub lines_of : GroupState → ℕ

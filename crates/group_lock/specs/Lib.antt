@@ -1,4 +1,3 @@
-pub mod Item
 pub mod Answer
 pub mod Journal
 pub mod Entries

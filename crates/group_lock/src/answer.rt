@@ -1,8 +1,9 @@
 //! What the calls of a group answer.
 
 ghost use Rattle.std.specs.Prelude.{◌≡◌};
-ghost use Rattle.group_lock.specs.Answer.{fault_of};
+ghost use Rattle.group_lock.specs.Answer.{fault_of, stop_of};
 
+use group_source::EarlyCause;
 use report_text::Refusal;
 use source_core::{AcceptFault, CommandFault};
 
@@ -43,5 +44,15 @@ pub(crate) fn refused(why: Refusal) -> SubmitFault
     match why {
         Refusal::Frame(fault) => SubmitFault::Frame(fault),
         Refusal::Command(fault) => SubmitFault::Command(fault),
+    }
+}
+
+/// The answer of a tick that no ring stops.
+pub(crate) fn stopped(cause: EarlyCause) -> TickAnswer
+    ensures { result ≡ stop_of cause }
+{
+    match cause {
+        EarlyCause::Done => TickAnswer::Done,
+        EarlyCause::Held { item } => TickAnswer::Held { item },
     }
 }

@@ -2,24 +2,19 @@
 
 ghost use Rattle.std.specs.Prelude.{◌≡◌, ◌↔◌, ◌+◌, ◌<◌, if◌then◌else◌, List, Option, None, length, drop, slice_get, IsSome, IfOk};
 ghost use Rattle.session_model.specs.Scenario.{Scenario};
-ghost use Rattle.session_model.specs.Table.{Told};
-ghost use Rattle.session_model.specs.Sent.{frame_of};
-ghost use Rattle.vc_cell.specs.Held.{held};
-ghost use Rattle.source_core.specs.Terminal.{SameKind, needed};
-ghost use Rattle.source_core.specs.Given.{with_cell, Stands as HasMade};
+ghost use Rattle.source_core.specs.Given.{Stands as HasMade};
 ghost use Rattle.group_source.specs.Item.{kind_of};
-ghost use Rattle.group_source.specs.Lands.{met_by, with_kind};
+ghost use Rattle.group_source.specs.Source.{early_in, missing_in};
 ghost use Rattle.group_lock.specs.Parts.{parts, Keeps};
 
-use crate::answer::{SubmitFault, TickAnswer, refused};
+use crate::answer::{SubmitFault, TickAnswer, refused, stopped};
 use crate::journal::Journal;
-use crate::opening::{Making, Notes, Opened, open};
+use crate::opening::{Opened, open};
 use crate::sends::{first_full, push_frame, take_cells};
-use group_source::{Inbox, ItemRef, Landing};
+use group_source::{GroupSource, ItemRef};
 use member_ring::{RingIn, RingOut};
 use report_text::{Refusal, Totals};
 use session_model::Script;
-use source_core::{Command, SourceCore};
 use std::alloc::{AllocError, Global};
 use vc_cell::{BackCell, Container, HeldContainer};
 
@@ -27,19 +22,15 @@ use vc_cell::{BackCell, Container, HeldContainer};
 /// at each tick; what is due at a tick lands before it. Only its making takes memory.
 #[derive(Drop)]
 pub struct GroupState {
-    source: SourceCore,
-    /// How many ticks there are.
-    total: u32,
-    landing: Landing,
+    source: GroupSource,
     journal: Journal,
-    inbox: Inbox,
     /// Boxes for the containers of a frame.
     frame: Vec<Box<HeldContainer>>,
     /// Where it pushes the containers of each line.
     pub tx: Vec<RingOut<Container>>,
     /// Where it pops return cells.
     pub back: RingIn<BackCell>,
-    ghost keeps: { Keeps (parts source total landing journal inbox tx.items back) (length frame.items) },
+    ghost keeps: { Keeps (parts source.core source.total source.landed journal source.inbox tx.items back) (length frame.items) },
 }
 
 impl GroupState {
@@ -52,7 +43,7 @@ impl GroupState {
     ghost use Rattle.group_lock.specs.Journal.{fits};
     ghost use Rattle.group_source.specs.Landed.{due_at};
     ghost use Rattle.group_lock.specs.Rings.{AreUnused, AreFree, IsFirstFull};
-    ghost use Rattle.group_lock.specs.Group.{parts_of, lines_of, lag_of, size_of, IsOf, ticks_of, total_of, items_of, frames_of, commands_of, journal_of, slots_of, bytes_of, refusals_of, inbox_of, source_of, totals_of, next_of, refusal_of, held_of};
+    ghost use Rattle.group_lock.specs.Group.{parts_of, side_of, lines_of, lag_of, size_of, IsOf, ticks_of, total_of, items_of, frames_of, commands_of, journal_of, slots_of, bytes_of, refusals_of, inbox_of, source_of, totals_of, next_of, refusal_of, held_of};
     ghost use Rattle.group_lock.specs.Opened.{IsOpened, IsBegun};
     ghost use Rattle.group_lock.specs.Calls.{Submits, Ticks, Comes, Looks, Makes};
 
@@ -91,11 +82,11 @@ impl GroupState {
         ensures { result ≡ totals_of self.now }
     {
         Totals {
-            ticks: self.source.ticks(),
+            ticks: self.source.core().ticks(),
             taken: 0,
             frames: self.journal.frames(),
             commands: self.journal.commands(),
-            refused: self.landing.all_refused(),
+            refused: self.source.landing().all_refused(),
             got: 0,
         }
     }
@@ -104,7 +95,7 @@ impl GroupState {
     pub fn refusals(&self) -> &[(u32, Refusal)]
         ensures { result.now ≡ refusals_of self.now }
     {
-        self.landing.refusals()
+        self.source.landing().refusals()
     }
 
     /// Lands an item, of this number in the script. Of each kind, the client's frames and the operator's commands, the next one lands, once
@@ -113,12 +104,12 @@ impl GroupState {
     pub fn submit(&mut self, number: u32, item: ItemRef) -> Result<(), SubmitFault>
         ensures { Submits self.old self.new number (kind_of item.entry) (refusal_in result) }
     {
-        let next = self.landing.next(item.is_frame());
+        let next = self.source.landing().next(item.is_frame());
         if next != Some(number) {
             return Err(SubmitFault::NotNext { next });
         }
-        let now = self.source.ticks();
-        if now < self.landing.due(item.is_frame(), number) {
+        let now = self.source.core().ticks();
+        if now < self.source.landing().due(item.is_frame(), number) {
             return Err(SubmitFault::Early { now });
         }
         if !self.finds_room(item) {
@@ -136,20 +127,14 @@ impl GroupState {
         ensures { Ticks self.old self.new result }
     {
         self.come();
-        let ticks = self.source.ticks();
-        if ticks >= self.total {
-            return TickAnswer::Done;
-        }
-        if let Some(item) = self.landing.held(ticks) {
-            return TickAnswer::Held { item };
+        if let Some(cause) = self.source.early_cause() {
+            return stopped(cause);
         }
         if let Some(line) = self.look() {
             return TickAnswer::TxFull { line };
         }
-        if let Some(packet) = self.source.needs_back() {
-            if self.inbox.is_empty() {
-                return TickAnswer::BackMissing { packet };
-            }
+        if let Some(packet) = self.source.missing() {
+            return TickAnswer::BackMissing { packet };
         }
         self.make_frame();
         TickAnswer::Ticked
@@ -168,23 +153,18 @@ impl GroupState {
         requires returns { in_passed back ≡ [] }
         requires opened { IsOpened script.now opened }
         ensures begun { IsBegun script.now result }
-        ensures room { (slots_of result ≡ opened.notes.journal.slots)
-            × (bytes_of result ≡ opened.notes.journal.bytes) }
+        ensures room { (slots_of result ≡ opened.journal.slots)
+            × (bytes_of result ≡ opened.journal.bytes) }
         ensures ends { (result.tx ≡ tx) × (result.back ≡ back) }
     {
-        let Opened { making, notes } = opened;
-        let Making { source, frame } = making;
-        let Notes {
-            landing,
+        let Opened {
+            source,
             journal,
-            inbox,
-        } = notes;
+            frame,
+        } = opened;
         GroupState {
             source,
-            total: script.config.ticks,
-            landing,
             journal,
-            inbox,
             frame,
             tx,
             back,
@@ -196,7 +176,7 @@ impl GroupState {
         ensures { result ≡ (is_some (refusal_of self.now (kind_of item.entry))
             || fits (parts_of self.now).journal (kind_of item.entry)) }
     {
-        refusal_by(&self.source, item).is_some() || self.journal.has_room(item)
+        self.source.refusal(item).is_some() || self.journal.has_room(item)
     }
 
     /// Lands an item that is the next of its kind and is due. The journal has room for it, where the source takes it.
@@ -207,12 +187,10 @@ impl GroupState {
             fits (parts_of self.old).journal (kind_of item) ≡ true }
         ensures { Submits self.old self.new number (kind_of item.entry) (refusal_in result) }
     {
-        let why = give(&mut self.source, item);
-        self.landing.land(item.is_frame(), number, why);
-        match why {
+        match self.source.land(number, item) {
             Some(why) => Err(refused(why)),
             None => {
-                self.journal.push(number, self.source.ticks(), item);
+                self.journal.push(number, self.source.core().ticks(), item);
                 Ok(())
             }
         }
@@ -222,7 +200,7 @@ impl GroupState {
     fn come(&mut self)
         ensures { Comes self.old self.new }
     {
-        take_cells(&mut self.inbox, &mut self.back);
+        take_cells(&mut self.source, &mut self.back);
     }
 
     /// Looks for a slot in each send ring, up to the first that has none.
@@ -230,80 +208,19 @@ impl GroupState {
         ensures looks { Looks self.old self.new }
         ensures full { MatchOption result (AreFree self.new.tx.items)
             (λ line. IsFirstFull self.old.tx.items self.new.tx.items line) }
+        ensures side { side_of self.new ≡ side_of self.old }
     {
         first_full(&mut self.tx)
     }
 
     /// Makes the next frame, for which the send rings have slots and the return cell is there that it needs.
     fn make_frame(&mut self)
-        requires left { ticks_of self.old < total_of self.old }
-        requires held { held_of self.old ≡ None }
+        requires early { early_in (side_of self.old) ≡ None }
+        requires cell { missing_in (side_of self.old) ≡ None }
         requires free { AreFree self.old.tx.items }
-        requires cell { IsSome (needed (source_of self.old)) → inbox_of self.old ≢ [] }
         ensures { Makes self.old self.new }
     {
-        let needed = self.source.needs_back().is_some();
-        let back = take_needed(&mut self.inbox, needed);
-        fill(&mut self.source, back, &mut self.frame);
+        let _taken = self.source.make(&mut self.frame);
         push_frame(&mut self.tx, &self.frame);
     }
-}
-
-/// Why the source would refuse an item now, where it would.
-fn refusal_by(source: &SourceCore, item: ItemRef) -> Option<Refusal>
-    ensures { result ≡ met_by source.now (kind_of item.entry) }
-{
-    match item {
-        ItemRef::Frame(octets) => source.frame_refusal(octets).map(Refusal::Frame),
-        ItemRef::Add(line) => source
-            .command_refusal(Command::Add(line))
-            .map(Refusal::Command),
-        ItemRef::Remove(line) => source
-            .command_refusal(Command::Remove(line))
-            .map(Refusal::Command),
-    }
-}
-
-/// Gives an item to the source, and answers why it is refused, where it is. Then nothing changes.
-fn give(source: &mut SourceCore, item: ItemRef) -> Option<Refusal>
-    ensures met { result ≡ met_by source.old (kind_of item.entry) }
-    ensures unchanged { IsSome result → source.new ≡ source.old }
-    ensures stands { (scenario : Scenario) (cells : List (Option Told)) →
-        HasMade source.old scenario cells →
-        HasMade source.new (with_kind scenario source.old.ticks (kind_of item.entry)) cells }
-    ensures ticks { source.new.ticks ≡ source.old.ticks }
-    ensures kind { SameKind source.new source.old }
-{
-    match item {
-        ItemRef::Frame(octets) => source.accept(octets).err().map(Refusal::Frame),
-        ItemRef::Add(line) => source.add(line).err().map(Refusal::Command),
-        ItemRef::Remove(line) => source.remove(line).err().map(Refusal::Command),
-    }
-}
-
-/// Gives the first return cell of the inbox, where it is needed.
-fn take_needed(inbox: &mut Inbox, needed: bool) -> Option<BackCell>
-    ensures cell { result ≡ (if needed then slice_get inbox.old.cells 0 else None) }
-    ensures rest { inbox.new ≡ record inbox.old {
-      cells = if needed then drop 1 inbox.old.cells else inbox.old.cells;
-    } }
-{
-    if needed { inbox.take() } else { None }
-}
-
-/// Makes the next frame, a container for each line.
-fn fill(source: &mut SourceCore, back: Option<BackCell>, frame: &mut Vec<Box<HeldContainer>>)
-    requires places { length frame.old.items ≡ source.old.lines }
-    requires back { IsSome back ↔ IsSome (needed source.old) }
-    requires few { source.old.ticks < 4294967295 }
-    ensures stands { (scenario : Scenario) (cells : List (Option Told)) →
-        HasMade source.old scenario cells → HasMade source.new scenario (with_cell cells back) }
-    ensures frame { (scenario : Scenario) (cells : List (Option Told)) →
-        HasMade source.old scenario cells →
-        held frame.new.items ≡ frame_of scenario (with_cell cells back) source.old.ticks }
-    ensures places { length frame.new.items ≡ length frame.old.items }
-    ensures ticks { source.new.ticks ≡ source.old.ticks + 1 }
-    ensures kind { SameKind source.new source.old }
-{
-    source.tick_boxed(back, frame);
 }

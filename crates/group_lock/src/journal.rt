@@ -3,8 +3,7 @@
 ghost use Rattle.std.specs.Prelude.{◌≡◌, ◌+◌, ◌≤◌, ◌<◌, [], ◌∷◌, ◌++◌, length, IfOk};
 ghost use Rattle.session_model.specs.Scenario.{offers_of, orders_of};
 ghost use Rattle.std.specs.Vec.{vec_capacity};
-ghost use Rattle.group_source.specs.Item.{kind_of, size_of};
-ghost use Rattle.group_lock.specs.Item.{octets_of};
+ghost use Rattle.group_source.specs.Item.{kind_of, size_of, octets_of};
 ghost use Rattle.group_lock.specs.Journal.{items_in, entry_of, fits};
 ghost use Rattle.group_lock.specs.Entries.{kind_in, IsThere};
 

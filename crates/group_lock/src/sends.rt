@@ -5,22 +5,24 @@ ghost use Rattle.vc_cell.specs.declared.Container.{Container};
 ghost use Rattle.vc_cell.specs.Held.{held};
 ghost use Rattle.group_lock.specs.Rings.{AreFree, IsFirstFull, HaveLooked, ArePushed, IsDrained, HasMoved};
 
-use group_source::Inbox;
+use group_source::GroupSource;
 use member_ring::{RingIn, RingOut};
 use vc_cell::{BackCell, Container, HeldContainer};
 
 /// Moves return cells into the inbox until a look finds none, or the inbox is full.
-pub(crate) fn take_cells(inbox: &mut Inbox, back: &mut RingIn<BackCell>)
-    requires room { length inbox.old.cells ≤ inbox.old.room }
-    requires few { inbox.old.come + inbox.old.room < 4294967295 }
-    ensures moved { HasMoved inbox.old inbox.new back.old back.new }
-    ensures until { IsDrained back.old back.new ⊎ (length inbox.new.cells ≡ inbox.new.room) }
+pub(crate) fn take_cells(source: &mut GroupSource, back: &mut RingIn<BackCell>)
+    requires room { length source.old.inbox.cells ≤ source.old.inbox.room }
+    requires few { source.old.inbox.come + source.old.inbox.room < 4294967295 }
+    ensures moved { HasMoved source.old.inbox source.new.inbox back.old back.new }
+    ensures until { IsDrained back.old back.new
+        ⊎ (length source.new.inbox.cells ≡ source.new.inbox.room) }
+    ensures rest { source.new ≡ record source.old { inbox = source.new.inbox } }
 {
-    while !inbox.is_full() {
+    while !source.inbox().is_full() {
         if !back.ready() {
             return;
         }
-        inbox.put(back.pop());
+        source.put(back.pop());
     }
 }
 

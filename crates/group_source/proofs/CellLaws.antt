@@ -1,5 +1,5 @@
 -- Return cells that have come, and those that decision steps have taken.
-use Rattle.std.proofs.Common.{◌≡◌, ℕ, suc, ◌+◌, ◌/◌, ◌%◌, ◌==◌, ◌<◌, ◌≤◌, nat_le, Bool, true, false, if◌then◌else◌, List, [], ◌∷◌, ◌++◌, map, take, drop, length, slice_get, Option, Some, None, option_map, refl, sym, ◌∙◌, ap, subst, arith, inl, inr}
+use Rattle.std.proofs.Common.{◌≡◌, ℕ, suc, ◌+◌, ◌/◌, ◌%◌, ◌==◌, ◌<◌, ◌≤◌, nat_le, true, false, List, [], ◌∷◌, ◌++◌, map, take, drop, length, slice_get, Option, Some, None, option_map, refl, sym, ◌∙◌, ap, subst, arith, inl, inr}
 use Rattle.std.specs.Option.{is_some}
 use Rattle.std.proofs.lemmas.Bool.{cases_Bool}
 use Rattle.std.proofs.lemmas.List.{map-append, take-append-le, drop-append-le, length-append, length-map, drop-drop}
@@ -8,11 +8,11 @@ use Rattle.vc_cell.specs.declared.BackCell.{BackCell}
 use Rattle.session_model.specs.Told.{told_in}
 use Rattle.session_model.specs.Counts.{used_in}
 use Rattle.source_core.specs.Terminal.{needed_at}
-use Rattle.source_core.specs.Given.{with_cell}
 use Rattle.line_law.proofs.ListLaws.{slice_get-drop, take-next}
 use Rattle.walk_law.proofs.ReturnLaws.{used-next}
+use Rattle.group_source.specs.Source.{missing_by}
 use Rattle.group_source.specs.Inbox.{is_lost_in}
-use Rattle.group_source.specs.Inbox.{Inbox, come_by, come_from, told_from, told_taken, with_come, HasCome}
+use Rattle.group_source.specs.Inbox.{Inbox, come_by, come_from, told_from, told_taken, with_come, cell_for, rest_for, HasCome, Takes}
 
 pub come-append : (lost : List (ℕ × ℕ)) (k : ℕ) (xs ys : List BackCell) → come_from lost k (xs ++ ys) ≡ come_from lost k xs ++ come_from lost (k + length xs) ys
 unfolding come_from
@@ -57,24 +57,11 @@ taken-more lost lag ticks received more low =
     ∙ take-append-le (used_in lag ticks) (map told_in (come_from lost 0 received)) (map told_in (come_from lost (0 + length received) more)) (omega arith)
 
 -- ---- the return cell of a tick
--- what a tick takes: the first cell of the inbox, where one is needed
-abbrev pub cell_for : Bool → List BackCell → Option BackCell
-cell_for needs cells = if needs then slice_get cells 0 else None
-
-abbrev pub rest_for : Bool → List BackCell → List BackCell
-rest_for needs cells = if needs then drop 1 cells else cells
-
 first-cell : (used : ℕ) (cells : List BackCell) (cell : BackCell) → slice_get (drop used cells) 0 ≡ Some cell → slice_get cells used ≡ Some cell
 first-cell used cells cell e = ap (slice_get cells) (let same : used ≡ used + 0 = omega arith in same) ∙ sym (slice_get-drop cells used 0) ∙ e
 
 drop-one : {X : Type 0} (n : ℕ) (xs : List X) → drop 1 (drop n xs) ≡ drop (n + 1) xs
 drop-one n xs = drop-drop 1 n xs
-
--- the cells that were taken, after a tick: one more, where one was needed and is there
-pub record Takes (inbox next : Inbox) (received : List BackCell) (lag ticks : ℕ) (cell : Option BackCell) : Type 0 where
-  pub come : HasCome next received (used_in lag (ticks + 1))
-  pub told : told_taken next.lost lag (ticks + 1) received ≡ with_cell (told_taken inbox.lost lag ticks received) cell
-  pub some : is_some cell ≡ is_some (needed_at lag ticks)
 
 takes-some : (inbox : Inbox) (received : List BackCell) (lag ticks : ℕ) (cell : BackCell) → HasCome inbox received (used_in lag ticks) →
     slice_get inbox.cells 0 ≡ Some cell → used_in lag (ticks + 1) ≡ used_in lag ticks + 1 → is_some (needed_at lag ticks) ≡ true →
@@ -135,3 +122,15 @@ takes inbox next received lag ticks cell has there first left =
         subst (λ (i : Inbox). Takes inbox i received lag ticks cell) (sym (left ∙ ap (λ b. record inbox { cells = rest_for b inbox.cells }) needs))
         (subst (λ (c : Option BackCell). Takes inbox (record inbox { cells = drop 1 inbox.cells }) received lag ticks c) (sym (first ∙ ap (λ b. cell_for b inbox.cells) needs ∙ e))
         (takes-some inbox received lag ticks one has e more needs))
+
+-- where no return cell is missing, the one that is needed is there
+pub cell-there : (need : Option ℕ) (cells : List BackCell) → missing_by need cells ≡ None → is_some need ≡ true → 0 < length cells
+cell-there None cells none some = absurd cc
+cell-there (Some packet) [] none some = absurd cc
+cell-there (Some packet) (cell ∷ cells) none some = omega arith
+
+-- so the tick takes one exactly where it needs one
+pub cell-for : (need : Option ℕ) (cells : List BackCell) → missing_by need cells ≡ None → is_some (cell_for (is_some need) cells) ≡ is_some need
+cell-for None cells none = refl
+cell-for (Some packet) [] none = absurd cc
+cell-for (Some packet) (cell ∷ cells) none = refl

@@ -1,11 +1,14 @@
 -- The return cells that come to the source of a group.
-use Rattle.std.specs.Prelude.{◌≡◌, ℕ, suc, ◌+◌, ◌≤◌, Bool, true, false, List, [], ◌∷◌, ◌++◌, ◌&&◌, nat_le, nat_lt, map, drop, take, length, Option}
+use Rattle.std.specs.Prelude.{◌≡◌, ℕ, suc, ◌+◌, ◌≤◌, Bool, true, false, List, [], ◌∷◌, ◌++◌, ◌&&◌, nat_le, nat_lt, map, drop, take, length, slice_get, if◌then◌else◌, Option, None}
 use Rattle.std.specs.List.{list_any}
+use Rattle.std.specs.Option.{is_some}
 use Rattle.vc_cell.specs.declared.BackCell.{BackCell}
 use Rattle.vc_cell.specs.declared.BackCell.TheVariants.{Lost}
 use Rattle.session_model.specs.Table.{Told}
 use Rattle.session_model.specs.Told.{told_in}
 use Rattle.session_model.specs.Counts.{used_in}
+use Rattle.source_core.specs.Terminal.{needed_at}
+use Rattle.source_core.specs.Given.{with_cell}
 
 -- the return windows; the return cells that no decision step has taken, oldest first, and how many there is room for; how many have come
 pub record Inbox : Type 0 where
@@ -43,8 +46,21 @@ told_taken lost lag ticks cells = take (used_in lag ticks) (told_from lost cells
 abbrev pub with_come : Inbox → BackCell → Inbox
 with_come inbox cell = record inbox { cells = inbox.cells ++ come_by (is_lost_in inbox.lost inbox.come) cell ∷ []; come = inbox.come + 1 }
 
+-- what a tick takes: the first cell of the inbox, where one is needed; and what it leaves
+abbrev pub cell_for : Bool → List BackCell → Option BackCell
+cell_for needs cells = if needs then slice_get cells 0 else None
+
+abbrev pub rest_for : Bool → List BackCell → List BackCell
+rest_for needs cells = if needs then drop 1 cells else cells
+
 -- the inbox holds what has come of these received cells, but the first ones, which were taken
 pub record HasCome (inbox : Inbox) (received : List BackCell) (used : ℕ) : Type 0 where
   pub come : inbox.come ≡ length received
   pub within : used ≤ length received
   pub cells : inbox.cells ≡ drop used (come_from inbox.lost 0 received)
+
+-- the cells that were taken, after a tick: one more, where one was needed and is there
+pub record Takes (inbox next : Inbox) (received : List BackCell) (lag ticks : ℕ) (cell : Option BackCell) : Type 0 where
+  pub come : HasCome next received (used_in lag (ticks + 1))
+  pub told : told_taken next.lost lag (ticks + 1) received ≡ with_cell (told_taken inbox.lost lag ticks received) cell
+  pub some : is_some cell ≡ is_some (needed_at lag ticks)

@@ -1,5 +1,5 @@
 -- What has landed in a group.
-use Rattle.std.specs.Prelude.{◌≡◌, ℕ, ◌+◌, ◌<◌, ◌≤◌, nat_lt, Bool, true, false, if◌then◌else◌, List, [], ◌∷◌, length, slice_get, All, Option, Some, None}
+use Rattle.std.specs.Prelude.{◌≡◌, ℕ, ◌+◌, ◌<◌, ◌≤◌, nat_lt, ◌&&◌, not, Bool, true, false, if◌then◌else◌, List, [], ◌∷◌, length, slice_get, All, Option, Some, None}
 use Rattle.std.specs.List.Sorted.{IsNonDecreasing}
 use Rattle.session_model.specs.declared.script.Item.{Item}
 use Rattle.session_model.specs.Counts.{Due, dues_of, frame_dues, command_dues}
@@ -8,7 +8,7 @@ use Rattle.walk_law.specs.Landed.{is_client}
 use Rattle.group_source.specs.Place.{is_frame, is_command, place_of}
 use Rattle.session_model.specs.Limits.{longest_input}
 
--- the items; how many frames and commands have landed, and how many of each were refused; the items that were refused, in their order,
+-- the items, without the octets of frames; how many frames and commands have landed, and how many of each were refused; the items that were refused, in their order,
 -- and why
 pub record Landed : Type 0 where
   pub items : List Item
@@ -50,6 +50,14 @@ landed_of landed false = landed.commands
 abbrev pub refused_of : Landed → Bool → ℕ
 refused_of landed true = landed.refused_frames
 refused_of landed false = landed.refused_commands
+
+-- one more has landed, a frame or a command, refused or not
+pub record HasPassed (was now : Landed) (client refused : Bool) : Type 0 where
+  pub items : now.items ≡ was.items
+  pub frames : now.frames ≡ was.frames + (if client then 1 else 0)
+  pub commands : now.commands ≡ was.commands + (if client then 0 else 1)
+  pub refused_frames : now.refused_frames ≡ was.refused_frames + (if refused && client then 1 else 0)
+  pub refused_commands : now.refused_commands ≡ was.refused_commands + (if refused && not client then 1 else 0)
 
 -- ---- of items by their due ticks so many frames and commands have landed
 -- what hasn't landed isn't due before these ticks

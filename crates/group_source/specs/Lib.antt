@@ -3,3 +3,4 @@ pub mod Place
 pub mod Lands
 pub mod Landed
 pub mod Inbox
+pub mod Source

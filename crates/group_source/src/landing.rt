@@ -1,21 +1,22 @@
 //! What lands next in a group, and what was refused.
 
-ghost use Rattle.std.specs.Prelude.{◌≡◌, ◌<◌, ◌≤◌, ◌+◌, ◌&&◌, not, if◌then◌else◌, [], ◌∷◌, length, take, drop, Some, IfOk};
+ghost use Rattle.std.specs.Prelude.{◌≡◌, ◌<◌, ◌≤◌, ◌+◌, if◌then◌else◌, [], ◌∷◌, length, take, drop, Some, IfOk};
 ghost use Rattle.std.specs.Option.{is_some};
 ghost use Rattle.std.specs.List.Sorted.{IsNonDecreasing};
 ghost use Rattle.std.specs.Vec.{vec_capacity};
 ghost use Rattle.session_model.specs.Counts.{dues_of, frame_dues, command_dues, held};
 ghost use Rattle.session_model.specs.Limits.{longest_input};
+ghost use Rattle.group_source.specs.Item.{bare, bare_items};
 ghost use Rattle.walk_law.specs.Landed.{IsPlaced, refused_by};
-ghost use Rattle.group_source.specs.Landed.{none_landed, next_place, next_number, due_at, landed_of, refused_of, AreOthers, AreBefore, AreAfter};
+ghost use Rattle.group_source.specs.Landed.{none_landed, next_place, next_number, due_at, landed_of, refused_of, HasPassed, AreOthers, AreBefore, AreAfter};
 
 use crate::items::{held_item, next_command, next_frame};
 use report_text::Refusal;
-use session_model::Item;
+use session_model::{Item, ItemKind, Octets};
 use std::alloc::{AllocError, Global};
 use std::marker::Model;
 
-/// The items of a script, which of them have landed, and which were refused.
+/// The items of a script without the octets of its frames, which of them have landed, and which were refused.
 #[derive(Drop)]
 pub struct Landing {
     items: Vec<Item>,
@@ -44,12 +45,13 @@ impl Model for Landing {
 
 impl Landing {
     /// Nothing of these items has landed.
-    pub fn new(alloc: Global, items: Vec<Item>) -> Result<Landing, AllocError>
-        requires few { length items.items ≤ longest_input }
-        requires frames { IsNonDecreasing (frame_dues (dues_of items.items)) }
-        requires commands { IsNonDecreasing (command_dues (dues_of items.items)) }
-        ensures { IfOk result (λ landing. landing ≡ none_landed items.items) }
+    pub fn new(alloc: Global, items: &[Item]) -> Result<Landing, AllocError>
+        requires few { length items.now ≤ longest_input }
+        requires frames { IsNonDecreasing (frame_dues (dues_of items.now)) }
+        requires commands { IsNonDecreasing (command_dues (dues_of items.now)) }
+        ensures { IfOk result (λ landing. landing ≡ none_landed (bare_items items.now)) }
     {
+        let items = bare_copy(alloc, items)?;
         let refusals = Vec::with_capacity(alloc, items.len())?;
         let frame = next_frame(&items, 0);
         let command = next_command(&items, 0);
@@ -121,13 +123,7 @@ impl Landing {
     /// The next frame, or the next command, has landed, which is the item of this number. It is refused, or not.
     pub fn land(&mut self, client: bool, number: u32, why: Option<Refusal>)
         requires { next_number self.old client ≡ Some number }
-        ensures items { self.new.items ≡ self.old.items }
-        ensures frames { self.new.frames ≡ self.old.frames + (if client then 1 else 0) }
-        ensures commands { self.new.commands ≡ self.old.commands + (if client then 0 else 1) }
-        ensures refused_frames { self.new.refused_frames
-            ≡ self.old.refused_frames + (if is_some why && client then 1 else 0) }
-        ensures refused_commands { self.new.refused_commands
-            ≡ self.old.refused_commands + (if is_some why && not client then 1 else 0) }
+        ensures passed { HasPassed self.old self.new client (is_some why) }
         ensures refusals { IsPlaced number (refused_by number why)
             self.old.refusals self.new.refusals }
     {
@@ -166,6 +162,32 @@ impl Landing {
         ensures { result ≡ next_place self.now client }
     {
         if client { self.frame } else { self.command }
+    }
+}
+
+/// The items without the octets of the frames.
+fn bare_copy(alloc: Global, items: &[Item]) -> Result<Vec<Item>, AllocError>
+    ensures { IfOk result (λ copy. copy.items ≡ bare_items items.now) }
+{
+    let mut copy = Vec::with_capacity(alloc, items.len())?;
+    for item in items {
+        copy.push(bare_item(alloc, item))?;
+    }
+    Ok(copy)
+}
+
+/// The item without the octets of its frame.
+fn bare_item(alloc: Global, item: &Item) -> Item
+    ensures { result ≡ bare item.now }
+{
+    let kind = match item.kind {
+        ItemKind::Frame(_) => ItemKind::Frame(Octets(Vec::new(alloc))),
+        ItemKind::Add(line) => ItemKind::Add(line),
+        ItemKind::Remove(line) => ItemKind::Remove(line),
+    };
+    Item {
+        due: item.due,
+        kind,
     }
 }
 

@@ -43,7 +43,7 @@ use Rattle.group_lock.specs.Group.{ticks_of, items_of, lag_of, frames_of, comman
 use Rattle.group_source.specs.Inbox.{told_taken}
 use Rattle.group_lock.specs.Journal.{items_in}
 use Rattle.group_lock.specs.Session.{counts_of, refusal_by, refusals_by, accepted_frames_by, accepted_commands_by}
-use Rattle.group_lock.proofs.BareLaws.{bare-dues}
+use Rattle.group_source.proofs.BareLaws.{bare-dues}
 use Rattle.group_lock.proofs.AlikeLaws.{alike-cells, refusal-alike}
 use Rattle.group_lock.proofs.BoundLaws.{same-each, same-filter}
 use Rattle.session_parts.specs.Session.{IsGathered, session_backs, IsEnded}

@@ -8,6 +8,7 @@ use Rattle.member_ring.specs.Ends.{in_passed, SameIn}
 use Rattle.member_ring.proofs.EndLaws.{in-then}
 use Rattle.group_source.specs.Inbox.{is_lost_in}
 use Rattle.group_source.specs.Inbox.{Inbox, come_by, with_come, HasCome}
+use Rattle.group_source.specs.Source.{Source}
 use Rattle.group_lock.specs.Rings.{HasMoved}
 use Rattle.group_source.proofs.CellLaws.{come-put}
 use Rattle.group_lock.proofs.RingLaws.{less}
@@ -31,17 +32,22 @@ moved-one first was is start old new cell moved put low same passed =
 pub loop-back-preserved : goal.loop-back-preserved
 loop-back-preserved c =
     let i = c.loop-back in
-    let low = less (length i.inbox.cells) i.inbox.room i.invariant.within (λ (full : i.inbox.room ≡ length i.inbox.cells). let is = c.is_full.ensures.1 full in let no = c.loop-back-test.true in absurd cc) in
-    let size : length c.put.new.self.cells ≡ length i.inbox.cells + 1 = ap (λ (x : Inbox). length x.cells) c.put.ensures ∙ length_push i.inbox.cells (come_by (is_lost_in i.inbox.lost i.inbox.come) c.pop.result) in
-    let room : c.put.new.self.room ≡ i.inbox.room = ap (λ (x : Inbox). x.room) c.put.ensures in
-    let come : c.put.new.self.come ≡ i.inbox.come + 1 = ap (λ (x : Inbox). x.come) c.put.ensures in
+    let was = i.source.inbox in
+    let is = c.put.new.self.inbox in
+    let low = less (length was.cells) was.room i.invariant.within
+    (λ (full : was.room ≡ length was.cells). let is = c.is_full.ensures.1 (ap (λ (x : Inbox). x.room) c.inbox.ensures ∙ full ∙ sym (ap (λ (x : Inbox). length x.cells) c.inbox.ensures)) in let no = c.loop-back-test.true in absurd cc) in
+    let put : is ≡ with_come was c.pop.result = ap (λ (s : Source). s.inbox) c.put.ensures in
+    let size : length is.cells ≡ length was.cells + 1 = ap (λ (x : Inbox). length x.cells) put ∙ length_push was.cells (come_by (is_lost_in was.lost was.come) c.pop.result) in
+    let room : is.room ≡ was.room = ap (λ (x : Inbox). x.room) put in
+    let come : is.come ≡ was.come + 1 = ap (λ (x : Inbox). x.come) put in
     let few = i.invariant.few in
     record {
-      moved = moved-one c.args.inbox.now i.inbox c.put.new.self c.args.back.now i.back c.pop.new.self c.pop.result i.invariant.moved c.put.ensures low
+      moved = moved-one c.args.source.now.inbox was is c.args.back.now i.back c.pop.new.self c.pop.result i.invariant.moved put low
           (in-then i.back c.ready.new.self c.pop.new.self c.ready.ensures.same c.pop.ensures.same)
           (c.pop.ensures.passed ∙ ap (λ l. l ++ c.pop.result ∷ []) c.ready.ensures.passed);
       within = omega arith;
       few = omega arith;
+      rest = c.put.ensures ∙ ap (λ (s : Source). record s { inbox = with_come was c.pop.result }) i.invariant.rest ∙ ap (λ (x : Inbox). record c.args.source.now { inbox = x }) (sym put);
       quiet = c.pop.ensures.quiet ∙ c.ready.ensures.quiet c.if-not-ready.false ∙ i.invariant.quiet;
     }
 
@@ -58,4 +64,6 @@ returns-then-not-ready-clause-until c =
     })
 
 pub returns-clause-until : goal.returns-clause-until
-returns-clause-until c = inr (sym (c.is_full.ensures.0 c.loop-back-test.false))
+returns-clause-until c =
+    let e = c.inbox.ensures in
+    inr (ap (λ (x : Inbox). length x.cells) (sym e) ∙ sym (c.is_full.ensures.0 c.loop-back-test.false) ∙ ap (λ (x : Inbox). x.room) e)

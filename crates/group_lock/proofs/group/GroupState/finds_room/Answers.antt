@@ -10,12 +10,12 @@ pub returns-then-is_some : goal.returns-then-is_some
 returns-then-is_some c =
     let g = c.args.self.now in
     let kind = kind_of c.args.item in
-    let same = c.is_some.ensures ∙ ap is_some (c.refusal_by.ensures ∙ refused-is g kind) in
+    let same = c.is_some.ensures ∙ ap is_some (c.refusal.ensures ∙ refused-is g kind) in
     c.if-is_some.true ∙ sym (ap (λ b. b || fits g.journal kind) (sym same ∙ c.if-is_some.true))
 
 pub returns-else-is_some : goal.returns-else-is_some
 returns-else-is_some c =
     let g = c.args.self.now in
     let kind = kind_of c.args.item in
-    let same = c.is_some.ensures ∙ ap is_some (c.refusal_by.ensures ∙ refused-is g kind) in
+    let same = c.is_some.ensures ∙ ap is_some (c.refusal.ensures ∙ refused-is g kind) in
     c.has_room.ensures ∙ sym (ap (λ b. b || fits g.journal kind) (sym same ∙ c.if-is_some.false))

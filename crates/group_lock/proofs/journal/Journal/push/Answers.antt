@@ -5,8 +5,7 @@ use Rattle.session_model.specs.declared.script.ItemKind.{ItemKind}
 use Rattle.session_model.specs.declared.script.ItemKind.TheVariants.{Frame, Add, Remove}
 use Rattle.walk_law.specs.Landed.{is_client}
 use Rattle.group_lock.specs.declared.journal.Entry.{Entry}
-use Rattle.group_source.specs.Item.{kind_of, size_of}
-use Rattle.group_lock.specs.Item.{octets_of}
+use Rattle.group_source.specs.Item.{kind_of, size_of, octets_of}
 use Rattle.group_lock.specs.Journal.{Journal, entry_of}
 use Rattle.group_lock.specs.Entries.{entries_in, kind_in, IsThere, AreEntries}
 use Rattle.group_lock.proofs.EntryLaws.{entries-kinds, entries-push, kept-push}

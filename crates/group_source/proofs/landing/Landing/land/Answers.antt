@@ -1,10 +1,11 @@
 -- The next item has landed, and its refusal is put in its place.
-use Rattle.std.proofs.Common.{◌≡◌, ℕ, ◌+◌, ◌<◌, Bool, List, [], slice_get, Option, None, Some, sym, ◌∙◌, ap, subst, arith}
+use Rattle.std.proofs.Common.{◌≡◌, ℕ, ◌+◌, ◌<◌, Bool, List, [], slice_get, Option, None, Some, sym, ◌∙◌, ap, subst, arith, false, true, if◌then◌else◌, not}
+use Rattle.std.specs.Option.{is_some}
 use Rattle.std.specs.Vec.{vec_capacity}
 use Rattle.session_model.specs.declared.script.Item.{Item}
 use Rattle.report_text.specs.declared.report.Refusal.{Refusal}
 use Rattle.walk_law.specs.Landed.{is_client, IsPlaced, refused_by}
-use Rattle.group_source.specs.Landed.{Landed, next_place, landed_of, refused_of, AreOthers}
+use Rattle.group_source.specs.Landed.{Landed, next_place, landed_of, refused_of, HasPassed, AreOthers}
 use Rattle.group_source.proofs.LandingLaws.{all-dues, one-low, fewer-all, number-there, next-kind, none-put, refusal-landed, wider}
 use Rattle.group_source.proofs.landing.Landing.land.Goals as goal
 
@@ -57,3 +58,41 @@ returns-in_default-clause-refusals c =
     subst (λ (why : Option Refusal). IsPlaced c.args.number (refused_by c.args.number why) was.refusals c.pass.new.self.refusals) (sym none)
     (subst (λ (refusals : List (ℕ × Refusal)). IsPlaced c.args.number [] refusals c.pass.new.self.refusals) c.pass.ensures.refusals
     (none-put c.args.number c.pass.new.self.refusals others.order others.other))
+
+-- one more has landed, which isn't refused, or is
+kept : (was now : Landed) (client : Bool) → now.items ≡ was.items → now.frames ≡ was.frames + (if client then 1 else 0) → now.commands ≡ was.commands + (if client then 0 else 1) →
+    (now.refused_frames ≡ was.refused_frames) × (now.refused_commands ≡ was.refused_commands) → HasPassed was now client false
+kept was now client items frames commands refused = record {
+  items = items;
+  frames = frames;
+  commands = commands;
+  refused_frames = (let e = refused.0 in omega arith);
+  refused_commands = (let e = refused.1 in omega arith);
+}
+
+more : (was now : Landed) (client : Bool) (refusals : List (ℕ × Refusal)) (a b : ℕ) → HasPassed was now client false → a ≡ (if client then 1 else 0) → b ≡ (if not client then 1 else 0) →
+    HasPassed was (record now { refused_frames = now.refused_frames + a; refused_commands = now.refused_commands + b; refusals = refusals }) client true
+more was now client refusals a b is frame command = record {
+  items = is.items;
+  frames = is.frames;
+  commands = is.commands;
+  refused_frames = ap (λ n. n + a) is.refused_frames ∙ ap (λ n. was.refused_frames + 0 + n) frame ∙ (let e : was.refused_frames + 0 + (if client then 1 else 0) ≡ was.refused_frames + (if client then 1 else 0) = omega arith in e);
+  refused_commands = ap (λ n. n + b) is.refused_commands ∙ ap (λ n. was.refused_commands + 0 + n) command ∙ (let e : was.refused_commands + 0 + (if not client then 1 else 0) ≡ was.refused_commands + (if not client then 1 else 0) = omega arith in e);
+}
+
+pub returns-in_default-clause-passed : goal.returns-in_default-clause-passed
+returns-in_default-clause-passed c =
+    let e = c.pass.ensures in
+    let none : c.args.why ≡ None = c.in_default.is in
+    subst (λ (why : Option Refusal). HasPassed c.args.self.now c.pass.new.self c.args.client (is_some why)) (sym none)
+    (kept c.args.self.now c.pass.new.self c.args.client e.items e.frames e.commands e.refused)
+
+pub returns-in-Some-clause-passed : goal.returns-in-Some-clause-passed
+returns-in-Some-clause-passed c =
+    let e = c.pass.ensures in
+    let f = c.self.inside in
+    let now : Landed = record { items = f.items.items; frames = f.frames; commands = f.commands; refused_frames = f.refused_frames; refused_commands = f.refused_commands; refusals = f.refusals.items } in
+    let next : Landed = record now { refused_frames = f.refused_frames + c.one_if.result; refused_commands = f.refused_commands + c.one_if-in-Some.result; refusals = c.refuse.new.refusals.items } in
+    let was = subst (λ (l : Landed). HasPassed c.args.self.now l c.args.client false) (sym c.self.view_is) (kept c.args.self.now c.pass.new.self c.args.client e.items e.frames e.commands e.refused) in
+    subst (λ (why : Option Refusal). HasPassed c.args.self.now next c.args.client (is_some why)) (sym c.in-Some.is)
+    (more c.args.self.now now c.args.client c.refuse.new.refusals.items c.one_if.result c.one_if-in-Some.result was c.one_if.ensures c.one_if-in-Some.ensures)

@@ -5,7 +5,7 @@ use Rattle.session_model.specs.declared.script.ItemKind.{ItemKind}
 use Rattle.session_model.specs.declared.script.ItemKind.TheVariants.{Frame, Add, Remove}
 use Rattle.session_model.specs.Counts.{due_of, dues_of}
 use Rattle.group_source.specs.Place.{is_frame, is_command, place_of}
-use Rattle.group_lock.specs.Item.{bare_kind, bare_items}
+use Rattle.group_source.specs.Item.{bare_kind, bare_items}
 
 bare-due : (due : ℕ) (kind : ItemKind) → due_of due (bare_kind kind) ≡ due_of due kind
 bare-due due (Frame octets) = refl

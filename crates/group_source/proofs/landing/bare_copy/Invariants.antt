@@ -1,7 +1,7 @@
 -- The items so far are copied.
 use Rattle.std.proofs.Common.{◌≡◌, take}
-use Rattle.group_lock.specs.Item.{bare_items}
-use Rattle.group_lock.proofs.opening.bare_copy.Given as goal
+use Rattle.group_source.specs.Item.{bare_items}
+use Rattle.group_source.proofs.landing.bare_copy.Given as goal
 
 abbrev pub invariant-loop-item : goal.invariant-loop-item
 invariant-loop-item l = l.copy.items ≡ bare_items (take l.item-index l.items)
