@@ -70,7 +70,7 @@ class Tests:
             if width == 400:
                 self.same(name + ": the chart begins in the upper third at 400",
                           b.js("document.getElementById('chart').getBoundingClientRect().top < 267"), True)
-            for dark in (False, True):
+            for dark in (False, True) if self.pictures else ():
                 b.media(dark=dark)
                 b.settle(100)
                 self.picture("%s-%d%s" % (name, width, "-dark" if dark else ""))
