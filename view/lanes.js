@@ -105,7 +105,8 @@ Life.lanes = (() => {
     const word = [run.code + " " + run.sq, String(run.sq)].find((text) => g.measureText(text).width < xe - at - 4);
     if (!word) return;
     const ground = { norm: c.norm, eos: c.eos, add: c.add, dnu: c.dnu }[run.code] || c.fixed;
-    bar(g, ground, at - 2, lane.y + 1.5, g.measureText(word).width + 4, lane.h - 3);
+    const edge = run.code === "norm" || run.code === "eos" ? 0 : 1;
+    bar(g, ground, at - 2, lane.y + edge, g.measureText(word).width + 4, lane.h - 2 * edge);
     g.fillStyle = run.code === "eos" ? c.oneos : run.code === "norm" ? c.onnorm : c.ink;
     g.textAlign = "left";
     g.fillText(word, at, lane.y + lane.h / 2 + 0.5);

@@ -99,7 +99,7 @@ Life.layout = (() => {
         g.fillStyle = c.ink; g.textAlign = "left";
         g.fillText((read && !lay.narrow ? "line " : "") + lane.line, 12, read ? middle + 0.5 : lane.y + 5);
       }
-      const length = Math.round((lay.narrow ? 18 : 40) * delay / most);
+      const length = Math.round((lay.narrow ? 14 : 40) * delay / most);
       if (!read) { if (delay) bar(g, c.idle, right - length, lane.y + (lane.h > 5 ? 1 : 0), length, Math.max(2, lane.h - 1)); continue; }
       g.textAlign = "right"; g.fillStyle = c.muted;
       g.fillText("+" + number(delay), right, middle + 0.5);

@@ -184,6 +184,6 @@ Life.paint = (() => {
     return g;
   }
 
-  return { FONT, FATE_COLOUR, colours, readColours, ratio, hatch, bar, faded, plate, state, failure, lostPacket, causeColour, spoiled,
+  return { FONT, FATE_COLOUR, colours, readColours, ratio, bar, faded, plate, state, failure, lostPacket, causeColour, spoiled,
     whole, fate, command, start, fit };
 })();

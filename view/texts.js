@@ -165,5 +165,5 @@ Life.texts = (() => {
     return report;
   }
 
-  return { KINDS, FATES, embedded, kindOf, linesOf, readScript, readTrace, readFates, readReport };
+  return { KINDS, FATES, embedded, kindOf, readScript, readTrace, readFates, readReport };
 })();

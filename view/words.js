@@ -115,7 +115,7 @@ Life.words = (() => {
   /* The premise on chance, as a verdict and what it means. */
   function premise(m) {
     const totals = m.fates.totals, breaks = m.fates.segments;
-    const exact = "so exactly the frames shown as got were delivered, in order and each once.";
+    const exact = "so exactly the frames shown as got were delivered, in order, each once.";
     if (!totals) return ["", ""];
     if (!breaks.length) {
       return ["The premise on chance holds:", "no break made the receiver look for a frame's start again, " + exact];

@@ -14,13 +14,18 @@ import time
 
 sys.dont_write_bytecode = True
 from browser import Browser, NoBrowser
-from texts import Pages, bursts, expected, made, totals, walked
+from texts import Pages, bursts, expected, made, points, totals, walked
 
 EXAMPLES = ("failed_member", "slip", "lost_return", "eight_lines", "queue", "refused")
 TOP = os.path.dirname(os.path.dirname(os.path.dirname(os.path.abspath(__file__))))
 RANGE = "document.querySelector('#range b').textContent"
 HELD = "document.getElementById('detail').classList.contains('held')"
 FAULTS = "document.getElementById('faults').hidden ? '' : document.getElementById('faults').textContent"
+
+
+def near(one, other):
+    """Whether two colours, as #rrggbb, are one but for rounding."""
+    return all(abs(int(one[i:i + 2], 16) - int(other[i:i + 2], 16)) < 4 for i in (1, 3, 5))
 
 
 class Tests:
@@ -70,12 +75,32 @@ class Tests:
             if width == 400:
                 self.same(name + ": the chart begins in the upper third at 400",
                           b.js("document.getElementById('chart').getBoundingClientRect().top < 267"), True)
-            for dark in (False, True):
+            for dark in (False, True) if self.pictures else ():
                 b.media(dark=dark)
                 b.settle(100)
                 self.picture("%s-%d%s" % (name, width, "-dark" if dark else ""))
             b.media()
         b.size(1280)
+
+    def painted(self, name, texts):
+        """The picture itself: the colour of each line in the middle of each packet, of each spoiled row, and what is found at each frame's end."""
+        b = self.browser
+        self.open(name, texts)
+        names = ("norm", "eos", "add", "fail", "packet")
+        hexes = b.js("(s => %s.map(n => s.getPropertyValue('--' + n).trim()))(getComputedStyle(document.documentElement))" % json.dumps(names))
+        colours = dict(zip(names, hexes))
+        wanted = [[lane, tick, down, colours[colour]] for lane, tick, down, colour in points(texts)]
+        found = b.js("""%s.map(([lane, tick, down, wanted]) => {
+            const { lay, X } = Life.page, l = typeof lane === 'number' ? lay.lines[lane] : lay.lane(lane);
+            const [r, g, b] = document.getElementById('plot').getContext('2d').getImageData(Math.floor(X(tick)), Math.floor(l.y + down), 1, 1).data;
+            return [lane, tick, down, '#' + [r, g, b].map(n => n.toString(16).padStart(2, '0')).join('')]; })""" % json.dumps(wanted))
+        self.same(name + ": points of the picture", len(wanted) > 100, True)
+        self.same(name + ": colours", [pair for pair in zip(found, wanted) if not near(pair[0][3], pair[1][3])], [])
+        ends = [words for words in (line.split(" ") for line in texts["fates"].decode().splitlines()) if words[0] == "frame" and len(words) > 6]
+        told = b.js("""%s.map(([item, last]) => { const l = Life.page.lay.lane('frames');
+            return Life.words.held(Life.page.model, Life.page.at(Life.page.X(last + 0.5), l.y + l.h - 9)).slice(3).split('.')[0]; })"""
+                    % json.dumps([[int(words[1]), int(words[6])] for words in ends]))
+        self.same(name + ": what is at each frame's end", told, ["Frame %s: %s" % (words[1], words[4]) for words in ends])
 
     # ---- Keys, pointer, fingers, fragment: over failed_member ----
 
@@ -351,6 +376,7 @@ def run(tests, program):
     for name in EXAMPLES:
         tests.counts(name, texts[name])
     example = texts["failed_member"]
+    tests.painted("failed_member", example)
     for test in (tests.keys, tests.pointer, tests.fingers, tests.media, tests.spoken, tests.escaped, tests.without_fates, tests.refused,
                  tests.dropped):
         test(example)

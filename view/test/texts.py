@@ -54,6 +54,30 @@ def totals(texts):
     return numbers, numbers["Lost"] + numbers["Refused"] + refused, words[-1] == "true"
 
 
+def points(texts):
+    """Points of a picture that have one colour, by the texts: (lane, tick, how far down it, the colour's name). In the middle of each packet a line
+    that isn't damaged has that of its state, and a spoiled row has its cause's at its upper edge."""
+    fails, found = {}, []
+    for line in texts["script"].decode("latin-1").splitlines():
+        words = line[:80].split()
+        if words[:1] == ["fail"]:
+            fails.setdefault(int(words[1]), []).append((int(words[2]), int(words[3])))
+    ticks = totals(texts)[0]["Ticks"]
+    for line in texts["trace"].decode().splitlines():
+        words = line.split(" ")
+        tick = 16 * int(words[1]) + 32
+        for number, cell in enumerate(words[8:]):
+            damaged = any(first - 8 < tick < end + 8 for first, end in fails.get(number, ()))
+            code = cell.split(":")[0]
+            if tick < ticks and not damaged and code in ("norm", "eos", "add"):
+                found.append((number, tick, 3, code))
+    for line in texts["fates"].decode().splitlines():
+        words = line.split(" ")
+        if words[0] == "spoiled":
+            found.append(("rows", (int(words[1]) + int(words[2])) / 2, 0, "fail" if words[3] == "container" else "packet"))
+    return found
+
+
 class Pages:
     """Makes pages by a copy of ./vcat and view/ whose program hands out texts that are given it."""
 
