@@ -15,7 +15,7 @@ fn answer_rows() -> &'static str {
     trace;lines 1|delays 0|ring 1|lag 1|ticks 41|add 0 0| => 0+;total ticks 41 taken 41 frames 0 commands 1 refused 0 got 0|;packet 0 chg 1 act 0 back none add:0|packet 1 chg 1 act 1 back 7f/1 eos:0|packet 2 chg 1 act 1 back ff/1 eos:0|\n\
     make 1 1 1; => 0+;made lines 1 ticks 1|total ticks 1 taken 1 frames 1 commands 1 refused 0 got 0|octets 0 sum 0|;\n\
     make 7 2 400; => 0+;made lines 2 ticks 400|total ticks 400 taken 400 frames 50 commands 2 refused 0 got 50|octets 43246 sum 5512389|;\n\
-    stream 64 400000 0 1000000 1; => 8;;fault: too long|\n\
+    stream 9600 400000 0 1000000 1; => 8;;fault: too long|\n\
     walk;lines 2|delays 0 63|ring 64|lag 5|ticks 1| => 0+;total ticks 1 taken 1 frames 0 commands 0 refused 0 got 0|;"
 }
 
