@@ -1,5 +1,5 @@
 -- What one frame does to numbered VC-4s and the lines of those that come.
-use Rattle.std.proofs.Common.{◌≡◌, ℕ, ◌+◌, ◌-◌, ◌*◌, ◌<◌, ◌≤◌, List, [], ◌∷◌, ◌++◌, length, Option, refl, sym, ◌∙◌, ap, subst, arith}
+use Rattle.std.proofs.Common.{◌≡◌, ℕ, ◌<◌, ◌≤◌, List, length, Option, sym, ◌∙◌, ap, arith}
 use Rattle.outside_io.specs.Start.{Start}
 use Rattle.au4_pointer.specs.declared.Action.{Action}
 use Rattle.au4_pointer.specs.Part.{begun, part_after, whole}

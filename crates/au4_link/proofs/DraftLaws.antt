@@ -1,8 +1,8 @@
 -- The lines of a text, one line on and at the end; what a draft meets, the draft after one more line meets as well.
-use Rattle.std.proofs.Common.{◌≡◌, ℕ, ◌+◌, ◌-◌, ◌<◌, ◌≤◌, Bool, true, false, List, [], ◌∷◌, ◌++◌, length, replicate, refl, sym, ◌∙◌, ap, arith, length-append}
-use Rattle.std.specs.Prelude.{Option, None, Some, Result, Ok, Err, nat_lt}
+use Rattle.std.proofs.Common.{◌≡◌, ℕ, ◌+◌, ◌-◌, ◌<◌, ◌≤◌, true, false, List, [], ◌∷◌, ◌++◌, length, replicate, refl, sym, ◌∙◌, ap, arith, length-append}
+use Rattle.std.specs.Prelude.{None, Some, Ok, Err, nat_lt}
 use Rattle.std.proofs.lemmas.Bool.Decides.{nat_tests}
-use Rattle.std.proofs.lemmas.List.{length-replicate, replicate-append-replicate, append_assoc, append-nil}
+use Rattle.std.proofs.lemmas.List.{length-replicate, replicate-append-replicate, append_assoc}
 use Rattle.text_lines.specs.declared.fault.LineKind.{LineKind}
 use Rattle.text_lines.specs.declared.fault.LineKind.TheVariants.{Missing}
 use Rattle.text_lines.specs.Words.{words}

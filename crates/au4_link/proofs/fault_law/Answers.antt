@@ -1,5 +1,5 @@
 -- The first fault of a text is that of its language.
-use Rattle.std.proofs.Common.{◌≡◌, ℕ, List, Ok, Err, Result, sym, ◌∙◌, ap}
+use Rattle.std.proofs.Common.{◌≡◌, ℕ, Ok, Err, Result, ap}
 use Rattle.text_lines.specs.declared.fault.LineKind.{LineKind}
 use Rattle.text_lines.specs.Language.{said_by}
 use Rattle.text_lines.proofs.FirstFaultLaws.{first_fault}

@@ -1,5 +1,5 @@
 -- One octet on, and after the last one.
-use Rattle.std.proofs.Common.{◌≡◌, ◌<◌, ◌≤◌, ◌∙◌, ◌+◌, ◌-◌, ◌%◌, ◌++◌, length, take, ap, sym, arith}
+use Rattle.std.proofs.Common.{◌<◌, ◌≤◌, ◌∙◌, ◌+◌, ◌-◌, ◌%◌, ◌++◌, length, take, ap, sym, arith}
 use Rattle.std.proofs.lemmas.List.{take_more_set, take_all}
 use Rattle.au4_link.specs.Vcs.{rising}
 use Rattle.au4_link.proofs.VcLaws.{rising_next, rising_end}

@@ -1,5 +1,5 @@
 -- One line on, and after the last one.
-use Rattle.std.proofs.Common.{◌∙◌, ◌≡◌, length, ap, sym, subst, arith}
+use Rattle.std.proofs.Common.{◌∙◌, ap, sym, subst, arith}
 use Rattle.std.specs.Str.Lines.{lines}
 use Rattle.text_lines.specs.Language.{said_from}
 use Rattle.au4_link.specs.declared.draft.Draft.{Draft}

@@ -1,5 +1,5 @@
 -- A frame more, and all.
-use Rattle.std.proofs.Common.{rules, ◌≡◌, ◌+◌, ◌<◌, ◌≤◌, ℕ, List, [], ◌∷◌, ◌++◌, length, take, drop, get_or, None, Some, refl, sym, ◌∙◌, ap, subst, arith, append_assoc}
+use Rattle.std.proofs.Common.{◌≡◌, ◌+◌, ◌<◌, ◌≤◌, ℕ, List, [], ◌∷◌, ◌++◌, length, take, drop, get_or, None, Some, refl, sym, ◌∙◌, ap, subst, arith, append_assoc}
 use Rattle.std.proofs.lemmas.List.{length-take, take_all, take_more, take-append-drop}
 use Rattle.au4_pointer.specs.declared.Action.{Action}
 use Rattle.au4_pointer.specs.declared.Action.TheVariants.{Keep}
@@ -7,9 +7,9 @@ use Rattle.au4_pointer.specs.Word.{fault_after}
 use Rattle.au4_pointer.specs.Link.{Carries}
 use Rattle.au4_pointer.proofs.LinkSteps.{first-carries}
 use Rattle.au4_link.specs.Vcs.{first_vcs}
-use Rattle.au4_link.specs.Text.{cuts, back_of, HasVcs}
+use Rattle.au4_link.specs.Text.{cuts, HasVcs}
 use Rattle.au4_link.proofs.CutLaws.{cuts-more}
-use Rattle.au4_link.proofs.CarrySteps.{feeds, gives, Counted, counted-by, all-back, all-counts}
+use Rattle.au4_link.proofs.CarrySteps.{feeds, gives, counted-by, all-back, all-counts}
 use Rattle.au4_link.proofs.run.carry_all.Goals as goal
 
 pub loop-a-init : goal.loop-a-init

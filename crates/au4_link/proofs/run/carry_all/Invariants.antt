@@ -1,5 +1,5 @@
 -- All frames so far were sent and taken.
-use Rattle.std.proofs.Common.{◌≡◌, ◌≤◌, [], take}
+use Rattle.std.proofs.Common.{◌≡◌, [], take}
 use Rattle.outside_io.specs.Start.{Start}
 use Rattle.au4_pointer.specs.Link.{Carries}
 use Rattle.au4_link.specs.Vcs.{first_vcs}

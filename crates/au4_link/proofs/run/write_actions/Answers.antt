@@ -1,9 +1,9 @@
 -- The lines of all VC-4s, and then the counts.
-use Rattle.std.proofs.Common.{rules, ◌≡◌, ◌++◌, ℕ, List, [], refl, sym, ◌∙◌, ap, subst, OnOk, OnErr}
+use Rattle.std.proofs.Common.{rules, ◌++◌, refl, sym, ◌∙◌, ap, subst, OnOk, OnErr}
 use Rattle.outside_io.specs.Start.{Start}
 use Rattle.outside_io.specs.Transfer.{Appends, AppendsPart}
 use Rattle.got_lines.specs.Told.{HasText, name_of, start_at}
-use Rattle.au4_link.specs.Text.{HasVcs, vc_texts, back_of, text_of}
+use Rattle.au4_link.specs.Text.{vc_texts, back_of, text_of}
 use Rattle.au4_link.proofs.run.write_actions.Goals as goal
 
 pub carry_all-counts-requires-clause-fresh : goal.carry_all-counts-requires-clause-fresh
