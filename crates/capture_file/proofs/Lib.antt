@@ -1,0 +1,4 @@
+pub mod RecordLaws
+pub mod ReadingLaws
+pub mod CheckedLaws
+pub mod LineLaws

@@ -1,0 +1,5 @@
+pub mod Form
+pub mod Written
+pub mod Reading
+pub mod Texts
+pub mod Clock
