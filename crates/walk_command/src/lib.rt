@@ -7,6 +7,7 @@ mod command;
 mod decode;
 mod end;
 mod events;
+mod frames;
 mod hex_lines;
 mod make;
 mod ready;
