@@ -2,3 +2,4 @@ pub mod RecordLaws
 pub mod ReadingLaws
 pub mod CheckedLaws
 pub mod LineLaws
+pub mod OutLaws

@@ -3,3 +3,4 @@ pub mod Written
 pub mod Reading
 pub mod Texts
 pub mod Clock
+pub mod Out

@@ -9,6 +9,7 @@ mod form;
 mod head;
 mod lines;
 mod note;
+mod out;
 mod record;
 
 pub use check::read_capture;
@@ -16,4 +17,5 @@ pub use form::{ByteOrder, CaptureFault, Form, HeadFault, RecordFault, RecordHead
 pub use head::read_head;
 pub use lines::write_frames;
 pub use note::fault_note;
+pub use out::CaptureOut;
 pub use record::{NextRecord, next_record};

@@ -23,7 +23,7 @@ loop-at-preserved g c =
       room = omega (arith, c.add_piece.auto.room, c.loop-at.invariant.room);
       grows =
           λ start before has.
-              subst (HasText g.K.ByteSink.written g.K.ByteSink.faults c.add_piece.new.got start)
-              (append_assoc before (encode_lower (take at octets)) (encode_lower (take (end - at) (drop at octets))) ∙ ap (λ l. before ++ l) (sym (digits-then octets at end low)))
-              (c.add_piece.ensures start (before ++ encode_lower (take at octets)) (c.loop-at.invariant.grows start before has));
+          subst (HasText g.K.ByteSink.written g.K.ByteSink.faults c.add_piece.new.got start)
+          (append_assoc before (encode_lower (take at octets)) (encode_lower (take (end - at) (drop at octets))) ∙ ap (λ l. before ++ l) (sym (digits-then octets at end low)))
+          (c.add_piece.ensures start (before ++ encode_lower (take at octets)) (c.loop-at.invariant.grows start before has));
     }

@@ -24,8 +24,7 @@ loop-record-preserved g c =
     let head = c.in-Some.record.head in
     let octets = c.in-Some.record.octets.now in
     let more = read-more form c.args.body.now c.loop-record.rest.now c.in-Some.record.rest.now octets c.loop-record.clock c.due-due.new.self head before c.loop-record.invariant.1
-    c.in-Some.ensures.some c.due-due.ensures.unit c.due-due.ensures.stands in
-    (
+    c.in-Some.ensures.some c.due-due.ensures.unit c.due-due.ensures.stands in (
       before ++ record { head = head; octets = octets } ∷ [],
       more,
       omega (arith, c.add_line.auto.room, c.loop-record.invariant.2),
