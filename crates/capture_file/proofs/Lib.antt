@@ -3,3 +3,4 @@ pub mod ReadingLaws
 pub mod CheckedLaws
 pub mod LineLaws
 pub mod OutLaws
+pub mod WrittenLaws

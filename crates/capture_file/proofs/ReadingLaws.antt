@@ -19,7 +19,7 @@ max-assoc a b d = omega arith
 max-zero : (n : ℕ) → max n 0 ≡ max 0 n
 max-zero n = omega arith
 
-greatest-more : (ns : List ℕ) (n : ℕ) → greatest (ns ++ n ∷ []) ≡ max (greatest ns) n
+pub greatest-more : (ns : List ℕ) (n : ℕ) → greatest (ns ++ n ∷ []) ≡ max (greatest ns) n
 unfolding greatest
 greatest-more [] n = max-zero n
 greatest-more (m ∷ ns) n = ap (λ x. max m x) (greatest-more ns n) ∙ max-assoc m (greatest ns) n

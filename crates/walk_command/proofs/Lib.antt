@@ -5,3 +5,4 @@ pub mod HexLineLaws
 pub mod DecodedLaws
 pub mod CountLaws
 pub mod RoomLaws
+pub mod TakenLaws

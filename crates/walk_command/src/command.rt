@@ -1,6 +1,6 @@
 //! The commands of the program, a line for each.
 
-use crate::{decode, frames, make, trace, walk};
+use crate::{capture, decode, frames, make, trace, walk};
 use cmd_words::FromWords;
 
 /// What the program is told to do.
@@ -10,6 +10,8 @@ pub enum WalkCommand {
     Walk,
     /// `trace`: the same, and write a line for each decision step.
     Trace,
+    /// `capture`: make the walk of a script, and write a capture of the frames that it delivers.
+    Capture,
     /// `frames`: write the lines of a script for the frames of a capture.
     Frames,
     /// `decode`: write the control packets in H4 octets.
@@ -26,6 +28,7 @@ impl FromWords for WalkCommand {
     fn from_words(words: &[String]) -> Option<WalkCommand> {
         walk::words(words)
             .or(trace::words(words))
+            .or(capture::words(words))
             .or(frames::words(words))
             .or(decode::words(words))
             .or(make::words(words))

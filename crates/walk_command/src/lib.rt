@@ -3,6 +3,7 @@
 //! run, and one of specs/ for what it means. Begin with `walk_top`.
 #![tactic(auto)]
 
+mod capture;
 mod command;
 mod decode;
 mod end;

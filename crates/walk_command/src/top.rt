@@ -6,6 +6,7 @@ ghost use Rattle.command_parts.specs.Status.{HasRunAt};
 ghost use Rattle.command_parts.specs.Ends.{Ends, lent};
 ghost use Rattle.walk_command.specs.Commands.{command_in, task_of, usage, HandsBack, RunsScript};
 
+use crate::capture::capture;
 use crate::command::WalkCommand;
 use crate::decode::decode;
 use crate::end::{WalkEnd, stopped};
@@ -21,7 +22,7 @@ use std::alloc::Global;
 /// Runs the command that the words say. `walk` reads a script, makes its walk and writes on `out` the got lines of the frames that it
 /// delivers, the lines of refused items, and the line of totals; without event lines the walk drains, and with event lines it makes just
 /// these. `trace` does the same, and writes a line for each decision step of the source on `notes`. `make` runs the load of a number and
-/// writes three lines. `frames` reads a capture and writes the line of a script for each frame in it. `decode` reads the H4 octets of a line in hexadecimal digits and writes the control packets in them.
+/// writes three lines. `capture` makes the walk of a script and writes a capture of the frames that it delivers. `frames` reads a capture and writes the line of a script for each frame in it. `decode` reads the H4 octets of a line in hexadecimal digits and writes the control packets in them.
 ///
 /// The status is 2 where the words are no command, 3 where the input can't be read, 8 where it has more than 67,108,864 octets, 5 where
 /// one of its lines is faulty, or of a capture its head or a record, 6 where a script's slips, spread or lag don't fit its rings, 4 where an output can't be written, 7 where
@@ -54,6 +55,7 @@ pub fn walk_top<S: ByteSource, K: ByteSink, E: ByteSink>(
     match read_words(alloc, words) {
         Ok(WalkCommand::Walk) => walk(alloc, script, out, notes),
         Ok(WalkCommand::Trace) => trace(alloc, script, out, notes),
+        Ok(WalkCommand::Capture) => capture(alloc, script, out, notes),
         Ok(WalkCommand::Frames) => frames(alloc, script, out, notes),
         Ok(WalkCommand::Decode) => decode(alloc, script, out, notes),
         Ok(
@@ -74,7 +76,8 @@ fn no_command<E: ByteSink>(notes: &mut E) -> WalkEnd
     ensures walk { result.walk ≡ None }
     ensures told { Tells E.written E.faults notes.old notes.new usage }
 {
-    let text = b"usage: vcat_walk walk, trace, frames, decode, or make NUMBER LINES TICKS\n";
+    let text =
+        b"usage: vcat_walk walk, trace, capture, frames, decode, or make NUMBER LINES TICKS\n";
     let status = tell_usage(text, notes);
     WalkEnd { status, walk: None }
 }

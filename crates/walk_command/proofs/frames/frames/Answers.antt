@@ -30,16 +30,22 @@ pub returns-in-Ok-write_frames-clause-ends : goal.returns-in-Ok-write_frames-cla
 returns-in-Ok-write_frames-clause-ends g c =
     ends-done (lent g.S.ByteSource.left g.S.ByteSource.faults c.args.capture.now c.read_input.new.source) (lent g.K.ByteSink.written g.K.ByteSink.faults c.args.out.now c.write_frames.new.out)
     (lent g.E.ByteSink.written g.E.ByteSink.faults c.args.notes.now c.args.notes.now)
-    (reads frames_answer) (writes (frame_texts (frames_of c.in-Ok-read_capture.form (drop 24 c.as_slice-2.result.now)))) c.done.result.status
-    (c.in-Ok.octets.items, c.in-Ok.ensures.read, ap frames_answer (sym c.as_slice.ensures.value) ∙ ap frames_said c.in-Ok-read_capture.ensures.sound
-    ∙ ap (λ octets. writes (frame_texts (frames_of c.in-Ok-read_capture.form (drop 24 octets)))) (c.as_slice.ensures.value ∙ sym c.as_slice-2.ensures.value))
+    (reads frames_answer) (writes (frame_texts (frames_of c.in-Ok-read_capture.form (drop 24 c.as_slice-2.result.now)))) c.done.result.status (
+      c.in-Ok.octets.items,
+      c.in-Ok.ensures.read,
+      ap frames_answer (sym c.as_slice.ensures.value) ∙ ap frames_said c.in-Ok-read_capture.ensures.sound
+          ∙ ap (λ octets. writes (frame_texts (frames_of c.in-Ok-read_capture.form (drop 24 octets)))) (c.as_slice.ensures.value ∙ sym c.as_slice-2.ensures.value),
+    )
     c.done.ensures.status (c.in-Ok-write_frames.ensures.ok, refl)
 
 pub returns-clause-ends : goal.returns-clause-ends
 returns-clause-ends g c =
     ends-cut (lent g.S.ByteSource.left g.S.ByteSource.faults c.args.capture.now c.read_input.new.source) (lent g.K.ByteSink.written g.K.ByteSink.faults c.args.out.now c.write_frames.new.out)
     (lent g.E.ByteSink.written g.E.ByteSink.faults c.args.notes.now c.cut.new.notes)
-    (reads frames_answer) (writes (frame_texts (frames_of c.in-Ok-read_capture.form (drop 24 c.as_slice-2.result.now)))) c.args.notes.now c.cut.result.status
-    (c.in-Ok.octets.items, c.in-Ok.ensures.read, ap frames_answer (sym c.as_slice.ensures.value) ∙ ap frames_said c.in-Ok-read_capture.ensures.sound
-    ∙ ap (λ octets. writes (frame_texts (frames_of c.in-Ok-read_capture.form (drop 24 octets)))) (c.as_slice.ensures.value ∙ sym c.as_slice-2.ensures.value))
+    (reads frames_answer) (writes (frame_texts (frames_of c.in-Ok-read_capture.form (drop 24 c.as_slice-2.result.now)))) c.args.notes.now c.cut.result.status (
+      c.in-Ok.octets.items,
+      c.in-Ok.ensures.read,
+      ap frames_answer (sym c.as_slice.ensures.value) ∙ ap frames_said c.in-Ok-read_capture.ensures.sound
+          ∙ ap (λ octets. writes (frame_texts (frames_of c.in-Ok-read_capture.form (drop 24 octets)))) (c.as_slice.ensures.value ∙ sym c.as_slice-2.ensures.value),
+    )
     c.cut.ensures.status (c.in-Err-write_frames.ensures.err, refl) c.cut.ensures.told

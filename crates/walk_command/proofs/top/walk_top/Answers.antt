@@ -1,11 +1,12 @@
 -- What stands in a clause by the command.
-use Rattle.std.proofs.Common.{rules}
+use Rattle.std.proofs.Common.{◌≡◌, Option, Some, None, IsNone, Err, refl, ap, rules}
 use Rattle.headline_law.specs.Texts.{walk_text}
 use Rattle.command_parts.specs.Task.{writes, writes_both}
-use Rattle.command_parts.specs.Ends.{lent}
-use Rattle.walk_command.specs.declared.command.WalkCommand.TheVariants.{Walk, Trace}
+use Rattle.command_parts.specs.Ends.{lent, no_command}
+use Rattle.walk_command.specs.declared.command.WalkCommand.TheVariants.{Walk, Trace, Capture}
 use Rattle.walk_command.specs.Trace.{trace_text}
-use Rattle.walk_command.specs.Commands.{command_in}
+use Rattle.walk_command.specs.declared.command.WalkCommand.{WalkCommand}
+use Rattle.walk_command.specs.Commands.{command_in, task_for, usage}
 use Rattle.walk_command.proofs.RoomLaws.{some-command, tells-headline}
 use Rattle.walk_command.proofs.top.walk_top.Goals as goal
 
@@ -26,3 +27,21 @@ returns-in-Ok-Trace-clause-headline g c =
 
 pub returns-in-Ok-Trace-clause-handed : goal.returns-in-Ok-Trace-clause-handed
 returns-in-Ok-Trace-clause-handed g c = some-command _ (command_in c.args.words.now) Trace (search rules) c.trace.ensures.handed
+
+pub returns-in-Ok-Capture-clause-handed : goal.returns-in-Ok-Capture-clause-handed
+returns-in-Ok-Capture-clause-handed g c = some-command _ (command_in c.args.words.now) Capture (search rules) c.capture.ensures.handed
+
+no-command : (o : Option WalkCommand) → IsNone o → o ≡ None
+no-command None none = refl
+no-command (Some command) none = absurd cc
+
+pub returns-in-Err-Usage-clause-ends : goal.returns-in-Err-Usage-clause-ends
+returns-in-Err-Usage-clause-ends g c =
+    no_command c.no_command.ensures.status
+    (record {
+      usage = usage;
+      none = ap task_for (no-command (command_in c.args.words.now) (c.in-Err-Usage.ensures.usage.0 (ap Err c.in-Err-Usage.field-0-is)));
+      unread = refl;
+      nothing = refl;
+      told = c.no_command.ensures.told;
+    })
