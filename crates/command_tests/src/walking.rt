@@ -36,14 +36,14 @@ fn faulty_rows() -> &'static str {
 /// Words that are no command.
 fn usage_rows() -> &'static str {
     "\
-    ; => 2;;usage: vcat_walk walk, trace, decode, or make NUMBER LINES TICKS|\n\
-    walk ; => 2;;usage: vcat_walk walk, trace, decode, or make NUMBER LINES TICKS|\n\
-    walk x; => 2;;usage: vcat_walk walk, trace, decode, or make NUMBER LINES TICKS|\n\
-    Walk; => 2;;usage: vcat_walk walk, trace, decode, or make NUMBER LINES TICKS|\n\
-    walk walk; => 2;;usage: vcat_walk walk, trace, decode, or make NUMBER LINES TICKS|\n\
-    -h; => 2;;usage: vcat_walk walk, trace, decode, or make NUMBER LINES TICKS|\n\
-    run 2; => 2;;usage: vcat_walk walk, trace, decode, or make NUMBER LINES TICKS|\n\
-    make 1 1; => 2;;usage: vcat_walk walk, trace, decode, or make NUMBER LINES TICKS|"
+    ; => 2;;usage: vcat_walk walk, trace, capture, frames, decode, or make NUMBER LINES TICKS|\n\
+    walk ; => 2;;usage: vcat_walk walk, trace, capture, frames, decode, or make NUMBER LINES TICKS|\n\
+    walk x; => 2;;usage: vcat_walk walk, trace, capture, frames, decode, or make NUMBER LINES TICKS|\n\
+    Walk; => 2;;usage: vcat_walk walk, trace, capture, frames, decode, or make NUMBER LINES TICKS|\n\
+    walk walk; => 2;;usage: vcat_walk walk, trace, capture, frames, decode, or make NUMBER LINES TICKS|\n\
+    -h; => 2;;usage: vcat_walk walk, trace, capture, frames, decode, or make NUMBER LINES TICKS|\n\
+    run 2; => 2;;usage: vcat_walk walk, trace, capture, frames, decode, or make NUMBER LINES TICKS|\n\
+    make 1 1; => 2;;usage: vcat_walk walk, trace, capture, frames, decode, or make NUMBER LINES TICKS|"
 }
 
 /// Frames that are carried whole or not, in containers of either size; and those that a failure of 40 containers with a slip of 39 covers:
@@ -101,6 +101,7 @@ fn untold_rows() -> &'static str {
     "\
     walk;x| => 5;;\n\
     decode;x| => 5;;\n\
+    frames;x| => 5;;\n\
     x; => 2;;\n\
     trace;lines 1|delays 0|ring 1|lag 1|ticks 41|add 0 0| => 4+;;fault: write failed|\n\
     trace;lines 1|delays 0|ring 1|lag 1|ticks 58|add 0 0|frame 0 5a*64| => \
@@ -126,6 +127,10 @@ fn packet_rows() -> &'static str {
     at 88 ctrl 7|at 104 add sq 1 gid 1 act 1 chg 1 mst 00 ack 0|at 140 idle sq 255 gid 0 act 2 chg 0 mst 00 ack 0|\
     at 156 idle sq 255 gid 0 act 2 chg 0 mst 00 ack 0|at 172 idle sq 255 gid 0 act 2 chg 0 mst 00 ack 0|end octets 200 packets 10|;\n\
     decode; => 0;end octets 0 packets 0|;\n\
+    frames; => 5;;fault: head: cut|\n\
+    frames;frame 0 0102030405| => 5;;fault: head: cut|\n\
+    frames;frame 0 020304050607080900| => 5;;fault: head: magic|\n\
+    frames;|\r\r|45678901234567890123 => 5;;fault: head: pcapng|\n\
     decode;# none|| 00 \r|0aF0 => 0;end octets 3 packets 0|;\n\
     decode;0001020 => 5;;fault: line 1: hex|\n\
     decode;00||#|0g|0| => 5;;fault: line 4: hex|\n\
@@ -164,7 +169,7 @@ fn read_rows() -> &'static str {
     walk;x| => 2 TIMES 3;;fault: read failed| THEN 5;;fault: line 1: word|\n\
     walk;lines 2|delays 0 63|ring 63|lag 5|ticks 1| => 7 TIMES 3;;fault: read failed| THEN 6;;fault: spread 63 0 0 63|\n\
     make 1 1 1; => 0+;made lines 1 ticks 1|total ticks 1 taken 1 frames 1 commands 1 refused 0 got 0|octets 0 sum 0|;\n\
-    make 1 1; => 2;;usage: vcat_walk walk, trace, decode, or make NUMBER LINES TICKS|"
+    make 1 1; => 2;;usage: vcat_walk walk, trace, capture, frames, decode, or make NUMBER LINES TICKS|"
 }
 
 #[test]

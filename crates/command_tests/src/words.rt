@@ -10,6 +10,8 @@ use walk_command::WalkCommand;
 const WALKS: &str = "\
     walk=> Walk\n\
     trace=> Trace\n\
+    capture=> Capture\n\
+    frames=> Frames\n\
     decode=> Decode\n\
     make 1 1 1=> Make { number: 1, lines: 1, ticks: 1 }\n\
     make 0 64 1000000=> Make { number: 0, lines: 64, ticks: 1000000 }\n\
@@ -38,6 +40,8 @@ const WALKS: &str = "\
     Walk=> usage\n\
     walk x=> usage\n\
     walk walk=> usage\n\
+    capture x=> usage\n\
+    frames x=> usage\n\
     walk --trace=> usage\n\
     walk -h=> usage\n\
     -- walk=> usage\n\

@@ -1,17 +1,20 @@
 //! `capture`: a script's walk is made, and the frames that it delivers are written as a capture.
-ghost use Rattle.std.specs.Prelude.{◌≡◌, ◌≢◌, List, None, OnOk, OnErr, map, replicate, string_bytes};
+ghost use Rattle.std.specs.Prelude.{◌≡◌, ◌≢◌, ℕ, List, None, OnOk, OnErr, map, replicate, string_bytes};
 ghost use Rattle.std.specs.List.{flat_map};
 ghost use Rattle.outside_io.specs.Start.{Start};
 ghost use Rattle.outside_io.specs.Transfer.{Appends, AppendsPart};
+ghost use Rattle.session_model.specs.declared.script.Script.{Script};
 ghost use Rattle.session_model.specs.declared.walk.Event.{Event};
 ghost use Rattle.session_model.specs.Valid.{IsValid, IsEvent};
 ghost use Rattle.session_model.specs.Counts.{begin, run, run_line, drain, bound};
 ghost use Rattle.walk_law.specs.Walk.{walk_plan, IsWalked};
+ghost use Rattle.walk_law.specs.Delivered.{delivered_of};
 ghost use Rattle.headline_law.specs.Texts.{counts_in};
+ghost use Rattle.capture_file.specs.Written.{RowFrame};
 ghost use Rattle.command_parts.specs.Status.{HasRunAt};
 ghost use Rattle.command_parts.specs.Task.{reads};
 ghost use Rattle.command_parts.specs.Ends.{Ends, lent};
-ghost use Rattle.walk_command.specs.Capture.{HasTaken, capture_octets, capture_words, capture_answer};
+ghost use Rattle.walk_command.specs.Capture.{HasTaken, taken_frames, capture_octets, capture_words, capture_answer};
 ghost use Rattle.walk_command.specs.Told.{events_of, IsTurn};
 ghost use Rattle.walk_command.specs.Ended.{HandsScript};
 
@@ -171,3 +174,9 @@ pub fn capture<S: ByteSource, K: ByteSink, E: ByteSink>(
         Err(Failed) => cut(Some(walk), notes),
     }
 }
+
+/// The frames of a capture are exactly those that the rows deliver, in order and each once.
+pub fn capture_law()
+    ensures { (script : Script) (rows : ℕ) →
+        map (λ (own : RowFrame). own.frame) (taken_frames script rows) ≡ delivered_of script rows }
+{}
