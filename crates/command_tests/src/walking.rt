@@ -37,14 +37,14 @@ fn faulty_rows() -> &'static str {
 /// Words that are no command.
 fn usage_rows() -> &'static str {
     "\
-    ; => 2;;usage: vcat_walk walk, trace, decode, au4, make NUMBER LINES TICKS, or stream OCTETS MBITS FIRST END NUMBER|\n\
-    walk ; => 2;;usage: vcat_walk walk, trace, decode, au4, make NUMBER LINES TICKS, or stream OCTETS MBITS FIRST END NUMBER|\n\
-    walk x; => 2;;usage: vcat_walk walk, trace, decode, au4, make NUMBER LINES TICKS, or stream OCTETS MBITS FIRST END NUMBER|\n\
-    Walk; => 2;;usage: vcat_walk walk, trace, decode, au4, make NUMBER LINES TICKS, or stream OCTETS MBITS FIRST END NUMBER|\n\
-    walk walk; => 2;;usage: vcat_walk walk, trace, decode, au4, make NUMBER LINES TICKS, or stream OCTETS MBITS FIRST END NUMBER|\n\
-    -h; => 2;;usage: vcat_walk walk, trace, decode, au4, make NUMBER LINES TICKS, or stream OCTETS MBITS FIRST END NUMBER|\n\
-    run 2; => 2;;usage: vcat_walk walk, trace, decode, au4, make NUMBER LINES TICKS, or stream OCTETS MBITS FIRST END NUMBER|\n\
-    make 1 1; => 2;;usage: vcat_walk walk, trace, decode, au4, make NUMBER LINES TICKS, or stream OCTETS MBITS FIRST END NUMBER|"
+    ; => 2;;usage: vcat_walk walk, trace, capture, frames, decode, au4, make NUMBER LINES TICKS, or stream OCTETS MBITS FIRST END NUMBER|\n\
+    walk ; => 2;;usage: vcat_walk walk, trace, capture, frames, decode, au4, make NUMBER LINES TICKS, or stream OCTETS MBITS FIRST END NUMBER|\n\
+    walk x; => 2;;usage: vcat_walk walk, trace, capture, frames, decode, au4, make NUMBER LINES TICKS, or stream OCTETS MBITS FIRST END NUMBER|\n\
+    Walk; => 2;;usage: vcat_walk walk, trace, capture, frames, decode, au4, make NUMBER LINES TICKS, or stream OCTETS MBITS FIRST END NUMBER|\n\
+    walk walk; => 2;;usage: vcat_walk walk, trace, capture, frames, decode, au4, make NUMBER LINES TICKS, or stream OCTETS MBITS FIRST END NUMBER|\n\
+    -h; => 2;;usage: vcat_walk walk, trace, capture, frames, decode, au4, make NUMBER LINES TICKS, or stream OCTETS MBITS FIRST END NUMBER|\n\
+    run 2; => 2;;usage: vcat_walk walk, trace, capture, frames, decode, au4, make NUMBER LINES TICKS, or stream OCTETS MBITS FIRST END NUMBER|\n\
+    make 1 1; => 2;;usage: vcat_walk walk, trace, capture, frames, decode, au4, make NUMBER LINES TICKS, or stream OCTETS MBITS FIRST END NUMBER|"
 }
 
 /// Frames that are carried whole or not, in containers of either size; and those that a failure of 40 containers with a slip of 39 covers:
@@ -102,6 +102,7 @@ fn untold_rows() -> &'static str {
     "\
     walk;x| => 5;;\n\
     decode;x| => 5;;\n\
+    frames;x| => 5;;\n\
     x; => 2;;\n\
     trace;lines 1|delays 0|ring 1|lag 1|ticks 41|add 0 0| => 4+;;fault: write failed|\n\
     trace;lines 1|delays 0|ring 1|lag 1|ticks 58|add 0 0|frame 0 5a*64| => \
@@ -127,6 +128,10 @@ fn packet_rows() -> &'static str {
     at 88 ctrl 7|at 104 add sq 1 gid 1 act 1 chg 1 mst 00 ack 0|at 140 idle sq 255 gid 0 act 2 chg 0 mst 00 ack 0|\
     at 156 idle sq 255 gid 0 act 2 chg 0 mst 00 ack 0|at 172 idle sq 255 gid 0 act 2 chg 0 mst 00 ack 0|end octets 200 packets 10|;\n\
     decode; => 0;end octets 0 packets 0|;\n\
+    frames; => 5;;fault: head: cut|\n\
+    frames;frame 0 0102030405| => 5;;fault: head: cut|\n\
+    frames;frame 0 020304050607080900| => 5;;fault: head: magic|\n\
+    frames;|\r\r|45678901234567890123 => 5;;fault: head: pcapng|\n\
     decode;# none|| 00 \r|0aF0 => 0;end octets 3 packets 0|;\n\
     decode;0001020 => 5;;fault: line 1: hex|\n\
     decode;00||#|0g|0| => 5;;fault: line 4: hex|\n\
@@ -170,7 +175,7 @@ fn read_rows() -> &'static str {
     walk;lines 2|delays 0 63|ring 63|lag 5|ticks 1| => 7 TIMES 3;;fault: read failed| THEN 6;;fault: spread 63 0 0 63|\n\
     make 1 1 1; => 0+;made lines 1 ticks 1|total ticks 1 taken 1 frames 1 commands 1 refused 0 got 0|octets 0 sum 0|;\n\
     stream 64 1 0 1 1; => 0;frame 0 02000000000202000000000188b5d659cce65af39af629bafbf27c20ba0c1a1fd4356b8dde623db024a051a09f121cc58e5aca6adc1dffe48ab8cd1682076840|;\n\
-    make 1 1; => 2;;usage: vcat_walk walk, trace, decode, au4, make NUMBER LINES TICKS, or stream OCTETS MBITS FIRST END NUMBER|"
+    make 1 1; => 2;;usage: vcat_walk walk, trace, capture, frames, decode, au4, make NUMBER LINES TICKS, or stream OCTETS MBITS FIRST END NUMBER|"
 }
 
 #[test]

@@ -10,6 +10,8 @@ use walk_command::WalkCommand;
 const WALKS: &str = "\
     walk=> Walk\n\
     trace=> Trace\n\
+    capture=> Capture\n\
+    frames=> Frames\n\
     decode=> Decode\n\
     au4=> Au4\n\
     au4 x=> usage\n\
@@ -59,6 +61,8 @@ const WALKS: &str = "\
     Walk=> usage\n\
     walk x=> usage\n\
     walk walk=> usage\n\
+    capture x=> usage\n\
+    frames x=> usage\n\
     walk --trace=> usage\n\
     walk -h=> usage\n\
     -- walk=> usage\n\

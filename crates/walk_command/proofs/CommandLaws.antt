@@ -15,10 +15,13 @@ use Rattle.command_parts.specs.Status.{HasRunAt}
 use Rattle.command_parts.specs.declared.stop.Stop.TheVariants.{Memory}
 use Rattle.command_parts.proofs.StopLaws.{made-beside, ends-no-memory}
 use Rattle.walk_command.specs.declared.command.WalkCommand.{WalkCommand}
-use Rattle.walk_command.specs.declared.command.WalkCommand.TheVariants.{Walk, Trace, Decode, Make, Stream}
+use Rattle.walk_command.specs.declared.command.WalkCommand.TheVariants.{Walk, Trace, Capture, Frames, Decode, Au4, Make, Stream}
 use Rattle.walk_command.specs.Walk.{word_at, is_word, walk_words}
 use Rattle.walk_command.specs.Trace.{trace_words}
+use Rattle.walk_command.specs.Capture.{capture_words}
+use Rattle.walk_command.specs.Frames.{frames_words}
 use Rattle.walk_command.specs.Decode.{decode_words}
+use Rattle.walk_command.specs.Au4.{au4_words}
 use Rattle.walk_command.specs.Make.{load_of, make_words}
 use Rattle.walk_command.specs.Stream.{ticks_of, rate_of, numbers_in, stream_words}
 use Rattle.walk_command.specs.Commands.{command_of, task_at, command_in, task_for, task_of, usage}
@@ -28,7 +31,10 @@ use Rattle.walk_command.specs.Commands.{command_of, task_at, command_in, task_fo
 abbrev pub Fits : WalkCommand → Type 0
 Fits Walk = Unit {0}
 Fits Trace = Unit {0}
+Fits Capture = Unit {0}
+Fits Frames = Unit {0}
 Fits Decode = Unit {0}
+Fits Au4 = Unit {0}
 Fits (Make number lines ticks) = IsWithin 1 64 lines × IsWithin 1 1000000 ticks
 Fits (Stream load) = IsRateLoad load
 
@@ -84,6 +90,15 @@ walk-fits words = if-fits (is_word (codes "walk") words) (Some Walk) tt
 trace-fits : (words : List (List ℕ)) → IfSome (trace_words words) Fits
 trace-fits words = if-fits (is_word (codes "trace") words) (Some Trace) tt
 
+capture-fits : (words : List (List ℕ)) → IfSome (capture_words words) Fits
+capture-fits words = if-fits (is_word (codes "capture") words) (Some Capture) tt
+
+frames-fits : (words : List (List ℕ)) → IfSome (frames_words words) Fits
+frames-fits words = if-fits (is_word (codes "frames") words) (Some Frames) tt
+
+au4-fits : (words : List (List ℕ)) → IfSome (au4_words words) Fits
+au4-fits words = if-fits (is_word (codes "au4") words) (Some Au4) tt
+
 decode-fits : (words : List (List ℕ)) → IfSome (decode_words words) Fits
 decode-fits words = if-fits (is_word (codes "decode") words) (Some Decode) tt
 
@@ -114,12 +129,19 @@ named-fits : (words : List (List ℕ)) → IfSome (command_of words) Fits
 named-fits words =
     let walks = walk_words words in
     let traces = option_or walks (trace_words words) in
-    let decodes = option_or traces (decode_words words) in
-    let makes = option_or decodes (make_words words) in
+    let captures = option_or traces (capture_words words) in
+    let frames = option_or captures (frames_words words) in
+    let decodes = option_or frames (decode_words words) in
+    let links = option_or decodes (au4_words words) in
+    let makes = option_or links (make_words words) in
     or-fits makes (stream_words words)
-    (or-fits decodes (make_words words)
-    (or-fits traces (decode_words words)
-    (or-fits walks (trace_words words) (walk-fits words) (trace-fits words)) (decode-fits words)) (make-fits words)) (stream-fits words)
+    (or-fits links (make_words words)
+    (or-fits decodes (au4_words words)
+    (or-fits frames (decode_words words)
+    (or-fits captures (frames_words words)
+    (or-fits traces (capture_words words)
+    (or-fits walks (trace_words words) (walk-fits words) (trace-fits words)) (capture-fits words)) (frames-fits words))
+    (decode-fits words)) (au4-fits words)) (make-fits words)) (stream-fits words)
 
 pub fits : (words : List (String Global)) (command : WalkCommand) → command_in words ≡ Some command → Fits command
 fits words command is =
@@ -143,7 +165,10 @@ is-command : (o : Option WalkCommand) → (IsNone o → ⊥) → IsCommand (task
 is-command None some = some refl
 is-command (Some Walk) some = tt
 is-command (Some Trace) some = tt
+is-command (Some Capture) some = tt
+is-command (Some Frames) some = tt
 is-command (Some Decode) some = tt
+is-command (Some Au4) some = tt
 is-command (Some (Make number lines ticks)) some = tt
 is-command (Some (Stream load)) some = tt
 

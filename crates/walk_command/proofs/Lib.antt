@@ -6,3 +6,4 @@ pub mod DecodedLaws
 pub mod CountLaws
 pub mod RoomLaws
 pub mod CommandLaws
+pub mod TakenLaws

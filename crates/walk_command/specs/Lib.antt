@@ -1,6 +1,8 @@
 pub mod HexLines
 pub mod Walk
 pub mod Trace
+pub mod Capture
+pub mod Frames
 pub mod Decode
 pub mod Au4
 pub mod Make

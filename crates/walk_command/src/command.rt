@@ -1,6 +1,6 @@
 //! The commands of the program, a line for each.
 
-use crate::{au4, decode, make, stream, trace, walk};
+use crate::{au4, capture, decode, frames, make, stream, trace, walk};
 use cmd_words::FromWords;
 use rate_load::RateLoad;
 
@@ -11,6 +11,10 @@ pub enum WalkCommand {
     Walk,
     /// `trace`: the same, and write a line for each decision step.
     Trace,
+    /// `capture`: make the walk of a script, and write a capture of the frames that it delivers.
+    Capture,
+    /// `frames`: write the lines of a script for the frames of a capture.
+    Frames,
     /// `decode`: write the control packets in H4 octets.
     Decode,
     /// `au4`: carry numbered VC-4s over a link of AU-4 frames.
@@ -29,6 +33,8 @@ impl FromWords for WalkCommand {
     fn from_words(words: &[String]) -> Option<WalkCommand> {
         walk::words(words)
             .or(trace::words(words))
+            .or(capture::words(words))
+            .or(frames::words(words))
             .or(decode::words(words))
             .or(au4::words(words))
             .or(make::words(words))

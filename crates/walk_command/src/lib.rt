@@ -5,10 +5,12 @@
 #![tactic(auto)]
 
 mod au4;
+mod capture;
 mod command;
 mod decode;
 mod end;
 mod events;
+mod frames;
 mod hex_lines;
 mod make;
 mod ready;
@@ -17,6 +19,7 @@ mod top;
 mod trace;
 mod walk;
 
+pub use capture::capture_law;
 pub use command::WalkCommand;
 pub use end::WalkEnd;
 pub use top::walk_top;

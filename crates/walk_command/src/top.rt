@@ -7,9 +7,11 @@ ghost use Rattle.command_parts.specs.Ends.{Ends, lent};
 ghost use Rattle.walk_command.specs.Commands.{command_in, task_of, usage, HandsBack, RunsScript};
 
 use crate::au4::au4;
+use crate::capture::capture;
 use crate::command::WalkCommand;
 use crate::decode::decode;
 use crate::end::{WalkEnd, stopped};
+use crate::frames::frames;
 use crate::make::make;
 use crate::stream::stream;
 use crate::trace::trace;
@@ -22,14 +24,16 @@ use std::alloc::Global;
 /// Runs the command that the words say. `walk` reads a script, makes its walk and writes on `out` the got lines of the frames that it
 /// delivers, the lines of refused items, and the line of totals; without event lines the walk drains, and with event lines it makes just
 /// these. `trace` does the same, and writes a line for each decision step of the source on `notes`. `make` runs the load of a number and
-/// writes three lines. `decode` reads the H4 octets of a line in hexadecimal digits and writes the control packets in them. `au4` reads what
-/// the pointers of AU-4 frames do, and writes a line of each numbered VC-4 that comes whole over them, and the counts. `stream` writes
-/// the script lines of a client that sends at a rate.
+/// writes three lines. `capture` makes the walk of a script and writes a capture of the frames that it delivers. `frames` reads a capture
+/// and writes the line of a script for each frame in it. `decode` reads the H4 octets of a line in hexadecimal digits and writes the control
+/// packets in them. `au4` reads what the pointers of AU-4 frames do, and writes a line of each numbered VC-4 that comes whole over them, and
+/// the counts. `stream` writes the script lines of a client that sends at a rate.
 ///
 /// The status is 2 where the words are no command, 3 where the input can't be read, 8 where it or the text of `stream` has more than
-/// 67,108,864 octets, 5 where one of its lines is faulty, 6 where a script's slips, spread or lag don't fit its rings, 4 where an output
-/// can't be written, 7 where memory is short, and else 0. Of those that hold the first in this order is told; want of memory may come in
-/// the place of any but 2, before anything is written. A note says on `notes` what went wrong. After a fault nothing more is written but that note.
+/// 67,108,864 octets, 5 where one of its lines is faulty, or of a capture its head or a record, 6 where a script's slips, spread or lag
+/// don't fit its rings, 4 where an output can't be written, 7 where memory is short, and else 0. Of those that hold the first in this order
+/// is told; want of memory may come in the place of any but 2, before anything is written. A note says on `notes` what went wrong. After a
+/// fault nothing more is written but that note.
 pub fn walk_top<S: ByteSource, K: ByteSink, E: ByteSink>(
     alloc: Global,
     words: &[String],
@@ -57,6 +61,8 @@ pub fn walk_top<S: ByteSource, K: ByteSink, E: ByteSink>(
     match read_words(alloc, words) {
         Ok(WalkCommand::Walk) => walk(alloc, script, out, notes),
         Ok(WalkCommand::Trace) => trace(alloc, script, out, notes),
+        Ok(WalkCommand::Capture) => capture(alloc, script, out, notes),
+        Ok(WalkCommand::Frames) => frames(alloc, script, out, notes),
         Ok(WalkCommand::Decode) => decode(alloc, script, out, notes),
         Ok(WalkCommand::Au4) => au4(alloc, script, out, notes),
         Ok(
@@ -79,7 +85,7 @@ fn no_command<E: ByteSink>(notes: &mut E) -> WalkEnd
     ensures told { Tells E.written E.faults notes.old notes.new usage }
 {
     let text =
-        b"usage: vcat_walk walk, trace, decode, au4, make NUMBER LINES TICKS, or stream OCTETS MBITS FIRST END NUMBER\n";
+        b"usage: vcat_walk walk, trace, capture, frames, decode, au4, make NUMBER LINES TICKS, or stream OCTETS MBITS FIRST END NUMBER\n";
     let status = tell_usage(text, notes);
     WalkEnd { status, walk: None }
 }

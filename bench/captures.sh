@@ -1,0 +1,98 @@
+#!/bin/sh
+# Looks at captures with the tools of Wireshark, which check them by themselves. Of each example script that is walked, tshark takes the
+# capture of its frames apart, and has to find as many frames as come out, with times that rise, and each FCS good where the script has a
+# good one. Captures that text2pcap and editcap wrote are read by frames, in each form that they write, and in the other order of
+# octets. Nothing is installed; what is missing is said. The status is 0 where all is well.
+cd "$(dirname "$0")/.." || exit 1
+program=$PWD/crates/vcat_walk/out/vcat_walk
+[ -x "$program" ] || { echo "captures: $program is missing: run rt ci first" >&2; exit 1; }
+for tool in tshark editcap text2pcap perl; do
+    command -v "$tool" > /dev/null || { echo "captures: $tool is missing (Debian: tshark, wireshark-common, perl)" >&2; exit 1; }
+done
+work=$(mktemp -d) || exit 1
+trap 'rm -rf "$work"' EXIT
+wrong=0
+complain() {
+    echo "captures: $*" >&2
+    wrong=$((wrong + 1))
+}
+
+# ---- capture
+scripts=0 frames=0 good=0
+for script in examples/*.vcat; do
+    "$program" walk < "$script" > "$work/text" 2> "$work/notes" || continue
+    "$program" capture < "$script" > "$work/got.pcap" || complain "$script: no capture"
+    scripts=$((scripts + 1))
+    count=$(grep -c '^got ' "$work/text")
+    tshark -r "$work/got.pcap" -o eth.check_fcs:TRUE -T fields -e frame.time_epoch -e eth.fcs.status > "$work/fields" 2> "$work/notes" ||
+        complain "$script: tshark: $(cat "$work/notes")"
+    [ "$(wc -l < "$work/fields")" = "$count" ] || complain "$script: $count frames come out, and tshark finds $(wc -l < "$work/fields")"
+    sort -n -s -k 1,1 "$work/fields" | cmp -s - "$work/fields" || complain "$script: times fall"
+    # As capture_file has it, so do these: a frame whose FCS isn't right in the script is bad in the capture, and no other.
+    sed -n 's/^got //p' "$work/text" | perl -ne '
+        chomp; my @octets = map { hex } /../g; my $crc = 0xffffffff;
+        for my $octet (@octets) { $crc ^= $octet; $crc = $crc & 1 ? ($crc >> 1) ^ 0xedb88320 : $crc >> 1 for 1 .. 8 }
+        print $crc == 0xdebb20e3 ? "1\n" : "0\n"' > "$work/wanted"
+    cut -f 2 "$work/fields" | sed 's/Good/1/; s/Bad/0/' | cmp -s - "$work/wanted" || complain "$script: an FCS is not as it should be"
+    frames=$((frames + count))
+    good=$((good + $(grep -c 1 "$work/wanted")))
+done
+echo "capture: $scripts scripts, $frames frames, $good with a good FCS"
+
+# ---- frames
+# Three Ethernet frames without FCS, the second one 250 microseconds after the first, and the third a second after that.
+cat > "$work/frames.txt" << 'END'
+10:00:00.000000
+0000 02 00 00 00 00 02 02 00 00 00 00 01 88 b5 01
+10:00:00.000250
+0000 02 00 00 00 00 02 02 00 00 00 00 01 88 b5 02
+10:00:01.000250
+0000 02 00 00 00 00 02 02 00 00 00 00 01 88 b5 03
+END
+zeros=$(printf '%090d' 0)
+cat > "$work/lines" << END
+frame 0 02000000000202000000000188b501$zeros
+frame 2 02000000000202000000000188b502$zeros
+frame 8002 02000000000202000000000188b503$zeros
+END
+# What frames says of a capture: the lines, but for the FCS of each, or the note.
+said() {
+    if "$program" frames < "$1" > "$work/said" 2> "$work/notes"; then
+        sed 's/.\{8\}$//' "$work/said"
+    else
+        cat "$work/notes"
+    fi
+}
+expect() {
+    said "$1" > "$work/own"
+    cmp -s "$work/own" "$work/$2" || complain "$1: $(head -n 1 "$work/own")"
+}
+text2pcap -q -F pcap -t %H:%M:%S. "$work/frames.txt" "$work/micro.pcap" 2> "$work/notes" || complain "text2pcap: $(cat "$work/notes")"
+editcap -F nsecpcap "$work/micro.pcap" "$work/nano.pcap"
+editcap -F pcapng "$work/micro.pcap" "$work/new.pcap"
+editcap -F pcap "$work/new.pcap" "$work/back.pcap"
+editcap -F pcap -s 14 "$work/micro.pcap" "$work/short.pcap"
+head -c 100 "$work/micro.pcap" > "$work/cut.pcap"
+for form in micro nano; do
+    perl -0777 -ne '
+        print pack("NnnN4", unpack("VvvV4", $_)); my $at = 24;
+        while ($at < length) { my @head = unpack("V4", substr($_, $at, 16)); print pack("N4", @head), substr($_, $at + 16, $head[2]); $at += 16 + $head[2] }
+    ' "$work/$form.pcap" > "$work/$form.swapped.pcap"
+done
+echo "fault: head: pcapng" > "$work/newer"
+echo "fault: record 0: snapped" > "$work/snapped"
+echo "fault: record 2: cut" > "$work/cut"
+for form in micro nano back micro.swapped nano.swapped; do expect "$work/$form.pcap" lines; done
+expect "$work/new.pcap" newer
+expect "$work/short.pcap" snapped
+expect "$work/cut.pcap" cut
+# The FCS that frames puts behind a frame is good to tshark.
+{
+    printf 'lines 1\ndelays 0\nring 1\nlag 1\nticks 9000\nadd 0 0\n'
+    "$program" frames < "$work/micro.pcap"
+} > "$work/script"
+"$program" capture < "$work/script" > "$work/got.pcap"
+tshark -r "$work/got.pcap" -o eth.check_fcs:TRUE -T fields -e eth.fcs.status 2> "$work/notes" | sort -u > "$work/own"
+[ "$(sed 's/Good/1/' "$work/own")" = 1 ] || complain "an FCS of frames is not good to tshark"
+echo "frames: 8 captures of text2pcap and editcap"
+[ "$wrong" = 0 ]

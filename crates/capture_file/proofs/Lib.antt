@@ -1,0 +1,6 @@
+pub mod RecordLaws
+pub mod ReadingLaws
+pub mod CheckedLaws
+pub mod LineLaws
+pub mod OutLaws
+pub mod WrittenLaws

@@ -1,0 +1,12 @@
+-- The records so far are sound, and the clock stands behind the last of them.
+use Rattle.std.proofs.Common.{◌≡◌, List, length}
+use Rattle.capture_file.specs.Form.{Record}
+use Rattle.capture_file.specs.Clock.{Stands}
+use Rattle.capture_file.proofs.CheckedLaws.{HasChecked}
+use Rattle.capture_file.proofs.check.check_records.Given as goal
+
+abbrev pub invariant-loop-record : goal.invariant-loop-record
+invariant-loop-record l = HasChecked l.form l.body l.rest l.clock l.number
+
+abbrev pub decreases-loop-record : goal.decreases-loop-record
+decreases-loop-record l = length l.rest

@@ -1,0 +1,6 @@
+pub mod Form
+pub mod Written
+pub mod Reading
+pub mod Texts
+pub mod Clock
+pub mod Out

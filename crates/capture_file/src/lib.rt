@@ -1,0 +1,42 @@
+//! Captures of the classic form (pcap) as lists of octets: a head, and then records of frames with their times. One is read in place, whole
+//! or up to its first fault; what it says is written as the `frame` lines of a script; and the head and the record heads of one are made.
+//! Captures of the newer form (pcapng) are refused, and no check of a frame is tested. Begin with `read_capture`.
+#![tactic(auto)]
+
+ghost use Rattle.std.specs.Prelude.{◌≡◌, List, [], ◌∷◌, ◌++◌, Ok, Err};
+ghost use Rattle.capture_file.specs.declared.form.CaptureFault.{CaptureFault};
+ghost use Rattle.capture_file.specs.declared.form.RecordFault.{RecordFault};
+ghost use Rattle.capture_file.specs.Reading.{capture_said};
+ghost use Rattle.capture_file.specs.Written.{RowFrame, ethernet_capture, AreRising, due_frames, two_frames};
+
+mod check;
+mod clock;
+mod form;
+mod head;
+mod lines;
+mod note;
+mod out;
+mod record;
+
+pub use check::read_capture;
+pub use form::{ByteOrder, CaptureFault, Form, HeadFault, RecordFault, RecordHead, TimeUnit};
+pub use head::read_head;
+pub use lines::write_frames;
+pub use note::fault_note;
+pub use out::CaptureOut;
+pub use record::{NextRecord, next_record};
+
+/// A capture that is written of frames whose rows don't fall is read as the frames in it: each is due as many ticks after the first one as
+/// its row comes after the row of that.
+pub fn written_law()
+    ensures { (frames : List RowFrame) → AreRising 0 frames →
+        capture_said (ethernet_capture frames) ≡ Ok (due_frames frames) }
+{}
+
+/// Worked: two frames of two octets with an FCS, nanoseconds, the most significant octet first; the second one is 250,000 nanoseconds later. An
+/// octet more is the start of a record that is cut.
+pub fn worked_law()
+    ensures said { capture_said two_frames ≡ Ok (record { due = 0; frame = 0xaa ∷ 0xbb ∷ [] }
+        ∷ record { due = 2; frame = 0xcc ∷ 0xdd ∷ [] } ∷ []) }
+    ensures cut { capture_said (two_frames ++ 0 ∷ []) ≡ Err (CaptureFault.Record 2 RecordFault.Cut) }
+{}

@@ -1,0 +1,49 @@
+-- A round more, or all rows are taken.
+use Rattle.std.proofs.Common.{◌<◌, ◌≤◌, refl, sym, ◌∙◌, ap, arith}
+use Rattle.session_model.specs.declared.script.Script.{Script}
+use Rattle.session_model.specs.Counts.{Counts, run, round}
+use Rattle.report_text.specs.declared.report.Totals.{Totals}
+use Rattle.walk_law.specs.Walk.{walk_plan}
+use Rattle.walk_core.proofs.RoundLaws.{round-turn, drained-end}
+use Rattle.walk_command.proofs.TraceLaws.{turn-walked}
+use Rattle.walk_command.proofs.capture.capture_drain.Goals as goal
+
+pub loop-walk-init : goal.loop-walk-init
+loop-walk-init g c = record { script = refl; left = refl; walked = c.requires.walked; taken = λ start has. has }
+
+pub loop-walk-smaller : goal.loop-walk-smaller
+loop-walk-smaller g c =
+    let inv = c.loop-walk.invariant in
+    let s : Counts = c.loop-walk.walk.counts in
+    let taken = ap (λ (t : Totals). t.taken) c.totals.ensures in
+    let ticks = c.requires.ticks in
+    let test = c.loop-walk-test.true in
+    let open_ : s.rows < c.args.walk.now.script.config.ticks = omega (arith, test, taken, ticks) in
+    let after = c.capture_turn.ensures.counts ∙ ap (λ (x : Script). run (walk_plan x) s (round (walk_plan x))) inv.script in
+    (round-turn c.args.walk.now.script s c.capture_turn.new.walk.counts c.requires.valid inv.walked open_ after).0
+
+pub loop-walk-preserved : goal.loop-walk-preserved
+loop-walk-preserved g c =
+    let inv = c.loop-walk.invariant in
+    let script : Script = c.args.walk.now.script in
+    let s : Counts = c.loop-walk.walk.counts in
+    let taken = ap (λ (t : Totals). t.taken) c.totals.ensures in
+    let ticks = c.requires.ticks in
+    let test = c.loop-walk-test.true in
+    let open_ : s.rows < script.config.ticks = omega (arith, test, taken, ticks) in
+    let after = c.capture_turn.ensures.counts ∙ ap (λ (x : Script). run (walk_plan x) s (round (walk_plan x))) inv.script in
+    record {
+      script = c.capture_turn.ensures.script ∙ inv.script;
+      left = (round-turn script s c.capture_turn.new.walk.counts c.requires.valid inv.walked open_ after).1 ∙ inv.left;
+      walked = turn-walked script s c.capture_turn.new.walk.counts (round (walk_plan script)) inv.walked after;
+      taken = λ start has. c.capture_turn.ensures.taken start (inv.taken start has);
+    }
+
+pub returns-clause-counts : goal.returns-clause-counts
+returns-clause-counts g c =
+    let inv = c.loop-walk.invariant in
+    let taken = ap (λ (t : Totals). t.taken) c.totals.ensures in
+    let ticks = c.requires.ticks in
+    let test = c.loop-walk-test.false in
+    let shut : c.args.walk.now.script.config.ticks ≤ c.loop-walk.walk.counts.rows = omega (arith, test, taken, ticks) in
+    drained-end c.args.walk.now.script c.loop-walk.walk.counts _ shut inv.left
