@@ -209,14 +209,14 @@ module _ (kept : SegmentList) (rows : List StreamRow) (row : StreamRow) (stands 
     first = by-first;
     ended = stands.ended ∙ ap (λ l. filter has_row (drop 1 l)) (sym (whole-ended rows row whole));
     last = (
-      let first = ap (λ (s : RowSegment). s.first) stands.last in
-      let count : kept.rows + 1 ≡ suc (length rows) = (let e = stands.count in omega (arith, e)) in
-      let base : kept.base ≡ (segments_of (rows ++ row ∷ [])).last.base = stands.base ∙ sym (whole-base rows row whole) in
-      ap (λ n. record { first = n; end = kept.rows + 1; mark = option_map (λ place. kept.base + place) confirmed }) first
-      ∙ ap (λ n. record { first = (last_segment rows).first; end = n; mark = option_map (λ place. kept.base + place) confirmed }) count
-      ∙ ap (λ m. record { first = (last_segment rows).first; end = suc (length rows); mark = m }) (ap (λ b. option_map (λ place. b + place) confirmed) base ∙ tells.confirms)
-      ∙ sym (whole-last rows row whole)
-    );
+        let first = ap (λ (s : RowSegment). s.first) stands.last in
+        let count : kept.rows + 1 ≡ suc (length rows) = (let e = stands.count in omega (arith, e)) in
+        let base : kept.base ≡ (segments_of (rows ++ row ∷ [])).last.base = stands.base ∙ sym (whole-base rows row whole) in
+        ap (λ n. record { first = n; end = kept.rows + 1; mark = option_map (λ place. kept.base + place) confirmed }) first
+        ∙ ap (λ n. record { first = (last_segment rows).first; end = n; mark = option_map (λ place. kept.base + place) confirmed }) count
+        ∙ ap (λ m. record { first = (last_segment rows).first; end = suc (length rows); mark = m }) (ap (λ b. option_map (λ place. b + place) confirmed) base ∙ tells.confirms)
+        ∙ sym (whole-last rows row whole)
+        );
     base = stands.base ∙ sym (whole-base rows row whole);
     broken = by-broken ∙ ap (λ (l : List RowSegment). nat_lt 0 (length l)) (sym (whole-ended rows row whole));
   }
@@ -246,15 +246,15 @@ module _ (kept : SegmentList) (rows : List StreamRow) (row : StreamRow) (stands 
     first = by-first;
     ended = by-ended (is_told kept) refl ∙ sym (later-kept kept rows stands) ∙ ap (λ l. filter has_row (drop 1 l)) (all-segments rows ∙ sym (cut-ended rows row cut));
     last = (
-      let count : kept.rows + 1 ≡ suc (length rows) = (let e = stands.count in omega (arith, e)) in
-      ap (λ n. record { first = n; end = n; mark = None }) count ∙ sym (cut-last rows row cut)
-    );
+        let count : kept.rows + 1 ≡ suc (length rows) = (let e = stands.count in omega (arith, e)) in
+        ap (λ n. record { first = n; end = n; mark = None }) count ∙ sym (cut-last rows row cut)
+        );
     base = tells.ends ∙ sym (cut-base rows row cut);
     broken = (
-      let within = are.within in
-      let some : length (ended_segments (rows ++ row ∷ [])) ≡ length (ended_segments rows) + 1 = ap length (cut-ended rows row cut) ∙ length-append (ended_segments rows) (last_segment rows ∷ []) in
-      lt-ltb kept.first (kept.rows + 1) (omega (arith, within)) ∙ sym (lt-ltb 0 (length (ended_segments (rows ++ row ∷ []))) (omega (arith, some)))
-    );
+        let within = are.within in
+        let some : length (ended_segments (rows ++ row ∷ [])) ≡ length (ended_segments rows) + 1 = ap length (cut-ended rows row cut) ∙ length-append (ended_segments rows) (last_segment rows ∷ []) in
+        lt-ltb kept.first (kept.rows + 1) (omega (arith, within)) ∙ sym (lt-ltb 0 (length (ended_segments (rows ++ row ∷ []))) (omega (arith, some)))
+        );
   }
     where
       by-first : kept.first ≡ spoiled_from 0 (rows ++ row ∷ [])

@@ -13,8 +13,8 @@ mod spoiled;
 mod totals;
 
 pub use cause::row_cause;
-pub use frame_fate::{fate, starts_true};
 pub use fate_law::{Cause, Fate, RowSegment, SpoiledRun};
+pub use frame_fate::{fate, starts_true};
 pub use packets::Packets;
 pub use ruler::Ruler;
 pub use segments::Segments;

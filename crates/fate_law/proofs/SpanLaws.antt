@@ -55,8 +55,10 @@ module _ (e : Extent) (all : List Extent) (other : Fate) (r q : ℕ) where
       let more = size-more last row.octets in
       elim (cases_lt low (length row.octets)) [
         | inl in_row ↦ (let same : r ≡ span.end = late.1 ∙ from-first e row rows span.end low in_row in inl (omega (arith, in_row, late.0, more), omega (arith, same)))
-        | inr past ↦ inr (omega (arith, past, late.0, more),
-            late.1 ∙ from-next e row rows span.end low past ∙ ap (row_from (suc span.end) rows) (let e : low - length row.octets ≡ e.from - end_of (with_row last row.octets) = omega (arith, more) in e))
+        | inr past ↦ inr (
+          omega (arith, past, late.0, more),
+          late.1 ∙ from-next e row rows span.end low past ∙ ap (row_from (suc span.end) rows) (let e : low - length row.octets ≡ e.from - end_of (with_row last row.octets) = omega (arith, more) in e),
+        )
       ]
 
   found : (rows : List StreamRow) (last : Segment) (span : Span) → e.from < e.to → e.to ≤ end_of last + length (octets_of_rows rows) → Begins rows last span → lies_among e (tail rows last) ≡ true →
@@ -157,7 +159,7 @@ fate-rows pieces rows e some fits =
         (mark_of_row (row_segments_with (span_tail rows (record { first = 0; end = 0 })) (tail rows (record { first = true; base = 0; octets = [] }))) (row_at rows e.from)) (spoiled_from 0 rows) →
         fate_among (Cut (row_at rows e.from) (row_at rows (e.to - 1)) (spoiled_after rows (row_at rows e.from))) (tail rows (record { first = true; base = 0; octets = [] })) (extents 0 pieces) e (row_at rows e.from) (row_at rows (e.to - 1))
         ≡ (if nat_lt (row_at rows e.from) (spoiled_after rows 0) then Got (row_at rows e.from) (row_at rows (e.to - 1))
-          else fate_after (mark_of_row (row_segments rows) (row_at rows e.from)) (extents 0 pieces) e (row_at rows e.from) (row_at rows (e.to - 1)))
+        else fate_after (mark_of_row (row_segments rows) (row_at rows e.from)) (extents 0 pieces) e (row_at rows e.from) (row_at rows (e.to - 1)))
     by (inl own) =
         own.0 ∙ sym (ap (λ b. if b then Got (row_at rows e.from) (row_at rows (e.to - 1)) else fate_after (mark_of_row (row_segments rows) (row_at rows e.from)) (extents 0 pieces) e (row_at rows e.from) (row_at rows (e.to - 1)))
         (lt-ltb (row_at rows e.from) (spoiled_after rows 0) own.2))

@@ -33,7 +33,7 @@ abbrev pub cause_under : Scenario → List (Option Told) → ℕ → ℕ → Opt
 cause_under scenario cells k t =
     if is_heard scenario k
     then packet_cause (least_failing (λ line. is_read scenario line k) (active (table_of scenario cells k)))
-        (least_failing (λ line. is_good (carried_by scenario line) t) (active (table_of scenario cells k)))
+    (least_failing (λ line. is_good (carried_by scenario line) t) (active (table_of scenario cells k)))
     else Some Packet
 
 -- none where the row is whole

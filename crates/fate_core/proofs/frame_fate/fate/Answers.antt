@@ -17,23 +17,23 @@ returns-then-place-to c = λ scenario cells stream rows are is stands.
 pub returns-in_default-row_of : goal.returns-in_default-row_of
 returns-in_default-row_of c = λ scenario cells stream rows are is stands.
     absurd (
-      let place = c.place.ensures scenario cells are in
-      let count = c.rows.ensures in
-      let up = place-up scenario cells c.rows.result (16 * length c.args.packets.now.active + 24) (let few = c.requires in omega (arith, few, count)) in
-      let beyond = c.in_default-row_of.ensures.beyond scenario cells are in
-      let some = c.in-Some.ensures.some in
-      omega (arith, place, up, beyond, some, c.if-place-to.false)
+    let place = c.place.ensures scenario cells are in
+    let count = c.rows.ensures in
+    let up = place-up scenario cells c.rows.result (16 * length c.args.packets.now.active + 24) (let few = c.requires in omega (arith, few, count)) in
+    let beyond = c.in_default-row_of.ensures.beyond scenario cells are in
+    let some = c.in-Some.ensures.some in
+    omega (arith, place, up, beyond, some, c.if-place-to.false)
     )
 
 pub returns-in_default-row_of-2 : goal.returns-in_default-row_of-2
 returns-in_default-row_of-2 c = λ scenario cells stream rows are is stands.
     absurd (
-      let place = c.place.ensures scenario cells are in
-      let count = c.rows.ensures in
-      let up = place-up scenario cells c.rows.result (16 * length c.args.packets.now.active + 24) (let few = c.requires in omega (arith, few, count)) in
-      let beyond = c.in_default-row_of-2.ensures.beyond scenario cells are in
-      let some = c.in-Some.ensures.some in
-      omega (arith, place, up, beyond, some, c.if-place-to.false)
+    let place = c.place.ensures scenario cells are in
+    let count = c.rows.ensures in
+    let up = place-up scenario cells c.rows.result (16 * length c.args.packets.now.active + 24) (let few = c.requires in omega (arith, few, count)) in
+    let beyond = c.in_default-row_of-2.ensures.beyond scenario cells are in
+    let some = c.in-Some.ensures.some in
+    omega (arith, place, up, beyond, some, c.if-place-to.false)
     )
 
 pub returns : goal.returns

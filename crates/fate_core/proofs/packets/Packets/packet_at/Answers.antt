@@ -40,12 +40,12 @@ returns c =
     let i = c.partition_point-begun.result in
     record {
       within = (
-        let all = actives-length c.self.inside.size c.self.inside.packets.items c.self.inside.end c.self.invariant in
-        let length-view = ap (λ p. length p.active) view in
-        let one = some c in
-        let few = within c in
-        omega (arith, all, length-view, one, few)
-      );
+          let all = actives-length c.self.inside.size c.self.inside.packets.items c.self.inside.end c.self.invariant in
+          let length-view = ap (λ p. length p.active) view in
+          let one = some c in
+          let few = within c in
+          omega (arith, all, length-view, one, few)
+          );
       from = subst (λ p. start_by p.size p.active (i - 1) ≤ c.args.place) view
           (begun-low c.self.inside.size c.self.inside.packets.items c.self.inside.end c.self.invariant c.args.place i (some c) (within c) (point c));
       below = subst (λ p. c.args.place < start_by p.size p.active (suc (i - 1))) view
