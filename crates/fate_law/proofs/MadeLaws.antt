@@ -1,22 +1,21 @@
 -- More pieces change no fate of rows that the first ones reach.
-use Rattle.std.proofs.Common.{◌≡◌, ℕ, zero, suc, ◌+◌, ◌-◌, ◌<◌, ◌≤◌, ◌⊎◌, Bool, true, false, List, [], ◌∷◌, ◌++◌, length, All, Option, Some, None, slice_get, refl, sym, ◌∙◌, ap, ap₂, subst, arith, inl, inr, length-append}
-use Rattle.std.specs.Prelude.{nat_le, nat_lt, ◌&&◌, ◌||◌, if◌then◌else◌}
+use Rattle.std.proofs.Common.{◌≡◌, ℕ, zero, suc, ◌+◌, ◌-◌, ◌≤◌, ◌⊎◌, Bool, true, false, List, [], ◌∷◌, ◌++◌, length, All, Option, Some, None, slice_get, refl, sym, ◌∙◌, ap, ap₂, arith, inl, inr, length-append}
+use Rattle.std.specs.Prelude.{nat_le, ◌&&◌, ◌||◌, if◌then◌else◌}
 use Rattle.std.specs.List.{list_any}
-use Rattle.std.proofs.lemmas.Bool.{cases_Bool, cases_lt, lt-leb, le-ltb, leb-true}
+use Rattle.std.proofs.lemmas.Bool.{cases_Bool, lt-leb, le-ltb, leb-true}
 use Rattle.std.proofs.lemmas.List.Elements.{All-head, All-tail}
 use Rattle.session_model.specs.Piece.{Piece, stream_of}
 use Rattle.session_model.specs.Scenario.{Scenario}
 use Rattle.session_model.specs.Table.{Told}
-use Rattle.session_model.specs.Client.{place_of, stream_before}
+use Rattle.session_model.specs.Client.{stream_before}
 use Rattle.session_model.specs.Segment.{StreamRow, Segment, segments, octets_of_rows}
 use Rattle.session_model.specs.SessionStream.{rows_of}
 use Rattle.session_model.specs.Loss.{Extent, extents, is_carried, lies_in, confirmed_in}
-use Rattle.session_law.proofs.ClientLaws.{stream-reaches}
 use Rattle.loss_law.proofs.ExtentLaws.{IsBetween, extents-between, extents-append}
-use Rattle.loss_law.proofs.SessionStreamLaws.{pieces-begin, rows-carry, rows-length}
+use Rattle.loss_law.proofs.SessionStreamLaws.{pieces-begin, rows-carry}
 use Rattle.fate_law.specs.declared.Fate.{Fate}
 use Rattle.fate_law.specs.declared.Fate.TheVariants.{Waits, Cut}
-use Rattle.fate_law.specs.Fates.{row_at, spoiled_after, is_settled_by, fate_after, fate_in, fate_among, carried_fate, fate_of}
+use Rattle.fate_law.specs.Fates.{row_at, spoiled_after, is_settled_by, fate_after, fate_in, fate_among, fate_of}
 use Rattle.fate_law.specs.SessionFates.{fate_if, fate_at}
 
 -- ---- frames behind a frame don't settle it
