@@ -1,5 +1,5 @@
 -- The frames whose fate is got, item by item and piece by piece.
-use Rattle.std.proofs.Common.{◌≡◌, ℕ, zero, suc, ◌<◌, ◌≤◌, ◌⊎◌, Bool, true, false, List, [], ◌∷◌, ◌++◌, length, map, filter, drop, All, Option, Some, None, slice_get, refl, sym, ◌∙◌, ap, subst, arith, inl, inr}
+use Rattle.std.proofs.Common.{◌≡◌, ℕ, zero, suc, ◌<◌, ◌≤◌, ◌⊎◌, Bool, false, List, [], ◌∷◌, ◌++◌, length, map, filter, drop, All, Option, Some, None, slice_get, refl, sym, ◌∙◌, ap, subst, arith, inl, inr}
 use Rattle.std.specs.List.{flat_map}
 use Rattle.std.proofs.lemmas.Bool.{cases_Bool}
 use Rattle.session_model.specs.declared.script.ItemKind.{ItemKind}
@@ -7,12 +7,12 @@ use Rattle.session_model.specs.declared.script.ItemKind.TheVariants.{Frame, Add,
 use Rattle.session_model.specs.declared.script.Script.{Script}
 use Rattle.session_model.specs.Loss.{Extent}
 use Rattle.report_text.specs.declared.report.Refusal.{Refusal}
-use Rattle.loss_law.proofs.FilterLaws.{filter-skip, filter-keep, filter-none}
+use Rattle.loss_law.proofs.FilterLaws.{filter-none}
 use Rattle.walk_law.specs.Landed.{Numbered, refusal_at}
 use Rattle.walk_law.specs.Promise.{frame_by}
 use Rattle.fate_law.specs.declared.Fate.{Fate}
 use Rattle.fate_law.specs.Fates.{is_got}
-use Rattle.fate_law.specs.SessionFates.{End, refused, accepted, Ended, ended_by, fate_if, ended_then, ended_on, has_got, got_frames}
+use Rattle.fate_law.specs.SessionFates.{accepted, Ended, ended_by, fate_if, ended_then, ended_on, got_frames}
 
 abbrev pub frames_of : List Extent → List (List ℕ)
 frames_of extents = map (λ (e : Extent). e.frame) extents

@@ -1,5 +1,5 @@
 -- After a walk, the frames whose fate is got are those that are delivered, where all marks are true.
-use Rattle.std.proofs.Common.{◌≡◌, ℕ, zero, suc, ◌+◌, ◌-◌, ◌<◌, ◌≤◌, Bool, true, false, List, [], ◌∷◌, ◌++◌, length, map, filter, drop, All, Option, refl, sym, ◌∙◌, ap, ap₂, subst, arith, inl, inr, length-append}
+use Rattle.std.proofs.Common.{◌≡◌, ℕ, zero, suc, ◌+◌, ◌<◌, ◌≤◌, true, false, List, [], ◌∷◌, ◌++◌, length, drop, All, Option, refl, sym, ◌∙◌, ap, subst, arith, length-append}
 use Rattle.std.proofs.lemmas.List.{length-map}
 use Rattle.std.proofs.lemmas.Bool.{lt-leb}
 use Rattle.std.proofs.lemmas.List.Elements.{All-tail, All-weaker}
@@ -10,9 +10,8 @@ use Rattle.session_model.specs.Scenario.{Scenario, scenario_of}
 use Rattle.session_model.specs.Table.{Told}
 use Rattle.session_model.specs.Back.{session_cells}
 use Rattle.session_model.specs.Client.{place_of, stream_before, frames_in}
-use Rattle.session_model.specs.Journal.{frames_before}
 use Rattle.session_model.specs.Counts.{Counts}
-use Rattle.session_model.specs.Segment.{StreamRow, segments, octets_of_rows}
+use Rattle.session_model.specs.Segment.{octets_of_rows}
 use Rattle.session_model.specs.Loss.{Extent, extents, is_carried}
 use Rattle.session_model.specs.Valid.{IsValid}
 use Rattle.session_law.proofs.ClientLaws.{stream-reaches, stream_before-frames}
@@ -23,17 +22,17 @@ use Rattle.loss_law.proofs.SessionStreamLaws.{pieces-begin, rows-carry, rows-len
 use Rattle.walk_law.specs.Walk.{IsWalked}
 use Rattle.walk_law.specs.Delivered.{session_rows, delivered_of}
 use Rattle.walk_law.specs.Landed.{landed_items}
-use Rattle.walk_law.specs.Promise.{session_pieces, session_extents, session_waiting, accepted_frames, ConfirmsTrue}
+use Rattle.walk_law.specs.Promise.{session_pieces, session_extents, session_waiting, ConfirmsTrue}
 use Rattle.walk_law.proofs.PlanLaws.{valid-walks}
 use Rattle.walk_law.proofs.EndLaws.{counts-within}
 use Rattle.walk_law.proofs.PromiseLaws.{frames-kept, frames-known}
-use Rattle.fate_law.specs.Fates.{fate_of, is_got, frames_got}
+use Rattle.fate_law.specs.Fates.{fate_of, is_got}
 use Rattle.fate_law.specs.declared.Fate.{Fate}
 use Rattle.fate_law.specs.Marks.{are_true_marks}
 use Rattle.fate_law.specs.SessionFates.{ended_of, got_frames}
 use Rattle.fate_law.proofs.GotLaws.{got-kept}
 use Rattle.fate_law.proofs.MarkLaws.{marks-starts, starts-marks}
-use Rattle.fate_law.proofs.EndedLaws.{frames_of, accepts, NotGot, Fits, got-ended}
+use Rattle.fate_law.proofs.EndedLaws.{accepts, NotGot, Fits, got-ended}
 use Rattle.fate_law.proofs.LandedLaws.{landed-first, before-few}
 
 -- ---- marks

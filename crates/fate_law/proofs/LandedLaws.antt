@@ -1,27 +1,27 @@
 -- Of the frames that the rows of a walk carry, each is one of an item that has landed.
-use Rattle.std.proofs.Common.{◌≡◌, ℕ, zero, suc, ◌+◌, ◌-◌, ◌<◌, ◌≤◌, Bool, true, false, List, [], ◌∷◌, ◌++◌, length, map, filter, take, drop, All, Option, Some, None, slice_get, refl, sym, ◌∙◌, ap, ap₂, subst, arith, inl, inr, append_assoc, length-append}
+use Rattle.std.proofs.Common.{◌≡◌, ℕ, zero, suc, ◌-◌, ◌≤◌, Bool, true, false, List, [], ◌∷◌, ◌++◌, length, filter, take, drop, Option, refl, sym, ◌∙◌, ap, ap₂, arith, inl, inr, append_assoc, length-append}
 use Rattle.std.proofs.lemmas.List.{append-nil, take_at, take-append-drop}
 use Rattle.std.specs.Prelude.{nat_lt}
 use Rattle.std.specs.List.{flat_map}
 use Rattle.std.specs.List.Sorted.{IsNonDecreasingBy}
-use Rattle.std.proofs.lemmas.Bool.{cases_Bool, cases_lt, lt-ltb, le-ltb, ltb-false}
+use Rattle.std.proofs.lemmas.Bool.{cases_Bool, lt-ltb, le-ltb, ltb-false}
 use Rattle.std.proofs.lemmas.List.Concat.{flat_map-append}
 use Rattle.session_model.specs.declared.script.Item.{Item}
 use Rattle.session_model.specs.declared.script.ItemKind.{ItemKind}
 use Rattle.session_model.specs.declared.script.ItemKind.TheVariants.{Frame, Add, Remove}
 use Rattle.session_model.specs.declared.script.Script.{Script}
-use Rattle.session_model.specs.Scenario.{Scenario, DueFrame, offer_of, offers_of, scenario_of, comes_at}
+use Rattle.session_model.specs.Scenario.{Scenario, DueFrame, offer_of, offers_of, scenario_of}
 use Rattle.session_model.specs.Table.{Told}
 use Rattle.session_model.specs.Back.{session_cells}
 use Rattle.session_model.specs.Counts.{Counts}
 use Rattle.session_model.specs.Journal.{frames_before}
 use Rattle.session_model.specs.Valid.{IsValid}
-use Rattle.session_law.specs.Landing.{landed, is_come}
+use Rattle.session_law.specs.Landing.{is_come}
 use Rattle.session_law.proofs.LandingLaws.{offers_land}
 use Rattle.script_law.proofs.ItemLaws.{offers_rise}
 use Rattle.report_text.specs.declared.report.Refusal.{Refusal}
 use Rattle.walk_law.specs.Walk.{IsWalked}
-use Rattle.walk_law.specs.Landed.{Numbered, is_client, with_if, landed_from, landed_items, refusal_at, kind_refusal}
+use Rattle.walk_law.specs.Landed.{Numbered, is_client, with_if, landed_from, landed_items, kind_refusal}
 use Rattle.walk_law.specs.Promise.{numbered, frame_by, accepted_frames}
 use Rattle.walk_law.proofs.LandLaws.{frame-waits, filter-first}
 use Rattle.loss_law.proofs.FilterLaws.{filter-skip}

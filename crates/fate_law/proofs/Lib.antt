@@ -7,3 +7,4 @@ pub mod FateLaws
 pub mod RowLaws
 pub mod RulerLaws
 pub mod SpanLaws
+pub mod MadeLaws

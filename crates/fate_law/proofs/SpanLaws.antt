@@ -1,6 +1,6 @@
 -- The fate of a frame by its rows: its segment is the one that has its first row.
-use Rattle.std.proofs.Common.{◌≡◌, ℕ, zero, suc, ◌+◌, ◌-◌, ◌<◌, ◌≤◌, ◌⊎◌, Bool, true, false, List, [], ◌∷◌, ◌++◌, length, Option, refl, sym, ◌∙◌, ap, ap₂, subst, arith, inl, inr, append_assoc, length-append}
-use Rattle.std.specs.Prelude.{nat_le, nat_lt, ◌&&◌, ◌||◌, if◌then◌else◌}
+use Rattle.std.proofs.Common.{◌≡◌, ℕ, suc, ◌+◌, ◌-◌, ◌<◌, ◌≤◌, ◌⊎◌, Bool, true, false, List, [], ◌∷◌, ◌++◌, length, Option, refl, sym, ◌∙◌, ap, ap₂, arith, inl, inr, append_assoc, length-append}
+use Rattle.std.specs.Prelude.{nat_lt, ◌||◌, if◌then◌else◌}
 use Rattle.std.proofs.lemmas.Bool.{cases_Bool, cases_lt, le-leb, lt-ltb, le-ltb}
 use Rattle.session_model.specs.Piece.{Piece}
 use Rattle.session_model.specs.Segment.{StreamRow, Segment, segments, octets_of_rows}
@@ -8,8 +8,8 @@ use Rattle.session_model.specs.Loss.{Extent, extents, lies_in, confirmed_in}
 use Rattle.fate_law.specs.declared.Fate.{Fate}
 use Rattle.fate_law.specs.declared.Fate.TheVariants.{Waits, Cut, Got}
 use Rattle.fate_law.specs.Fates.{row_from, row_at, spoiled_from, spoiled_after, fate_after, fate_in, fate_among, fate_of}
-use Rattle.fate_law.specs.Spans.{Span, Spans, span_by, spans_on, spans, row_segments_with, row_segments, mark_of_row, fate_by_rows}
-use Rattle.fate_law.proofs.RowLaws.{row-low, end_of, with_row, next_segment, tail_by, tail, segments-tail, size-more, lies_among, tail-before, too_long, from-first, from-next, lies-rows}
+use Rattle.fate_law.specs.Spans.{Span, Spans, span_by, spans_on, row_segments_with, row_segments, mark_of_row, fate_by_rows}
+use Rattle.fate_law.proofs.RowLaws.{row-low, end_of, with_row, next_segment, tail, segments-tail, size-more, lies_among, tail-before, too_long, from-first, from-next, lies-rows}
 
 -- ---- the rows of the segments that come of one that goes on
 abbrev pub span_tail_by : Bool → Span → (Span → List Span) → List Span

@@ -1,6 +1,6 @@
 -- The text of fates: a line for each run of rows that aren't whole for one cause, one for each segment but the first, one for each client
 -- item that has landed, and a line of totals. These texts are this project's own.
-use Rattle.std.specs.Prelude.{ℕ, ◌-◌, ◌+◌, Bool, true, false, if◌then◌else◌, List, ◌++◌, length, Option, Some, None, codes, decimal}
+use Rattle.std.specs.Prelude.{ℕ, ◌-◌, ◌+◌, Bool, true, false, List, ◌++◌, length, Option, Some, None, codes, decimal}
 use Rattle.std.specs.List.{flat_map}
 use Rattle.session_model.specs.declared.script.Script.{Script}
 use Rattle.session_model.specs.Piece.{Piece}

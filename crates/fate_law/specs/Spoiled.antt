@@ -1,5 +1,5 @@
 -- Why a row of a session isn't whole, and the longest runs of rows of one cause.
-use Rattle.std.specs.Prelude.{ℕ, suc, ◌-◌, ◌/◌, ◌==◌, ◌&&◌, not, nat_lt, min, Bool, true, false, if◌then◌else◌, List, [], ◌∷◌, map, Option, Some, None}
+use Rattle.std.specs.Prelude.{ℕ, suc, ◌-◌, ◌/◌, ◌==◌, ◌&&◌, nat_lt, min, Bool, true, false, if◌then◌else◌, List, [], ◌∷◌, map, Option, Some, None}
 use Rattle.std.specs.List.{range_with_len}
 use Rattle.session_model.specs.Damage.{is_good}
 use Rattle.session_model.specs.Scenario.{Scenario, carried_by, is_read, is_heard}

@@ -1,9 +1,9 @@
 -- What comes of worked streams and rows.
-use Rattle.std.specs.Prelude.{ℕ, List, [], ◌∷◌, Option, Some, None}
+use Rattle.std.specs.Prelude.{List, [], ◌∷◌, Option, Some, None}
 use Rattle.fate_law.specs.declared.Fate.{Fate}
 use Rattle.fate_law.specs.declared.Fate.TheVariants.{Cut, Unconfirmed, Hunting, Unsettled, Got}
 use Rattle.fate_law.specs.declared.Cause.{Cause}
-use Rattle.fate_law.specs.declared.Cause.TheVariants.{Packet, PacketOf, Container}
+use Rattle.fate_law.specs.declared.Cause.TheVariants.{PacketOf, Container}
 use Rattle.fate_law.specs.declared.RowSegment.{RowSegment}
 use Rattle.fate_law.specs.declared.SpoiledRun.{SpoiledRun}
 use Rattle.fate_law.specs.Ruler.{Ruler}

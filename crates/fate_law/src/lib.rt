@@ -11,12 +11,13 @@ ghost use Rattle.loss_law.specs.Carried.{CarriesStream, IsSentPiece};
 ghost use Rattle.fate_law.specs.Fates.{HasPlace, row_at, spoiled_after, fate_of, is_got, frames_got};
 ghost use Rattle.fate_law.specs.Marks.{is_piece_at, are_true_marks};
 ghost use Rattle.fate_law.specs.Ruler.{ruler_of, ruled};
-ghost use Rattle.session_model.specs.Client.{Stream, reached};
+ghost use Rattle.session_model.specs.Client.{Stream, reached, stream_before};
+ghost use Rattle.session_model.specs.SessionStream.{rows_of};
 ghost use Rattle.loss_law.specs.Worked.{worked_pieces, worked_rows};
 ghost use Rattle.fate_law.specs.Spans.{later_segments, fate_by_rows};
 ghost use Rattle.fate_law.specs.Worked.{worked_fates, worked_segments, worked_causes, worked_runs, worked_ruler};
 ghost use Rattle.fate_law.specs.FateText.{fates_text};
-ghost use Rattle.fate_law.specs.SessionFates.{ended_of, got_frames};
+ghost use Rattle.fate_law.specs.SessionFates.{fate_at, ended_of, got_frames};
 ghost use Rattle.fate_law.specs.Spoiled.{row_cause, spoiled_runs};
 ghost use Rattle.session_model.specs.declared.script.Script.{Script};
 ghost use Rattle.session_model.specs.Counts.{Counts};
@@ -159,6 +160,18 @@ pub fn ruler_law()
         ≡ ruled place (ruler_of stream).end (ruler_of stream).sent (ruler_of stream).waiting }
     ensures front { (place : ℕ) (front more : List Piece) → place < length (stream_of front) →
         is_piece_at (front ++ more) place ≡ is_piece_at front place }
+{}
+
+/// More pieces change no fate of rows that the first ones reach: the fates of a session's taken rows are known by the pieces that are made
+/// with as many ticks, and those of all its ticks give the same.
+pub fn made_law()
+    ensures front { (pieces more : List Piece) (rows : List StreamRow) →
+        length (octets_of_rows rows) ≤ length (stream_of pieces) →
+        (i : ℕ) → fate_at (pieces ++ more) rows i ≡ fate_at pieces rows i }
+    ensures session { (scenario : Scenario) (cells : List (Option Told)) (taken t n i : ℕ) →
+        taken ≤ t → t ≤ n →
+        fate_at (stream_before scenario cells n).pieces (rows_of scenario cells taken) i
+        ≡ fate_at (stream_before scenario cells t).pieces (rows_of scenario cells taken) i }
 {}
 
 /// A row has a cause exactly where it isn't whole.

@@ -1,5 +1,5 @@
 -- Worked streams, computed.
-use Rattle.std.proofs.Common.{◌≡◌, refl}
+use Rattle.std.proofs.Common.{refl}
 use Rattle.hec16.specs.Hec.{hec_of}
 use Rattle.remainder.specs.Bits.{bits, number_behind, octets_of, xors}
 use Rattle.remainder.specs.Remainder.{add_front, divide}
