@@ -67,7 +67,7 @@ expect() {
     said "$1" > "$work/own"
     cmp -s "$work/own" "$work/$2" || complain "$1: $(head -n 1 "$work/own")"
 }
-text2pcap -q -F pcap -t %H:%M:%S. "$work/frames.txt" "$work/micro.pcap" 2> "$work/notes" || complain "text2pcap: $(cat "$work/notes")"
+text2pcap -q -F pcap -t %H:%M:%S.%f "$work/frames.txt" "$work/micro.pcap" 2> "$work/notes" || complain "text2pcap: $(cat "$work/notes")"
 editcap -F nsecpcap "$work/micro.pcap" "$work/nano.pcap"
 editcap -F pcapng "$work/micro.pcap" "$work/new.pcap"
 editcap -F pcap "$work/new.pcap" "$work/back.pcap"

@@ -1,13 +1,13 @@
 -- What is known of records that were read one after another.
-use Rattle.std.proofs.Common.{◌≡◌, ℕ, ◌+◌, ◌*◌, ◌≤◌, List, [], ◌∷◌, ◌++◌, length, Some, None, refl, sym, ◌∙◌, ap, arith, length-append}
+use Rattle.std.proofs.Common.{◌≡◌, ℕ, ◌+◌, ◌*◌, ◌≤◌, List, [], ◌∷◌, ◌++◌, length, Some, refl, ◌∙◌, ap, arith}
 use Rattle.capture_file.specs.declared.form.Form.{Form}
 use Rattle.capture_file.specs.declared.form.RecordHead.{RecordHead}
 use Rattle.capture_file.specs.declared.clock.Clock.{Clock}
 use Rattle.capture_file.specs.Form.{Record, first_record}
-use Rattle.capture_file.specs.Reading.{record_fault, due_of}
+use Rattle.capture_file.specs.Reading.{due_of}
 use Rattle.capture_file.specs.Clock.{Stands}
 use Rattle.capture_file.proofs.RecordLaws.{HasCut, has-begun, has-next}
-use Rattle.capture_file.proofs.ReadingLaws.{AreSound, sound-begun, sound-more}
+use Rattle.capture_file.proofs.ReadingLaws.{AreSound}
 
 -- some records were read, the clock stands behind them, and what lies behind them is left
 pub record HasRead (form : Form) (body rest : List ℕ) (clock : Clock) (before : List Record) : Type 0 where

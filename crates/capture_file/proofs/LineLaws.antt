@@ -1,11 +1,11 @@
 -- How lines and their digits are put together.
-use Rattle.std.proofs.Common.{◌≡◌, ℕ, ◌+◌, ◌-◌, ◌≤◌, List, [], ◌∷◌, ◌++◌, length, take, drop, slice_index, ◌/◌, ◌%◌, refl, sym, ◌∙◌, ap, arith, append-nil}
+use Rattle.std.proofs.Common.{◌≡◌, ℕ, ◌+◌, ◌-◌, ◌≤◌, List, [], ◌∷◌, ◌++◌, take, drop, slice_index, ◌/◌, ◌%◌, refl, sym, ◌∙◌, ap, arith, append-nil}
 use Rattle.std.proofs.Math.Seq.{take-add}
 use Rattle.std.proofs.lemmas.Grind.{flat_map-append}
 use Rattle.hex.specs.Hex.{encode_with, encode_lower, lower_digits}
 use Rattle.capture_file.specs.declared.form.Form.{Form}
 use Rattle.capture_file.specs.Form.{Record}
-use Rattle.capture_file.specs.Reading.{due_of, client_frame, frames_behind, DueFrame}
+use Rattle.capture_file.specs.Reading.{due_of, client_frame, frames_behind}
 use Rattle.capture_file.specs.Texts.{frame_text, frame_texts}
 use Rattle.capture_file.proofs.ReadingLaws.{frames-append}
 

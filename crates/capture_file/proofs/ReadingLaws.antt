@@ -1,5 +1,5 @@
 -- When frames are due, and which fault is the first.
-use Rattle.std.proofs.Common.{◌≡◌, ℕ, zero, suc, ◌+◌, ◌-◌, ◌/◌, ◌<◌, ◌≤◌, max, Bool, true, false, List, [], ◌∷◌, ◌++◌, length, map, Option, Some, None, Result, Ok, Err, refl, sym, ◌∙◌, ap, subst, arith, append_assoc, append-nil, zero-add}
+use Rattle.std.proofs.Common.{◌≡◌, ℕ, suc, ◌-◌, ◌/◌, ◌<◌, max, List, [], ◌∷◌, ◌++◌, length, map, Option, Some, None, Ok, Err, refl, sym, ◌∙◌, ap, arith, append_assoc, append-nil}
 use Rattle.std.specs.Option.{unwrap_or}
 use Rattle.std.proofs.lemmas.List.{map-append}
 use Rattle.capture_file.specs.declared.form.TimeUnit.{TimeUnit}
@@ -7,10 +7,9 @@ use Rattle.capture_file.specs.declared.form.Form.{Form}
 use Rattle.capture_file.specs.declared.form.RecordFault.{RecordFault}
 use Rattle.capture_file.specs.declared.form.RecordFault.TheVariants as wrong
 use Rattle.capture_file.specs.declared.form.CaptureFault.TheVariants as fault
-use Rattle.capture_file.specs.declared.clock.Clock.{Clock}
 use Rattle.capture_file.specs.Form.{Record, records_of, rest_of}
-use Rattle.capture_file.specs.Reading.{time_of, ticks_between, ticks_in, greatest, due_of, record_fault, faults_behind, frames_behind, client_frame, one_on, first_there, said_with, body_said, DueFrame}
-use Rattle.capture_file.specs.Clock.{first_time, Stands}
+use Rattle.capture_file.specs.Reading.{time_of, ticks_between, greatest, due_of, record_fault, faults_behind, frames_behind, client_frame, one_on, first_there, said_with, body_said}
+use Rattle.capture_file.specs.Clock.{Stands}
 
 -- ---- due ticks
 max-assoc : (a b d : ℕ) → max a (max b d) ≡ max (max a b) d

@@ -1,5 +1,5 @@
 -- A capture that is written is read as the frames in it.
-use Rattle.std.proofs.Common.{◌≡◌, ℕ, ◌+◌, ◌-◌, ◌*◌, ◌/◌, ◌%◌, ◌<◌, ◌≤◌, ◌^◌, max, true, List, [], ◌∷◌, ◌++◌, length, take, drop, map, Some, None, Ok, refl, sym, ◌∙◌, ap, arith, append_assoc, length-append}
+use Rattle.std.proofs.Common.{◌≡◌, ℕ, ◌+◌, ◌-◌, ◌*◌, ◌/◌, ◌%◌, ◌≤◌, max, true, List, [], ◌∷◌, ◌++◌, length, map, Some, None, Ok, refl, sym, ◌∙◌, ap, arith, length-append}
 use Rattle.std.specs.Int.{w32, to_le_bytes, from_le_bytes}
 use Rattle.std.proofs.lemmas.Bool.{eq-eqb, le-ltb}
 use Rattle.std.proofs.lemmas.List.{map-append, drop-drop}
@@ -10,10 +10,10 @@ use Rattle.capture_file.specs.declared.form.TimeUnit.TheVariants.{Microseconds}
 use Rattle.capture_file.specs.declared.form.Form.{Form}
 use Rattle.capture_file.specs.declared.form.RecordHead.{RecordHead}
 use Rattle.capture_file.specs.Form.{Record, Cut, head_of, first_record, behind_record, cut_of, form_of}
-use Rattle.capture_file.specs.Reading.{time_of, ticks_between, ticks_in, due_of, record_fault, faults_behind, frames_behind, one_on, there_or, first_there, greatest, body_said, capture_said, said_by}
+use Rattle.capture_file.specs.Reading.{time_of, ticks_between, ticks_in, due_of, record_fault, faults_behind, frames_behind, one_on, there_or, first_there, greatest, capture_said, said_by}
 use Rattle.capture_file.specs.Written.{RowFrame, record_octets, records_octets, ethernet_head, ethernet_capture, AreRising, due_after, due_frames}
 use Rattle.capture_file.proofs.RecordLaws.{record-there, record-none, cut_of-none, cut_of-some}
-use Rattle.capture_file.proofs.ReadingLaws.{AreSound, greatest-more, said-sound}
+use Rattle.capture_file.proofs.ReadingLaws.{greatest-more, said-sound}
 
 -- ---- its head
 abbrev written_form : Form

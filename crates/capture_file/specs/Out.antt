@@ -1,5 +1,5 @@
 -- What is written so far of a capture by a `CaptureOut`. `written` and `faults` are a sink's.
-use Rattle.std.specs.Prelude.{◌≡◌, ℕ, ◌+◌, List, ◌∷◌, ◌++◌, length, take, drop, map, slice_index, Option}
+use Rattle.std.specs.Prelude.{◌≡◌, ℕ, List, ◌∷◌, ◌++◌, length, take, drop, map, slice_index, Option}
 use Rattle.outside_io.specs.Start.{Start}
 use Rattle.got_lines.specs.Told.{HasText}
 use Rattle.capture_file.specs.Written.{RowFrame, records_octets, ethernet_capture}

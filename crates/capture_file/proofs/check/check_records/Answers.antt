@@ -1,5 +1,5 @@
 -- A record more is sound, or has the first fault; or no whole one is left.
-use Rattle.std.proofs.Common.{◌≡◌, ◌+◌, ◌++◌, [], ◌∷◌, length, sym, ◌∙◌, ap, refl, arith, length-append}
+use Rattle.std.proofs.Common.{◌++◌, [], ◌∷◌, length, sym, ◌∙◌, ap, refl, arith, length-append}
 use Rattle.std.proofs.lemmas.Bool.{eqb-true, eqb-false}
 use Rattle.capture_file.specs.Form.{records_of}
 use Rattle.capture_file.specs.Reading.{record_fault}

@@ -1,7 +1,5 @@
 -- The records so far are sound, and the clock stands behind the last of them.
-use Rattle.std.proofs.Common.{◌≡◌, List, length}
-use Rattle.capture_file.specs.Form.{Record}
-use Rattle.capture_file.specs.Clock.{Stands}
+use Rattle.std.proofs.Common.{length}
 use Rattle.capture_file.proofs.CheckedLaws.{HasChecked}
 use Rattle.capture_file.proofs.check.check_records.Given as goal
 

@@ -1,5 +1,5 @@
 -- Some digits more.
-use Rattle.std.proofs.Common.{◌≡◌, ◌≤◌, ◌+◌, ◌-◌, ◌∙◌, List, ℕ, ◌++◌, length, take, drop, sym, ap, subst, arith, append_assoc}
+use Rattle.std.proofs.Common.{◌≤◌, ◌-◌, ◌∙◌, ◌++◌, take, drop, sym, ap, subst, arith, append_assoc}
 use Rattle.hex.specs.Hex.{encode_lower}
 use Rattle.got_lines.specs.Told.{HasText}
 use Rattle.capture_file.proofs.LineLaws.{digits-none, digits-then}

@@ -1,5 +1,5 @@
 -- The lines are written, or a part of them up to a write that failed.
-use Rattle.std.proofs.Common.{rules, ◌≡◌, ℕ, List, [], sym, ◌∙◌, subst, drop, OnOk, OnErr}
+use Rattle.std.proofs.Common.{rules, ℕ, List, [], sym, ◌∙◌, subst, drop, OnOk, OnErr}
 use Rattle.outside_io.specs.Start.{Start}
 use Rattle.outside_io.specs.Transfer.{Appends, AppendsPart}
 use Rattle.got_lines.specs.Told.{HasText, name_of, start_at}

@@ -1,5 +1,5 @@
 -- The record that stands at the front.
-use Rattle.std.proofs.Common.{◌≡◌, ◌+◌, ◌-◌, ◌≤◌, length, take, drop, ap, arith}
+use Rattle.std.proofs.Common.{◌≡◌, ◌+◌, ◌-◌, take, drop, ap, arith}
 use Rattle.capture_file.proofs.RecordLaws.{record-there, rest-whole}
 use Rattle.capture_file.proofs.record.next_record.Goals as goal
 
