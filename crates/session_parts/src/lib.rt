@@ -17,6 +17,6 @@ pub use duty::{Duty, SinkDuty, Turned, take_back};
 pub use flag::{Comes, Flag, Heed};
 pub use laws::{ended_law, gathered_law};
 pub use lay::{carry_all, lay_receives, lay_sends};
-pub use line_thread::{Around, Held, Kept, serve_all_here, start_shares, take_all_back};
+pub use line_thread::{Held, Kept, serve_all_here, start_shares, take_all_back};
 pub use open::{OpenedLines, open_lines};
 pub use shares::{collect, deal};

@@ -35,15 +35,6 @@ pub enum Held {
     Here(Vec<LineWorker>),
 }
 
-/// The bells of those around the lines.
-#[derive(Clone, Copy)]
-pub struct Around<'s> {
-    /// Of the source, which is before them.
-    pub source: &'s Bell,
-    /// Of the sink, which is behind them.
-    pub sink: &'s Bell,
-}
-
 /// What came of bursts.
 #[derive(Clone, Copy, Debug, PartialEq, Eq)]
 enum Served {
@@ -97,12 +88,12 @@ fn serve_once<G: Gate>(workers: &mut Vec<LineWorker>, gate: &G, stop: Option<Hee
     served
 }
 
-/// Rings for those around after bursts of which one moved; where none did, waits for who can change that.
-fn go_on<R: Wait>(rt: &R, bell: &Bell, around: Around<'_>, served: Served) {
+/// Rings for the sink and the source after bursts of which one moved; where none did, waits for who can change that.
+fn go_on<R: Wait>(rt: &R, bell: &Bell, source: &Bell, sink: &Bell, served: Served) {
     match served {
         Served::Moved => {
-            around.sink.ring();
-            around.source.ring_from_behind();
+            sink.ring();
+            source.ring_from_behind();
         }
         Served::Full => bell.wait_for_behind(rt),
         Served::Empty | Served::Done => bell.wait(rt),
@@ -114,7 +105,8 @@ fn serve<'s, R: Wait, G: Gate>(
     rt: &R,
     gate: &G,
     stop: Heed<'s>,
-    around: Around<'_>,
+    source: &Bell,
+    sink: &Bell,
     workers: &mut Vec<LineWorker>,
 ) -> OnceToken<'s, ()>
     ensures told { result.of ≡ heeded stop.entry }
@@ -128,7 +120,7 @@ fn serve<'s, R: Wait, G: Gate>(
         if served == Served::Done {
             return stop.wait(rt);
         }
-        go_on(rt, stop.bell(), around, served);
+        go_on(rt, stop.bell(), source, sink, served);
     }
     unreachable!()
 }
@@ -138,14 +130,15 @@ fn serve_until<R: Wait, G: Gate>(
     rt: &R,
     gate: &G,
     flag: &Flag,
-    around: Around<'_>,
+    source: &Bell,
+    sink: &Bell,
     workers: Vec<LineWorker>,
 ) -> Vec<LineWorker>
     ensures { AreLater workers.items result.items }
 {
     let stop = flag.heed();
     let mut own = workers;
-    let told = serve(rt, gate, stop, around, &mut own);
+    let told = serve(rt, gate, stop, source, sink, &mut own);
     stop.comes_back(&told);
     own
 }
@@ -156,7 +149,8 @@ fn start_share<'s, 'e, R: Wait + Sync, G: Gate>(
     rt: &'s R,
     gate: &'s G,
     flag: &'s Flag,
-    around: Around<'s>,
+    source: &'s Bell,
+    sink: &'s Bell,
     workers: Vec<LineWorker>,
 ) -> Held
     ensures held { IsHeldOf workers.items result }
@@ -164,7 +158,7 @@ fn start_share<'s, 'e, R: Wait + Sync, G: Gate>(
 {
     match scope.spawn_with(
         Kept(Snapshot::of(&workers), Snapshot::of(flag)),
-        move || serve_until(rt, gate, flag, around, workers),
+        move || serve_until(rt, gate, flag, source, sink, workers),
     ) {
         Ok(child) => Held::There(child),
         Err(refused) => {
@@ -174,13 +168,15 @@ fn start_share<'s, 'e, R: Wait + Sync, G: Gate>(
     }
 }
 
-/// Starts the threads of all shares, each of which looks at a flag of its own. What moves is rung for those around.
+/// Starts the threads of all shares, each of which looks at a flag of its own. They ring for
+/// the source and the sink.
 pub fn start_shares<'s, 'e, R: Wait + Sync, G: Gate>(
     scope: &'s Scope<'s, &'e ()>,
     rt: &'s R,
     gate: &'s G,
     flags: &'s [Flag],
-    around: Around<'s>,
+    source: &'s Bell,
+    sink: &'s Bell,
     shares: Vec<Vec<LineWorker>>,
     room: Vec<Held>,
 ) -> Vec<Held>
@@ -192,7 +188,9 @@ pub fn start_shares<'s, 'e, R: Wait + Sync, G: Gate>(
     let mut held = room;
     for workers in shares {
         let flag = &flags[held.len()];
-        held.push_reserved(start_share(scope, rt, gate, flag, around, workers));
+        held.push_reserved(start_share(
+            scope, rt, gate, flag, source, sink, workers,
+        ));
     }
     held
 }

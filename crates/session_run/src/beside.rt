@@ -167,7 +167,16 @@ fn shares_beside<'x, Y: Session, R: Threads + Wait + Sync, G: Gate, D: Duty>(
             );
             let source = start_source::<Y, R, G>(scope, rt, gate, lock, flags, items);
             let lines = flags.lines.as_slice();
-            let held = start_shares(scope, rt, gate, lines, flags.around(), shares, held_room);
+            let held = start_shares(
+                scope,
+                rt,
+                gate,
+                lines,
+                &flags.source.bell,
+                &flags.sink,
+                shares,
+                held_room,
+            );
             let started = client.is_some() && operator.is_some() && source.is_some();
             let (duty, held) = attend(rt, gate, flags, started, duty, held);
             flags.store_all(rt);

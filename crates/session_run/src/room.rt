@@ -5,7 +5,7 @@ ghost use Rattle.session_parts.specs.Lines.{HaveRoom};
 ghost use Rattle.session_run.specs.Room.{HasRoomFor};
 
 use member_ring::LineWorker;
-use session_parts::{Around, Bell, Flag, Held};
+use session_parts::{Bell, Flag, Held};
 use std::alloc::{AllocError, Global};
 use std::sync::Wait;
 
@@ -46,14 +46,6 @@ impl Flags {
         self.source.store(rt);
         for line in self.lines.iter() {
             line.store(rt);
-        }
-    }
-
-    /// The bells of those around the lines.
-    pub(crate) fn around(&self) -> Around<'_> {
-        Around {
-            source: &self.source.bell,
-            sink: &self.sink,
         }
     }
 
