@@ -1,5 +1,5 @@
 //! All threads of a session beside each other.
-ghost use Rattle.std.specs.Prelude.{◌≡◌, ◌≤◌, List, [], vec_len, IfSome, IsTrue};
+ghost use Rattle.std.specs.Prelude.{◌≡◌, ◌≤◌, List, [], length, vec_len, IfSome, IsTrue};
 ghost use Rattle.std.specs.Global.{Vec};
 ghost use Rattle.std.specs.Vec.{vec_capacity};
 ghost use Rattle.member_ring.specs.declared.worker.LineWorker.{LineWorker};
@@ -133,12 +133,13 @@ fn shares_beside<'x, Y: Session, R: Threads + Wait + Sync, G: Gate, D: Duty>(
     ensures shares { SharesLater shares.items result.0.items }
     ensures duty { (begun : Begun) → D.stands_for duty begun → D.stands_for result.1 begun }
 {
+    let lines = flags.lines.as_slice();
     thread::scope(
         thread::scope_env(),
         rt,
         |scope| -> (Vec<Vec<LineWorker>>, D)
             requires items { items.now ≡ Y.script.items }
-            requires flags { vec_len shares ≤ vec_len flags.now.lines }
+            requires flags { vec_len shares ≤ length lines.now }
             requires held { (held_room.items ≡ []) × (vec_len shares ≤ vec_capacity held_room) }
             requires back { (back_room.items ≡ []) × (vec_len shares ≤ vec_capacity back_room) }
             ensures shares { SharesLater shares.items result.0.items }
@@ -166,7 +167,6 @@ fn shares_beside<'x, Y: Session, R: Threads + Wait + Sync, G: Gate, D: Duty>(
                 items,
             );
             let source = start_source::<Y, R, G>(scope, rt, gate, lock, flags, items);
-            let lines = flags.lines.as_slice();
             let held = start_shares(
                 scope,
                 rt,
