@@ -188,9 +188,7 @@ pub fn start_shares<'s, 'e, R: Wait + Sync, G: Gate>(
     let mut held = room;
     for workers in shares {
         let flag = &flags[held.len()];
-        held.push_reserved(start_share(
-            scope, rt, gate, flag, source, sink, workers,
-        ));
+        held.push_reserved(start_share(scope, rt, gate, flag, source, sink, workers));
     }
     held
 }

@@ -137,12 +137,11 @@ fn go_on<R: Wait>(rt: &R, flags: &Flags, items: &[Item], answer: TickAnswer, mad
             ring_for(flags, items, item);
             flags.source.bell.wait(rt);
         }
-        TickAnswer::Done
-        | TickAnswer::TxFull { line: _ }
-        | TickAnswer::BackMissing { packet: _ } => {
-            flags.ring_behind_source();
-            flags.source.bell.wait_for_behind(rt);
-        }
+        TickAnswer::Done | TickAnswer::TxFull { line: _ } | TickAnswer::BackMissing { packet: _ } =>
+            {
+                flags.ring_behind_source();
+                flags.source.bell.wait_for_behind(rt);
+            }
     }
 }
 
