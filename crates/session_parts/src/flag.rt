@@ -2,17 +2,20 @@
 ghost use Rattle.std.specs.Prelude.{◌≡◌};
 ghost use Rattle.session_parts.specs.Flags.{flag_of, heeded};
 
+use crate::bell::Bell;
 use std::snapshot::Snapshot;
 use std::sync::{OnceLock, OnceToken, Wait};
 use std::thread::Promise;
 
-/// A flag that tells a thread to come back. Once it is stored it stays so.
+/// A flag that tells a thread to come back, and the bell at which is rung for that thread. Once the flag is stored it stays so.
 #[derive(Drop)]
 pub struct Flag {
     stored: OnceLock<()>,
+    /// The bell of the thread. Storing rings it too.
+    pub bell: Bell,
 }
 
-/// What a thread has of its flag: it can look at it and wait for it, but not store it.
+/// What a thread has of its flag: it can look at it and wait for it, also at its bell, but not store it.
 #[derive(Clone, Copy)]
 pub struct Heed<'s> {
     flag: &'s Flag,
@@ -49,17 +52,20 @@ impl Flag {
     pub fn new() -> Flag {
         Flag {
             stored: OnceLock::new(),
+            bell: Bell::new(),
         }
     }
 
-    /// Stores it, if it isn't stored yet, and gives the evidence.
+    /// Stores it, if it isn't stored yet, rings, and gives the evidence.
     pub fn store<R: Wait>(&self, rt: &R) -> OnceToken<'_, ()>
         ensures { result.of ≡ flag_of self.now }
     {
-        match self.stored.try_insert(rt, ()) {
+        let told = match self.stored.try_insert(rt, ()) {
             Ok(told) => told,
             Err((told, ())) => told,
-        }
+        };
+        self.bell.ring();
+        told
     }
 
     /// What its thread has of it.
@@ -79,6 +85,20 @@ impl<'s> Heed<'s> {
         ensures { IfSome result (λ told. told.of ≡ heeded self.entry) }
     {
         self.flag.stored.witness()
+    }
+
+    /// Takes note of all rings so far, and then gives the evidence that it was stored, if it was. What is stored after the look is rung
+    /// after the note.
+    pub fn note(self) -> Option<OnceToken<'s, ()>>
+        ensures { IfSome result (λ told. told.of ≡ heeded self.entry) }
+    {
+        self.flag.bell.note();
+        self.told()
+    }
+
+    /// The bell at which is rung for its thread.
+    pub fn bell(self) -> &'s Bell {
+        &self.flag.bell
     }
 
     /// Sleeps until it is stored.

@@ -1,8 +1,9 @@
 //! The parts of a session that need no group: the workers of lines are dealt to line threads and come back; the sink is a duty of the
-//! calling thread; threads come back with evidence that their flags were stored; and the ends of rings are laid beside each other at the
-//! end. Begin with `start_shares`, `Flag` and `Duty`.
+//! calling thread; threads come back with evidence that their flags were stored, and sleep at their bells while they can't go on; and the
+//! ends of rings are laid beside each other at the end. Begin with `start_shares`, `Flag` and `Duty`.
 #![tactic(auto)]
 
+mod bell;
 mod duty;
 mod flag;
 mod laws;
@@ -11,6 +12,7 @@ mod line_thread;
 mod open;
 mod shares;
 
+pub use bell::Bell;
 pub use duty::{Duty, SinkDuty, Turned, take_back};
 pub use flag::{Comes, Flag, Heed};
 pub use laws::{ended_law, gathered_law};

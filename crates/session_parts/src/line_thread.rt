@@ -9,11 +9,11 @@ ghost use Rattle.session_parts.specs.declared.flag.Flag.{Flag as OwnFlag};
 ghost use Rattle.session_parts.specs.Flags.{flag_of, heeded};
 ghost use Rattle.session_parts.specs.Held.{IsHeldOf, AreHeldOf, IsToldBy, AreToldBy};
 
+use crate::bell::Bell;
 use crate::flag::{Flag, Heed};
-use member_ring::{Burst, Gate, LineWorker};
+use member_ring::{Burst, Gate, IdleCause, LineWorker};
 use std::snapshot::Snapshot;
 use std::sync::{OnceToken, Wait};
-use std::thread;
 use std::thread::{Promise, PromisedHandle, Scope, Threads};
 
 /// What a line thread promises: it gives back the workers that it was given, each later, once this flag was stored.
@@ -35,48 +35,92 @@ pub enum Held {
     Here(Vec<LineWorker>),
 }
 
-/// Makes a burst of a worker, but not where its flag is stored. Says whether it moved.
-fn serve_one<G: Gate>(worker: &mut LineWorker, gate: &G, stop: Option<Heed<'_>>) -> bool
+/// What came of bursts.
+#[derive(Clone, Copy, Debug, PartialEq, Eq)]
+enum Served {
+    /// One moved.
+    Moved,
+    /// None moved, and one found no slot for a cell.
+    Full,
+    /// None moved or found no slot, and one found no container, or wasn't made.
+    Empty,
+    /// All had come to their end before.
+    Done,
+}
+
+impl Served {
+    /// What came of these and others.
+    fn and(self, other: Served) -> Served {
+        match (self, other) {
+            (Served::Moved, _) | (_, Served::Moved) => Served::Moved,
+            (Served::Full, _) | (_, Served::Full) => Served::Full,
+            (Served::Empty, _) | (_, Served::Empty) => Served::Empty,
+            (Served::Done, Served::Done) => Served::Done,
+        }
+    }
+}
+
+/// Makes a burst of a worker, but not where its flag is stored. Says what came of it.
+fn serve_one<G: Gate>(worker: &mut LineWorker, gate: &G, stop: Option<Heed<'_>>) -> Served
     ensures { IsLater worker.old worker.new }
 {
     if let Some(stop) = stop {
         if stop.told().is_some() {
-            return false;
+            return Served::Empty;
         }
     }
-    worker.burst(gate) == Burst::Moved
+    match worker.burst(gate) {
+        Burst::Moved => Served::Moved,
+        Burst::Idle(IdleCause::Full) => Served::Full,
+        Burst::Idle(IdleCause::Empty) => Served::Empty,
+        Burst::Done => Served::Done,
+    }
 }
 
-/// Makes a burst of each worker, as long as no flag is stored, and says whether one of them moved.
-fn serve_once<G: Gate>(workers: &mut Vec<LineWorker>, gate: &G, stop: Option<Heed<'_>>) -> bool
+/// Makes a burst of each worker, as long as no flag is stored, and says what came of them.
+fn serve_once<G: Gate>(workers: &mut Vec<LineWorker>, gate: &G, stop: Option<Heed<'_>>) -> Served
     ensures { AreLater workers.old.items workers.new.items }
 {
-    let mut moved = false;
+    let mut served = Served::Done;
     for worker in workers.iter_mut() {
-        if serve_one(worker, gate, stop) {
-            moved = true;
-        }
+        served = served.and(serve_one(worker, gate, stop));
     }
-    moved
+    served
 }
 
-/// Serves workers until the flag is stored, and gives the evidence that it is.
+/// Rings for the sink and the source after bursts of which one moved; where none did, waits for who can change that.
+fn go_on<R: Wait>(rt: &R, bell: &Bell, source: &Bell, sink: &Bell, served: Served) {
+    match served {
+        Served::Moved => {
+            sink.ring();
+            source.ring_from_behind();
+        }
+        Served::Full => bell.wait_for_behind(rt),
+        Served::Empty | Served::Done => bell.wait(rt),
+    }
+}
+
+/// Serves workers until the flag is stored, and gives the evidence that it is. Once all have come to their end it sleeps until then.
 fn serve<'s, R: Wait, G: Gate>(
     rt: &R,
     gate: &G,
     stop: Heed<'s>,
+    source: &Bell,
+    sink: &Bell,
     workers: &mut Vec<LineWorker>,
 ) -> OnceToken<'s, ()>
     ensures told { result.of ≡ heeded stop.entry }
     ensures later { AreLater workers.old.items workers.new.items }
 {
     for _ in rt.forever() {
-        if let Some(told) = stop.told() {
+        if let Some(told) = stop.note() {
             return told;
         }
-        if !serve_once(workers, gate, Some(stop)) {
-            thread::yield_now();
+        let served = serve_once(workers, gate, Some(stop));
+        if served == Served::Done {
+            return stop.wait(rt);
         }
+        go_on(rt, stop.bell(), source, sink, served);
     }
     unreachable!()
 }
@@ -86,13 +130,15 @@ fn serve_until<R: Wait, G: Gate>(
     rt: &R,
     gate: &G,
     flag: &Flag,
+    source: &Bell,
+    sink: &Bell,
     workers: Vec<LineWorker>,
 ) -> Vec<LineWorker>
     ensures { AreLater workers.items result.items }
 {
     let stop = flag.heed();
     let mut own = workers;
-    let told = serve(rt, gate, stop, &mut own);
+    let told = serve(rt, gate, stop, source, sink, &mut own);
     stop.comes_back(&told);
     own
 }
@@ -103,6 +149,8 @@ fn start_share<'s, 'e, R: Wait + Sync, G: Gate>(
     rt: &'s R,
     gate: &'s G,
     flag: &'s Flag,
+    source: &'s Bell,
+    sink: &'s Bell,
     workers: Vec<LineWorker>,
 ) -> Held
     ensures held { IsHeldOf workers.items result }
@@ -110,7 +158,7 @@ fn start_share<'s, 'e, R: Wait + Sync, G: Gate>(
 {
     match scope.spawn_with(
         Kept(Snapshot::of(&workers), Snapshot::of(flag)),
-        move || serve_until(rt, gate, flag, workers),
+        move || serve_until(rt, gate, flag, source, sink, workers),
     ) {
         Ok(child) => Held::There(child),
         Err(refused) => {
@@ -120,12 +168,15 @@ fn start_share<'s, 'e, R: Wait + Sync, G: Gate>(
     }
 }
 
-/// Starts the threads of all shares, each of which looks at a flag of its own.
+/// Starts the threads of all shares, each of which looks at a flag of its own. They ring for
+/// the source and the sink.
 pub fn start_shares<'s, 'e, R: Wait + Sync, G: Gate>(
     scope: &'s Scope<'s, &'e ()>,
     rt: &'s R,
     gate: &'s G,
     flags: &'s [Flag],
+    source: &'s Bell,
+    sink: &'s Bell,
     shares: Vec<Vec<LineWorker>>,
     room: Vec<Held>,
 ) -> Vec<Held>
@@ -137,7 +188,7 @@ pub fn start_shares<'s, 'e, R: Wait + Sync, G: Gate>(
     let mut held = room;
     for workers in shares {
         let flag = &flags[held.len()];
-        held.push_reserved(start_share(scope, rt, gate, flag, workers));
+        held.push_reserved(start_share(scope, rt, gate, flag, source, sink, workers));
     }
     held
 }

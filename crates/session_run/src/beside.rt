@@ -1,5 +1,5 @@
 //! All threads of a session beside each other.
-ghost use Rattle.std.specs.Prelude.{◌≡◌, ◌≤◌, List, [], vec_len, IfSome, IsTrue};
+ghost use Rattle.std.specs.Prelude.{◌≡◌, ◌≤◌, List, [], length, vec_len, IfSome, IsTrue};
 ghost use Rattle.std.specs.Global.{Vec};
 ghost use Rattle.std.specs.Vec.{vec_capacity};
 ghost use Rattle.member_ring.specs.declared.worker.LineWorker.{LineWorker};
@@ -16,7 +16,8 @@ use group_lock::{BoundGroup, Session};
 use member_ring::{Gate, LineWorker, Who};
 use session_model::Item;
 use session_parts::{
-    Comes, Duty, Flag, Held, Turned, collect, deal, serve_all_here, start_shares, take_all_back,
+    Bell, Comes, Duty, Flag, Held, Turned, collect, deal, serve_all_here, start_shares,
+    take_all_back,
 };
 use std::sync::{Mutex, OnceToken, Wait};
 use std::thread;
@@ -32,6 +33,7 @@ fn start_landing<'s, 'e, Y: Session, R: Wait + Sync, G: Gate>(
     gate: &'s G,
     lock: &'s Mutex<BoundGroup<Y>>,
     flag: &'s Flag,
+    source: &'s Bell,
     who: Who,
     items: &'s [Item],
 ) -> Option<Child<'s>>
@@ -42,7 +44,7 @@ fn start_landing<'s, 'e, Y: Session, R: Wait + Sync, G: Gate>(
     let work = move || -> OnceToken<'_, ()>
         requires { items.now ≡ Y.script.items }
         ensures { result.of ≡ heeded stop.entry }
-    { land_all::<Y, R, G>(rt, gate, lock, stop, who, items) };
+    { land_all::<Y, R, G>(rt, gate, lock, stop, source, who, items) };
     scope.spawn_with(Comes::by(flag), work).ok()
 }
 
@@ -52,15 +54,16 @@ fn start_source<'s, 'e, Y: Session, R: Wait + Sync, G: Gate>(
     rt: &'s R,
     gate: &'s G,
     lock: &'s Mutex<BoundGroup<Y>>,
-    flag: &'s Flag,
+    flags: &'s Flags,
+    items: &'s [Item],
 ) -> Option<Child<'s>>
-    ensures { IfSome result (λ child. comes_by child.promise ≡ flag_of flag.now) }
+    ensures { IfSome result (λ child. comes_by child.promise ≡ flag_of flags.now.source) }
 {
-    let stop = flag.heed();
+    let stop = flags.source.heed();
     let work = move || -> OnceToken<'_, ()>
         ensures { result.of ≡ heeded stop.entry }
-    { tick_all::<Y, R, G>(rt, gate, lock, stop) };
-    scope.spawn_with(Comes::by(flag), work).ok()
+    { tick_all::<Y, R, G>(rt, gate, lock, stop, flags, items) };
+    scope.spawn_with(Comes::by(&flags.source), work).ok()
 }
 
 /// Waits until a thread has ended, where it was started, with the evidence that its flag is stored.
@@ -72,10 +75,12 @@ fn join_started<'s, R: Threads>(rt: &R, child: Option<Child<'s>>, stored: &OnceT
     }
 }
 
-/// Does a duty until nothing is left of it, and between its turns what has no thread. Not at all where this isn't wanted.
+/// Does a duty until nothing is left of it, and before each turn what has no thread. Not at all where this isn't wanted. A turn that finds
+/// nothing to do comes after all that has no thread has gone on, and so then others are waited for.
 fn attend<R: Wait, G: Gate, D: Duty>(
     rt: &R,
     gate: &G,
+    flags: &Flags,
     wanted: bool,
     duty: D,
     held: Vec<Held>,
@@ -93,13 +98,17 @@ fn attend<R: Wait, G: Gate, D: Duty>(
         return (duty, held);
     }
     for _ in rt.forever() {
+        flags.sink.note();
+        serve_all_here(&mut held, gate);
         gate.pass(Who::Sink);
         match duty.turn() {
             Turned::Over => return (duty, held),
-            Turned::Moved => gate.moved(Who::Sink),
-            Turned::Waits => thread::yield_now(),
+            Turned::Moved => {
+                gate.moved(Who::Sink);
+                flags.ring_around_sink();
+            }
+            Turned::Waits => flags.sink.wait(rt),
         }
-        serve_all_here(&mut held, gate);
     }
     unreachable!()
 }
@@ -124,12 +133,13 @@ fn shares_beside<'x, Y: Session, R: Threads + Wait + Sync, G: Gate, D: Duty>(
     ensures shares { SharesLater shares.items result.0.items }
     ensures duty { (begun : Begun) → D.stands_for duty begun → D.stands_for result.1 begun }
 {
+    let lines = flags.lines.as_slice();
     thread::scope(
         thread::scope_env(),
         rt,
         |scope| -> (Vec<Vec<LineWorker>>, D)
             requires items { items.now ≡ Y.script.items }
-            requires flags { vec_len shares ≤ vec_len flags.now.lines }
+            requires flags { vec_len shares ≤ length lines.now }
             requires held { (held_room.items ≡ []) × (vec_len shares ≤ vec_capacity held_room) }
             requires back { (back_room.items ≡ []) × (vec_len shares ≤ vec_capacity back_room) }
             ensures shares { SharesLater shares.items result.0.items }
@@ -142,6 +152,7 @@ fn shares_beside<'x, Y: Session, R: Threads + Wait + Sync, G: Gate, D: Duty>(
                 gate,
                 lock,
                 &flags.client,
+                &flags.source.bell,
                 Who::Client,
                 items,
             );
@@ -151,14 +162,23 @@ fn shares_beside<'x, Y: Session, R: Threads + Wait + Sync, G: Gate, D: Duty>(
                 gate,
                 lock,
                 &flags.operator,
+                &flags.source.bell,
                 Who::Operator,
                 items,
             );
-            let source = start_source::<Y, R, G>(scope, rt, gate, lock, &flags.source);
-            let lines = flags.lines.as_slice();
-            let held = start_shares(scope, rt, gate, lines, shares, held_room);
+            let source = start_source::<Y, R, G>(scope, rt, gate, lock, flags, items);
+            let held = start_shares(
+                scope,
+                rt,
+                gate,
+                lines,
+                &flags.source.bell,
+                &flags.sink,
+                shares,
+                held_room,
+            );
             let started = client.is_some() && operator.is_some() && source.is_some();
-            let (duty, held) = attend(rt, gate, started, duty, held);
+            let (duty, held) = attend(rt, gate, flags, started, duty, held);
             flags.store_all(rt);
             let back = take_all_back(rt, lines, held, back_room);
             join_started(rt, client, &flags.client.store(rt));

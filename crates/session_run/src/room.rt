@@ -1,21 +1,22 @@
-//! Room for the threads of a session, which is taken before any of them starts, and their flags.
+//! Room for the threads of a session, which is taken before any of them starts, and their flags and bells.
 ghost use Rattle.std.specs.Prelude.{◌≡◌, ◌<◌, ◌≤◌, IfOk, vec_len, [], length};
 ghost use Rattle.std.specs.Vec.{vec_capacity};
 ghost use Rattle.session_parts.specs.Lines.{HaveRoom};
 ghost use Rattle.session_run.specs.Room.{HasRoomFor};
 
 use member_ring::LineWorker;
-use session_parts::{Flag, Held};
+use session_parts::{Bell, Flag, Held};
 use std::alloc::{AllocError, Global};
 use std::sync::Wait;
 
-/// The flags at which threads look before each turn.
+/// The flags at which threads look before each turn, each with its bell, and the bell of the sink, which is told by none.
 #[derive(Drop)]
 pub(crate) struct Flags {
     pub(crate) client: Flag,
     pub(crate) operator: Flag,
     pub(crate) source: Flag,
     pub(crate) lines: Vec<Flag>,
+    pub(crate) sink: Bell,
 }
 
 impl Flags {
@@ -34,6 +35,7 @@ impl Flags {
             operator: Flag::new(),
             source: Flag::new(),
             lines,
+            sink: Bell::new(),
         })
     }
 
@@ -45,6 +47,27 @@ impl Flags {
         for line in self.lines.iter() {
             line.store(rt);
         }
+    }
+
+    /// Rings for those that go on with the containers that the source has made.
+    pub(crate) fn ring_for_lines(&self) {
+        for line in self.lines.iter() {
+            line.bell.ring();
+        }
+    }
+
+    /// Rings for all behind the source, before it waits for them.
+    pub(crate) fn ring_behind_source(&self) {
+        self.ring_for_lines();
+        self.sink.ring();
+    }
+
+    /// Rings for those that wait for return cells of the sink, and for slots that it has left free.
+    pub(crate) fn ring_around_sink(&self) {
+        for line in self.lines.iter() {
+            line.bell.ring_from_behind();
+        }
+        self.source.bell.ring_from_behind();
     }
 }
 

@@ -6,13 +6,16 @@ ghost use Rattle.group_lock.specs.Session.{IsItemOf};
 ghost use Rattle.session_parts.specs.Flags.{heeded};
 ghost use Rattle.session_run.specs.Turns.{bringer};
 
+use crate::room::Flags;
 use group_lock::{BoundGroup, Session, SubmitFault, TickAnswer};
 use group_source::ItemRef;
 use member_ring::{Gate, Who};
 use session_model::{Item, ItemKind};
-use session_parts::Heed;
+use session_parts::{Bell, Heed};
 use std::sync::{Mutex, OnceToken, Wait};
-use std::thread;
+
+/// So many frames are made before the lines are rung for, as long as the source can go on.
+const FRAMES: u32 = 8;
 
 /// An item as it is handed in.
 fn as_handed(kind: &ItemKind) -> ItemRef<'_>
@@ -53,12 +56,14 @@ pub(crate) fn hand_in<Y: Session>(group: &mut BoundGroup<Y>, number: u32, kind: 
     }
 }
 
-/// Lands an item once it is due. Where the flag is stored first it doesn't land, and the evidence is given that it is.
+/// Lands an item once it is due. Where the flag is stored first it doesn't land, and the evidence is given that it is. Before it waits it
+/// rings for the source, which can't go on before all items that are due have landed.
 fn land<'s, Y: Session, R: Wait, G: Gate>(
     rt: &R,
     gate: &G,
     lock: &Mutex<BoundGroup<Y>>,
     stop: Heed<'s>,
+    source: &Bell,
     number: u32,
     kind: &ItemKind,
 ) -> Option<OnceToken<'s, ()>>
@@ -67,7 +72,7 @@ fn land<'s, Y: Session, R: Wait, G: Gate>(
 {
     let who = who_brings(kind);
     for _ in rt.forever() {
-        if let Some(told) = stop.told() {
+        if let Some(told) = stop.note() {
             return Some(told);
         }
         gate.pass(who);
@@ -76,7 +81,8 @@ fn land<'s, Y: Session, R: Wait, G: Gate>(
             gate.moved(who);
             return None;
         }
-        thread::yield_now();
+        source.ring();
+        stop.bell().wait(rt);
     }
     unreachable!()
 }
@@ -87,6 +93,7 @@ pub(crate) fn land_all<'s, Y: Session, R: Wait, G: Gate>(
     gate: &G,
     lock: &Mutex<BoundGroup<Y>>,
     stop: Heed<'s>,
+    source: &Bell,
     who: Who,
     items: &[Item],
 ) -> OnceToken<'s, ()>
@@ -98,12 +105,45 @@ pub(crate) fn land_all<'s, Y: Session, R: Wait, G: Gate>(
             break;
         };
         if who_brings(&item.kind) == who {
-            if let Some(told) = land::<Y, R, G>(rt, gate, lock, stop, number, &item.kind) {
+            let told = land::<Y, R, G>(rt, gate, lock, stop, source, number, &item.kind);
+            if let Some(told) = told {
                 return told;
             }
         }
     }
+    source.ring();
     stop.wait(rt)
+}
+
+/// Rings for whoever brings an item.
+fn ring_for(flags: &Flags, items: &[Item], number: u32) {
+    if let Some(item) = items.get(number as usize) {
+        match &item.kind {
+            ItemKind::Frame(_) => flags.client.bell.ring(),
+            ItemKind::Add(_) | ItemKind::Remove(_) => flags.operator.bell.ring(),
+        }
+    }
+}
+
+/// Rings for those that go on with what a tick has made, or without whom none was made, and then waits for them. `made` is how many
+/// frames were made.
+fn go_on<R: Wait>(rt: &R, flags: &Flags, items: &[Item], answer: TickAnswer, made: u32) {
+    match answer {
+        TickAnswer::Ticked => {
+            if made % FRAMES == 0 {
+                flags.ring_for_lines();
+            }
+        }
+        TickAnswer::Held { item } => {
+            ring_for(flags, items, item);
+            flags.source.bell.wait(rt);
+        }
+        TickAnswer::Done | TickAnswer::TxFull { line: _ } | TickAnswer::BackMissing { packet: _ } =>
+            {
+                flags.ring_behind_source();
+                flags.source.bell.wait_for_behind(rt);
+            }
+    }
 }
 
 /// Makes the frames one after another as they can be made, and comes back once the flag is stored. After the last one return cells are
@@ -113,20 +153,23 @@ pub(crate) fn tick_all<'s, Y: Session, R: Wait, G: Gate>(
     gate: &G,
     lock: &Mutex<BoundGroup<Y>>,
     stop: Heed<'s>,
+    flags: &Flags,
+    items: &[Item],
 ) -> OnceToken<'s, ()>
     ensures { result.of ≡ heeded stop.entry }
 {
+    let mut made = 0u32;
     for _ in rt.forever() {
-        if let Some(told) = stop.told() {
+        if let Some(told) = stop.note() {
             return told;
         }
         gate.pass(Who::Source);
         let answer = lock.lock(rt).tick();
         if answer == TickAnswer::Ticked {
             gate.moved(Who::Source);
-        } else {
-            thread::yield_now();
+            made = made.wrapping_add(1);
         }
+        go_on(rt, flags, items, answer, made);
     }
     unreachable!()
 }

@@ -7,8 +7,8 @@ use Rattle.session_parts.proofs.line_thread.serve.Goals as goal
 pub loop-init : goal.loop-init
 loop-init g c = zip-refl IsLater later-refl _
 
-pub loop-preserved-then-not-serve_once : goal.loop-preserved-then-not-serve_once
-loop-preserved-then-not-serve_once g c = zip-then IsLater later-then _ _ _ c.loop.invariant c.serve_once.ensures
-
 pub loop-preserved : goal.loop-preserved
-loop-preserved g c = zip-then IsLater later-then _ _ _ c.loop.invariant c.serve_once.ensures
+loop-preserved g c = zip-then IsLater later-then _ _ _ c.loop.invariant c.serve_once-served.ensures
+
+pub returns-then-eq-clause-later : goal.returns-then-eq-clause-later
+returns-then-eq-clause-later g c = zip-then IsLater later-then _ _ _ c.loop.invariant c.serve_once-served.ensures

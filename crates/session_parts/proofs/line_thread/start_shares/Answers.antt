@@ -1,10 +1,10 @@
 -- One more share is started, by the flag of its place; and nothing is left to be held.
-use Rattle.std.proofs.Common.{◌≡◌, ◌<◌, List, [], ◌∷◌, ◌++◌, length, vec_len, slice_get, Some, refl, sym, ◌∙◌, ap, subst, arith, rules, append_assoc}
+use Rattle.std.proofs.Common.{◌≡◌, ◌<◌, [], ◌∷◌, ◌++◌, length, slice_get, Some, refl, sym, ◌∙◌, ap, subst, arith, rules, append_assoc}
 use Rattle.std.proofs.lemmas.List.{append-nil, nil_from_length}
 use Rattle.std.proofs.lemmas.Option.{slice_get_read}
 use Rattle.std.specs.Vec.Iter.{into_iter_items}
 use Rattle.session_parts.specs.Held.{AreHeldOf, AreToldBy}
-use Rattle.session_parts.proofs.FlagLaws.{told-none, told-push}
+use Rattle.session_parts.proofs.FlagLaws.{told-push}
 use Rattle.session_parts.proofs.line_thread.start_shares.Goals as goal
 
 pub loop-workers-preserved : goal.loop-workers-preserved

@@ -15,6 +15,6 @@ take_all_back-back-requires g c =
     let long = zip-length (λ (share : Vec LineWorker) (one : Held). IsHeldOf share.items one) shares.items held.items are in
     record {
       room = (c.requires.back.0, omega (arith, long, c.requires.back.1, held.ok.0, shares.ok.0));
-      flags = omega (arith, long, c.as_slice-lines.ensures.len, c.requires.flags, held.ok.0, shares.ok.0);
+      flags = omega (arith, long, c.requires.flags, held.ok.0, shares.ok.0);
       told = c.attend-duty.ensures.told _ c.start_shares-held.ensures.told;
     }
