@@ -1,7 +1,6 @@
 -- One more row behind runs of rows that aren't whole.
-use Rattle.std.proofs.Common.{◌≡◌, ℕ, zero, suc, ◌+◌, ◌-◌, ◌<◌, ◌≤◌, ◌&&◌, ◌==◌, Bool, true, false, List, [], ◌∷◌, ◌++◌, length, slice_index_or, slice_set, Option, Some, None, refl, sym, ◌∙◌, ap, ap₂, arith, inl, inr, length-append}
+use Rattle.std.proofs.Common.{◌≡◌, ℕ, zero, suc, ◌+◌, ◌&&◌, ◌==◌, Bool, true, false, List, [], ◌∷◌, ◌++◌, length, slice_index_or, slice_set, Option, Some, None, refl, sym, ◌∙◌, ap, ap₂, arith, inl, inr, length-append}
 use Rattle.std.proofs.lemmas.Bool.{cases_Bool, eqb-true, eq-eqb}
-use Rattle.std.specs.Prelude.{if◌then◌else◌}
 use Rattle.fate_law.specs.declared.Cause.{Cause}
 use Rattle.fate_law.specs.declared.Cause.TheVariants.{Packet, PacketOf, Container}
 use Rattle.fate_law.specs.declared.SpoiledRun.{SpoiledRun}
