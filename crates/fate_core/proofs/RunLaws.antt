@@ -124,10 +124,3 @@ row-apart (own ∷ []) row cause apart =
     let isnt : (own.end == row && same_cause own.cause cause) ≡ false = ap (λ (r : SpoiledRun). r.end == row && same_cause r.cause cause) (sym last.1) ∙ last.2 in
     rw isnt (ap (λ n. own ∷ record { first = row; end = n; cause = cause } ∷ []) (let e : row + 1 ≡ suc row = omega arith in e))
 row-apart (own ∷ next ∷ items) row cause apart = ap (λ l. own ∷ l) (row-apart (next ∷ items) row cause (λ i count. apart (suc i) (omega arith)))
-
-pub other-cause : (a b : Cause) → (a ≡ b → ⊥) → same_cause a b ≡ false
-other-cause a b other =
-    elim (cases_Bool (same_cause a b)) [
-      | inl same ↦ absurd (other (same-is a b same))
-      | inr isnt ↦ isnt
-    ]

@@ -70,9 +70,6 @@ module _ (rows : List StreamRow) (row : StreamRow) where
   abbrev ended_by : Spans → Segments → List RowSegment
   ended_by come segments = row_segments_with come.ended segments.ended
 
-  abbrev last_by : Spans → Segments → RowSegment
-  last_by come segments = row_segment come.last segments.last
-
   pub whole-ended : row.whole ≡ true → ended_segments (rows ++ row ∷ []) ≡ ended_segments rows
   whole-ended is = let e = both true is in ap₂ (λ (come : Spans) (segments : Segments). ended_by come segments) e.0 e.1
 
@@ -189,9 +186,6 @@ none-kept kept rows first ended last base = record {
 
 -- with one more row
 module _ (kept : SegmentList) (rows : List StreamRow) (row : StreamRow) (stands : Stands kept rows) (are : AreSegments kept) where
-  first-ends : spoiled_from 0 rows ≡ kept.first
-  first-ends = sym stands.first
-
   broken-first : kept.first < kept.last.first → spoiled_from 0 rows < 0 + length rows
   broken-first low =
       let count = stands.count in
