@@ -1,16 +1,16 @@
 -- Where a row lies among segments.
-use Rattle.std.proofs.Common.{◌≡◌, ℕ, zero, suc, ◌+◌, ◌-◌, ◌<◌, ◌≤◌, ◌&&◌, Bool, true, false, nat_le, nat_lt, List, [], ◌∷◌, ◌++◌, length, filter, drop, slice_get, slice_index_or, Option, Some, None, refl, sym, ◌∙◌, ap, ap₂, subst, arith, inl, inr, length-append}
+use Rattle.std.proofs.Common.{◌≡◌, ℕ, zero, suc, ◌+◌, ◌-◌, ◌<◌, ◌≤◌, ◌&&◌, Bool, true, false, nat_le, nat_lt, List, [], ◌∷◌, ◌++◌, length, filter, drop, slice_get, slice_index_or, Some, None, refl, sym, ◌∙◌, ap, ap₂, subst, arith, inl, inr}
 use Rattle.std.specs.Prelude.{if◌then◌else◌, max}
 use Rattle.std.specs.List.Sorted.{IsPartitionedBy, IsPartitionPoint}
 use Rattle.std.proofs.lemmas.Bool.{cases_Bool, cases_lt, lt-ltb, le-ltb, le-leb, lt-leb, ltb-true, ltb-false, leb-true, leb-false}
 use Rattle.session_model.specs.Segment.{StreamRow, Segment, segments}
 use Rattle.fate_law.specs.declared.RowSegment.{RowSegment}
 use Rattle.fate_law.specs.Fates.{spoiled_from, spoiled_after}
-use Rattle.fate_law.specs.Spans.{Span, no_spans, spans, row_segment, row_segments_with, row_segments, has_row, mark_of_row, later_segments}
+use Rattle.fate_law.specs.Spans.{Span, row_segment, row_segments_with, row_segments, has_row, mark_of_row, later_segments}
 use Rattle.fate_law.proofs.RowLaws.{with_row, next_segment, tail, segments-tail}
 use Rattle.fate_law.proofs.SpanLaws.{span_tail, spans-tail}
 use Rattle.fate_core.specs.declared.segments.Around.{Around}
-use Rattle.fate_core.specs.Segments.{SegmentList, Stands, is_told, IsAround, AreInOrder, AreSegments, ended_segments, last_segment}
+use Rattle.fate_core.specs.Segments.{SegmentList, Stands, is_told, IsAround, AreInOrder, AreSegments}
 use Rattle.fate_core.proofs.ListLaws.{drop-end}
 use Rattle.fate_core.proofs.SegmentLaws.{later-kept, spoiled-same}
 

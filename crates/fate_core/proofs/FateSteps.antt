@@ -1,9 +1,7 @@
 -- The fate of a frame by what is kept of frames, packets and segments.
-use Rattle.std.proofs.Common.{◌≡◌, ℕ, zero, suc, ◌+◌, ◌-◌, ◌*◌, ◌<◌, ◌≤◌, ◌&&◌, ◌||◌, Bool, true, false, nat_le, nat_lt, List, [], ◌∷◌, ◌++◌, length, map, take, drop, slice_get, Option, Some, None, refl, sym, ◌∙◌, ap, ap₂, subst, arith, inl, inr, length-append}
-use Rattle.std.specs.Prelude.{if◌then◌else◌}
+use Rattle.std.proofs.Common.{◌≡◌, ℕ, zero, suc, ◌+◌, ◌-◌, ◌<◌, ◌≤◌, ◌&&◌, ◌||◌, Bool, true, false, nat_le, nat_lt, List, [], ◌∷◌, ◌++◌, length, take, slice_get, Option, Some, None, refl, sym, ◌∙◌, ap, ap₂, subst, arith, inl, inr, length-append}
 use Rattle.std.specs.List.{list_any}
-use Rattle.std.proofs.lemmas.Bool.{cases_Bool, cases_lt, lt-ltb, le-ltb, le-leb, lt-leb}
-use Rattle.session_model.specs.Piece.{Piece}
+use Rattle.std.proofs.lemmas.Bool.{cases_lt, lt-ltb, le-ltb, le-leb, lt-leb}
 use Rattle.session_model.specs.Scenario.{Scenario}
 use Rattle.session_model.specs.Table.{Told}
 use Rattle.session_model.specs.Client.{size, Stream, place_of}
@@ -11,12 +9,11 @@ use Rattle.session_model.specs.Segment.{StreamRow, octets_of_rows}
 use Rattle.session_model.specs.SessionStream.{row_of, rows_of}
 use Rattle.session_model.specs.Loss.{Extent, extents, is_carried}
 use Rattle.loss_law.proofs.SessionStreamLaws.{rows-length}
-use Rattle.fate_law.specs.declared.Fate.{Fate}
-use Rattle.fate_law.specs.declared.Fate.TheVariants.{Waits, Cut, Unconfirmed, Hunting, Unsettled, Got}
-use Rattle.fate_law.specs.Fates.{place_at, HasPlace, row_at, spoiled_after, is_settled_by, fate_after, fate_of}
+use Rattle.fate_law.specs.declared.Fate.TheVariants.{Waits}
+use Rattle.fate_law.specs.Fates.{place_at, row_at, spoiled_after, is_settled_by, fate_after, fate_of}
 use Rattle.fate_law.specs.Spans.{row_segments, mark_of_row, fate_by_rows}
 use Rattle.fate_law.specs.SessionFates.{fate_at, fate_if}
-use Rattle.fate_law.specs.Ruler.{Ruler, sides, ruler_of}
+use Rattle.fate_law.specs.Ruler.{sides, ruler_of}
 use Rattle.fate_law.proofs.RowLaws.{row-of_place}
 use Rattle.fate_law.proofs.SpanLaws.{fate-rows}
 use Rattle.fate_core.specs.declared.segments.Around.{Around}

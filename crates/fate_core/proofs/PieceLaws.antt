@@ -1,16 +1,15 @@
 -- Which places are those of pieces, by the sides of frames.
-use Rattle.std.proofs.Common.{◌≡◌, ℕ, zero, suc, ◌+◌, ◌-◌, ◌*◌, ◌/◌, ◌%◌, ◌^◌, ◌<◌, ◌≤◌, ◌==◌, ◌&&◌, ◌||◌, Bool, true, false, nat_le, nat_lt, List, [], ◌∷◌, ◌++◌, length, map, take, drop, slice_get, slice_index_or, slice_set, Option, Some, None, refl, sym, ◌∙◌, ap, ap₂, subst, arith, inl, inr, length-append}
-use Rattle.std.specs.Prelude.{if◌then◌else◌, sum_by}
+use Rattle.std.proofs.Common.{◌≡◌, ℕ, zero, suc, ◌+◌, ◌-◌, ◌%◌, ◌<◌, ◌≤◌, ◌==◌, ◌&&◌, ◌||◌, Bool, true, false, nat_lt, List, [], ◌∷◌, length, slice_get, slice_index_or, Some, refl, sym, ◌∙◌, ap, ap₂, subst, arith, inl, inr}
+use Rattle.std.specs.Prelude.{if◌then◌else◌}
 use Rattle.std.specs.List.{list_any}
-use Rattle.std.specs.List.Sorted.{IsPartitionedBy, IsPartitionPoint}
-use Rattle.std.proofs.lemmas.Bool.{cases_Bool, cases_lt, lt-ltb, le-ltb, le-leb, lt-leb, leb-true, leb-false, ltb-true, ltb-false, eq-eqb, ne_eqb, eqb-true}
+use Rattle.std.proofs.lemmas.Bool.{cases_lt, lt-ltb, le-ltb, le-leb, lt-leb, eq-eqb, ne_eqb}
 use Rattle.std.proofs.lemmas.List.Sums.{sum_by-append}
 use Rattle.std.proofs.Common.{zero-add}
 use Rattle.session_model.specs.Piece.{Piece, idle, client, size_of}
 use Rattle.session_model.specs.Client.{size, Stream}
-use Rattle.session_model.specs.Loss.{Extent, extents}
+use Rattle.session_model.specs.Loss.{extents}
 use Rattle.fate_law.specs.Marks.{places, is_piece_at}
-use Rattle.fate_law.specs.Ruler.{Ruler, sides, ruler_of, ruled}
+use Rattle.fate_law.specs.Ruler.{sides, ruler_of}
 use Rattle.fate_core.specs.Sides.{AreInOrder, is_fourth}
 
 -- ---- by sides

@@ -1,5 +1,5 @@
 -- The places at which rows begin, by the packets that govern them.
-use Rattle.std.proofs.Common.{◌≡◌, ℕ, zero, suc, ◌+◌, ◌-◌, ◌*◌, ◌/◌, ◌%◌, ◌^◌, ◌<◌, ◌≤◌, ◌⊎◌, nat_le, nat_lt, Bool, true, false, List, [], ◌∷◌, ◌++◌, length, map, take, All, Option, Some, None, slice_get, slice_index_or, refl, sym, ◌∙◌, ap, ap₂, subst, arith, inl, inr, length-append}
+use Rattle.std.proofs.Common.{◌≡◌, ℕ, zero, suc, ◌+◌, ◌-◌, ◌*◌, ◌/◌, ◌^◌, ◌<◌, ◌≤◌, ◌⊎◌, nat_le, nat_lt, true, false, List, [], ◌∷◌, ◌++◌, length, map, take, All, Option, Some, slice_get, slice_index_or, refl, sym, ◌∙◌, ap, ap₂, subst, arith, inl, inr, length-append}
 use Rattle.std.specs.Prelude.{sum_by}
 use Rattle.std.specs.List.Sorted.{IsPartitionedBy, IsPartitionPoint}
 use Rattle.std.proofs.Math.Nat.{mul-le-mul_left, mul-le-mul_right}
@@ -9,8 +9,7 @@ use Rattle.std.proofs.lemmas.List.{length-map, map-append}
 use Rattle.std.proofs.lemmas.List.Elements.{All-nil, All-cons, All-append}
 use Rattle.std.proofs.lemmas.Bool.{cases_lt, leb-true, leb-false, le-leb, lt-ltb, le-ltb}
 use Rattle.session_model.specs.Scenario.{Scenario}
-use Rattle.session_model.specs.Table.{Told, active}
-use Rattle.session_model.specs.Source.{table_of}
+use Rattle.session_model.specs.Table.{Told}
 use Rattle.session_model.specs.Client.{width, place_of}
 use Rattle.fate_core.specs.declared.packets.Packet.{Packet}
 use Rattle.fate_core.specs.Packets.{PacketList, ArePackets, packets_in, start_by, IsPacketList}

@@ -1,10 +1,10 @@
 -- What the calls of a ruler do to its fields.
-use Rattle.std.proofs.Common.{◌≡◌, ℕ, zero, suc, ◌+◌, ◌-◌, ◌*◌, ◌/◌, ◌^◌, ◌<◌, ◌≤◌, Bool, true, false, nat_le, List, [], ◌∷◌, ◌++◌, length, map, take, drop, slice_get, slice_index_or, slice_set, All, Option, Some, None, refl, sym, ◌∙◌, ap, ap₂, subst, arith, inl, inr, length-append}
+use Rattle.std.proofs.Common.{◌≡◌, ℕ, zero, suc, ◌+◌, ◌-◌, ◌*◌, ◌/◌, ◌^◌, ◌<◌, ◌≤◌, true, false, nat_le, List, [], ◌∷◌, ◌++◌, length, map, take, drop, slice_get, slice_index_or, slice_set, All, Some, refl, sym, ◌∙◌, ap, ap₂, subst, arith}
 use Rattle.std.specs.List.Sorted.{IsPartitionedBy, IsPartitionPoint}
-use Rattle.std.proofs.lemmas.Bool.{cases_lt, le-leb, lt-leb, leb-true, leb-false}
+use Rattle.std.proofs.lemmas.Bool.{le-leb, lt-leb, leb-true, leb-false}
 use Rattle.std.proofs.lemmas.List.{length-map, map-append}
-use Rattle.std.proofs.lemmas.List.Elements.{All-nil, All-cons, All-append}
-use Rattle.fate_law.specs.Ruler.{Ruler, idles_to, ruled}
+use Rattle.std.proofs.lemmas.List.Elements.{All-cons}
+use Rattle.fate_law.specs.Ruler.{Ruler, ruled}
 use Rattle.fate_core.specs.declared.ruler.Piece.{Piece}
 use Rattle.fate_core.specs.Sides.{side_of, ruler_in, with_begun, AreInOrder, IsBegun, IsRuler}
 use Rattle.fate_core.proofs.ListLaws.{drop-or}
@@ -67,17 +67,6 @@ begins frames begun end piece is low below from short = record {
       (order-push 0 (map side_of (take begun frames)) end (end + (8 + piece.length)) is.order (omega arith));
   low = omega (arith, below, short);
 }
-
-pub begun-is : (frames : List Piece) (begun end : ℕ) (was piece : Piece) → begun < length frames → was ≡ slice_index_or frames begun was → piece.from ≡ end → piece.length ≡ was.length →
-    ruler_in (slice_set frames begun piece) (begun + 1) (end + (8 + was.length)) ≡ with_begun (ruler_in frames begun end)
-begun-is frames begun end was piece low is from same =
-    let sent : map side_of (take (begun + 1) (slice_set frames begun piece)) ≡ map side_of (take begun frames) ++ (end, end + (8 + was.length)) ∷ [] =
-    ap (map side_of) (take-set frames begun piece low) ∙ map-append side_of (take begun frames) (piece ∷ [])
-    ∙ ap₂ (λ n m. map side_of (take begun frames) ++ (n, n + (8 + m)) ∷ []) from same in
-    let waiting : map (λ (p : Piece). p.length) (drop begun frames) ≡ was.length ∷ map (λ (p : Piece). p.length) (drop (begun + 1) frames) =
-    ap (map (λ (p : Piece). p.length)) (drop-or frames begun was low) ∙ ap (λ (p : Piece). p.length ∷ map (λ (p : Piece). p.length) (drop (begun + 1) frames)) (sym is) in
-    ap₂ (λ (s : List (ℕ × ℕ)) (w : List ℕ). record { end = end + (8 + was.length); sent = s; waiting = w }) sent (ap (map (λ (p : Piece). p.length)) (drop-set frames begun piece low))
-    ∙ sym (ap (λ w. with_begun (record { end = end; sent = map side_of (take begun frames); waiting = w })) waiting)
 
 pub ruled-step : (place end : ℕ) (sent : List (ℕ × ℕ)) (waiting : List ℕ) → 0 < length waiting → end < place →
     ruled place (with_begun (record { end = end; sent = sent; waiting = waiting })).end (with_begun (record { end = end; sent = sent; waiting = waiting })).sent (with_begun (record { end = end; sent = sent; waiting = waiting })).waiting

@@ -1,7 +1,6 @@
 -- One more row behind runs of rows that aren't whole.
-use Rattle.std.proofs.Common.{◌≡◌, ℕ, zero, suc, ◌+◌, ◌-◌, ◌<◌, ◌≤◌, ◌&&◌, ◌==◌, Bool, true, false, List, [], ◌∷◌, ◌++◌, length, slice_index_or, slice_set, Option, Some, None, refl, sym, ◌∙◌, ap, ap₂, arith, inl, inr, length-append}
+use Rattle.std.proofs.Common.{◌≡◌, ℕ, zero, suc, ◌+◌, ◌&&◌, ◌==◌, Bool, true, false, List, [], ◌∷◌, ◌++◌, length, slice_index_or, slice_set, Option, Some, None, refl, sym, ◌∙◌, ap, ap₂, arith, inl, inr, length-append}
 use Rattle.std.proofs.lemmas.Bool.{cases_Bool, eqb-true, eq-eqb}
-use Rattle.std.specs.Prelude.{if◌then◌else◌}
 use Rattle.fate_law.specs.declared.Cause.{Cause}
 use Rattle.fate_law.specs.declared.Cause.TheVariants.{Packet, PacketOf, Container}
 use Rattle.fate_law.specs.declared.SpoiledRun.{SpoiledRun}
@@ -125,10 +124,3 @@ row-apart (own ∷ []) row cause apart =
     let isnt : (own.end == row && same_cause own.cause cause) ≡ false = ap (λ (r : SpoiledRun). r.end == row && same_cause r.cause cause) (sym last.1) ∙ last.2 in
     rw isnt (ap (λ n. own ∷ record { first = row; end = n; cause = cause } ∷ []) (let e : row + 1 ≡ suc row = omega arith in e))
 row-apart (own ∷ next ∷ items) row cause apart = ap (λ l. own ∷ l) (row-apart (next ∷ items) row cause (λ i count. apart (suc i) (omega arith)))
-
-pub other-cause : (a b : Cause) → (a ≡ b → ⊥) → same_cause a b ≡ false
-other-cause a b other =
-    elim (cases_Bool (same_cause a b)) [
-      | inl same ↦ absurd (other (same-is a b same))
-      | inr isnt ↦ isnt
-    ]

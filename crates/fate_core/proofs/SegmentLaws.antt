@@ -1,17 +1,17 @@
 -- The segments of rows and one more.
-use Rattle.std.proofs.Common.{◌≡◌, ℕ, zero, suc, ◌+◌, ◌-◌, ◌<◌, ◌≤◌, ◌&&◌, Bool, true, false, nat_le, nat_lt, List, [], ◌∷◌, ◌++◌, length, filter, drop, slice_get, Option, Some, None, option_map, refl, sym, ◌∙◌, ap, ap₂, subst, arith, inl, inr, append_assoc, length-append}
+use Rattle.std.proofs.Common.{◌≡◌, ℕ, suc, ◌+◌, ◌-◌, ◌<◌, ◌≤◌, Bool, true, false, nat_le, nat_lt, List, [], ◌∷◌, ◌++◌, length, filter, drop, Option, None, option_map, refl, sym, ◌∙◌, ap, ap₂, subst, arith, inl, inr, length-append}
 use Rattle.std.specs.Prelude.{if◌then◌else◌}
-use Rattle.std.proofs.lemmas.Bool.{cases_Bool, cases_lt, lt-ltb, le-ltb, le-leb, lt-leb, ltb-true}
+use Rattle.std.proofs.lemmas.Bool.{cases_Bool, cases_lt, lt-ltb, le-ltb, le-leb, lt-leb}
 use Rattle.std.proofs.lemmas.List.{append-nil}
 use Rattle.std.proofs.lemmas.List.Elements.{filter-append}
 use Rattle.session_model.specs.Hunt.{hunt_within}
-use Rattle.session_model.specs.Segment.{StreamRow, Segment, Segments, longer, broken, row_by, segments_on, segments_of, segments, octets_of_rows}
+use Rattle.session_model.specs.Segment.{StreamRow, Segment, Segments, row_by, segments_on, segments_of, segments, octets_of_rows}
 use Rattle.session_model.specs.Loss.{confirmed_in}
 use Rattle.loss_law.proofs.CutLaws.{Stands-all}
 use Rattle.loss_law.proofs.SegmentLaws.{segments_of-push}
 use Rattle.fate_law.specs.declared.RowSegment.{RowSegment}
-use Rattle.fate_law.specs.Fates.{spoiled_from, spoiled_after}
-use Rattle.fate_law.specs.Spans.{Span, Spans, span_by, spans_on, no_spans, spans, row_segment, row_segments_with, row_segments, has_row, later_segments}
+use Rattle.fate_law.specs.Fates.{spoiled_from}
+use Rattle.fate_law.specs.Spans.{Span, Spans, span_by, spans_on, no_spans, row_segment, row_segments_with, row_segments, has_row, later_segments}
 use Rattle.fate_core.specs.Segments.{SegmentList, Tells, ended_segments, last_segment, Stands, is_told, gone_on, broken_off, AreInOrder, AreSegments}
 
 -- ---- spans beside segments
@@ -69,9 +69,6 @@ module _ (rows : List StreamRow) (row : StreamRow) where
 
   abbrev ended_by : Spans → Segments → List RowSegment
   ended_by come segments = row_segments_with come.ended segments.ended
-
-  abbrev last_by : Spans → Segments → RowSegment
-  last_by come segments = row_segment come.last segments.last
 
   pub whole-ended : row.whole ≡ true → ended_segments (rows ++ row ∷ []) ≡ ended_segments rows
   whole-ended is = let e = both true is in ap₂ (λ (come : Spans) (segments : Segments). ended_by come segments) e.0 e.1
@@ -189,9 +186,6 @@ none-kept kept rows first ended last base = record {
 
 -- with one more row
 module _ (kept : SegmentList) (rows : List StreamRow) (row : StreamRow) (stands : Stands kept rows) (are : AreSegments kept) where
-  first-ends : spoiled_from 0 rows ≡ kept.first
-  first-ends = sym stands.first
-
   broken-first : kept.first < kept.last.first → spoiled_from 0 rows < 0 + length rows
   broken-first low =
       let count = stands.count in

@@ -1,14 +1,14 @@
 -- All marks are true where those of the later segments that have a row are.
-use Rattle.std.proofs.Common.{◌≡◌, ℕ, zero, suc, ◌+◌, ◌<◌, ◌≤◌, ◌&&◌, ◌||◌, Bool, true, false, nat_lt, List, [], ◌∷◌, length, filter, drop, slice_get, Option, Some, None, refl, sym, ◌∙◌, ap, ap₂, arith, inl, inr}
+use Rattle.std.proofs.Common.{◌≡◌, ℕ, zero, suc, ◌+◌, ◌≤◌, ◌&&◌, ◌||◌, Bool, true, false, List, [], ◌∷◌, filter, drop, slice_get, refl, sym, ◌∙◌, ap, ap₂, arith, inl, inr}
 use Rattle.std.specs.List.{list_all}
 use Rattle.std.proofs.lemmas.Bool.{cases_Bool, lt-ltb}
 use Rattle.session_model.specs.Hunt.{hunt_within}
 use Rattle.session_model.specs.Piece.{Piece}
-use Rattle.session_model.specs.Segment.{StreamRow, Segment, segments}
+use Rattle.session_model.specs.Segment.{StreamRow, Segment}
 use Rattle.session_model.specs.Loss.{confirmed_in}
 use Rattle.fate_law.specs.declared.RowSegment.{RowSegment}
 use Rattle.fate_law.specs.Marks.{is_true_mark, has_true_mark, are_true_marks}
-use Rattle.fate_law.specs.Spans.{Span, row_segment, row_segments_with, row_segments, has_row, later_segments}
+use Rattle.fate_law.specs.Spans.{Span, row_segment, row_segments_with, has_row, later_segments}
 use Rattle.fate_law.proofs.RowLaws.{with_row, next_segment, tail, segments-tail}
 use Rattle.fate_law.proofs.SpanLaws.{span_tail}
 use Rattle.fate_core.specs.Around.{is_true_of}

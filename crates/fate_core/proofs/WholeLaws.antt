@@ -1,5 +1,5 @@
 -- The first window that ends above a container says whether those from it on are whole.
-use Rattle.std.proofs.Common.{◌≡◌, ℕ, zero, suc, ◌+◌, ◌-◌, ◌<◌, ◌≤◌, ◌&&◌, nat_le, Bool, true, false, List, [], ◌∷◌, length, take, drop, slice_get, slice_index_or, Option, Some, None, refl, sym, ◌∙◌, ap, subst, arith, inl, inr}
+use Rattle.std.proofs.Common.{◌≡◌, ℕ, zero, suc, ◌+◌, ◌-◌, ◌<◌, ◌≤◌, ◌&&◌, nat_le, true, false, List, [], ◌∷◌, length, take, drop, slice_get, slice_index_or, Some, None, refl, sym, ◌∙◌, ap, subst, arith, inl, inr}
 use Rattle.std.specs.Prelude.{max}
 use Rattle.std.specs.List.Sorted.{IsPartitionedBy, IsPartitionPoint}
 use Rattle.std.proofs.Math.Seq.{take-length}
@@ -7,7 +7,7 @@ use Rattle.std.proofs.lemmas.Bool.{cases_lt, leb-true, leb-false, le-leb, lt-leb
 use Rattle.std.proofs.lemmas.List.{length-drop}
 use Rattle.session_model.specs.declared.window.Window.{Window}
 use Rattle.session_model.specs.declared.window.Carried.{Carried}
-use Rattle.session_model.specs.declared.window.Carried.TheVariants.{Whole, Fails, Vanishes}
+use Rattle.session_model.specs.declared.window.Carried.TheVariants.{Whole}
 use Rattle.session_model.specs.Damage.{carried_in, carried, is_whole, are_whole, AreWindows}
 use Rattle.session_model.proofs.PathLaws.{carried-in, carried-before}
 use Rattle.failure_window.proofs.WindowLaws.{carried-early, are-drop, carried-drop, ends-rise}

@@ -1,6 +1,5 @@
 -- What is kept of the packets of a group.
 use Rattle.std.specs.Prelude.{◌≡◌, ℕ, ◌*◌, ◌≤◌, ◌<◌, ◌^◌, List, map, length, take, sum_by, All, Option, Some, slice_get, slice_index_or, []}
-use Rattle.arrayvec.specs.ArrayVec.{ArrayVec}
 use Rattle.session_model.specs.Scenario.{Scenario}
 use Rattle.session_model.specs.Table.{Told, active}
 use Rattle.session_model.specs.Source.{table_of}

@@ -1,5 +1,5 @@
 -- What is kept of the segments of rows.
-use Rattle.std.specs.Prelude.{◌≡◌, ℕ, suc, ◌+◌, ◌≤◌, ◌<◌, ◌^◌, ◌&&◌, nat_le, nat_lt, if◌then◌else◌, Bool, List, [], ◌∷◌, ◌++◌, length, filter, drop, Option, None}
+use Rattle.std.specs.Prelude.{◌≡◌, ℕ, ◌+◌, ◌≤◌, ◌<◌, ◌^◌, ◌&&◌, nat_le, nat_lt, if◌then◌else◌, Bool, List, [], ◌∷◌, ◌++◌, length, filter, drop, Option, None}
 use Rattle.std.specs.Option.{option_map}
 use Rattle.session_model.specs.Segment.{StreamRow, segments_of, octets_of_rows}
 use Rattle.session_model.specs.Loss.{confirmed_in}

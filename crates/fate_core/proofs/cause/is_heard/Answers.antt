@@ -1,5 +1,5 @@
 -- The lines up to one that has such a packet.
-use Rattle.std.proofs.Common.{◌≡◌, ◌+◌, ◌*◌, ◌||◌, Bool, true, false, drop, refl, sym, ◌∙◌, ap}
+use Rattle.std.proofs.Common.{◌≡◌, ◌+◌, ◌*◌, ◌||◌, false, drop, sym, ◌∙◌, ap}
 use Rattle.std.specs.List.{list_any}
 use Rattle.fate_core.specs.Whole.{whole_in}
 use Rattle.fate_core.proofs.ListLaws.{drop-next}

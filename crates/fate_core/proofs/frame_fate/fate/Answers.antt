@@ -1,5 +1,5 @@
 -- The fate by the rows of the frame's first octet and of its last.
-use Rattle.std.proofs.Common.{◌≡◌, ℕ, ◌+◌, ◌-◌, ◌*◌, ◌<◌, ◌≤◌, length, Some, slice_get, sym, ◌∙◌, ap, subst, arith}
+use Rattle.std.proofs.Common.{◌≡◌, ◌+◌, ◌*◌, length, slice_get, ◌∙◌, ap, arith}
 use Rattle.session_model.specs.Client.{place_of}
 use Rattle.session_model.specs.SessionStream.{rows_of}
 use Rattle.fate_core.specs.Around.{settles, fate_around}

@@ -1,6 +1,5 @@
 -- The row goes on with the last run, or begins one.
-use Rattle.std.proofs.Common.{◌≡◌, ℕ, ◌+◌, ◌-◌, ◌<◌, length, slice_index_or, sym, ◌∙◌, ap, subst, arith}
-use Rattle.fate_law.specs.declared.SpoiledRun.{SpoiledRun}
+use Rattle.std.proofs.Common.{◌≡◌, ◌-◌, slice_index_or, sym, ◌∙◌, subst, arith}
 use Rattle.fate_core.proofs.RunLaws.{row-meets, row-apart}
 use Rattle.fate_core.proofs.spoiled.add_row.Goals as goal
 use Rattle.fate_core.proofs.spoiled.add_row.Goals.{else-n-gt0-via-then-n-gt0+else-goes_on, else-n-gt0-via-else-n-gt0}

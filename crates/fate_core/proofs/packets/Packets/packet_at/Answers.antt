@@ -1,5 +1,5 @@
 -- The last packet whose rows begin by a place has it among them.
-use Rattle.std.proofs.Common.{rules, nat_le, true, false, ◌≡◌, ℕ, suc, ◌+◌, ◌-◌, ◌*◌, ◌<◌, ◌≤◌, List, length, sym, ◌∙◌, ap, subst, arith}
+use Rattle.std.proofs.Common.{rules, nat_le, true, false, ◌≡◌, suc, ◌-◌, ◌<◌, ◌≤◌, length, sym, ◌∙◌, ap, subst, arith}
 use Rattle.std.specs.List.Sorted.{IsPartitionedBy, IsPartitionPoint}
 use Rattle.std.proofs.lemmas.Fn.{always_returns_same}
 use Rattle.fate_core.specs.declared.packets.Packet.{Packet}

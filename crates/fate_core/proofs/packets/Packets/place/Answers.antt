@@ -1,9 +1,6 @@
 -- The place of a row among those of its packet.
-use Rattle.std.proofs.Common.{◌≡◌, ℕ, ◌+◌, ◌-◌, ◌*◌, ◌/◌, ◌%◌, ◌^◌, ◌<◌, ◌≤◌, List, length, Option, Some, slice_get, sym, ◌∙◌, ap, subst, arith}
-use Rattle.session_model.specs.Scenario.{Scenario}
-use Rattle.session_model.specs.Table.{Told}
+use Rattle.std.proofs.Common.{◌≡◌, ◌+◌, ◌-◌, ◌*◌, ◌/◌, ◌≤◌, length, Some, slice_get, sym, ◌∙◌, ap, subst, arith}
 use Rattle.session_model.specs.Client.{place_of}
-use Rattle.fate_core.specs.declared.packets.Packet.{Packet}
 use Rattle.fate_core.specs.Packets.{ArePackets}
 use Rattle.fate_core.proofs.PlaceLaws.{place-none, get-at, actives-length, row-low, row-place, end-place}
 use Rattle.fate_core.proofs.packets.Packets.place.Goals as goal

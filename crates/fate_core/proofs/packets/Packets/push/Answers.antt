@@ -1,8 +1,8 @@
 -- One more packet behind the others.
-use Rattle.std.proofs.Common.{◌≡◌, ℕ, suc, ◌+◌, ◌*◌, ◌^◌, ◌<◌, ◌≤◌, List, [], ◌∷◌, ◌++◌, length, map, sym, ◌∙◌, ap, subst, arith}
+use Rattle.std.proofs.Common.{◌≡◌, ℕ, ◌+◌, ◌*◌, ◌^◌, ◌<◌, ◌≤◌, length, sym, ◌∙◌, ap, subst, arith}
 use Rattle.std.proofs.Math.Nat.{mul-le-mul_left, mul-le-mul_right}
 use Rattle.fate_core.specs.declared.packets.Packet.{Packet}
-use Rattle.fate_core.specs.Packets.{PacketList, start_by, IsPacketList}
+use Rattle.fate_core.specs.Packets.{IsPacketList}
 use Rattle.fate_core.proofs.PlaceLaws.{actives-length, start-low, pushed}
 use Rattle.fate_core.proofs.packets.Packets.push.Goals as goal
 

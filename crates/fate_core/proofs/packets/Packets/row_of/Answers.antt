@@ -1,9 +1,8 @@
 -- The row among those of its packet.
-use Rattle.std.proofs.Common.{◌≡◌, ℕ, suc, ◌+◌, ◌-◌, ◌*◌, ◌/◌, ◌%◌, ◌^◌, ◌<◌, ◌≤◌, List, length, Option, Some, slice_get, sym, ◌∙◌, ap, subst, arith}
+use Rattle.std.proofs.Common.{◌≡◌, ℕ, suc, ◌+◌, ◌-◌, ◌*◌, ◌/◌, ◌<◌, ◌≤◌, List, length, Option, sym, ◌∙◌, ap, subst, arith}
 use Rattle.session_model.specs.Scenario.{Scenario}
 use Rattle.session_model.specs.Table.{Told}
 use Rattle.session_model.specs.Client.{place_of}
-use Rattle.fate_core.specs.declared.packets.Packet.{Packet}
 use Rattle.fate_core.specs.Packets.{ArePackets, start_by, packets_in}
 use Rattle.fate_core.proofs.PlaceLaws.{actives-length, row-place, end-place, Found, found, some-width, few-rows}
 use Rattle.fate_core.proofs.packets.Packets.row_of.Goals as goal

@@ -1,8 +1,8 @@
 -- The frame that waits longest begins where the pieces end.
-use Rattle.std.proofs.Common.{◌≡◌, ℕ, ◌+◌, ◌^◌, ◌<◌, ◌≤◌, length, slice_index_or, slice_set, refl, sym, ◌∙◌, ap, subst, arith}
+use Rattle.std.proofs.Common.{◌+◌, ◌^◌, ◌<◌, length, slice_set, refl, sym, subst}
 use Rattle.fate_core.specs.declared.ruler.Piece.{Piece}
 use Rattle.fate_core.specs.Sides.{IsRuler}
-use Rattle.fate_core.proofs.RulerSteps.{waits-some, begins, begun-is}
+use Rattle.fate_core.proofs.RulerSteps.{waits-some, begins}
 use Rattle.fate_core.proofs.ruler.Ruler.begin.Goals as goal
 
 pub invariant_of-self : goal.invariant_of-self

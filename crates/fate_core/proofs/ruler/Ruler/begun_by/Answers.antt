@@ -1,9 +1,9 @@
 -- The search among the frames that are begun.
-use Rattle.std.proofs.Common.{rules, ◌≡◌, ℕ, ◌-◌, ◌<◌, ◌≤◌, nat_le, true, false, List, length, map, take, drop, sym, ◌∙◌, ap, subst, arith}
-use Rattle.std.specs.List.Sorted.{IsPartitionedBy, IsPartitionPoint}
+use Rattle.std.proofs.Common.{rules, ◌≡◌, nat_le, List, length, take, sym, ap, subst, arith}
+use Rattle.std.specs.List.Sorted.{IsPartitionedBy}
 use Rattle.std.proofs.lemmas.Fn.{always_returns_same}
 use Rattle.fate_core.specs.declared.ruler.Piece.{Piece}
-use Rattle.fate_core.specs.Sides.{side_of, IsBegun}
+use Rattle.fate_core.specs.Sides.{IsBegun}
 use Rattle.fate_core.proofs.RulerSteps.{Begun, parted, is-begun}
 use Rattle.fate_core.proofs.ruler.Ruler.begun_by.Goals as goal
 

@@ -1,5 +1,5 @@
 -- By the last frame that begins at the place or before.
-use Rattle.std.proofs.Common.{◌≡◌, ℕ, zero, suc, ◌+◌, ◌-◌, ◌<◌, ◌≤◌, ◌==◌, ◌||◌, false, List, [], ◌∷◌, length, map, take, Option, Some, None, slice_get, slice_index_or, sym, ◌∙◌, ap, subst, arith}
+use Rattle.std.proofs.Common.{◌≡◌, ℕ, zero, suc, ◌-◌, ◌<◌, ◌≤◌, List, [], ◌∷◌, length, map, take, Some, None, slice_get, sym, ◌∙◌, ap, subst, arith}
 use Rattle.fate_core.specs.Sides.{side_of, AreInOrder}
 use Rattle.fate_core.proofs.PieceLaws.{piece_in, piece-by, piece-late, piece-none, piece-found}
 use Rattle.fate_core.proofs.ruler.Ruler.is_piece.Goals as goal

@@ -1,5 +1,5 @@
 -- No frame is accepted.
-use Rattle.std.proofs.Common.{◌≡◌, ℕ, ◌^◌, ◌<◌, [], List, All, sym, subst, arith}
+use Rattle.std.proofs.Common.{◌≡◌, ◌^◌, ◌<◌, [], List, All, sym, subst, arith}
 use Rattle.std.proofs.lemmas.List.Elements.{All-nil}
 use Rattle.fate_core.specs.declared.ruler.Piece.{Piece}
 use Rattle.fate_core.specs.Sides.{AreInOrder, IsRuler}

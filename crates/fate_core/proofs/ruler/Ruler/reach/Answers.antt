@@ -1,6 +1,5 @@
 -- Idles behind the frames.
-use Rattle.std.proofs.Common.{◌≡◌, ℕ, ◌+◌, ◌-◌, ◌*◌, ◌/◌, ◌<◌, ◌≤◌, [], sym, ◌∙◌, ap, subst, arith}
-use Rattle.fate_law.specs.Ruler.{ruled}
+use Rattle.std.proofs.Common.{◌+◌, ◌-◌, ◌*◌, ◌/◌, ◌<◌, ◌≤◌, sym, ◌∙◌, ap, subst, arith}
 use Rattle.fate_core.proofs.RulerSteps.{ruled-there, ruled-idles, longer}
 use Rattle.fate_core.proofs.ruler.Ruler.reach.Goals as goal
 

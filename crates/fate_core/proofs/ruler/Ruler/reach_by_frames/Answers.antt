@@ -1,7 +1,7 @@
 -- Frame by frame.
-use Rattle.std.proofs.Common.{◌≡◌, ◌<◌, length, sym, ◌∙◌, ap, subst, arith}
+use Rattle.std.proofs.Common.{◌<◌, length, sym, ◌∙◌, ap, subst, arith}
 use Rattle.fate_law.specs.Ruler.{ruled}
-use Rattle.fate_core.proofs.RulerSteps.{some-waits, ruled-step, fewer, none-waits}
+use Rattle.fate_core.proofs.RulerSteps.{some-waits, ruled-step, fewer}
 use Rattle.fate_core.proofs.ruler.Ruler.reach_by_frames.Goals as goal
 
 pub loop-self-preserved : goal.loop-self-preserved

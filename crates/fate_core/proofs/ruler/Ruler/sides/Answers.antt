@@ -1,5 +1,5 @@
 -- The sides of a frame that is begun.
-use Rattle.std.proofs.Common.{◌≡◌, ℕ, ◌+◌, ◌^◌, ◌<◌, ◌≤◌, List, map, take, Option, Some, slice_get, sym, ◌∙◌, ap, subst, arith}
+use Rattle.std.proofs.Common.{◌+◌, map, take, Some, slice_get, sym, ◌∙◌, ap, arith}
 use Rattle.fate_core.specs.Sides.{side_of}
 use Rattle.fate_core.proofs.RulerSteps.{side-at, side-low}
 use Rattle.fate_core.proofs.ruler.Ruler.sides.Goals as goal

@@ -1,8 +1,7 @@
 -- The segments stay in order.
-use Rattle.std.proofs.Common.{◌≡◌, ℕ, ◌+◌, ◌<◌, ◌≤◌, ◌&&◌, Bool, true, false, nat_lt, List, [], ◌∷◌, ◌++◌, None, refl, sym, ◌∙◌, ap, subst, arith}
+use Rattle.std.proofs.Common.{◌≡◌, ◌+◌, ◌&&◌, true, nat_lt, [], ◌∷◌, ◌++◌, refl, sym, ◌∙◌, ap, subst, arith}
 use Rattle.std.proofs.lemmas.Bool.{ltb-true}
-use Rattle.fate_law.specs.declared.RowSegment.{RowSegment}
-use Rattle.fate_core.specs.Segments.{AreInOrder, AreSegments}
+use Rattle.fate_core.specs.Segments.{AreInOrder}
 use Rattle.fate_core.proofs.SegmentLaws.{order-push, order-more}
 use Rattle.fate_core.proofs.RunLaws.{and_second}
 use Rattle.fate_core.proofs.segments.Segments.break_off.Goals as goal

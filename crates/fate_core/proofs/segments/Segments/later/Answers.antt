@@ -1,9 +1,8 @@
 -- The ended ones, and then the one that goes on.
-use Rattle.std.proofs.Common.{◌≡◌, ℕ, zero, suc, ◌+◌, ◌-◌, ◌<◌, ◌≤◌, Bool, true, false, List, [], ◌∷◌, ◌++◌, length, slice_get, slice_index_or, Option, Some, None, refl, sym, ◌∙◌, ap, ap₂, subst, arith, length-append}
+use Rattle.std.proofs.Common.{◌≡◌, ℕ, zero, suc, ◌+◌, ◌<◌, ◌≤◌, Bool, true, false, List, [], ◌∷◌, ◌++◌, length, slice_get, None, refl, sym, ◌∙◌, ap, arith, length-append}
 use Rattle.std.specs.Prelude.{if◌then◌else◌}
-use Rattle.session_model.specs.Segment.{StreamRow}
 use Rattle.fate_law.specs.declared.RowSegment.{RowSegment}
-use Rattle.fate_core.specs.Segments.{Stands, is_told}
+use Rattle.fate_core.specs.Segments.{is_told}
 use Rattle.fate_core.proofs.PlaceLaws.{get-at}
 use Rattle.fate_core.proofs.SegmentLaws.{later-kept}
 use Rattle.fate_core.proofs.segments.Segments.later.Goals as goal

@@ -1,5 +1,5 @@
 -- The ended ones, and the one that goes on where it is told.
-use Rattle.std.proofs.Common.{◌≡◌, ℕ, ◌+◌, Bool, true, false, List, [], ◌∷◌, ◌++◌, length, sym, ◌∙◌, ap, arith, length-append}
+use Rattle.std.proofs.Common.{◌≡◌, true, false, [], ◌∷◌, ◌++◌, length, sym, ◌∙◌, ap, arith, length-append}
 use Rattle.std.specs.Prelude.{if◌then◌else◌}
 use Rattle.fate_core.specs.Segments.{is_told}
 use Rattle.fate_core.proofs.SegmentLaws.{later-kept}

@@ -1,5 +1,5 @@
 -- No row has come.
-use Rattle.std.proofs.Common.{◌≡◌, ℕ, [], refl, sym, subst, arith, List}
+use Rattle.std.proofs.Common.{◌≡◌, [], refl, sym, subst, arith, List}
 use Rattle.fate_law.specs.declared.RowSegment.{RowSegment}
 use Rattle.fate_core.specs.Segments.{AreInOrder}
 use Rattle.fate_core.proofs.SegmentLaws.{none-kept}

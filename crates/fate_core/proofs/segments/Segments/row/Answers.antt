@@ -1,5 +1,5 @@
 -- One more row.
-use Rattle.std.proofs.Common.{◌≡◌, List, [], ◌∷◌, ◌++◌, sym, ◌∙◌, subst}
+use Rattle.std.proofs.Common.{[], ◌∷◌, ◌++◌, sym, ◌∙◌, subst}
 use Rattle.fate_core.specs.Segments.{Stands, AreSegments}
 use Rattle.fate_core.proofs.SegmentLaws.{go-on, break-off}
 use Rattle.fate_core.proofs.segments.Segments.row.Goals as goal

@@ -1,7 +1,5 @@
 -- One more row.
-use Rattle.std.proofs.Common.{◌≡◌, ◌+◌, List, [], ◌∷◌, ◌++◌, Option, Some, refl, sym, ◌∙◌, ap, subst}
-use Rattle.fate_law.specs.declared.Cause.{Cause}
-use Rattle.fate_core.specs.Runs.{AreRuns}
+use Rattle.std.proofs.Common.{◌+◌, Some, sym, ◌∙◌, ap}
 use Rattle.fate_core.proofs.RunLaws.{with_row_of, runs-more}
 use Rattle.fate_core.proofs.spoiled.SpoiledRuns.row.Goals as goal
 use Rattle.fate_core.proofs.spoiled.SpoiledRuns.row.Goals.{in-Some+in_ok-add_row, in_default}
