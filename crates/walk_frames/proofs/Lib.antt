@@ -1,0 +1,4 @@
+pub mod StreamLaws
+pub mod StayLaws
+pub mod LandedFrameLaws
+pub mod NextLaws
