@@ -6,7 +6,7 @@ use Rattle.std.proofs.lemmas.List.{map-append}
 use Rattle.outside_io.specs.Start.{Start}
 use Rattle.got_lines.specs.Told.{HasText}
 use Rattle.capture_file.specs.Written.{RowFrame, record_head, record_octets, records_octets, ethernet_head, ethernet_capture}
-use Rattle.capture_file.specs.declared.out.CaptureOut.{CaptureOut}
+use Rattle.capture_file.specs.declared.capture_out.CaptureOut.{CaptureOut}
 use Rattle.capture_file.specs.Out.{HasCapture, AddsRow, at_row, row_start, first_in}
 
 pub records-append : (xs ys : List RowFrame) → records_octets (xs ++ ys) ≡ records_octets xs ++ records_octets ys

@@ -3,7 +3,7 @@ use Rattle.std.specs.Prelude.{◌≡◌, ℕ, List, ◌∷◌, ◌++◌, length,
 use Rattle.outside_io.specs.Start.{Start}
 use Rattle.got_lines.specs.Told.{HasText}
 use Rattle.capture_file.specs.Written.{RowFrame, records_octets, ethernet_capture}
-use Rattle.capture_file.specs.declared.out.CaptureOut.{CaptureOut}
+use Rattle.capture_file.specs.declared.capture_out.CaptureOut.{CaptureOut}
 
 -- by which reference it writes, and the row that is being taken
 abbrev pub name_of : {K : Type 0} → CaptureOut K → ℕ

@@ -9,21 +9,21 @@ ghost use Rattle.capture_file.specs.declared.form.RecordFault.{RecordFault};
 ghost use Rattle.capture_file.specs.Reading.{capture_said};
 ghost use Rattle.capture_file.specs.Written.{RowFrame, ethernet_capture, AreRising, due_frames, two_frames};
 
+mod capture_out;
 mod check;
 mod clock;
 mod form;
 mod head;
 mod lines;
 mod note;
-mod out;
 mod record;
 
+pub use capture_out::CaptureOut;
 pub use check::read_capture;
 pub use form::{ByteOrder, CaptureFault, Form, HeadFault, RecordFault, RecordHead, TimeUnit};
 pub use head::read_head;
 pub use lines::write_frames;
 pub use note::fault_note;
-pub use out::CaptureOut;
 pub use record::{NextRecord, next_record};
 
 /// A capture that is written of frames whose rows don't fall is read as the frames in it: each is due as many ticks after the first one as

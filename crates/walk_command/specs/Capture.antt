@@ -6,7 +6,7 @@ use Rattle.session_model.specs.declared.script.Script.{Script}
 use Rattle.headline_law.specs.Texts.{counts_in}
 use Rattle.walk_core.specs.Moved.{Walked, delivered_since}
 use Rattle.capture_file.specs.Written.{RowFrame, ethernet_capture}
-use Rattle.capture_file.specs.declared.out.CaptureOut.{CaptureOut}
+use Rattle.capture_file.specs.declared.capture_out.CaptureOut.{CaptureOut}
 use Rattle.capture_file.specs.Out.{HasCapture, at_row}
 use Rattle.command_parts.specs.Task.{Answer, writes}
 use Rattle.command_parts.specs.Scripts.{script_answer}

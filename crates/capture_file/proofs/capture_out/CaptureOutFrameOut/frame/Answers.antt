@@ -1,0 +1,13 @@
+-- A record more of the row.
+use Rattle.std.proofs.Common.{subst}
+use Rattle.got_lines.specs.Told.{HasText}
+use Rattle.capture_file.specs.Out.{first_in, before_in}
+use Rattle.capture_file.proofs.OutLaws.{row-behind}
+use Rattle.capture_file.proofs.capture_out.CaptureOutFrameOut.frame.Goals as goal
+
+pub returns : goal.returns
+returns g c start frames has = (
+  has.0,
+  subst (HasText g.K.ByteSink.written g.K.ByteSink.faults c.line.new.self (first_in start)) (row-behind (before_in start) c.args.self.now.row frames c.args.frame.now)
+      (c.line.ensures (first_in start) _ (c.add_head.ensures (first_in start) _ has.1)),
+)
