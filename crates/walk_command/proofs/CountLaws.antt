@@ -81,14 +81,15 @@ tick-ticks plan s =
 -- a Take takes one row or none
 record Takes (s next : Counts) : Type 0 where
   rows : s.rows ≤ next.rows
+  one : next.rows ≤ s.rows + 1
   ticks : next.ticks ≡ s.ticks
 
 no-row : (s : Counts) → Takes s s
-no-row s = record { rows = omega arith; ticks = refl }
+no-row s = record { rows = omega arith; one = omega arith; ticks = refl }
 
 popped-takes : (s : Counts) (lines : List LineCounts) (waiting : Option ℕ) → Takes s (take_popped s lines waiting).counts
-popped-takes s lines (Some line) = record { rows = omega arith; ticks = refl }
-popped-takes s lines None = record { rows = omega arith; ticks = refl }
+popped-takes s lines (Some line) = record { rows = omega arith; one = omega arith; ticks = refl }
+popped-takes s lines None = record { rows = omega arith; one = omega arith; ticks = refl }
 
 take-takes : (plan : Plan) (s : Counts) → Takes s (take_row plan s).counts
 take-takes plan s =
@@ -113,17 +114,18 @@ carry-same plan s m = carried-same plan s m (slice_get plan.paths m) (slice_get 
 pub record Moves (s next : Counts) : Type 0 where
   pub rises : Rises s next
   pub most : next.ticks ≤ s.ticks + 1
+  pub one : next.rows ≤ s.rows + 1
 
 still : (s next : Counts) → Same s next → Moves s next
-still s next one = let b = one.ticks in record { rises = rises s next one; most = omega (arith, b) }
+still s next one = let a = one.rows in let b = one.ticks in record { rises = rises s next one; most = omega (arith, b); one = omega (arith, a) }
 
 pub step-moves : (plan : Plan) (s : Counts) (event : Event) → Moves s (step plan s event).counts
 step-moves plan s Accept = still s (step plan s Accept).counts (accept-same plan s)
 step-moves plan s Command = still s (step plan s Command).counts (command-same plan s)
-step-moves plan s Tick = let t = tick-ticks plan s in let a = t.rows in record { rises = record { rows = omega (arith, a); ticks = t.least }; most = t.most }
+step-moves plan s Tick = let t = tick-ticks plan s in let a = t.rows in record { rises = record { rows = omega (arith, a); ticks = t.least }; most = t.most; one = omega (arith, a) }
 step-moves plan s (Carry m) = still s (step plan s (Carry m)).counts (carry-same plan s m)
 step-moves plan s Back = still s (step plan s Back).counts (back-same s)
-step-moves plan s Take = let t = take-takes plan s in let a = t.ticks in record { rises = record { rows = t.rows; ticks = omega (arith, a) }; most = omega (arith, a) }
+step-moves plan s Take = let t = take-takes plan s in let a = t.ticks in record { rises = record { rows = t.rows; ticks = omega (arith, a) }; most = omega (arith, a); one = t.one }
 
 -- ---- many events
 pub run-rises : (plan : Plan) (s : Counts) (events : List Event) → Rises s (run plan s events)
@@ -206,7 +208,7 @@ pub lines-no : (plan : Plan) (lines : List EventLine) → length lines ≡ 0 →
 lines-no plan [] none = refl
 lines-no plan (line ∷ lines) none = absurd (omega (arith, none))
 
--- ---- a round makes one tick or none
+-- ---- a round makes one tick or none, and takes one row or none
 runs-same : (plan : Plan) (event : Event) → ((s : Counts) → Same s (step plan s event).counts) → (s : Counts) (k : ℕ) → Same s (run plan s (replicate k event))
 unfolding run
 runs-same plan event each s zero = same s
@@ -217,6 +219,14 @@ carries-ticks : (plan : Plan) (s : Counts) (m : ℕ) (paths : List LinePath) →
 unfolding run carries_from
 carries-ticks plan s m [] = (take-takes plan (back s).counts).ticks ∙ (back-same s).ticks
 carries-ticks plan s m (path ∷ paths) = carries-ticks plan (step plan s (Carry m)).counts (suc m) paths ∙ (carry-same plan s m).ticks
+
+carries-row : (plan : Plan) (s : Counts) (m : ℕ) (paths : List LinePath) → (run plan s (carries_from m paths)).rows ≤ s.rows + 1
+unfolding run carries_from
+carries-row plan s m [] = let a = (back-same s).rows in let b = (take-takes plan (back s).counts).one in omega (arith, a, b)
+carries-row plan s m (path ∷ paths) =
+    let a = (carry-same plan s m).rows in
+    let b = carries-row plan (step plan s (Carry m)).counts (suc m) paths in
+    omega (arith, a, b)
 
 pub round-moves : (plan : Plan) (s : Counts) → Moves s (run plan s (round plan))
 unfolding run
@@ -234,7 +244,12 @@ round-moves plan s =
     let last = carries-ticks plan t 0 plan.paths in
     let all : run plan s (round plan) ≡ run plan t cs_ = run-append plan s as_ (bs_ ++ Tick ∷ cs_) ∙ run-append plan a bs_ (Tick ∷ cs_) in
     let end : (run plan s (round plan)).ticks ≡ t.ticks = ap (λ (x : Counts). x.ticks) all ∙ last in
-    record { rises = run-rises plan s (round plan); most = omega (arith, end, is_a, is_b, is_t) }
+    let rows_a = (runs-same plan Accept (accept-same plan) s n).rows in
+    let rows_b = (runs-same plan Command (command-same plan) a n).rows in
+    let rows_t = (tick-ticks plan b).rows in
+    let rows_c = carries-row plan t 0 plan.paths in
+    let rows = ap (λ (x : Counts). x.rows) all in
+    record { rises = run-rises plan s (round plan); most = omega (arith, end, is_a, is_b, is_t); one = omega (arith, rows, rows_a, rows_b, rows_t, rows_c) }
 
 -- the item at a place within a list
 pub there : {X : Type 0} (xs : List X) (k : ℕ) (d : X) → k < length xs → slice_get xs k ≡ Some (get_or xs k d)

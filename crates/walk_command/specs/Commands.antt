@@ -8,40 +8,45 @@ use Rattle.command_parts.specs.Task.{Task, none, reads, makes}
 use Rattle.command_parts.specs.Ends.{Lent}
 use Rattle.walk_core.specs.Moved.{Walked}
 use Rattle.walk_command.specs.declared.command.WalkCommand.{WalkCommand}
-use Rattle.walk_command.specs.declared.command.WalkCommand.TheVariants.{Walk, Trace, Decode, Make}
+use Rattle.walk_command.specs.declared.command.WalkCommand.TheVariants.{Walk, Trace, Fates, Decode, Make}
 use Rattle.walk_command.specs.Walk.{walk_words, walk_answer}
 use Rattle.walk_command.specs.Trace.{trace_words, trace_answer}
+use Rattle.walk_command.specs.Fates.{fates_words, fates_answer}
 use Rattle.walk_command.specs.Decode.{decode_words, decode_answer}
 use Rattle.walk_command.specs.Make.{make_words, make_answer}
 use Rattle.walk_command.specs.Ended.{IsWalkOf, HandsScript}
 
 abbrev pub usage : List ℕ
-usage = codes "usage: vcat_walk walk, trace, decode, or make NUMBER LINES TICKS\n"
+usage = codes "usage: vcat_walk walk, trace, fates, decode, or make NUMBER LINES TICKS\n"
 
 -- ---- a line for each command
 abbrev pub command_of : List (List ℕ) → Option WalkCommand
 command_of words =
     option_or (walk_words words)
     (option_or (trace_words words)
+    (option_or (fates_words words)
     (option_or (decode_words words)
-    (make_words words)))
+    (make_words words))))
 
 abbrev pub task_at : WalkCommand → Task
 task_at Walk = reads walk_answer
 task_at Trace = reads trace_answer
+task_at Fates = reads fates_answer
 task_at Decode = reads decode_answer
 task_at (Make number lines ticks) = makes (make_answer number lines ticks)
 
 abbrev pub HandsBack : {S : Type 0} → Lent S → Option Walked → WalkCommand → Type 0
 HandsBack source walk Walk = HandsScript source walk
 HandsBack source walk Trace = HandsScript source walk
+HandsBack source walk Fates = HandsScript source walk
 HandsBack source walk Decode = walk ≡ None
 HandsBack source walk (Make number lines ticks) = IsWalkOf (load number lines ticks) walk
 
--- they run the script that the input says
+-- they write the frames that come out of the script that the input says
 abbrev pub RunsScript : WalkCommand → Type 0
 RunsScript Walk = Unit {0}
 RunsScript Trace = Unit {0}
+RunsScript Fates = ⊥
 RunsScript Decode = ⊥
 RunsScript (Make number lines ticks) = ⊥
 

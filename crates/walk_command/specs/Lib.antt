@@ -1,10 +1,12 @@
 pub mod HexLines
 pub mod Walk
 pub mod Trace
+pub mod Fates
 pub mod Decode
 pub mod Make
 pub mod Commands
 pub mod Ended
 pub mod Written
 pub mod Told
+pub mod Seen
 pub mod ReadyWalk

@@ -1,6 +1,6 @@
 //! The commands of the program, a line for each.
 
-use crate::{decode, make, trace, walk};
+use crate::{decode, fates, make, trace, walk};
 use cmd_words::FromWords;
 
 /// What the program is told to do.
@@ -10,6 +10,8 @@ pub enum WalkCommand {
     Walk,
     /// `trace`: the same, and write a line for each decision step.
     Trace,
+    /// `fates`: make the walk of a script, and write what became of each frame.
+    Fates,
     /// `decode`: write the control packets in H4 octets.
     Decode,
     /// `make`: make the walk of the load of a number, of 1 to 64 lines and 1 to 1,000,000 ticks.
@@ -24,6 +26,7 @@ impl FromWords for WalkCommand {
     fn from_words(words: &[String]) -> Option<WalkCommand> {
         walk::words(words)
             .or(trace::words(words))
+            .or(fates::words(words))
             .or(decode::words(words))
             .or(make::words(words))
     }

@@ -42,7 +42,7 @@ impl FrameOut for Silent {
 
 /// What is done with a walk at once: one tick comes of it at most.
 #[derive(Clone, Copy)]
-enum Turn {
+pub enum Turn {
     /// An event is tried.
     Try(Event),
     /// A round is made.
@@ -70,7 +70,7 @@ fn tell_step<E: ByteSink>(walk: &Walk, lines: u8, notes: &mut E) -> Result<(), F
 }
 
 /// Whether a decision step was made since a number of ticks, after which one more was made at most.
-fn is_step(before: u32, now: u32) -> bool
+pub fn is_step(before: u32, now: u32) -> bool
     requires least { before ≤ now }
     requires most { now ≤ before + 1 }
     ensures yes { OnTrue result (steps_in now ≡ steps_in before + 1) }
@@ -137,6 +137,7 @@ fn make_turn<F: FrameOut>(walk: &mut Walk, turn: Turn, out: &mut F)
     ensures gives { GivesRows F.stands_for out.old out.new walk.old.script
         walk.old.counts.rows walk.new.counts.rows }
     ensures rows { walk.old.counts.rows ≤ walk.new.counts.rows }
+    ensures one { walk.new.counts.rows ≤ walk.old.counts.rows + 1 }
     ensures least { walk.old.counts.ticks ≤ walk.new.counts.ticks }
     ensures most { walk.new.counts.ticks ≤ walk.old.counts.ticks + 1 }
 {
@@ -149,13 +150,15 @@ fn make_turn<F: FrameOut>(walk: &mut Walk, turn: Turn, out: &mut F)
 }
 
 /// Makes a turn, of which nothing is told.
-fn silent_turn(walk: &mut Walk, turn: Turn)
+pub fn silent_turn(walk: &mut Walk, turn: Turn)
     requires { IsTurn (walk_plan walk.old.script) turn }
     ensures script { walk.new.script ≡ walk.old.script }
     ensures counts { let plan = walk_plan walk.old.script in
         walk.new.counts ≡ run plan walk.old.counts (events_of plan turn) }
     ensures rows { walk.old.counts.rows ≤ walk.new.counts.rows }
+    ensures one { walk.new.counts.rows ≤ walk.old.counts.rows + 1 }
     ensures least { walk.old.counts.ticks ≤ walk.new.counts.ticks }
+    ensures most { walk.new.counts.ticks ≤ walk.old.counts.ticks + 1 }
 {
     make_turn(walk, turn, &mut Silent);
 }
@@ -247,7 +250,7 @@ fn trace_drain<F: MayFail, E: ByteSink>(
 }
 
 /// The turn that an event line names, and how often. A drain names none.
-fn turns_of(line: EventLine) -> Option<(Turn, u32)>
+pub fn turns_of(line: EventLine) -> Option<(Turn, u32)>
     ensures turns { (plan : Plan) (s : Counts) → IfSome result (λ turn. run_line plan s line
         ≡ run plan s
         (flat_map (λ (tries : List Event). tries) (replicate turn.1 (events_of plan turn.0)))) }

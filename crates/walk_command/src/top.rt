@@ -9,6 +9,7 @@ ghost use Rattle.walk_command.specs.Commands.{command_in, task_of, usage, HandsB
 use crate::command::WalkCommand;
 use crate::decode::decode;
 use crate::end::{WalkEnd, stopped};
+use crate::fates::fates;
 use crate::make::make;
 use crate::trace::trace;
 use crate::walk::walk;
@@ -53,6 +54,7 @@ pub fn walk_top<S: ByteSource, K: ByteSink, E: ByteSink>(
     match read_words(alloc, words) {
         Ok(WalkCommand::Walk) => walk(alloc, script, out, notes),
         Ok(WalkCommand::Trace) => trace(alloc, script, out, notes),
+        Ok(WalkCommand::Fates) => fates(alloc, script, out, notes),
         Ok(WalkCommand::Decode) => decode(alloc, script, out, notes),
         Ok(
             WalkCommand::Make {
@@ -72,7 +74,7 @@ fn no_command<E: ByteSink>(notes: &mut E) -> WalkEnd
     ensures walk { result.walk ≡ None }
     ensures told { Tells E.written E.faults notes.old notes.new usage }
 {
-    let text = b"usage: vcat_walk walk, trace, decode, or make NUMBER LINES TICKS\n";
+    let text = b"usage: vcat_walk walk, trace, fates, decode, or make NUMBER LINES TICKS\n";
     let status = tell_usage(text, notes);
     WalkEnd { status, walk: None }
 }

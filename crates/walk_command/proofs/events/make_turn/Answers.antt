@@ -30,3 +30,9 @@ returns-in-Round-clause-least g c = (all-moves (walk_plan c.args.walk.now.script
 
 pub returns-in-Round-clause-most : goal.returns-in-Round-clause-most
 returns-in-Round-clause-most g c = (all-moves (walk_plan c.args.walk.now.script) c.args.walk.now.counts c.round.new.self.counts c.round.ensures.counts).most
+
+pub returns-in-Try-clause-one : goal.returns-in-Try-clause-one
+returns-in-Try-clause-one g c = (event-moves (walk_plan c.args.walk.now.script) c.args.walk.now.counts c.step.new.self.counts c.in-Try.event c.step.ensures.counts).one
+
+pub returns-in-Round-clause-one : goal.returns-in-Round-clause-one
+returns-in-Round-clause-one g c = (all-moves (walk_plan c.args.walk.now.script) c.args.walk.now.counts c.round.new.self.counts c.round.ensures.counts).one

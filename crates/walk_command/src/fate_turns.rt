@@ -1,0 +1,212 @@
+//! A walk is made turn by turn, and after each turn it is seen which lines carry payload under the packet that was begun, whether the row that was
+//! taken is whole and why not, and what is confirmed after it. Behind the last turn stand the places of the frames.
+ghost use Rattle.std.specs.Prelude.{◌≡◌, ◌+◌, ◌≤◌, ◌<◌, List, replicate, OnOk};
+ghost use Rattle.std.specs.List.{flat_map};
+ghost use Rattle.session_model.specs.declared.walk.Event.{Event};
+ghost use Rattle.session_model.specs.Valid.{IsEvent};
+ghost use Rattle.session_model.specs.Counts.{begin, run, run_line, drain, bound};
+ghost use Rattle.walk_law.specs.Walk.{walk_plan};
+ghost use Rattle.headline_law.specs.Texts.{counts_in};
+ghost use Rattle.walk_command.specs.Told.{events_of, IsTurn};
+ghost use Rattle.walk_command.specs.Seen.{Sees};
+
+use crate::events::{Turn, is_step, silent_turn, turns_of};
+use crate::landed_frames::FrameCursor;
+use crate::ready::LinesAndTicks;
+use fate_core::{Packets, Ruler, Segments, SpoiledRuns, row_cause};
+use session_model::EventLine;
+use std::alloc::{AllocError, Global};
+use walk_core::Walk;
+
+/// What was seen of the packets and rows of a walk.
+#[derive(Drop)]
+pub struct SeenRows {
+    /// Of the packets whose decision step was made.
+    pub packets: Packets,
+    /// Of the rows that were taken.
+    pub segments: Segments,
+    /// Of the same rows.
+    pub runs: SpoiledRuns,
+}
+
+/// What is known of a walk that was made.
+#[derive(Drop)]
+pub struct SeenWalk {
+    pub rows: SeenRows,
+    /// Where the pieces of its accepted frames lie.
+    pub ruler: Ruler,
+}
+
+/// Sees a row, which was taken last.
+fn see_row(walk: &Walk, row: u32, seen: &mut SeenRows) -> Result<(), AllocError>
+    requires last { row + 1 ≡ walk.now.counts.rows }
+    requires seen { Sees walk.now.script walk.now.counts.ticks row seen.old }
+    ensures { OnOk result
+        (Sees walk.now.script walk.now.counts.ticks walk.now.counts.rows seen.new) }
+{
+    let cause = row_cause(&walk.script().config.windows, &seen.packets, row);
+    seen.runs.row(cause)?;
+    let end = seen.packets.place(row + 1);
+    seen.segments
+        .row(cause.is_none(), end, walk.first_confirmed())
+}
+
+/// Sees what came of a turn, after so many ticks and rows.
+fn see_since(walk: &Walk, ticks: u32, rows: u32, seen: &mut SeenRows) -> Result<(), AllocError>
+    requires least { ticks ≤ walk.now.counts.ticks }
+    requires most { walk.now.counts.ticks ≤ ticks + 1 }
+    requires rows { rows ≤ walk.now.counts.rows }
+    requires one { walk.now.counts.rows ≤ rows + 1 }
+    requires seen { Sees walk.now.script ticks rows seen.old }
+    ensures { OnOk result
+        (Sees walk.now.script walk.now.counts.ticks walk.now.counts.rows seen.new) }
+{
+    let totals = walk.totals();
+    if is_step(ticks, totals.ticks) {
+        seen.packets.push(walk.table().active())?;
+    }
+    if totals.taken == rows {
+        return Ok(());
+    }
+    see_row(walk, rows, seen)
+}
+
+/// Makes a turn, and sees what came of it.
+fn see_turn(walk: &mut Walk, turn: Turn, seen: &mut SeenRows) -> Result<(), AllocError>
+    requires turn { IsTurn (walk_plan walk.old.script) turn }
+    requires seen { Sees walk.old.script walk.old.counts.ticks walk.old.counts.rows seen.old }
+    ensures script { walk.new.script ≡ walk.old.script }
+    ensures counts { let plan = walk_plan walk.old.script in
+        walk.new.counts ≡ run plan walk.old.counts (events_of plan turn) }
+    ensures seen { OnOk result
+        (Sees walk.new.script walk.new.counts.ticks walk.new.counts.rows seen.new) }
+{
+    let totals = walk.totals();
+    silent_turn(walk, turn);
+    see_since(walk, totals.ticks, totals.taken, seen)
+}
+
+/// Makes a turn a number of times.
+fn see_turns(
+    walk: &mut Walk,
+    turn: Turn,
+    count: u32,
+    seen: &mut SeenRows,
+) -> Result<(), AllocError>
+    requires turn { IsTurn (walk_plan walk.old.script) turn }
+    requires seen { Sees walk.old.script walk.old.counts.ticks walk.old.counts.rows seen.old }
+    ensures script { walk.new.script ≡ walk.old.script }
+    ensures counts { let plan = walk_plan walk.old.script in
+        OnOk result (walk.new.counts ≡ run plan walk.old.counts
+        (flat_map (λ (tries : List Event). tries) (replicate count (events_of plan turn)))) }
+    ensures seen { OnOk result
+        (Sees walk.new.script walk.new.counts.ticks walk.new.counts.rows seen.new) }
+{
+    for _made in 0..count {
+        see_turn(walk, turn, seen)?;
+    }
+    Ok(())
+}
+
+/// Makes rounds until all rows are taken.
+fn see_drain(walk: &mut Walk, ticks: u32, seen: &mut SeenRows) -> Result<(), AllocError>
+    requires ticks { ticks ≡ walk.old.script.config.ticks }
+    requires seen { Sees walk.old.script walk.old.counts.ticks walk.old.counts.rows seen.old }
+    ensures script { walk.new.script ≡ walk.old.script }
+    ensures counts { let plan = walk_plan walk.old.script in
+        OnOk result (walk.new.counts ≡ drain (bound plan) plan walk.old.counts) }
+    ensures seen { OnOk result
+        (Sees walk.new.script walk.new.counts.ticks walk.new.counts.rows seen.new) }
+{
+    while walk.totals().taken < ticks {
+        see_turn(walk, Turn::Round, seen)?;
+    }
+    Ok(())
+}
+
+/// Makes what an event line says.
+fn see_event_line(
+    walk: &mut Walk,
+    line: EventLine,
+    ticks: u32,
+    seen: &mut SeenRows,
+) -> Result<(), AllocError>
+    requires event { IsEvent walk.old.script.config.lines line }
+    requires ticks { ticks ≡ walk.old.script.config.ticks }
+    requires seen { Sees walk.old.script walk.old.counts.ticks walk.old.counts.rows seen.old }
+    ensures script { walk.new.script ≡ walk.old.script }
+    ensures counts { OnOk result
+        (walk.new.counts ≡ run_line (walk_plan walk.old.script) walk.old.counts line) }
+    ensures seen { OnOk result
+        (Sees walk.new.script walk.new.counts.ticks walk.new.counts.rows seen.new) }
+{
+    match turns_of(line) {
+        Some((turn, count)) => see_turns(walk, turn, count, seen),
+        None => see_drain(walk, ticks, seen),
+    }
+}
+
+/// Makes what the event lines of a walk's script say. Where there are none, it drains.
+fn see_event_lines(
+    walk: &mut Walk,
+    lines: &[EventLine],
+    ticks: u32,
+    seen: &mut SeenRows,
+) -> Result<(), AllocError>
+    requires events { lines.now ≡ walk.old.script.events }
+    requires begun { walk.old.counts ≡ begin (walk_plan walk.old.script) }
+    requires ticks { ticks ≡ walk.old.script.config.ticks }
+    requires seen { Sees walk.old.script walk.old.counts.ticks walk.old.counts.rows seen.old }
+    ensures script { walk.new.script ≡ walk.old.script }
+    ensures counts { OnOk result (walk.new.counts ≡ counts_in walk.old.script) }
+    ensures seen { OnOk result
+        (Sees walk.new.script walk.new.counts.ticks walk.new.counts.rows seen.new) }
+{
+    if lines.is_empty() {
+        return see_drain(walk, ticks, seen);
+    }
+    for line in lines {
+        see_event_line(walk, *line, ticks, seen)?;
+    }
+    Ok(())
+}
+
+/// The stream is made by the frames after some up to another.
+fn reach_ticks(ruler: &mut Ruler, packets: &Packets, from: u32, to: u32) {
+    for t in from..to {
+        ruler.reach(packets.place(t + 1));
+    }
+}
+
+/// Where the pieces of the accepted frames of a walk lie.
+fn place_frames(alloc: Global, walk: &Walk, packets: &Packets) -> Result<Ruler, AllocError> {
+    let mut ruler = Ruler::new(alloc);
+    let mut cursor = FrameCursor::new(walk.landed_frames());
+    let mut ticks = 0;
+    while let Some(frame) = cursor.next(walk.script().items.0.as_slice(), walk.refusals()) {
+        reach_ticks(&mut ruler, packets, ticks, frame.due);
+        ticks = frame.due;
+        if frame.refusal.is_none() {
+            ruler.accept(frame.length)?;
+        }
+    }
+    reach_ticks(&mut ruler, packets, ticks, walk.totals().ticks);
+    Ok(ruler)
+}
+
+/// Makes the walk of a script, and sees it.
+pub fn see_walk(
+    alloc: Global,
+    walk: &mut Walk,
+    lines: &[EventLine],
+    size: LinesAndTicks,
+) -> Result<SeenWalk, AllocError> {
+    let mut rows = SeenRows {
+        packets: Packets::new(alloc, walk.script().config.size),
+        segments: Segments::new(alloc),
+        runs: SpoiledRuns::new(alloc),
+    };
+    see_event_lines(walk, lines, size.ticks, &mut rows)?;
+    let ruler = place_frames(alloc, walk, &rows.packets)?;
+    Ok(SeenWalk { rows, ruler })
+}
