@@ -1,0 +1,9 @@
+pub mod GotLaws
+pub mod MarkLaws
+pub mod LandedLaws
+pub mod EndedLaws
+pub mod CauseLaws
+pub mod FateLaws
+pub mod RowLaws
+pub mod RulerLaws
+pub mod SpanLaws

@@ -1,0 +1,189 @@
+//! The laws of fates: what became of each frame of a stream that comes in rows, and whether what is confirmed after each break was true.
+//! There is no code here. Begin at `got_law`.
+#![tactic(auto)]
+
+ghost use Rattle.std.specs.Prelude.{◌≡◌, ℕ, ◌<◌, ◌≤◌, ◌↔◌, ◌-◌, ◌&&◌, nat_lt, not, true, false, List, [], ◌∷◌, ◌++◌, map, length, All, Option, None};
+ghost use Rattle.std.specs.List.{list_any};
+ghost use Rattle.session_model.specs.Piece.{Piece, idle, stream_of};
+ghost use Rattle.session_model.specs.Segment.{StreamRow, segments, deliver, octets_of_rows};
+ghost use Rattle.session_model.specs.Loss.{Extent, extents, is_carried, lies_in, is_frame_lost, TrueStarts, frames_kept};
+ghost use Rattle.loss_law.specs.Carried.{CarriesStream, IsSentPiece};
+ghost use Rattle.fate_law.specs.Fates.{HasPlace, row_at, spoiled_after, fate_of, is_got, frames_got};
+ghost use Rattle.fate_law.specs.Marks.{is_piece_at, are_true_marks};
+ghost use Rattle.fate_law.specs.Ruler.{ruler_of, ruled};
+ghost use Rattle.session_model.specs.Client.{Stream, reached};
+ghost use Rattle.loss_law.specs.Worked.{worked_pieces, worked_rows};
+ghost use Rattle.fate_law.specs.Spans.{later_segments, fate_by_rows};
+ghost use Rattle.fate_law.specs.Worked.{worked_fates, worked_segments, worked_causes, worked_runs, worked_ruler};
+ghost use Rattle.fate_law.specs.FateText.{fates_text};
+ghost use Rattle.fate_law.specs.SessionFates.{ended_of, got_frames};
+ghost use Rattle.fate_law.specs.Spoiled.{row_cause, spoiled_runs};
+ghost use Rattle.session_model.specs.declared.script.Script.{Script};
+ghost use Rattle.session_model.specs.Counts.{Counts};
+ghost use Rattle.session_model.specs.Scenario.{Scenario};
+ghost use Rattle.session_model.specs.SessionRows.{is_whole_row};
+ghost use Rattle.session_model.specs.Table.{Told};
+ghost use Rattle.session_model.specs.Valid.{IsValid};
+ghost use Rattle.walk_law.specs.Walk.{IsWalked};
+ghost use Rattle.walk_law.specs.Delivered.{session_rows, delivered_of};
+ghost use Rattle.walk_law.specs.Promise.{session_pieces, ConfirmsTrue};
+
+/// What became of an accepted frame, by the rows in which its piece begins and ends.
+#[derive(Clone, Copy, Debug, PartialEq, Eq)]
+pub enum Fate {
+    /// Its piece isn't begun, or doesn't end in the rows.
+    Waits,
+    /// It lies in no segment: a row from its first to its last isn't whole.
+    Cut {
+        /// The row of its first octet.
+        first: u32,
+        /// The row of its last octet.
+        last: u32,
+        /// The first of these rows that isn't whole.
+        spoiled: u32,
+    },
+    /// Nothing is confirmed in its segment.
+    Unconfirmed {
+        /// The row of its first octet.
+        first: u32,
+        /// The row of its last octet.
+        last: u32,
+    },
+    /// It begins before the place that is confirmed first in its segment.
+    Hunting {
+        /// The row of its first octet.
+        first: u32,
+        /// The row of its last octet.
+        last: u32,
+    },
+    /// No client frame lies between that place and it.
+    Unsettled {
+        /// The row of its first octet.
+        first: u32,
+        /// The row of its last octet.
+        last: u32,
+    },
+    /// It is delivered, where what is confirmed is true.
+    Got {
+        /// The row of its first octet.
+        first: u32,
+        /// The row of its last octet.
+        last: u32,
+    },
+}
+
+/// Why a row isn't whole.
+#[derive(Clone, Copy, Debug, PartialEq, Eq)]
+pub enum Cause {
+    /// No line has a control packet that can be read.
+    Packet,
+    /// This line carries payload and has none; it is the least such line.
+    PacketOf {
+        /// Counted from 0.
+        line: u8,
+    },
+    /// The container of this line, which carries payload, isn't good; it is the least such line.
+    Container {
+        /// Counted from 0.
+        line: u8,
+    },
+}
+
+/// Rows of a stream that aren't whole, for one cause: as many in turn as there are.
+#[derive(Clone, Copy, Debug, PartialEq, Eq)]
+pub struct SpoiledRun {
+    /// The first of them, counted from 0.
+    pub first: u32,
+    /// The first row after them.
+    pub end: u32,
+    /// Why they aren't whole.
+    pub cause: Cause,
+}
+
+/// The rows of a segment, all of which are whole, and its mark.
+#[derive(Clone, Copy, Debug, PartialEq, Eq)]
+pub struct RowSegment {
+    /// The first of them, counted from 0.
+    pub first: u32,
+    /// The first row after them.
+    pub end: u32,
+    /// The place of the stream that is confirmed first in the segment.
+    pub mark: Option<u64>,
+}
+
+/// Whether all marks are true is decided: what is confirmed first in a later segment is then the place of a piece, and not by chance.
+pub fn marks_law()
+    ensures { (pieces : List Piece) (rows : List StreamRow) → CarriesStream rows pieces →
+        (are_true_marks pieces rows ≡ true) ↔ TrueStarts pieces rows }
+{}
+
+/// A frame of the stream is got exactly where the rows carry it and it isn't lost; and where all marks are true, the frames that are got
+/// are those that are delivered, in order and each once.
+pub fn got_law()
+    ensures each { (pieces : List Piece) (rows : List StreamRow) (frame : Extent) → frame.from < frame.to →
+        is_got (fate_of pieces rows frame)
+        ≡ (is_carried (length (octets_of_rows rows)) frame
+        && not (is_frame_lost (segments rows) (extents 0 pieces) frame)) }
+    ensures kept { (pieces : List Piece) (rows : List StreamRow) →
+        frames_got pieces rows ≡ frames_kept pieces rows }
+    ensures delivered { (longest : ℕ) (pieces : List Piece) (rows : List StreamRow) →
+        longest ≤ 65531 → All (IsSentPiece longest) pieces → CarriesStream rows (idle ∷ idle ∷ pieces) →
+        are_true_marks (idle ∷ idle ∷ pieces) rows ≡ true →
+        frames_got (idle ∷ idle ∷ pieces) rows ≡ deliver longest rows }
+{}
+
+/// The row of a place has it; and a frame that the rows carry lies in a segment exactly where all its rows are whole, and else the first of
+/// them that isn't is one of its rows. So its fate is known by its rows, the rows that aren't whole, and the mark of the segment that has its
+/// first row.
+pub fn row_law()
+    ensures place { (rows : List StreamRow) (place : ℕ) → place < length (octets_of_rows rows) →
+        HasPlace rows place (row_at rows place) }
+    ensures lies { (rows : List StreamRow) (frame : Extent) → frame.from < frame.to →
+        frame.to ≤ length (octets_of_rows rows) →
+        list_any (λ segment. lies_in segment frame) (segments rows)
+        ≡ nat_lt (row_at rows (frame.to - 1)) (spoiled_after rows (row_at rows frame.from)) }
+    ensures cut { (rows : List StreamRow) (frame : Extent) → frame.from < frame.to →
+        frame.to ≤ length (octets_of_rows rows) →
+        list_any (λ segment. lies_in segment frame) (segments rows) ≡ false →
+        (row_at rows frame.from ≤ spoiled_after rows (row_at rows frame.from))
+        × (spoiled_after rows (row_at rows frame.from) ≤ row_at rows (frame.to - 1)) }
+    ensures fate { (pieces : List Piece) (rows : List StreamRow) (frame : Extent) →
+        frame.from < frame.to → frame.to ≤ length (octets_of_rows rows) → fate_of pieces rows frame
+        ≡ fate_by_rows rows (extents 0 pieces) frame (row_at rows frame.from) (row_at rows (frame.to - 1)) }
+{}
+
+/// The places of client frames need lengths alone; and the pieces that the rows reach say of each place of theirs whether a piece begins
+/// there.
+pub fn ruler_law()
+    ensures reached { (place : ℕ) (stream : Stream) → ruler_of (reached place stream)
+        ≡ ruled place (ruler_of stream).end (ruler_of stream).sent (ruler_of stream).waiting }
+    ensures front { (place : ℕ) (front more : List Piece) → place < length (stream_of front) →
+        is_piece_at (front ++ more) place ≡ is_piece_at front place }
+{}
+
+/// A row has a cause exactly where it isn't whole.
+pub fn cause_law()
+    ensures { (scenario : Scenario) (cells : List (Option Told)) (t : ℕ) →
+        (row_cause scenario cells t ≡ None) ↔ (is_whole_row scenario cells t ≡ true) }
+{}
+
+/// After a walk: `starts true` comes exactly where what is confirmed first after each break is the place of a piece, and then the frames
+/// that are got are those that are delivered, in order and each once.
+pub fn fate_law()
+    ensures starts { (script : Script) (s : Counts) → IsValid script → IsWalked script s →
+        (are_true_marks (session_pieces script) (session_rows script s.rows) ≡ true)
+        ↔ ConfirmsTrue script s.rows }
+    ensures got { (script : Script) (s : Counts) → IsValid script → IsWalked script s →
+        are_true_marks (session_pieces script) (session_rows script s.rows) ≡ true →
+        got_frames (ended_of script s) ≡ delivered_of script s.rows }
+{}
+
+/// Worked streams, computed: what became of four frames of which the second row, which isn't whole, cuts one, the next is sought through, the
+/// third settles the descrambler and the last is got; the mark of the segment behind the row; and runs of rows that aren't whole.
+pub fn worked_law()
+    ensures fates { map (fate_of worked_pieces worked_rows) (extents 0 worked_pieces) ≡ worked_fates }
+    ensures segments { later_segments worked_rows ≡ worked_segments }
+    ensures starts { are_true_marks worked_pieces worked_rows ≡ true }
+    ensures runs { spoiled_runs 40 worked_causes ≡ worked_runs }
+    ensures ruler { ruled 40 8 [] (64 ∷ 65 ∷ []) ≡ worked_ruler }
+{}
