@@ -5,3 +5,7 @@ pub mod HexLineLaws
 pub mod DecodedLaws
 pub mod CountLaws
 pub mod RoomLaws
+pub mod SeenLaws
+pub mod StreamLaws
+pub mod LandedFrameLaws
+pub mod StayLaws

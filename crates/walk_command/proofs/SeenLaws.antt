@@ -32,6 +32,7 @@ use Rattle.fate_law.specs.Spoiled.{row_cause}
 use Rattle.fate_law.proofs.CauseLaws.{cause-whole}
 use Rattle.fate_core.specs.Packets.{PacketList, ArePackets}
 use Rattle.fate_core.specs.Segments.{Tells}
+use Rattle.walk_command.specs.FramePlaces.{Governs}
 
 -- ---- bounds
 pub few-rows : (script : Script) (s : Counts) → IsValid script → IsWalked script s → (s.rows ≤ s.ticks) × (s.ticks ≤ script.config.ticks) × (s.ticks ≤ 1000000)
@@ -60,18 +61,19 @@ list-next f all last n size before is k low = elim (cases_lt k n) [
     last-of [] = refl
     last-of (x ∷ xs) = last-of xs
 
-pub packets-next : (script : Script) (ticks : ℕ) (packets : PacketList) (lines : List ℕ) (next : PacketList) → ArePackets (scenario_of script) (session_of script) packets →
-    length packets.active + 1 ≡ steps_in ticks → lines ≡ active (table_in script ticks) → next ≡ record { size = packets.size; active = packets.active ++ lines ∷ [] } →
-    ArePackets (scenario_of script) (session_of script) next × (length next.active ≡ steps_in ticks)
-packets-next script ticks packets lines next are steps is made =
+pub packets-next : (script : Script) (before ticks : ℕ) (packets : PacketList) (lines : List ℕ) (next : PacketList) → Governs script before packets →
+    steps_in ticks ≡ steps_in before + 1 → lines ≡ active (table_in script ticks) → next ≡ record { size = packets.size; active = packets.active ++ lines ∷ [] } →
+    Governs script ticks next
+packets-next script before ticks packets lines next governs step is made =
+    let are = governs.are in
+    let steps : length packets.active + 1 ≡ steps_in ticks = omega (arith, governs.steps, step) in
     let table = λ (k : ℕ). active (table_of (scenario_of script) (session_of script) k) in
     let count : length (packets.active ++ lines ∷ []) ≡ length packets.active + 1 = length-append packets.active (lines ∷ []) in
     let here : lines ≡ table (length packets.active) = is ∙ ap (λ n. active (table-after n)) (let e : steps_in ticks ≡ suc (length packets.active) = omega (arith, steps) in e) in
-    subst (λ (next : PacketList). ArePackets (scenario_of script) (session_of script) next × (length next.active ≡ steps_in ticks)) (sym made)
-    (record {
-      size = are.size;
-      lines = λ k low. list-next table packets.active lines (length packets.active) refl are.lines here k (omega (arith, low, count));
-    }, omega (arith, count, steps))
+    subst (Governs script ticks) (sym made) (record {
+      are = record { size = are.size; lines = λ k low. list-next table packets.active lines (length packets.active) refl are.lines here k (omega (arith, low, count)) };
+      steps = omega (arith, count, steps);
+    })
   where
     table-after : ℕ → Table
     table-after n = (after (scenario_of script) (session_of script) n).table

@@ -6,14 +6,17 @@ use Rattle.std.proofs.lemmas.List.{map-append, append-nil}
 use Rattle.std.proofs.lemmas.List.Elements.{filter-append}
 use Rattle.std.proofs.lemmas.List.Sums.{fold-append}
 use Rattle.session_model.specs.declared.refusal.AcceptFault.{AcceptFault}
-use Rattle.session_model.specs.Scenario.{Scenario, DueFrame, comes_at, frames_at}
+use Rattle.session_model.specs.declared.script.Script.{Script}
+use Rattle.session_model.specs.Scenario.{scenario_of, Scenario, DueFrame, comes_at, frames_at}
 use Rattle.session_model.specs.Table.{Told}
 use Rattle.session_model.specs.Piece.{Piece}
 use Rattle.session_model.specs.Client.{Stream, frame_refusal, offered_by, offered, reached, place_of, stream_before}
+use Rattle.walk_law.specs.Walk.{session_of}
 use Rattle.walk_law.specs.Landed.{stream_met}
 use Rattle.walk_law.proofs.LandLaws.{filter-first}
 use Rattle.fate_law.specs.Ruler.{Ruler, new_ruler, ruler_of, ruled, with_waiting}
 use Rattle.fate_law.proofs.RulerLaws.{reached-ruled}
+use Rattle.walk_command.specs.FramePlaces.{place_in, stream_in, Between}
 
 -- ---- a frame
 pub ruler-refused : (stream : Stream) (octets : List ℕ) (why : AcceptFault) → frame_refusal octets stream ≡ Some why → offered stream octets ≡ stream
@@ -38,14 +41,6 @@ met-next scenario cells earlier offer =
     ∙ fold-append offered (stream_before scenario cells offer.due) (map frame_of (filter (comes_at offer.due) earlier)) (offer.frame ∷ [])
 
 -- ---- a tick
--- the first offers are due by a tick, and those after them not before another
-pub record Between (offers : List DueFrame) (k from to : ℕ) : Type 0 where
-  pub low : (j : ℕ) (offer : DueFrame) → j < k → slice_get offers j ≡ Some offer → offer.due ≤ from
-  pub high : (j : ℕ) (offer : DueFrame) → k ≤ j → slice_get offers j ≡ Some offer → to ≤ offer.due
-
-not-here : (t : ℕ) (offer : DueFrame) → (t < offer.due → ⊥) → (offer.due < t → ⊥) → offer.due ≡ t
-not-here t offer a b = elim (cases_lt t offer.due) [ | inl low ↦ absurd (a low) | inr high ↦ elim (cases_lt offer.due t) [ | inl low ↦ absurd (b low) | inr same ↦ omega (arith, high, same) ] ]
-
 late : (t : ℕ) (offer : DueFrame) → t < offer.due → comes_at t offer ≡ false
 late t offer low = grind (arith, nat_tests, low)
 
@@ -60,15 +55,17 @@ take-none test (suc k) (x ∷ xs) none =
     let first = none 0 x (omega arith) refl in
     rw first (take-none test k xs (λ j offer low there. none (suc j) offer (omega (arith, low)) there))
 
-pub met-tick : (scenario : Scenario) (cells : List (Option Told)) (k from t to : ℕ) → Between scenario.offers k from to → from ≤ t → t < to →
-    reached (place_of scenario cells (t + 1)) (stream_met scenario cells t (take k scenario.offers)) ≡ stream_met scenario cells (t + 1) (take k scenario.offers)
+pub met-tick : (script : Script) (k from t to : ℕ) → Between script k from to → from ≤ t → t < to →
+    reached (place_in script (t + 1)) (stream_in script t k) ≡ stream_in script (t + 1) k
 unfolding stream_before
-met-tick scenario cells k from t to between low high =
+met-tick script k from t to between low high =
+    let scenario : Scenario = scenario_of script in
+    let cells : List (Option Told) = session_of script in
     let frame_of = λ (offer : DueFrame). offer.frame in
     let all : filter (comes_at t) (take k scenario.offers) ≡ filter (comes_at t) scenario.offers =
-    filter-first (comes_at t) k scenario.offers (λ j offer far there. let due = between.high j offer far there in late t offer (omega (arith, due, high))) in
+    filter-first (comes_at t) k scenario.offers (λ j offer far there. let due = between.late j offer far there in late t offer (omega (arith, due, high))) in
     let none : filter (comes_at (suc t)) (take k scenario.offers) ≡ [] =
-    take-none (comes_at (suc t)) k scenario.offers (λ j offer near there. let due = between.low j offer near there in early (suc t) offer (omega (arith, due, low))) in
+    take-none (comes_at (suc t)) k scenario.offers (λ j offer near there. let due = between.early j offer near there in early (suc t) offer (omega (arith, due, low))) in
     let next : t + 1 ≡ suc t = omega arith in
     ap (λ n. reached (place_of scenario cells n) (stream_met scenario cells t (take k scenario.offers))) next
     ∙ ap (λ offers. reached (place_of scenario cells (suc t)) (fold offered (stream_before scenario cells t) (map frame_of offers))) all

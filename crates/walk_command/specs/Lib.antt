@@ -8,5 +8,8 @@ pub mod Commands
 pub mod Ended
 pub mod Written
 pub mod Told
+pub mod FramePlaces
 pub mod Seen
+pub mod LandedFrames
+pub mod FateLines
 pub mod ReadyWalk

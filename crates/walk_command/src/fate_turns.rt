@@ -1,17 +1,19 @@
 //! A walk is made turn by turn, and after each turn it is seen which lines carry payload under the packet that was begun, whether the row that was
 //! taken is whole and why not, and what is confirmed after it. Behind the last turn stand the places of the frames.
-ghost use Rattle.std.specs.Prelude.{◌≡◌, ◌+◌, ◌≤◌, ◌<◌, List, replicate, OnOk};
+ghost use Rattle.std.specs.Prelude.{◌≡◌, ◌+◌, ◌≤◌, ◌<◌, List, replicate, IfOk, OnOk};
 ghost use Rattle.std.specs.List.{flat_map};
+ghost use Rattle.session_model.specs.declared.script.Script.{Script};
 ghost use Rattle.session_model.specs.declared.walk.Event.{Event};
-ghost use Rattle.session_model.specs.Valid.{IsEvent};
+ghost use Rattle.session_model.specs.Valid.{IsValid, IsEvent};
 ghost use Rattle.session_model.specs.Counts.{begin, run, run_line, drain, bound};
-ghost use Rattle.walk_law.specs.Walk.{walk_plan};
+ghost use Rattle.walk_law.specs.Walk.{walk_plan, IsWalked};
 ghost use Rattle.headline_law.specs.Texts.{counts_in};
 ghost use Rattle.walk_command.specs.Told.{events_of, IsTurn};
 ghost use Rattle.walk_command.specs.Seen.{Sees};
+ghost use Rattle.walk_command.specs.FateLines.{SeesWalk};
 
 use crate::events::{Turn, is_step, silent_turn, turns_of};
-use crate::landed_frames::FrameCursor;
+use crate::frame_places::place_frames;
 use crate::ready::LinesAndTicks;
 use fate_core::{Packets, Ruler, Segments, SpoiledRuns, row_cause};
 use session_model::EventLine;
@@ -39,6 +41,8 @@ pub struct SeenWalk {
 
 /// Sees a row, which was taken last.
 fn see_row(walk: &Walk, row: u32, seen: &mut SeenRows) -> Result<(), AllocError>
+    requires valid { IsValid walk.now.script }
+    requires walked { IsWalked walk.now.script walk.now.counts }
     requires last { row + 1 ≡ walk.now.counts.rows }
     requires seen { Sees walk.now.script walk.now.counts.ticks row seen.old }
     ensures { OnOk result
@@ -53,6 +57,8 @@ fn see_row(walk: &Walk, row: u32, seen: &mut SeenRows) -> Result<(), AllocError>
 
 /// Sees what came of a turn, after so many ticks and rows.
 fn see_since(walk: &Walk, ticks: u32, rows: u32, seen: &mut SeenRows) -> Result<(), AllocError>
+    requires valid { IsValid walk.now.script }
+    requires walked { IsWalked walk.now.script walk.now.counts }
     requires least { ticks ≤ walk.now.counts.ticks }
     requires most { walk.now.counts.ticks ≤ ticks + 1 }
     requires rows { rows ≤ walk.now.counts.rows }
@@ -73,6 +79,8 @@ fn see_since(walk: &Walk, ticks: u32, rows: u32, seen: &mut SeenRows) -> Result<
 
 /// Makes a turn, and sees what came of it.
 fn see_turn(walk: &mut Walk, turn: Turn, seen: &mut SeenRows) -> Result<(), AllocError>
+    requires valid { IsValid walk.old.script }
+    requires walked { IsWalked walk.old.script walk.old.counts }
     requires turn { IsTurn (walk_plan walk.old.script) turn }
     requires seen { Sees walk.old.script walk.old.counts.ticks walk.old.counts.rows seen.old }
     ensures script { walk.new.script ≡ walk.old.script }
@@ -93,6 +101,8 @@ fn see_turns(
     count: u32,
     seen: &mut SeenRows,
 ) -> Result<(), AllocError>
+    requires valid { IsValid walk.old.script }
+    requires walked { IsWalked walk.old.script walk.old.counts }
     requires turn { IsTurn (walk_plan walk.old.script) turn }
     requires seen { Sees walk.old.script walk.old.counts.ticks walk.old.counts.rows seen.old }
     ensures script { walk.new.script ≡ walk.old.script }
@@ -110,6 +120,8 @@ fn see_turns(
 
 /// Makes rounds until all rows are taken.
 fn see_drain(walk: &mut Walk, ticks: u32, seen: &mut SeenRows) -> Result<(), AllocError>
+    requires valid { IsValid walk.old.script }
+    requires walked { IsWalked walk.old.script walk.old.counts }
     requires ticks { ticks ≡ walk.old.script.config.ticks }
     requires seen { Sees walk.old.script walk.old.counts.ticks walk.old.counts.rows seen.old }
     ensures script { walk.new.script ≡ walk.old.script }
@@ -131,6 +143,8 @@ fn see_event_line(
     ticks: u32,
     seen: &mut SeenRows,
 ) -> Result<(), AllocError>
+    requires valid { IsValid walk.old.script }
+    requires walked { IsWalked walk.old.script walk.old.counts }
     requires event { IsEvent walk.old.script.config.lines line }
     requires ticks { ticks ≡ walk.old.script.config.ticks }
     requires seen { Sees walk.old.script walk.old.counts.ticks walk.old.counts.rows seen.old }
@@ -153,6 +167,7 @@ fn see_event_lines(
     ticks: u32,
     seen: &mut SeenRows,
 ) -> Result<(), AllocError>
+    requires valid { IsValid walk.old.script }
     requires events { lines.now ≡ walk.old.script.events }
     requires begun { walk.old.counts ≡ begin (walk_plan walk.old.script) }
     requires ticks { ticks ≡ walk.old.script.config.ticks }
@@ -171,27 +186,15 @@ fn see_event_lines(
     Ok(())
 }
 
-/// The stream is made by the frames after some up to another.
-fn reach_ticks(ruler: &mut Ruler, packets: &Packets, from: u32, to: u32) {
-    for t in from..to {
-        ruler.reach(packets.place(t + 1));
+/// Before the first turn.
+fn nothing_seen(alloc: Global, size: u16) -> SeenRows
+    ensures { (script : Script) → script.config.size ≡ size → Sees script 0 0 result }
+{
+    SeenRows {
+        packets: Packets::new(alloc, size),
+        segments: Segments::new(alloc),
+        runs: SpoiledRuns::new(alloc),
     }
-}
-
-/// Where the pieces of the accepted frames of a walk lie.
-fn place_frames(alloc: Global, walk: &Walk, packets: &Packets) -> Result<Ruler, AllocError> {
-    let mut ruler = Ruler::new(alloc);
-    let mut cursor = FrameCursor::new(walk.landed_frames());
-    let mut ticks = 0;
-    while let Some(frame) = cursor.next(walk.script().items.0.as_slice(), walk.refusals()) {
-        reach_ticks(&mut ruler, packets, ticks, frame.due);
-        ticks = frame.due;
-        if frame.refusal.is_none() {
-            ruler.accept(frame.length)?;
-        }
-    }
-    reach_ticks(&mut ruler, packets, ticks, walk.totals().ticks);
-    Ok(ruler)
 }
 
 /// Makes the walk of a script, and sees it.
@@ -200,12 +203,16 @@ pub fn see_walk(
     walk: &mut Walk,
     lines: &[EventLine],
     size: LinesAndTicks,
-) -> Result<SeenWalk, AllocError> {
-    let mut rows = SeenRows {
-        packets: Packets::new(alloc, walk.script().config.size),
-        segments: Segments::new(alloc),
-        runs: SpoiledRuns::new(alloc),
-    };
+) -> Result<SeenWalk, AllocError>
+    requires valid { IsValid walk.old.script }
+    requires events { lines.now ≡ walk.old.script.events }
+    requires begun { walk.old.counts ≡ begin (walk_plan walk.old.script) }
+    requires ticks { size.ticks ≡ walk.old.script.config.ticks }
+    ensures script { walk.new.script ≡ walk.old.script }
+    ensures counts { OnOk result (walk.new.counts ≡ counts_in walk.old.script) }
+    ensures seen { IfOk result (SeesWalk walk.new.script walk.new.counts) }
+{
+    let mut rows = nothing_seen(alloc, walk.script().config.size);
     see_event_lines(walk, lines, size.ticks, &mut rows)?;
     let ruler = place_frames(alloc, walk, &rows.packets)?;
     Ok(SeenWalk { rows, ruler })

@@ -1,7 +1,14 @@
 //! The client's items that have landed in a walk, one after another in item order, each with why it is refused where it is.
+ghost use Rattle.std.specs.Prelude.{◌≡◌, ℕ, ◌+◌, ◌<◌, List, ◌++◌, length, drop, All, Option, IfSome, IfNone};
+ghost use Rattle.report_text.specs.declared.report.Refusal.{Refusal as RefusalData};
+ghost use Rattle.session_model.specs.Valid.{IsValid};
+ghost use Rattle.walk_law.specs.Walk.{IsWalked};
+ghost use Rattle.walk_law.specs.Landed.{refused_by};
+ghost use Rattle.walk_command.specs.LandedFrames.{IsAt, IsNext, IsPast, IsSkipped};
 
 use report_text::Refusal;
 use session_model::{Item, ItemKind};
+use walk_core::Walk;
 
 /// A client item that has landed.
 #[derive(Clone, Copy)]
@@ -28,36 +35,72 @@ pub struct FrameCursor {
 }
 
 impl FrameCursor {
-    /// Before the first item, where so many frames have landed.
-    pub fn new(landed: u32) -> FrameCursor {
+    /// Before the first item.
+    pub fn new(walk: &Walk) -> FrameCursor
+        requires valid { IsValid walk.now.script }
+        requires walked { IsWalked walk.now.script walk.now.counts }
+        ensures at { IsAt walk.now.script walk.now.counts result }
+        ensures first { result.item ≡ 0 }
+    {
         FrameCursor {
             item: 0,
             refusal: 0,
-            left: landed,
+            left: walk.landed_frames(),
         }
     }
 
     /// The next client item that has landed.
-    pub fn next(&mut self, items: &[Item], refusals: &[(u32, Refusal)]) -> Option<LandedFrame> {
-        while self.left > 0 && self.item < items.len() {
-            let i = self.item;
-            let refusal = self.refusal_of(i as u32, refusals);
-            self.item += 1;
-            if let ItemKind::Frame(octets) = &items[i].kind {
-                self.left -= 1;
-                return Some(LandedFrame {
-                    number: i as u32,
-                    due: items[i].due,
-                    length: octets.0.len() as u16,
-                    refusal,
-                });
+    pub fn next(&mut self, walk: &Walk) -> Option<LandedFrame>
+        requires { IsAt walk.now.script walk.now.counts self.old }
+        ensures at { IsAt walk.now.script walk.now.counts self.new }
+        ensures some { IfSome result (IsNext walk.now.script self.old self.new) }
+        ensures none { IfNone result (IsPast walk.now.script walk.now.counts self.old) }
+    {
+        while self.left > 0 && self.item < items_of(walk).len() {
+            if let Some(frame) = self.pass(walk) {
+                return Some(frame);
             }
         }
         None
     }
 
-    /// Why the next item is refused, where it is.
-    fn refusal_of(&mut self, item: u32, refusals: &[(u32, Refusal)]) -> Option<Refusal> {
+    /// Passes the next item, which is there.
+    fn pass(&mut self, walk: &Walk) -> Option<LandedFrame>
+        requires at { IsAt walk.now.script walk.now.counts self.old }
+        requires some { 0 < self.old.left }
+        requires there { self.old.item < length walk.now.script.items }
+        ensures at { IsAt walk.now.script walk.now.counts self.new }
+        ensures found { IfSome result (IsNext walk.now.script self.old self.new) }
+        ensures skipped { IfNone result (IsSkipped walk.now.script self.old self.new) }
+        ensures item { self.new.item ≡ self.old.item + 1 }
+    {
+        let i = self.item;
+        let item = &items_of(walk)[i];
+        let refusal = self.take_refusal(i as u32, walk.refusals());
+        self.item = i + 1;
+        match &item.kind {
+            ItemKind::Frame(octets) => {
+                self.left -= 1;
+                Some(LandedFrame {
+                    number: i as u32,
+                    due: item.due,
+                    length: octets.0.len() as u16,
+                    refusal,
+                })
+            }
+            ItemKind::Add(_) | ItemKind::Remove(_) => None,
+        }
+    }
+
+    /// Why an item is refused, where it is the next refusal's.
+    fn take_refusal(&mut self, item: u32, refusals: &[(u32, Refusal)]) -> Option<Refusal>
+        ensures finds { (why : Option RefusalData) (later : List (ℕ × RefusalData)) →
+            drop self.old.refusal refusals.now ≡ refused_by item why ++ later →
+            All (λ (refused : ℕ × RefusalData). item < refused.0) later →
+            (result ≡ why) × (drop self.new.refusal refusals.now ≡ later) }
+        ensures item { self.new.item ≡ self.old.item }
+        ensures left { self.new.left ≡ self.old.left }
+    {
         match refusals.get(self.refusal) {
             Some((number, why)) if *number == item => {
                 self.refusal += 1;
@@ -66,4 +109,11 @@ impl FrameCursor {
             _ => None,
         }
     }
+}
+
+/// The items of a walk's script.
+fn items_of(walk: &Walk) -> &[Item]
+    ensures { result.now ≡ walk.now.script.items }
+{
+    walk.script().items.0.as_slice()
 }

@@ -10,6 +10,7 @@ mod events;
 mod fate_lines;
 mod fate_turns;
 mod fates;
+mod frame_places;
 mod hex_lines;
 mod landed_frames;
 mod make;

@@ -1,0 +1,54 @@
+-- The client's items that have landed in a walk, one after another, as private clauses say it.
+use Rattle.std.specs.Prelude.{◌≡◌, ℕ, ◌+◌, ◌-◌, ◌≤◌, ◌<◌, List, [], ◌∷◌, length, take, drop, Option, Some, slice_get}
+use Rattle.session_model.specs.declared.script.Item.{Item}
+use Rattle.session_model.specs.declared.script.ItemKind.TheVariants.{Frame}
+use Rattle.session_model.specs.declared.script.Script.{Script}
+use Rattle.session_model.specs.Scenario.{offers_of}
+use Rattle.session_model.specs.Counts.{Counts}
+use Rattle.session_model.specs.Valid.{IsValid}
+use Rattle.walk_law.specs.Walk.{IsWalked}
+use Rattle.walk_law.specs.Landed.{Numbered, landed_from, refusal_at, refusals_among, refusals_of}
+use Rattle.walk_command.specs.FramePlaces.{IsLate}
+use Rattle.walk_command.specs.declared.landed_frames.FrameCursor.{FrameCursor}
+use Rattle.walk_command.specs.declared.landed_frames.LandedFrame.{LandedFrame}
+
+-- how many frames are among the items before a place
+abbrev pub frames_before_item : Script → ℕ → ℕ
+frames_before_item script item = length (offers_of (take item script.items))
+
+-- the frames from a place on that have landed
+abbrev pub frames_left : Script → FrameCursor → List Numbered
+frames_left script cursor = landed_from cursor.left 0 cursor.item (drop cursor.item script.items)
+
+-- where a cursor is, with how many commands from there on have landed
+pub record IsAt (script : Script) (s : Counts) (cursor : FrameCursor) : Type 0 where
+  pub valid : IsValid script
+  pub walked : IsWalked script s
+  pub commands : ℕ
+  pub within : cursor.item ≤ length script.items
+  pub left : cursor.left ≡ s.frames - frames_before_item script cursor.item
+  pub refusals : drop cursor.refusal (refusals_of script s)
+      ≡ refusals_among script (landed_from cursor.left commands cursor.item (drop cursor.item script.items))
+
+-- a frame that was found is the next one
+pub record IsNext (script : Script) (was now : FrameCursor) (found : LandedFrame) : Type 0 where
+  pub item : Item
+  pub octets : List ℕ
+  pub there : slice_get script.items found.number ≡ Some item
+  pub kind : item.kind ≡ Frame octets
+  pub due : found.due ≡ item.due
+  pub length_is : found.length ≡ length octets
+  pub refusal : found.refusal ≡ refusal_at script (record { number = found.number; item = item })
+  pub before : frames_before_item script found.number ≡ frames_before_item script was.item
+  pub after : now.item ≡ found.number + 1
+  pub rest : frames_left script was ≡ record { number = found.number; item = item } ∷ frames_left script now
+
+-- no frame is left that has landed
+pub record IsPast (script : Script) (s : Counts) (cursor : FrameCursor) : Type 0 where
+  pub none : frames_left script cursor ≡ []
+  pub late : IsLate script (frames_before_item script cursor.item) s.ticks
+
+-- one item was passed, which is no frame that has landed
+pub record IsSkipped (script : Script) (was now : FrameCursor) : Type 0 where
+  pub before : frames_before_item script now.item ≡ frames_before_item script was.item
+  pub rest : frames_left script was ≡ frames_left script now

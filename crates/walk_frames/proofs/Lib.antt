@@ -1,0 +1,3 @@
+pub mod StreamLaws
+pub mod StayLaws
+pub mod LandedFrameLaws

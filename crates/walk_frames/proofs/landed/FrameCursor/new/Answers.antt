@@ -1,0 +1,17 @@
+-- No item was passed.
+use Rattle.std.proofs.Common.{◌≡◌, ℕ, sym, ap, arith}
+use Rattle.walk_law.specs.Landed.{landed_from, refusals_among}
+use Rattle.walk_frames.proofs.landed.FrameCursor.new.Goals as goal
+
+pub returns-clause-at : goal.returns-clause-at
+returns-clause-at c =
+    let script = c.args.walk.now.script in
+    let commands = c.args.walk.now.counts.commands in
+    record {
+      valid = c.requires.valid;
+      walked = c.requires.walked;
+      commands = commands;
+      within = omega arith;
+      left = omega (arith, c.landed_frames.ensures);
+      refusals = ap (λ frames. refusals_among script (landed_from frames commands 0 script.items)) (sym c.landed_frames.ensures);
+    }

@@ -1,0 +1,10 @@
+-- Only items were passed that are no frames which have landed.
+use Rattle.std.proofs.Common.{◌≡◌, ◌-◌, ◌+◌, length}
+use Rattle.walk_frames.specs.Landed.{IsAt, IsSkipped}
+use Rattle.walk_frames.proofs.landed.FrameCursor.next.Given as goal
+
+abbrev pub invariant-loop-self : goal.invariant-loop-self
+invariant-loop-self l = IsAt l.walk.script l.walk.counts l.self × IsSkipped l.walk.script l.fn.self l.self
+
+abbrev pub decreases-loop-self : goal.decreases-loop-self
+decreases-loop-self l = length l.walk.script.items - l.self.item

@@ -1,0 +1,17 @@
+-- The stream frame by frame, and tick by tick.
+use Rattle.session_model.specs.Scenario.{scenario_of}
+use Rattle.walk_law.specs.Walk.{session_of}
+use Rattle.walk_frames.proofs.StreamLaws.{met-start, met-tick, ruler-refused, ruler-accepted}
+use Rattle.walk_frames.proofs.stream_law.Goals as goal
+
+pub returns-clause-start : goal.returns-clause-start
+returns-clause-start c script = met-start (scenario_of script) (session_of script)
+
+pub returns-clause-tick : goal.returns-clause-tick
+returns-clause-tick c = met-tick
+
+pub returns-clause-refused : goal.returns-clause-refused
+returns-clause-refused c = ruler-refused
+
+pub returns-clause-accepted : goal.returns-clause-accepted
+returns-clause-accepted c = ruler-accepted

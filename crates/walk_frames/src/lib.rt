@@ -1,0 +1,39 @@
+//! The client's frames in a walk that was made: which of them have landed, and why others are refused; the stream that they make tick by tick;
+//! and that what became of a frame is known by the pieces that the taken rows reach. It holds nothing of a walk, and says of no frame what
+//! became of it. Begin with `FrameCursor`; `stream_law` and `stay_law` are laws of definitions alone.
+#![tactic(auto)]
+
+ghost use Rattle.std.specs.Prelude.{◌≡◌, ℕ, ◌+◌, ◌<◌, ◌≤◌, ◌++◌, ◌∷◌, [], List, length, Option, Some, None};
+ghost use Rattle.session_model.specs.declared.refusal.AcceptFault.{AcceptFault};
+ghost use Rattle.session_model.specs.declared.script.Script.{Script};
+ghost use Rattle.session_model.specs.Client.{Stream, frame_refusal, offered, reached, stream_before};
+ghost use Rattle.session_model.specs.Scenario.{scenario_of};
+ghost use Rattle.walk_law.specs.Walk.{session_of};
+ghost use Rattle.walk_law.specs.Delivered.{session_rows};
+ghost use Rattle.walk_law.specs.Promise.{session_pieces};
+ghost use Rattle.fate_law.specs.Ruler.{new_ruler, ruler_of, with_waiting};
+ghost use Rattle.fate_law.specs.Marks.{is_piece_at, are_true_marks};
+ghost use Rattle.fate_law.specs.SessionFates.{fate_at};
+ghost use Rattle.walk_frames.specs.Places.{place_in, stream_in, Between, IsEarly};
+
+mod landed;
+
+pub use landed::{FrameCursor, LandedFrame};
+
+/// The stream of a script, frame by frame and tick by tick, and its ruler.
+pub fn stream_law()
+    ensures start { (script : Script) → ruler_of (stream_in script 0 0) ≡ new_ruler }
+    ensures tick { (script : Script) (frames from t to : ℕ) → Between script frames from to → from ≤ t → t < to →
+        reached (place_in script (t + 1)) (stream_in script t frames) ≡ stream_in script (t + 1) frames }
+    ensures refused { (stream : Stream) (octets : List ℕ) (why : AcceptFault) →
+        frame_refusal octets stream ≡ Some why → offered stream octets ≡ stream }
+    ensures accepted { (stream : Stream) (octets : List ℕ) → frame_refusal octets stream ≡ None →
+        ruler_of (offered stream octets) ≡ with_waiting (ruler_of stream) (length octets) }
+{}
+
+/// What became of a frame in some rows is the same by the pieces of the ticks that were made and by those of the whole session.
+pub fn stay_law()
+    ensures { (script : Script) (ticks rows i : ℕ) → rows ≤ ticks → ticks ≤ script.config.ticks →
+        fate_at (session_pieces script) (session_rows script rows) i
+        ≡ fate_at (stream_before (scenario_of script) (session_of script) ticks).pieces (session_rows script rows) i }
+{}
