@@ -6,6 +6,3 @@ pub mod DecodedLaws
 pub mod CountLaws
 pub mod RoomLaws
 pub mod SeenLaws
-pub mod StreamLaws
-pub mod LandedFrameLaws
-pub mod StayLaws

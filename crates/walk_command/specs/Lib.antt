@@ -10,6 +10,5 @@ pub mod Written
 pub mod Told
 pub mod FramePlaces
 pub mod Seen
-pub mod LandedFrames
 pub mod FateLines
 pub mod ReadyWalk

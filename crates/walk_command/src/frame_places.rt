@@ -4,13 +4,14 @@ ghost use Rattle.std.specs.Prelude.{◌≡◌, ℕ, ◌+◌, ◌^◌, ◌≤◌,
 ghost use Rattle.session_model.specs.Valid.{IsValid};
 ghost use Rattle.walk_law.specs.Walk.{IsWalked};
 ghost use Rattle.fate_law.specs.Ruler.{ruler_of};
-ghost use Rattle.walk_command.specs.LandedFrames.{IsAt, IsNext, frames_before_item};
-ghost use Rattle.walk_command.specs.FramePlaces.{stream_in, place_in, Governs, Between, IsLate, Rules};
+ghost use Rattle.walk_frames.specs.Landed.{IsAt, IsNext, frames_before_item};
+ghost use Rattle.walk_frames.specs.Places.{stream_in, place_in, Between, IsLate};
+ghost use Rattle.walk_command.specs.FramePlaces.{Governs, Rules};
 
-use crate::landed_frames::{FrameCursor, LandedFrame};
 use fate_core::{Packets, Ruler};
 use std::alloc::{AllocError, Global};
 use walk_core::Walk;
+use walk_frames::{FrameCursor, LandedFrame};
 
 /// The stream is made by the ticks after some up to another.
 fn reach_ticks(ruler: &mut Ruler, walk: &Walk, packets: &Packets, from: u32, to: u32)

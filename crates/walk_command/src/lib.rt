@@ -12,7 +12,6 @@ mod fate_turns;
 mod fates;
 mod frame_places;
 mod hex_lines;
-mod landed_frames;
 mod make;
 mod ready;
 mod top;

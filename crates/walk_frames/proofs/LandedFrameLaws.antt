@@ -23,7 +23,7 @@ drop-one [] i x there = absurd cc
 drop-one (y ∷ xs) zero x there = ap (λ z. z ∷ xs) (let e : y ≡ x = cc in e)
 drop-one (y ∷ xs) (suc i) x there = drop-one xs i x there ∙ ap (λ n. x ∷ drop n (y ∷ xs)) (let e : suc (i + 1) ≡ suc i + 1 = omega arith in e)
 
-take-one : {X : Type 0} (xs : List X) (i : ℕ) (x : X) → slice_get xs i ≡ Some x → take (i + 1) xs ≡ take i xs ++ x ∷ []
+pub take-one : {X : Type 0} (xs : List X) (i : ℕ) (x : X) → slice_get xs i ≡ Some x → take (i + 1) xs ≡ take i xs ++ x ∷ []
 take-one [] i x there = absurd cc
 take-one (y ∷ xs) zero x there = ap (λ z. z ∷ []) (let e : y ≡ x = cc in e)
 take-one (y ∷ xs) (suc i) x there = ap (λ n. take n (y ∷ xs)) (let e : suc i + 1 ≡ suc (i + 1) = omega arith in e) ∙ ap (λ l. y ∷ l) (take-one xs i x there)

@@ -1,3 +1,4 @@
 pub mod StreamLaws
 pub mod StayLaws
 pub mod LandedFrameLaws
+pub mod NextLaws

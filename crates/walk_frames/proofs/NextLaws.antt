@@ -1,0 +1,99 @@
+-- What the next frame that has landed does to the stream.
+use Rattle.std.proofs.Common.{◌≡◌, ℕ, zero, suc, ◌+◌, ◌<◌, ◌≤◌, List, [], ◌∷◌, ◌++◌, length, take, get_or, Option, Some, None, option_map, slice_get, refl, sym, ◌∙◌, ap, ap₂, subst, arith, inl, inr, length-append}
+use Rattle.std.proofs.lemmas.Bool.{cases_lt}
+use Rattle.session_model.specs.declared.refusal.AcceptFault.{AcceptFault}
+use Rattle.session_model.specs.declared.script.Script.{Script}
+use Rattle.session_model.specs.Scenario.{DueFrame, scenario_of, offer_of, offers_of}
+use Rattle.session_model.specs.Client.{Stream, frame_refusal, offered}
+use Rattle.session_model.specs.Valid.{IsValid}
+use Rattle.script_law.proofs.ItemLaws.{offers_rise}
+use Rattle.report_text.specs.declared.report.Refusal.{Refusal}
+use Rattle.report_text.specs.declared.report.Refusal.TheVariants.{Frame as frame_fault}
+use Rattle.walk_law.specs.Walk.{session_of}
+use Rattle.walk_law.specs.Landed.{Numbered, stream_met, kind_refusal, refusal_at, IsOfferAt}
+use Rattle.walk_law.proofs.LandLaws.{offer-at}
+use Rattle.fate_law.specs.Ruler.{Ruler, ruler_of, with_waiting}
+use Rattle.walk_frames.specs.declared.landed.LandedFrame.{LandedFrame}
+use Rattle.walk_frames.specs.Landed.{Cursor, frames_before_item, IsNext}
+use Rattle.walk_frames.specs.Places.{stream_in, Between, IsEarly, IsLate}
+use Rattle.walk_frames.proofs.LandedFrameLaws.{offers-next, take-one}
+use Rattle.walk_frames.proofs.StreamLaws.{met-next, ruler-refused, ruler-accepted}
+
+get-inside : (xs : List DueFrame) (k : ℕ) (x : DueFrame) → slice_get xs k ≡ Some x → (k < length xs) × ((d : DueFrame) → get_or xs k d ≡ x)
+get-inside [] k x there = absurd cc
+get-inside (y ∷ xs) zero x there = (omega arith, λ d. let same : y ≡ x = cc in same)
+get-inside (y ∷ xs) (suc k) x there = let rest = get-inside xs k x there in (omega (arith, rest.0), rest.1)
+
+-- frames are due in their order
+pub due-order : (script : Script) (i j : ℕ) (a b : DueFrame) → IsValid script → i ≤ j → slice_get (offers_of script.items) i ≡ Some a → slice_get (offers_of script.items) j ≡ Some b → a.due ≤ b.due
+due-order script i j a b valid low here there =
+    let one = get-inside (offers_of script.items) i a here in
+    let two = get-inside (offers_of script.items) j b there in
+    let order = offers_rise script.items valid.items.frames i j a low two.0 in
+    let first = ap (λ (x : DueFrame). x.due) (one.1 a) in
+    let second = ap (λ (x : DueFrame). x.due) (two.1 a) in
+    omega (arith, order, first, second)
+
+module _ (script : Script) (was now : Cursor) (found : LandedFrame) (next : IsNext script was now found) where
+  abbrev count : ℕ
+  count = frames_before_item script was.item
+
+  abbrev pub own : DueFrame
+  own = record { due = found.due; frame = next.octets }
+
+  offer-is : offer_of next.item.due next.item.kind ≡ own ∷ []
+  offer-is = ap (offer_of next.item.due) next.kind ∙ ap (λ due. record { due = due; frame = next.octets } ∷ []) (sym next.due)
+
+  at : (slice_get (offers_of script.items) count ≡ Some own) × (offers_of (take found.number script.items) ≡ take count (offers_of script.items))
+  at = offer-at script.items count (record { number = found.number; item = next.item }) own (record { there = next.there; is = offer-is; before = next.before })
+
+  pub next-offer : slice_get (offers_of script.items) count ≡ Some own
+  next-offer = at.0
+
+  pub next-count : frames_before_item script now.item ≡ count + 1
+  next-count =
+      let all = ap length (offers-next script.items found.number next.item next.there) in
+      let size = length-append (offers_of (take found.number script.items)) (offer_of next.item.due next.item.kind) in
+      let one = ap length offer-is in
+      let before = next.before in
+      let after = ap (frames_before_item script) next.after in
+      omega (arith, all, size, one, before, after)
+
+  pub next-stream : stream_in script found.due (count + 1) ≡ offered (stream_in script found.due count) next.octets
+  next-stream =
+      ap (stream_met (scenario_of script) (session_of script) found.due) (take-one (offers_of script.items) count own at.0)
+      ∙ met-next (scenario_of script) (session_of script) (take count (offers_of script.items)) own
+
+  -- why it is refused, where it is
+  pub next-refusal : found.refusal ≡ option_map frame_fault (frame_refusal next.octets (stream_in script found.due count))
+  next-refusal =
+      next.refusal
+      ∙ ap (kind_refusal (scenario_of script) (session_of script) next.item.due (take found.number script.items)) next.kind
+      ∙ ap₂ (λ due offers. option_map frame_fault (frame_refusal next.octets (stream_met (scenario_of script) (session_of script) due offers))) (sym next.due) at.1
+
+  refused-by : (why : Option AcceptFault) → frame_refusal next.octets (stream_in script found.due count) ≡ why → (refusal : Refusal) → option_map frame_fault why ≡ Some refusal →
+      offered (stream_in script found.due count) next.octets ≡ stream_in script found.due count
+  refused-by None is refusal there = absurd (let e : None ≡ Some refusal = there in cc)
+  refused-by (Some why) is refusal there = ruler-refused (stream_in script found.due count) next.octets why is
+
+  pub next-refused : (refusal : Refusal) → found.refusal ≡ Some refusal → ruler_of (stream_in script found.due (count + 1)) ≡ ruler_of (stream_in script found.due count)
+  next-refused refusal is =
+      ap ruler_of (next-stream ∙ refused-by (frame_refusal next.octets (stream_in script found.due count)) refl refusal (sym next-refusal ∙ is))
+
+  accepted-by : (why : Option AcceptFault) → frame_refusal next.octets (stream_in script found.due count) ≡ why → option_map frame_fault why ≡ None → frame_refusal next.octets (stream_in script found.due count) ≡ None
+  accepted-by None is none = is
+  accepted-by (Some why) is none = absurd (let e : Some (frame_fault why) ≡ None = none in cc)
+
+  pub next-accepted : found.refusal ≡ None → ruler_of (stream_in script found.due (count + 1)) ≡ with_waiting (ruler_of (stream_in script found.due count)) found.length
+  next-accepted none =
+      let accepted = accepted-by (frame_refusal next.octets (stream_in script found.due count)) refl (sym next-refusal ∙ none) in
+      ap ruler_of next-stream ∙ ruler-accepted (stream_in script found.due count) next.octets accepted ∙ ap (with_waiting (ruler_of (stream_in script found.due count))) (sym next.length_is)
+
+  pub next-between : (from : ℕ) → IsValid script → IsEarly script count from → Between script count from found.due
+  next-between from valid early = record { early = early; late = λ j offer far there. due-order script count j own offer valid far at.0 there }
+
+  pub next-early : IsValid script → IsEarly script (count + 1) found.due
+  next-early valid j offer low there = due-order script j count offer own valid (omega (arith, low)) there at.0
+
+  pub next-late : IsValid script → IsLate script (count + 1) found.due
+  next-late valid j offer far there = due-order script count j own offer valid (omega (arith, far)) at.0 there
