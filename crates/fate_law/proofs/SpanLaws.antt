@@ -12,15 +12,15 @@ use Rattle.fate_law.specs.Spans.{Span, Spans, span_by, spans_on, spans, row_segm
 use Rattle.fate_law.proofs.RowLaws.{row-low, end_of, with_row, next_segment, tail_by, tail, segments-tail, size-more, lies_among, tail-before, too_long, from-first, from-next, lies-rows}
 
 -- ---- the rows of the segments that come of one that goes on
-abbrev span_tail_by : Bool → Span → (Span → List Span) → List Span
+abbrev pub span_tail_by : Bool → Span → (Span → List Span) → List Span
 span_tail_by true span rest = rest (record { first = span.first; end = suc span.end })
 span_tail_by false span rest = span ∷ rest (record { first = suc span.end; end = suc span.end })
 
-unfoldable span_tail : List StreamRow → Span → List Span
+unfoldable pub span_tail : List StreamRow → Span → List Span
 span_tail [] span = span ∷ []
 span_tail (row ∷ rows) span = span_tail_by row.whole span (span_tail rows)
 
-spans-tail : (come : Spans) (rows : List StreamRow) → (spans_on come rows).ended ++ (spans_on come rows).last ∷ [] ≡ come.ended ++ span_tail rows come.last
+pub spans-tail : (come : Spans) (rows : List StreamRow) → (spans_on come rows).ended ++ (spans_on come rows).last ∷ [] ≡ come.ended ++ span_tail rows come.last
 unfolding spans_on span_tail
 spans-tail come [] = refl
 spans-tail come (row ∷ rows) =

@@ -1,0 +1,10 @@
+pub mod ListLaws
+pub mod WholeLaws
+pub mod PlaceLaws
+pub mod RunLaws
+pub mod SegmentLaws
+pub mod AroundLaws
+pub mod PieceLaws
+pub mod RulerSteps
+pub mod FateSteps
+pub mod TrueLaws
