@@ -1,9 +1,9 @@
 -- What is seen of a walk: one packet more, and one row more.
-use Rattle.std.proofs.Common.{◌≡◌, ℕ, suc, ◌+◌, ◌-◌, ◌^◌, ◌<◌, ◌≤◌, Bool, true, false, List, [], ◌∷◌, ◌++◌, map, length, All, Option, Some, None, is_none, slice_index_or, refl, sym, ◌∙◌, ap, ap₂, subst, arith, inl, inr, length-append}
+use Rattle.std.proofs.Common.{◌≡◌, ℕ, zero, suc, ◌+◌, ◌-◌, ◌^◌, ◌<◌, ◌≤◌, Bool, true, false, List, [], ◌∷◌, ◌++◌, map, length, All, Option, Some, None, is_none, slice_index_or, refl, sym, ◌∙◌, ap, ap₂, subst, arith, inl, inr, length-append}
 use Rattle.std.specs.List.{range_with_len}
 use Rattle.std.specs.Option.{option_map, ForSome}
 use Rattle.std.proofs.lemmas.Bool.{cases_Bool, cases_lt}
-use Rattle.std.proofs.lemmas.List.FromFn.{map-range_with_len_more}
+use Rattle.std.proofs.lemmas.List.FromFn.{map-range_with_len_more, length-map-range_with_len}
 use Rattle.session_model.specs.declared.script.Script.{Script}
 use Rattle.session_model.specs.Scenario.{Scenario, scenario_of, steps_in}
 use Rattle.session_model.specs.Table.{Table, Told, active}
@@ -54,7 +54,7 @@ list-next f all last n size before is k low = elim (cases_lt k n) [
   where
     front-of : (all : List (List ℕ)) (k : ℕ) → k < length all → slice_index_or (all ++ last ∷ []) k [] ≡ slice_index_or all k []
     front-of [] k low = absurd (omega arith)
-    front-of (x ∷ xs) 0 low = refl
+    front-of (x ∷ xs) zero low = refl
     front-of (x ∷ xs) (suc k) low = front-of xs k (omega arith)
 
     last-of : (all : List (List ℕ)) → slice_index_or (all ++ last ∷ []) (length all) [] ≡ last
@@ -122,3 +122,12 @@ mark-low script rows confirmed valid low told =
     let last = (segments_of (session_rows script rows)).last.octets in
     let few : length last < 2 ^ 63 = omega (arith, stands.ends, octets, place) in
     subst (λ found. ForSome found (λ place. place < 2 ^ 63)) (sym told) (few-by last (hunt true 0 last) refl few)
+
+-- ---- how many
+pub causes-size : (script : Script) (n : ℕ) → length (map (row_cause (scenario_of script) (session_of script)) (range_with_len 0 n)) ≡ n
+causes-size script n = length-map-range_with_len (row_cause (scenario_of script) (session_of script)) 0 n
+
+pub rows-size : (script : Script) (n : ℕ) → length (session_rows script n) ≡ n
+unfolding rows_of
+rows-size script zero = refl
+rows-size script (suc n) = let before = rows-size script n in let more = length-append (session_rows script n) (row_of (scenario_of script) (session_of script) n ∷ []) in omega (arith, before, more)

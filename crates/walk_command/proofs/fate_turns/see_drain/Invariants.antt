@@ -6,8 +6,8 @@ use Rattle.walk_law.specs.Walk.{walk_plan, IsWalked}
 use Rattle.walk_command.specs.Seen.{Sees}
 use Rattle.walk_command.proofs.fate_turns.see_drain.Given as goal
 
-abbrev pub invariant-loop-ticks : goal.invariant-loop-ticks
-invariant-loop-ticks l = record {
+abbrev pub invariant-loop-walk : goal.invariant-loop-walk
+invariant-loop-walk l = record {
   script : l.walk.script ≡ l.fn.walk.script;
   left : drain (bound (walk_plan l.fn.walk.script)) (walk_plan l.fn.walk.script) l.walk.counts
       ≡ drain (bound (walk_plan l.fn.walk.script)) (walk_plan l.fn.walk.script) l.fn.walk.counts;
@@ -15,5 +15,5 @@ invariant-loop-ticks l = record {
   seen : Sees l.walk.script l.walk.counts.ticks l.walk.counts.rows l.seen;
 }
 
-abbrev pub decreases-loop-ticks : goal.decreases-loop-ticks
-decreases-loop-ticks l = bound (walk_plan l.fn.walk.script) - made l.walk.counts
+abbrev pub decreases-loop-walk : goal.decreases-loop-walk
+decreases-loop-walk l = bound (walk_plan l.fn.walk.script) - made l.walk.counts
