@@ -49,7 +49,7 @@ list-next : (f : ℕ → List ℕ) (all : List (List ℕ)) (last : List ℕ) (n 
     (k : ℕ) → k < n + 1 → slice_index_or (all ++ last ∷ []) k [] ≡ f k
 list-next f all last n size before is k low = elim (cases_lt k n) [
   | inl front ↦ front-of all k (omega (arith, size, front)) ∙ before k front
-  | inr here ↦ (let e : k ≡ length all = omega (arith, size, here, low) in ap (slice_index_or (all ++ last ∷ [])) e ∙ last-of all ∙ is ∙ ap f (let e : n ≡ k = omega (arith, here, low) in e))
+  | inr here ↦ (let e : k ≡ length all = omega (arith, size, here, low) in ap (λ i. slice_index_or (all ++ last ∷ []) i []) e ∙ last-of all ∙ is ∙ ap f (let e : n ≡ k = omega (arith, here, low) in e))
 ]
   where
     front-of : (all : List (List ℕ)) (k : ℕ) → k < length all → slice_index_or (all ++ last ∷ []) k [] ≡ slice_index_or all k []
