@@ -1,5 +1,5 @@
 -- What is seen of a walk: one packet more, and one row more.
-use Rattle.std.proofs.Common.{◌≡◌, ℕ, zero, suc, ◌+◌, ◌-◌, ◌^◌, ◌<◌, ◌≤◌, Bool, true, false, List, [], ◌∷◌, ◌++◌, map, length, All, Option, Some, None, is_none, slice_index_or, refl, sym, ◌∙◌, ap, ap₂, subst, arith, inl, inr, length-append}
+use Rattle.std.proofs.Common.{◌≡◌, ℕ, zero, suc, ◌+◌, ◌-◌, ◌^◌, ◌<◌, ◌≤◌, Bool, true, false, List, [], ◌∷◌, ◌++◌, map, length, All, Option, Some, None, is_none, is_some, not, slice_index_or, refl, sym, ◌∙◌, ap, ap₂, subst, arith, inl, inr, length-append}
 use Rattle.std.specs.List.{range_with_len}
 use Rattle.std.specs.Option.{option_map, ForSome}
 use Rattle.std.proofs.lemmas.Bool.{cases_Bool, cases_lt}
@@ -31,8 +31,11 @@ use Rattle.fate_law.specs.declared.Cause.{Cause}
 use Rattle.fate_law.specs.Spoiled.{row_cause}
 use Rattle.fate_law.proofs.CauseLaws.{cause-whole}
 use Rattle.fate_core.specs.Packets.{PacketList, ArePackets}
-use Rattle.fate_core.specs.Segments.{Tells}
+use Rattle.fate_core.specs.Segments.{Stands, Tells}
+use Rattle.fate_core.specs.Runs.{AreRuns}
 use Rattle.walk_fates.specs.Places.{Governs}
+use Rattle.walk_fates.specs.Seen.{Sees}
+use Rattle.walk_fates.specs.declared.seen.SeenRows.{SeenRows}
 
 -- ---- bounds
 pub few-rows : (script : Script) (s : Counts) → IsValid script → IsWalked script s → (s.rows ≤ s.ticks) × (s.ticks ≤ script.config.ticks) × (s.ticks ≤ 1000000)
@@ -94,6 +97,12 @@ whole-cause script t (Some cause) is = elim (cases_Bool (is_whole_row (scenario_
   | inr cut ↦ cut
 ]
 
+pub none-is : (cause : Option Cause) (none : Bool) → is_some cause ≡ not none → is_none cause ≡ none
+none-is None true is = refl
+none-is None false is = absurd (let wrong : false ≡ true = is in cc)
+none-is (Some cause) true is = absurd (let wrong : true ≡ false = is in cc)
+none-is (Some cause) false is = refl
+
 confirms-by : (base : ℕ) (found : Option Confirmed) → option_map (λ place. base + place) (option_map (λ (found : Confirmed). found.place) found) ≡ option_map (λ (found : Confirmed). base + found.place) found
 confirms-by base None = refl
 confirms-by base (Some found) = refl
@@ -131,3 +140,49 @@ pub rows-size : (script : Script) (n : ℕ) → length (session_rows script n) �
 unfolding rows_of
 rows-size script zero = refl
 rows-size script (suc n) = let before = rows-size script n in let more = length-append (session_rows script n) (row_of (scenario_of script) (session_of script) n ∷ []) in omega (arith, before, more)
+
+-- ---- before any row
+pub nothing-governs : (script : Script) (size : ℕ) (packets : PacketList) → script.config.size ≡ size → packets ≡ record { size = size; active = [] } → Governs script 0 packets
+nothing-governs script size packets is made = subst (Governs script 0) (sym made) (record {
+  are = record { size = sym is; lines = λ k low. absurd (omega (arith, low)) };
+  steps = refl;
+})
+
+pub no-rows : (script : Script) → session_rows script 0 ≡ []
+unfolding rows_of
+no-rows script = refl
+
+pub sees-nothing : (script : Script) (size : ℕ) (seen : SeenRows) → script.config.size ≡ size → seen.packets ≡ record { size = size; active = [] } → Stands seen.segments [] → AreRuns seen.runs [] → Sees script 0 0 seen
+sees-nothing script size seen is made segments runs = record {
+  packets = nothing-governs script size seen.packets is made;
+  segments = subst (Stands seen.segments) (sym (no-rows script)) segments;
+  runs = runs;
+}
+
+-- ---- one row more
+pub one-row : (script : Script) (ticks row rows : ℕ) (seen : SeenRows) → row + 1 ≡ rows → Governs script ticks seen.packets →
+    Stands seen.segments (session_rows script row ++ row_of (scenario_of script) (session_of script) row ∷ []) →
+    AreRuns seen.runs (map (row_cause (scenario_of script) (session_of script)) (range_with_len 0 row) ++ row_cause (scenario_of script) (session_of script) row ∷ []) → Sees script ticks rows seen
+one-row script ticks row rows seen next packets segments runs = subst (λ n. Sees script ticks n seen) next (record {
+  packets = packets;
+  segments = subst (Stands seen.segments) (sym (rows-next script row)) segments;
+  runs = subst (AreRuns seen.runs) (sym (causes-next script row)) runs;
+})
+
+-- ---- a decision step, or none
+pub sees-step : (script : Script) (before ticks rows : ℕ) (seen next : SeenRows) (packets : PacketList) (lines : List ℕ) → Sees script before rows seen →
+    steps_in ticks ≡ steps_in before + 1 → lines ≡ active (table_in script ticks) →
+    packets ≡ record { size = seen.packets.size; active = seen.packets.active ++ lines ∷ [] } →
+    next ≡ record { packets = packets; segments = seen.segments; runs = seen.runs } → Sees script ticks rows next
+sees-step script before ticks rows seen next packets lines sees step is made so = subst (Sees script ticks rows) (sym so) (record {
+  packets = packets-next script before ticks seen.packets lines packets sees.packets step is made;
+  segments = sees.segments;
+  runs = sees.runs;
+})
+
+pub sees-same : (script : Script) (before ticks rows : ℕ) (seen next : SeenRows) → Sees script before rows seen → steps_in ticks ≡ steps_in before → next ≡ seen → Sees script ticks rows next
+sees-same script before ticks rows seen next sees step so = subst (Sees script ticks rows) (sym so) (record {
+  packets = record { are = sees.packets.are; steps = sees.packets.steps ∙ sym step };
+  segments = sees.segments;
+  runs = sees.runs;
+})
