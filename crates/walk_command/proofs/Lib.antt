@@ -5,4 +5,3 @@ pub mod HexLineLaws
 pub mod DecodedLaws
 pub mod CountLaws
 pub mod RoomLaws
-pub mod SeenLaws

@@ -3,7 +3,7 @@ use Rattle.std.proofs.Common.{◌≡◌, ◌-◌}
 use Rattle.session_model.specs.Counts.{drain, bound}
 use Rattle.progress_law.specs.Progress.{made}
 use Rattle.walk_law.specs.Walk.{walk_plan, IsWalked}
-use Rattle.walk_command.specs.Seen.{Sees}
+use Rattle.walk_fates.specs.Seen.{Sees}
 use Rattle.walk_command.proofs.fate_turns.see_drain.Given as goal
 
 abbrev pub invariant-loop-walk : goal.invariant-loop-walk

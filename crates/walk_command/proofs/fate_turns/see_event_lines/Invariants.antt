@@ -2,7 +2,7 @@
 use Rattle.std.proofs.Common.{◌≡◌, take}
 use Rattle.session_model.specs.Counts.{begin, run_lines}
 use Rattle.walk_law.specs.Walk.{walk_plan}
-use Rattle.walk_command.specs.Seen.{Sees}
+use Rattle.walk_fates.specs.Seen.{Sees}
 use Rattle.walk_command.proofs.fate_turns.see_event_lines.Given as goal
 
 abbrev pub invariant-loop-line : goal.invariant-loop-line

@@ -5,7 +5,7 @@ use Rattle.session_model.specs.declared.walk.Event.{Event}
 use Rattle.session_model.specs.Counts.{run}
 use Rattle.walk_law.specs.Walk.{walk_plan, IsWalked}
 use Rattle.walk_command.specs.Told.{events_of}
-use Rattle.walk_command.specs.Seen.{Sees}
+use Rattle.walk_fates.specs.Seen.{Sees}
 use Rattle.walk_command.proofs.fate_turns.see_turns.Given as goal
 
 abbrev pub invariant-loop-made : goal.invariant-loop-made
