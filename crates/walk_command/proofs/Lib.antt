@@ -5,3 +5,6 @@ pub mod HexLineLaws
 pub mod DecodedLaws
 pub mod CountLaws
 pub mod RoomLaws
+pub mod SeenLaws
+pub mod SeeLaws
+pub mod SeeLaws

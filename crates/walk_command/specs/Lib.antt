@@ -8,4 +8,7 @@ pub mod Commands
 pub mod Ended
 pub mod Written
 pub mod Told
+pub mod FramePlaces
+pub mod Seen
+pub mod FateLines
 pub mod ReadyWalk
