@@ -1,5 +1,5 @@
 -- The ruler of a walk, tick by tick and frame by frame.
-use Rattle.std.proofs.Common.{◌≡◌, ℕ, zero, suc, ◌+◌, ◌-◌, ◌^◌, ◌<◌, ◌≤◌, List, [], ◌∷◌, length, Option, Some, None, slice_get, refl, sym, ◌∙◌, ap, subst, arith}
+use Rattle.std.proofs.Common.{◌≡◌, ℕ, zero, suc, ◌+◌, ◌-◌, ◌^◌, ◌<◌, ◌≤◌, Bool, true, false, List, [], ◌∷◌, length, Option, Some, None, is_some, slice_get, refl, sym, ◌∙◌, ap, subst, arith}
 use Rattle.session_model.specs.declared.script.Script.{Script}
 use Rattle.session_model.specs.Scenario.{DueFrame, scenario_of, offers_of}
 use Rattle.session_model.specs.Client.{place_of}
@@ -40,6 +40,14 @@ reach-tick script frames from t to place was now between low high is made ruler 
     ∙ ap ruler_of (met-tick script frames from t to between low high)
 
 -- ---- a frame
+pub none-of : (refusal : Option Refusal) → is_some refusal ≡ false → refusal ≡ None
+none-of None is = refl
+none-of (Some why) is = absurd (let e : true ≡ false = is in cc)
+
+pub some-of : (refusal : Option Refusal) → is_some refusal ≡ true → (why : Refusal) × (refusal ≡ Some why)
+some-of None is = absurd (let e : false ≡ true = is in cc)
+some-of (Some why) is = (why, refl)
+
 inside : (xs : List DueFrame) (k : ℕ) (x : DueFrame) → slice_get xs k ≡ Some x → k < length xs
 inside [] k x there = absurd cc
 inside (y ∷ xs) zero x there = omega arith
