@@ -1,8 +1,7 @@
 -- The ruler of a walk, tick by tick and frame by frame.
-use Rattle.std.proofs.Common.{◌≡◌, ℕ, zero, suc, ◌+◌, ◌-◌, ◌^◌, ◌<◌, ◌≤◌, Bool, true, false, List, [], ◌∷◌, length, Option, Some, None, is_some, slice_get, refl, sym, ◌∙◌, ap, subst, arith}
+use Rattle.std.proofs.Common.{◌≡◌, ℕ, zero, suc, ◌+◌, ◌-◌, ◌^◌, ◌<◌, ◌≤◌, true, false, List, [], ◌∷◌, length, Option, Some, None, is_some, slice_get, refl, sym, ◌∙◌, ap, subst, arith}
 use Rattle.session_model.specs.declared.script.Script.{Script}
 use Rattle.session_model.specs.Scenario.{DueFrame, scenario_of, offers_of}
-use Rattle.session_model.specs.Client.{place_of}
 use Rattle.session_model.specs.Counts.{Counts}
 use Rattle.session_model.specs.Valid.{IsValid}
 use Rattle.report_text.specs.declared.report.Refusal.{Refusal}

@@ -1,5 +1,5 @@
 -- Where the next frame waits, those after it wait too.
-use Rattle.std.proofs.Common.{◌≡◌, ◌≤◌, arith}
+use Rattle.std.proofs.Common.{arith}
 use Rattle.walk_fates.proofs.PlaceLaws.{next-waits}
 use Rattle.walk_fates.proofs.places.next_before.Goals as goal
 

@@ -1,5 +1,5 @@
 -- The place is that of the session, whose octets are few.
-use Rattle.std.proofs.Common.{◌≡◌, ◌+◌, ◌<◌, sym, ◌∙◌, ap, subst, arith}
+use Rattle.std.proofs.Common.{◌+◌, arith}
 use Rattle.session_model.specs.Scenario.{scenario_of}
 use Rattle.walk_law.specs.Walk.{session_of}
 use Rattle.walk_fates.proofs.PlaceLaws.{few-ticks, place-few}

@@ -39,4 +39,4 @@ returns c =
     let late = rw c.in_default.is at c.next_before.ensures.none in
     ruled-end c.args.walk.now.script s c.loop-frame.ruler c.loop-frame.cursor c.loop-frame.ticks c.reach_ticks-2.new.ruler c.loop-frame.invariant late
     (subst (λ to. (frames : ℕ) → Between c.args.walk.now.script frames c.loop-frame.ticks to → c.loop-frame.ruler ≡ ruler_of (stream_in c.args.walk.now.script c.loop-frame.ticks frames) →
-        c.reach_ticks-2.new.ruler ≡ ruler_of (stream_in c.args.walk.now.script to frames)) ticks c.reach_ticks-2.ensures)
+    c.reach_ticks-2.new.ruler ≡ ruler_of (stream_in c.args.walk.now.script to frames)) ticks c.reach_ticks-2.ensures)

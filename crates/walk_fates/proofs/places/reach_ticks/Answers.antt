@@ -1,5 +1,5 @@
 -- Each tick makes the stream up to the place at which its row ends.
-use Rattle.std.proofs.Common.{◌≡◌, ℕ, ◌+◌, ◌≤◌, ◌<◌, ap, sym, ◌∙◌, arith}
+use Rattle.std.proofs.Common.{◌≡◌, ◌≤◌, ap, ◌∙◌, arith}
 use Rattle.fate_law.specs.Ruler.{ruler_of}
 use Rattle.walk_frames.specs.Places.{stream_in}
 use Rattle.walk_fates.proofs.PlaceLaws.{reach-tick}
