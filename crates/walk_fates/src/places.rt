@@ -18,6 +18,7 @@ fn reach_ticks(ruler: &mut Ruler, walk: &Walk, packets: &Packets, from: u32, to:
     requires valid { IsValid walk.now.script }
     requires walked { IsWalked walk.now.script walk.now.counts }
     requires packets { Governs walk.now.script walk.now.counts.ticks packets.now }
+    requires order { from ≤ to }
     requires to { to ≤ walk.now.counts.ticks }
     ensures { (frames : ℕ) → Between walk.now.script frames from to →
         ruler.old ≡ ruler_of (stream_in walk.now.script from frames) →

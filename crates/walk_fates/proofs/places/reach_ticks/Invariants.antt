@@ -1,5 +1,5 @@
 -- The stream is made by the ticks so far.
-use Rattle.std.proofs.Common.{◌≡◌, ℕ, ◌+◌, ◌≤◌}
+use Rattle.std.proofs.Common.{◌≡◌, ℕ}
 use Rattle.fate_law.specs.Ruler.{ruler_of}
 use Rattle.walk_frames.specs.Places.{stream_in, Between}
 use Rattle.walk_fates.proofs.places.reach_ticks.Given as goal
