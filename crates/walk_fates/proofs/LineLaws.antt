@@ -1,5 +1,5 @@
 -- How the lines of fates are put together, and what is known of the places that they tell of.
-use Rattle.std.proofs.Common.{◌≡◌, ℕ, zero, suc, ◌+◌, ◌-◌, ◌*◌, ◌<◌, ◌≤◌, ◌&&◌, ◌||◌, nat_lt, Bool, true, false, if◌then◌else◌, List, [], ◌∷◌, ◌++◌, length, map, filter, take, drop, get_or, All, Option, Some, None, slice_get, refl, sym, ◌∙◌, ap, ap₂, subst, arith, inl, inr, append-nil, length-append, length-take}
+use Rattle.std.proofs.Common.{◌≡◌, ℕ, zero, suc, ◌+◌, ◌-◌, ◌*◌, ◌<◌, ◌≤◌, ◌&&◌, ◌||◌, nat_lt, Bool, true, false, if◌then◌else◌, List, [], ◌∷◌, ◌++◌, length, map, filter, take, drop, get_or, All, Option, Some, None, slice_get, refl, sym, ◌∙◌, ap, ap₂, subst, arith, inl, inr, append-nil, append_assoc, length-append, length-take}
 use Rattle.std.specs.List.{flat_map, list_all, Contains}
 use Rattle.std.specs.Option.{option_map}
 use Rattle.std.proofs.lemmas.Bool.{cases_Bool}
@@ -11,7 +11,7 @@ use Rattle.session_model.specs.declared.script.ItemKind.TheVariants.{Frame, Add,
 use Rattle.session_model.specs.declared.script.Script.{Script}
 use Rattle.session_model.specs.Piece.{Piece, stream_of}
 use Rattle.session_model.specs.Hunt.{Confirmed, hunt}
-use Rattle.session_model.specs.Scenario.{scenario_of}
+use Rattle.session_model.specs.Scenario.{scenario_of, offer_of, offers_of}
 use Rattle.session_model.specs.Segment.{StreamRow, Segment, segments, octets_of_rows}
 use Rattle.session_model.specs.Client.{place_of, stream_before}
 use Rattle.session_model.specs.Counts.{Counts}
@@ -31,25 +31,35 @@ use Rattle.fate_law.specs.declared.RowSegment.{RowSegment}
 use Rattle.fate_law.specs.Fates.{row_at}
 use Rattle.fate_law.specs.Marks.{is_piece_at, is_true_mark, has_true_mark, are_true_marks}
 use Rattle.fate_law.specs.Spans.{Span, spans, row_segment, row_segments_with, row_segments, has_row, later_segments}
-use Rattle.fate_law.specs.SessionFates.{End, refused, accepted, Ended, ended_by, ended_then, ended_on, is_refused, has_got, has_waited, count_of}
+use Rattle.fate_law.specs.SessionFates.{End, refused, accepted, Ended, ended_by, ended_then, ended_on, ended_of, fate_at, is_refused, has_got, has_waited, count_of}
+use Rattle.fate_law.specs.FateText.{ended_text, fates_end}
+use Rattle.fate_text.specs.Lines.{last_text}
 use Rattle.fate_law.proofs.MarkLaws.{parts-of}
 use Rattle.fate_law.proofs.RulerLaws.{piece-front}
-use Rattle.fate_core.proofs.FateSteps.{place-up, row-is}
+use Rattle.fate_core.proofs.FateSteps.{rows-count, place-up, row-is}
 use Rattle.walk_frames.specs.declared.landed.LandedFrame.{LandedFrame}
-use Rattle.walk_frames.specs.Landed.{Cursor, frames_left, IsNext}
+use Rattle.walk_frames.specs.Landed.{Cursor, frames_before_item, frames_left, IsAt, IsNext, IsPast}
 use Rattle.walk_frames.proofs.LandedFrameLaws.{take-one}
+use Rattle.walk_frames.proofs.StayLaws.{session-fate}
+use Rattle.walk_frames.proofs.NextLaws.{next-count}
 use Rattle.walk_fates.specs.declared.seen.SeenWalk.{SeenWalk}
 use Rattle.walk_fates.specs.declared.lines.EndedCount.{EndedCount}
-use Rattle.walk_fates.specs.Lines.{SeesWalk, Counted, end_by, counted_end}
+use Rattle.walk_fates.specs.Lines.{SeesWalk, Counted, fates_in, end_by, counted_end}
 
 -- ---- texts one after another
 pub flat-next : {X : Type 0} (f : X → List ℕ) (xs : List X) (i : ℕ) (x : X) → slice_get xs i ≡ Some x → flat_map f (take (i + 1) xs) ≡ flat_map f (take i xs) ++ f x
 flat-next f xs i x there = ap (flat_map f) (take-one xs i x there) ∙ flat_map-append f (take i xs) (x ∷ []) ∙ ap (λ l. flat_map f (take i xs) ++ l) (append-nil (f x))
 
-pub get-there : {X : Type 0} (xs : List X) (i : ℕ) (x : X) → i < length xs → x ≡ get_or xs i x → slice_get xs i ≡ Some x
-get-there [] i x low is = absurd (omega arith)
-get-there (y ∷ xs) zero x low is = ap Some (sym is)
-get-there (y ∷ xs) (suc i) x low is = get-there xs i x (omega (arith, low)) is
+pub get-some : {X : Type 0} (xs : List X) (i : ℕ) (d : X) → i < length xs → slice_get xs i ≡ Some (get_or xs i d)
+get-some [] i d low = absurd (omega arith)
+get-some (y ∷ xs) zero d low = refl
+get-some (y ∷ xs) (suc i) d low = get-some xs i d (omega (arith, low))
+
+pub text-next : {X : Type 0} (f : X → List ℕ) (xs : List X) (i : ℕ) (x : X) (before text : List ℕ) → slice_get xs i ≡ Some x → text ≡ f x →
+    before ++ flat_map f (take i xs) ++ text ≡ before ++ flat_map f (take (i + 1) xs)
+text-next f xs i x before text there is =
+    append_assoc before (flat_map f (take i xs)) text
+    ∙ ap (λ l. before ++ l) (ap (λ l. flat_map f (take i xs) ++ l) is ∙ sym (flat-next f xs i x there))
 
 pub some-there : {X : Type 0} (xs : List X) (i : ℕ) → i < length xs → (x : X) × (slice_get xs i ≡ Some x)
 some-there [] i low = absurd (omega arith)
@@ -130,6 +140,20 @@ module _ (script : Script) (s : Counts) (seen : SeenWalk) (sees : SeesWalk scrip
 
   pub reach : s.rows ≤ 16 * length seen.rows.packets.active + 24
   reach = let steps = sees.rows.packets.steps in let low = within.0 in omega (arith, steps, low)
+
+  pub kept-rows : seen.rows.segments.rows ≤ 16 * length seen.rows.packets.active + 24
+  kept-rows =
+      let count = sees.rows.segments.count in
+      let size = rows-count (scenario_of script) (session_of script) s.rows in
+      let low = reach in
+      omega (arith, count, size, low)
+
+  pub fate-is : (i : ℕ) (result : Fate) → result ≡ fate_at (stream_before (scenario_of script) (session_of script) s.ticks).pieces (session_rows script s.rows) i → result ≡ fates_in script s.rows i
+  fate-is i result is = is ∙ sym (session-fate script s.ticks s.rows i within.0 within.1)
+
+  pub starts-are : (result : Bool) → result ≡ are_true_marks (stream_before (scenario_of script) (session_of script) s.ticks).pieces (session_rows script s.rows) →
+      result ≡ are_true_marks (session_pieces script) (session_rows script s.rows)
+  starts-are result is = is ∙ marks-stay script s.ticks s.rows within.0 within.1
 
   -- the row of a mark
   module _ (segment : RowSegment) (place : ℕ) (among : Contains (later_segments (session_rows script s.rows)) segment) (marked : segment.mark ≡ Some place) where
@@ -274,3 +298,98 @@ module _ (all : List Ended) (count : EndedCount) (are : Counted all count) (numb
   counted-next (accepted (Hunting x y)) = more-by (accepted (Hunting x y)) (counted_end count (accepted (Hunting x y))) false false false refl refl refl (omega arith) (omega arith) (omega arith) (omega arith) (let f = are.frames in omega (arith, f))
   counted-next (accepted (Unsettled x y)) = more-by (accepted (Unsettled x y)) (counted_end count (accepted (Unsettled x y))) false false false refl refl refl (omega arith) (omega arith) (omega arith) (omega arith) (let f = are.frames in omega (arith, f))
   counted-next (accepted (Got x y)) = more-by (accepted (Got x y)) (counted_end count (accepted (Got x y))) false true false refl refl refl (omega arith) (omega arith) (omega arith) (omega arith) (let f = are.frames in omega (arith, f))
+
+-- ---- the last line
+abbrev line_of : ℕ → ℕ → Bool → ℕ → ℕ → ℕ → ℕ → ℕ → List ℕ
+line_of ticks rows starts frames got lost waits kept_out = last_text ticks rows (record { frames = frames; got = got; lost = lost; waits = waits; refused = kept_out }) starts
+
+pub end-text : (ticks rows : ℕ) (all : List Ended) (count : EndedCount) (starts : Bool) → Counted all count →
+    last_text ticks rows (record { frames = count.frames; got = count.totals.got; lost = count.totals.lost; waits = count.totals.waits; refused = count.refused }) starts
+    ≡ fates_end ticks rows all starts
+end-text ticks rows all count starts are =
+    let items = are.items in
+    let none = are.refused in
+    let gets = are.got in
+    let wait = are.waits in
+    let sum = are.frames in
+    let frames : count.frames ≡ length all - count_of is_refused all = omega (arith, items, none) in
+    let lost : count.totals.lost ≡ length all - (count_of is_refused all + count_of has_got all + count_of has_waited all) = omega (arith, items, none, gets, wait, sum) in
+    ap (λ n. line_of ticks rows starts n count.totals.got count.totals.lost count.totals.waits count.refused) frames
+    ∙ ap (λ n. line_of ticks rows starts (length all - count_of is_refused all) n count.totals.lost count.totals.waits count.refused) (sym gets)
+    ∙ ap (λ n. line_of ticks rows starts (length all - count_of is_refused all) (count_of has_got all) n count.totals.waits count.refused) lost
+    ∙ ap (λ n. line_of ticks rows starts (length all - count_of is_refused all) (count_of has_got all) (length all - (count_of is_refused all + count_of has_got all + count_of has_waited all)) n count.refused) (sym wait)
+    ∙ ap (λ n. line_of ticks rows starts (length all - count_of is_refused all) (count_of has_got all) (length all - (count_of is_refused all + count_of has_got all + count_of has_waited all)) (count_of has_waited all) n) (sym none)
+
+-- ---- the client's items so far
+pub record FramesDone (script : Script) (s : Counts) (cursor : Cursor) (count : EndedCount) (done : List Ended) : Type 0 where
+  pub at : IsAt script s cursor
+  pub counted : Counted done count
+  pub size : length done ≡ frames_before_item script cursor.item
+  pub rest : ended_of script s ≡ done ++ ended_on script (fates_in script s.rows) (frames_left script cursor) count.frames
+
+pub frames-begun : (script : Script) (s : Counts) (cursor : Cursor) (count : EndedCount) → IsAt script s cursor → cursor.item ≡ 0 → count.frames ≡ 0 → count.refused ≡ 0 →
+    count.totals.got ≡ 0 → count.totals.lost ≡ 0 → count.totals.waits ≡ 0 → FramesDone script s cursor count []
+frames-begun script s cursor count at first frames kept got lost waits =
+    let none : frames_before_item script cursor.item ≡ 0 = ap (frames_before_item script) first in
+    let left = at.left in
+    let all : s.frames ≡ cursor.left = omega (arith, left, none) in
+    record {
+      at = at;
+      counted = record { items = omega (arith, frames, kept); refused = sym kept; got = sym got; waits = sym waits; frames = omega (arith, frames, got, lost, waits) };
+      size = sym none;
+      rest = commands-none script (fates_in script s.rows) s.frames s.commands 0 script.items 0
+          ∙ ap (λ n. ended_on script (fates_in script s.rows) (landed_from n 0 0 script.items) 0) all
+          ∙ ap (λ i. ended_on script (fates_in script s.rows) (landed_from cursor.left 0 i (drop i script.items)) 0) (sym first)
+          ∙ ap (ended_on script (fates_in script s.rows) (frames_left script cursor)) (sym frames);
+    }
+
+pub frames-next : (script : Script) (s : Counts) (was now : Cursor) (count more : EndedCount) (done : List Ended) (found : LandedFrame) (next : IsNext script was now found) →
+    FramesDone script s was count done → IsAt script s now → more ≡ counted_end count (end_by (fates_in script s.rows) found.refusal count.frames) →
+    FramesDone script s now more (done ++ ended_frame script (fates_in script s.rows) found next.octets count.frames ∷ [])
+frames-next script s was now count more done found next come at is =
+    let fate = fates_in script s.rows in
+    let own : Ended = ended_frame script fate found next.octets count.frames in
+    record {
+      at = at;
+      counted = subst (Counted (done ++ own ∷ [])) (sym is) (counted-next done count come.counted found.number found.due next.octets (end_by fate found.refusal count.frames));
+      size = (let one = length-append done (own ∷ []) in let before = come.size in let after = next-count script was now found next in omega (arith, one, before, after));
+      rest = come.rest
+          ∙ ap (λ l. done ++ l) (next-ended script fate was now found next count.frames)
+          ∙ ap (λ n. done ++ own ∷ ended_on script fate (frames_left script now) n) (sym (ap (λ (c : EndedCount). c.frames) is ∙ ended-count script fate count found.refusal))
+          ∙ sym (append_assoc done (own ∷ []) (ended_on script fate (frames_left script now) more.frames));
+    }
+
+offers-few : (items : List Item) → length (offers_of items) ≤ length items
+offers-few [] = omega arith
+offers-few (item ∷ items) =
+    let all = length-append (offer_of item.due item.kind) (offers_of items) in
+    let own = one item.kind in
+    let rest = offers-few items in
+    omega (arith, all, own, rest)
+  where
+    one : (kind : ItemKind) → length (offer_of item.due kind) ≤ 1
+    one (Frame octets) = omega arith
+    one (Add line) = omega arith
+    one (Remove line) = omega arith
+
+pub frames-few : (script : Script) (s : Counts) (cursor : Cursor) (count : EndedCount) (done : List Ended) → FramesDone script s cursor count done → count.frames + count.refused < 4294967295
+frames-few script s cursor count done come =
+    let size = come.size in
+    let items = come.counted.items in
+    let offers = offers-few (take cursor.item script.items) in
+    let part = length-take cursor.item script.items in
+    let few = come.at.valid.few in
+    omega (arith, size, items, offers, part, few)
+
+pub frames-less : (script : Script) (was now : Cursor) (found : LandedFrame) → IsNext script was now found → length (frames_left script now) < length (frames_left script was)
+frames-less script was now found next = let rest = ap length next.rest in omega (arith, rest)
+
+pub frames-past : (script : Script) (s : Counts) (cursor : Cursor) (count : EndedCount) (done : List Ended) → FramesDone script s cursor count done → IsPast script s cursor → done ≡ ended_of script s
+unfolding ended_on
+frames-past script s cursor count done come past =
+    sym (come.rest ∙ ap (λ l. done ++ ended_on script (fates_in script s.rows) l count.frames) past.none ∙ append-nil done)
+
+pub texts-next : (done : List Ended) (own : Ended) (before : List ℕ) → before ++ flat_map ended_text done ++ ended_text own ≡ before ++ flat_map ended_text (done ++ own ∷ [])
+texts-next done own before =
+    append_assoc before (flat_map ended_text done) (ended_text own)
+    ∙ ap (λ l. before ++ l) (ap (λ l. flat_map ended_text done ++ l) (sym (append-nil (ended_text own))) ∙ sym (flat_map-append ended_text done (own ∷ [])))
