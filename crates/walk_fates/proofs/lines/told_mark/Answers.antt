@@ -1,5 +1,5 @@
 -- The row of a mark is found, and whether a piece begins there.
-use Rattle.std.proofs.Common.{◌≡◌, ℕ, suc, ◌<◌, ◌≤◌, sym, ap, ◌∙◌, Option, Some, refl}
+use Rattle.std.proofs.Common.{sym, ap, ◌∙◌, Some}
 use Rattle.session_model.specs.Client.{stream_before}
 use Rattle.session_model.specs.Scenario.{scenario_of}
 use Rattle.walk_law.specs.Walk.{session_of}

@@ -1,9 +1,8 @@
 -- The line of the segment, where there is one.
-use Rattle.std.proofs.Common.{◌≡◌, ℕ, List, ◌++◌, ◌∙◌, Some, ap, sym, subst}
+use Rattle.std.proofs.Common.{◌≡◌, ℕ, List, ◌++◌, ◌∙◌, Some, ap, subst}
 use Rattle.std.specs.Prelude.{codes, decimal}
 use Rattle.got_lines.specs.Told.{HasText}
 use Rattle.walk_law.specs.Delivered.{session_rows}
-use Rattle.fate_law.specs.Spans.{later_segments}
 use Rattle.walk_fates.specs.Lines.{segment_in}
 use Rattle.walk_fates.proofs.lines.write_segment.Goals as goal
 

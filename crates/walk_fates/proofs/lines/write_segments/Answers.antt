@@ -1,5 +1,5 @@
 -- A line more; and all of them.
-use Rattle.std.proofs.Common.{◌<◌, ◌≤◌, ◌++◌, length, take, refl, ap, sym, subst, arith}
+use Rattle.std.proofs.Common.{◌<◌, ◌≤◌, ◌++◌, length, take, refl, ap, subst, arith}
 use Rattle.std.specs.List.{flat_map}
 use Rattle.std.proofs.lemmas.List.{take_all}
 use Rattle.got_lines.specs.Told.{HasText}
