@@ -28,7 +28,7 @@ returns-clause-ok g c =
     let end = c.finish-back.ensures.ok c.args.out.now text (subst N (sym has.0) has) in
     let named = c.finish-back.ensures.name ∙ has.0 ∙ c.new-got.ensures.name in
     let k : OnOk c.finish-back.result.1 (Appends g.K.ByteSink.written g.K.ByteSink.faults c.args.out.now c.take_back.new.out text) =
-        subst (λ now. OnOk c.finish-back.result.1 (Appends g.K.ByteSink.written g.K.ByteSink.faults c.args.out.now now text)) (sym c.take_back.ensures) end in
+    subst (λ now. OnOk c.finish-back.result.1 (Appends g.K.ByteSink.written g.K.ByteSink.faults c.args.out.now now text)) (sym c.take_back.ensures) end in
     search (rules, k, named)
 
 pub returns-clause-err : goal.returns-clause-err
@@ -47,5 +47,5 @@ returns-clause-err g c =
     let end = c.finish-back.ensures.err c.args.out.now text (subst N (sym has.0) has) in
     let named = c.finish-back.ensures.name ∙ has.0 ∙ c.new-got.ensures.name in
     let k : OnErr c.finish-back.result.1 (AppendsPart g.K.ByteSink.written g.K.ByteSink.faults c.args.out.now c.take_back.new.out text) =
-        subst (λ now. OnErr c.finish-back.result.1 (AppendsPart g.K.ByteSink.written g.K.ByteSink.faults c.args.out.now now text)) (sym c.take_back.ensures) end in
+    subst (λ now. OnErr c.finish-back.result.1 (AppendsPart g.K.ByteSink.written g.K.ByteSink.faults c.args.out.now now text)) (sym c.take_back.ensures) end in
     search (rules, k, named)

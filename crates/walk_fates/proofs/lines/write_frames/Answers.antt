@@ -13,7 +13,7 @@ loop-frame-init g c =
     let none = c.default.ensures in (
       [],
       frames-begun c.args.walk.now.script c.args.walk.now.counts c.new-cursor.result (record { frames = 0; refused = 0; totals = c.default.result })
-      c.new-cursor.ensures.at c.new-cursor.ensures.first refl refl none.0 none.1.0 none.1.1,
+          c.new-cursor.ensures.at c.new-cursor.ensures.first refl refl none.0 none.1.0 none.1.1,
       λ start before has. subst (HasText g.K.ByteSink.written g.K.ByteSink.faults c.args.got.now start) (sym (append-nil before)) has,
     )
 
