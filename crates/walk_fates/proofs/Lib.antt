@@ -1,2 +1,3 @@
 pub mod SeenLaws
 pub mod PlaceLaws
+pub mod LineLaws
