@@ -5,6 +5,4 @@ pub mod HexLineLaws
 pub mod DecodedLaws
 pub mod CountLaws
 pub mod RoomLaws
-pub mod SeenLaws
-pub mod SeeLaws
 pub mod SeeLaws

@@ -8,7 +8,4 @@ pub mod Commands
 pub mod Ended
 pub mod Written
 pub mod Told
-pub mod FramePlaces
-pub mod Seen
-pub mod FateLines
 pub mod ReadyWalk

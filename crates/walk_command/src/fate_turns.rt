@@ -2,80 +2,21 @@
 //! taken is whole and why not, and what is confirmed after it. Behind the last turn stand the places of the frames.
 ghost use Rattle.std.specs.Prelude.{◌≡◌, ◌+◌, ◌≤◌, ◌<◌, List, replicate, IfOk, OnOk};
 ghost use Rattle.std.specs.List.{flat_map};
-ghost use Rattle.session_model.specs.declared.script.Script.{Script};
 ghost use Rattle.session_model.specs.declared.walk.Event.{Event};
 ghost use Rattle.session_model.specs.Valid.{IsValid, IsEvent};
 ghost use Rattle.session_model.specs.Counts.{begin, run, run_line, drain, bound};
 ghost use Rattle.walk_law.specs.Walk.{walk_plan, IsWalked};
 ghost use Rattle.headline_law.specs.Texts.{counts_in};
 ghost use Rattle.walk_command.specs.Told.{events_of, IsTurn};
-ghost use Rattle.walk_command.specs.Seen.{Sees};
-ghost use Rattle.walk_command.specs.FateLines.{SeesWalk};
+ghost use Rattle.walk_fates.specs.Seen.{Sees};
+ghost use Rattle.walk_fates.specs.Lines.{SeesWalk};
 
-use crate::events::{Turn, is_step, silent_turn, turns_of};
-use crate::frame_places::place_frames;
+use crate::events::{Turn, silent_turn, turns_of};
 use crate::ready::LinesAndTicks;
-use fate_core::{Packets, Ruler, Segments, SpoiledRuns, row_cause};
 use session_model::EventLine;
 use std::alloc::{AllocError, Global};
 use walk_core::Walk;
-
-/// What was seen of the packets and rows of a walk.
-#[derive(Drop)]
-pub struct SeenRows {
-    /// Of the packets whose decision step was made.
-    pub packets: Packets,
-    /// Of the rows that were taken.
-    pub segments: Segments,
-    /// Of the same rows.
-    pub runs: SpoiledRuns,
-}
-
-/// What is known of a walk that was made.
-#[derive(Drop)]
-pub struct SeenWalk {
-    pub rows: SeenRows,
-    /// Where the pieces of its accepted frames lie.
-    pub ruler: Ruler,
-}
-
-/// Sees a row, which was taken last.
-fn see_row(walk: &Walk, row: u32, seen: &mut SeenRows) -> Result<(), AllocError>
-    requires valid { IsValid walk.now.script }
-    requires walked { IsWalked walk.now.script walk.now.counts }
-    requires last { row + 1 ≡ walk.now.counts.rows }
-    requires seen { Sees walk.now.script walk.now.counts.ticks row seen.old }
-    ensures { OnOk result
-        (Sees walk.now.script walk.now.counts.ticks walk.now.counts.rows seen.new) }
-{
-    let cause = row_cause(&walk.script().config.windows, &seen.packets, row);
-    seen.runs.row(cause)?;
-    let end = seen.packets.place(row + 1);
-    seen.segments
-        .row(cause.is_none(), end, walk.first_confirmed())
-}
-
-/// Sees what came of a turn, after so many ticks and rows.
-fn see_since(walk: &Walk, ticks: u32, rows: u32, seen: &mut SeenRows) -> Result<(), AllocError>
-    requires valid { IsValid walk.now.script }
-    requires walked { IsWalked walk.now.script walk.now.counts }
-    requires least { ticks ≤ walk.now.counts.ticks }
-    requires most { walk.now.counts.ticks ≤ ticks + 1 }
-    requires rows { rows ≤ walk.now.counts.rows }
-    requires one { walk.now.counts.rows ≤ rows + 1 }
-    requires seen { Sees walk.now.script ticks rows seen.old }
-    ensures { OnOk result
-        (Sees walk.now.script walk.now.counts.ticks walk.now.counts.rows seen.new) }
-{
-    let totals = walk.totals();
-    if is_step(ticks, totals.ticks) {
-        seen.packets.push(walk.table().active())?;
-    }
-    if totals.taken == rows {
-        return Ok(());
-    }
-    see_row(walk, rows, seen)
-}
+use walk_fates::{SeenRows, SeenWalk, nothing_seen, place_frames, see_since};
 
 /// Makes a turn, and sees what came of it.
 fn see_turn(walk: &mut Walk, turn: Turn, seen: &mut SeenRows) -> Result<(), AllocError>
@@ -184,17 +125,6 @@ fn see_event_lines(
         see_event_line(walk, *line, ticks, seen)?;
     }
     Ok(())
-}
-
-/// Before the first turn.
-fn nothing_seen(alloc: Global, size: u16) -> SeenRows
-    ensures { (script : Script) → script.config.size ≡ size → Sees script 0 0 result }
-{
-    SeenRows {
-        packets: Packets::new(alloc, size),
-        segments: Segments::new(alloc),
-        runs: SpoiledRuns::new(alloc),
-    }
 }
 
 /// Makes the walk of a script, and sees it.

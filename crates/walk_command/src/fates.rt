@@ -9,12 +9,12 @@ ghost use Rattle.walk_command.specs.Ended.{HandsScript};
 
 use crate::command::WalkCommand;
 use crate::end::{WalkEnd, cut, done, stopped};
-use crate::fate_lines::write_fates;
 use crate::fate_turns::see_walk;
 use crate::ready::read_walk;
 use command_parts::Stop;
 use outside_io::{ByteSink, ByteSource, Failed};
 use std::alloc::{AllocError, Global};
+use walk_fates::write_fates;
 
 /// The words `fates`.
 pub fn words(words: &[String]) -> Option<WalkCommand>
