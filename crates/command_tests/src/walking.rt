@@ -13,6 +13,8 @@ fn answer_rows() -> &'static str {
     walk;lines 1|delays 0|ring 1|lag 1|ticks 1|add 0 0|add 0 0|remove 0 1|frame 0 00| => 0+;refused 1 already in|refused 2 unknown|refused 3 length 1|total ticks 1 taken 1 frames 0 commands 1 refused 3 got 0|;\n\
     walk;lines 2|delays 0 0|ring 1|lag 1|ticks 1|add 0 0|add 0 0|remove 0 1 => 0+;refused 1 already in|refused 2 not in|total ticks 1 taken 1 frames 0 commands 1 refused 2 got 0|;\n\
     trace;lines 1|delays 0|ring 1|lag 1|ticks 41|add 0 0| => 0+;total ticks 41 taken 41 frames 0 commands 1 refused 0 got 0|;packet 0 chg 1 act 0 back none add:0|packet 1 chg 1 act 1 back 7f/1 eos:0|packet 2 chg 1 act 1 back ff/1 eos:0|\n\
+    fates;lines 1|delays 0|ring 1|lag 1|ticks 41|add 0 0|frame 0 5a*2324|frame 0 5a*63|frame 0 5a*64| => 0+;frame 1 due 0 got 40 40|frame 2 due 0 refused length 63|frame 3 due 0 waits|fates ticks 41 taken 41 frames 2 got 1 lost 0 waits 1 refused 1 starts true|;\n\
+    fates;lines 1|delays 0|ring 40|lag 4|ticks 200|fail 0 100 140 39|add 0 0|frame 0 5a*64|frame 168 5a*64|frame 168 5a*64|frame 168 5a*64| => 0+;spoiled 100 104 container 0|spoiled 104 168 packet|segment 168 200 true 168|frame 1 due 0 got 88 88|frame 2 due 168 hunting 168 168|frame 3 due 168 unsettled 168 168|frame 4 due 168 got 168 168|fates ticks 200 taken 200 frames 4 got 2 lost 2 waits 0 refused 0 starts true|;\n\
     make 1 1 1; => 0+;made lines 1 ticks 1|total ticks 1 taken 1 frames 1 commands 1 refused 0 got 0|octets 0 sum 0|;\n\
     make 7 2 400; => 0+;made lines 2 ticks 400|total ticks 400 taken 400 frames 50 commands 2 refused 0 got 50|octets 43246 sum 5512389|;\n\
     stream 9600 400000 0 1000000 1; => 8;;fault: too long|\n\
@@ -37,14 +39,14 @@ fn faulty_rows() -> &'static str {
 /// Words that are no command.
 fn usage_rows() -> &'static str {
     "\
-    ; => 2;;usage: vcat_walk walk, trace, capture, frames, decode, au4, make NUMBER LINES TICKS, or stream OCTETS MBITS FIRST END NUMBER|\n\
-    walk ; => 2;;usage: vcat_walk walk, trace, capture, frames, decode, au4, make NUMBER LINES TICKS, or stream OCTETS MBITS FIRST END NUMBER|\n\
-    walk x; => 2;;usage: vcat_walk walk, trace, capture, frames, decode, au4, make NUMBER LINES TICKS, or stream OCTETS MBITS FIRST END NUMBER|\n\
-    Walk; => 2;;usage: vcat_walk walk, trace, capture, frames, decode, au4, make NUMBER LINES TICKS, or stream OCTETS MBITS FIRST END NUMBER|\n\
-    walk walk; => 2;;usage: vcat_walk walk, trace, capture, frames, decode, au4, make NUMBER LINES TICKS, or stream OCTETS MBITS FIRST END NUMBER|\n\
-    -h; => 2;;usage: vcat_walk walk, trace, capture, frames, decode, au4, make NUMBER LINES TICKS, or stream OCTETS MBITS FIRST END NUMBER|\n\
-    run 2; => 2;;usage: vcat_walk walk, trace, capture, frames, decode, au4, make NUMBER LINES TICKS, or stream OCTETS MBITS FIRST END NUMBER|\n\
-    make 1 1; => 2;;usage: vcat_walk walk, trace, capture, frames, decode, au4, make NUMBER LINES TICKS, or stream OCTETS MBITS FIRST END NUMBER|"
+    ; => 2;;usage: vcat_walk walk, trace, fates, capture, frames, decode, au4, make NUMBER LINES TICKS, or stream OCTETS MBITS FIRST END NUMBER|\n\
+    walk ; => 2;;usage: vcat_walk walk, trace, fates, capture, frames, decode, au4, make NUMBER LINES TICKS, or stream OCTETS MBITS FIRST END NUMBER|\n\
+    walk x; => 2;;usage: vcat_walk walk, trace, fates, capture, frames, decode, au4, make NUMBER LINES TICKS, or stream OCTETS MBITS FIRST END NUMBER|\n\
+    Walk; => 2;;usage: vcat_walk walk, trace, fates, capture, frames, decode, au4, make NUMBER LINES TICKS, or stream OCTETS MBITS FIRST END NUMBER|\n\
+    walk walk; => 2;;usage: vcat_walk walk, trace, fates, capture, frames, decode, au4, make NUMBER LINES TICKS, or stream OCTETS MBITS FIRST END NUMBER|\n\
+    -h; => 2;;usage: vcat_walk walk, trace, fates, capture, frames, decode, au4, make NUMBER LINES TICKS, or stream OCTETS MBITS FIRST END NUMBER|\n\
+    run 2; => 2;;usage: vcat_walk walk, trace, fates, capture, frames, decode, au4, make NUMBER LINES TICKS, or stream OCTETS MBITS FIRST END NUMBER|\n\
+    make 1 1; => 2;;usage: vcat_walk walk, trace, fates, capture, frames, decode, au4, make NUMBER LINES TICKS, or stream OCTETS MBITS FIRST END NUMBER|"
 }
 
 /// Frames that are carried whole or not, in containers of either size; and those that a failure of 40 containers with a slip of 39 covers:
@@ -175,7 +177,7 @@ fn read_rows() -> &'static str {
     walk;lines 2|delays 0 63|ring 63|lag 5|ticks 1| => 7 TIMES 3;;fault: read failed| THEN 6;;fault: spread 63 0 0 63|\n\
     make 1 1 1; => 0+;made lines 1 ticks 1|total ticks 1 taken 1 frames 1 commands 1 refused 0 got 0|octets 0 sum 0|;\n\
     stream 64 1 0 1 1; => 0;frame 0 02000000000202000000000188b5d659cce65af39af629bafbf27c20ba0c1a1fd4356b8dde623db024a051a09f121cc58e5aca6adc1dffe48ab8cd1682076840|;\n\
-    make 1 1; => 2;;usage: vcat_walk walk, trace, capture, frames, decode, au4, make NUMBER LINES TICKS, or stream OCTETS MBITS FIRST END NUMBER|"
+    make 1 1; => 2;;usage: vcat_walk walk, trace, fates, capture, frames, decode, au4, make NUMBER LINES TICKS, or stream OCTETS MBITS FIRST END NUMBER|"
 }
 
 #[test]

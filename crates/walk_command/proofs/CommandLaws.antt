@@ -15,9 +15,10 @@ use Rattle.command_parts.specs.Status.{HasRunAt}
 use Rattle.command_parts.specs.declared.stop.Stop.TheVariants.{Memory}
 use Rattle.command_parts.proofs.StopLaws.{made-beside, ends-no-memory}
 use Rattle.walk_command.specs.declared.command.WalkCommand.{WalkCommand}
-use Rattle.walk_command.specs.declared.command.WalkCommand.TheVariants.{Walk, Trace, Capture, Frames, Decode, Au4, Make, Stream}
+use Rattle.walk_command.specs.declared.command.WalkCommand.TheVariants.{Walk, Trace, Fates, Capture, Frames, Decode, Au4, Make, Stream}
 use Rattle.walk_command.specs.Walk.{word_at, is_word, walk_words}
 use Rattle.walk_command.specs.Trace.{trace_words}
+use Rattle.walk_command.specs.Fates.{fates_words}
 use Rattle.walk_command.specs.Capture.{capture_words}
 use Rattle.walk_command.specs.Frames.{frames_words}
 use Rattle.walk_command.specs.Decode.{decode_words}
@@ -31,6 +32,7 @@ use Rattle.walk_command.specs.Commands.{command_of, task_at, command_in, task_fo
 abbrev pub Fits : WalkCommand → Type 0
 Fits Walk = Unit {0}
 Fits Trace = Unit {0}
+Fits Fates = Unit {0}
 Fits Capture = Unit {0}
 Fits Frames = Unit {0}
 Fits Decode = Unit {0}
@@ -90,6 +92,9 @@ walk-fits words = if-fits (is_word (codes "walk") words) (Some Walk) tt
 trace-fits : (words : List (List ℕ)) → IfSome (trace_words words) Fits
 trace-fits words = if-fits (is_word (codes "trace") words) (Some Trace) tt
 
+fates-fits : (words : List (List ℕ)) → IfSome (fates_words words) Fits
+fates-fits words = if-fits (is_word (codes "fates") words) (Some Fates) tt
+
 capture-fits : (words : List (List ℕ)) → IfSome (capture_words words) Fits
 capture-fits words = if-fits (is_word (codes "capture") words) (Some Capture) tt
 
@@ -129,7 +134,8 @@ named-fits : (words : List (List ℕ)) → IfSome (command_of words) Fits
 named-fits words =
     let walks = walk_words words in
     let traces = option_or walks (trace_words words) in
-    let captures = option_or traces (capture_words words) in
+    let fates = option_or traces (fates_words words) in
+    let captures = option_or fates (capture_words words) in
     let frames = option_or captures (frames_words words) in
     let decodes = option_or frames (decode_words words) in
     let links = option_or decodes (au4_words words) in
@@ -139,8 +145,10 @@ named-fits words =
     (or-fits decodes (au4_words words)
     (or-fits frames (decode_words words)
     (or-fits captures (frames_words words)
-    (or-fits traces (capture_words words)
-    (or-fits walks (trace_words words) (walk-fits words) (trace-fits words)) (capture-fits words)) (frames-fits words))
+    (or-fits fates (capture_words words)
+    (or-fits traces (fates_words words)
+    (or-fits walks (trace_words words) (walk-fits words) (trace-fits words)) (fates-fits words)) (capture-fits words))
+    (frames-fits words))
     (decode-fits words)) (au4-fits words)) (make-fits words)) (stream-fits words)
 
 pub fits : (words : List (String Global)) (command : WalkCommand) → command_in words ≡ Some command → Fits command
@@ -165,6 +173,7 @@ is-command : (o : Option WalkCommand) → (IsNone o → ⊥) → IsCommand (task
 is-command None some = some refl
 is-command (Some Walk) some = tt
 is-command (Some Trace) some = tt
+is-command (Some Fates) some = tt
 is-command (Some Capture) some = tt
 is-command (Some Frames) some = tt
 is-command (Some Decode) some = tt

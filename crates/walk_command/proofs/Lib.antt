@@ -5,5 +5,6 @@ pub mod HexLineLaws
 pub mod DecodedLaws
 pub mod CountLaws
 pub mod RoomLaws
+pub mod SeeLaws
 pub mod CommandLaws
 pub mod TakenLaws

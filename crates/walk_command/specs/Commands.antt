@@ -8,11 +8,12 @@ use Rattle.command_parts.specs.Task.{Task, none, reads, makes}
 use Rattle.command_parts.specs.Ends.{Lent}
 use Rattle.walk_core.specs.Moved.{Walked}
 use Rattle.walk_command.specs.declared.command.WalkCommand.{WalkCommand}
-use Rattle.walk_command.specs.declared.command.WalkCommand.TheVariants.{Walk, Trace, Capture, Frames, Decode, Au4, Make, Stream}
+use Rattle.walk_command.specs.declared.command.WalkCommand.TheVariants.{Walk, Trace, Fates, Capture, Frames, Decode, Au4, Make, Stream}
 use Rattle.walk_command.specs.Walk.{walk_words, walk_answer}
 use Rattle.walk_command.specs.Trace.{trace_words, trace_answer}
 use Rattle.walk_command.specs.Capture.{capture_words, capture_answer}
 use Rattle.walk_command.specs.Frames.{frames_words, frames_answer}
+use Rattle.walk_command.specs.Fates.{fates_words, fates_answer}
 use Rattle.walk_command.specs.Decode.{decode_words, decode_answer}
 use Rattle.walk_command.specs.Au4.{au4_words, au4_answer}
 use Rattle.walk_command.specs.Make.{make_words, make_answer}
@@ -20,13 +21,14 @@ use Rattle.walk_command.specs.Stream.{stream_words, stream_answer}
 use Rattle.walk_command.specs.Ended.{IsWalkOf, HandsScript}
 
 abbrev pub usage : List ℕ
-usage = codes "usage: vcat_walk walk, trace, capture, frames, decode, au4, make NUMBER LINES TICKS, or stream OCTETS MBITS FIRST END NUMBER\n"
+usage = codes "usage: vcat_walk walk, trace, fates, capture, frames, decode, au4, make NUMBER LINES TICKS, or stream OCTETS MBITS FIRST END NUMBER\n"
 
 -- ---- a line for each command
 abbrev pub command_of : List (List ℕ) → Option WalkCommand
 command_of words =
-    option_or (option_or (option_or (option_or (option_or (option_or (option_or (walk_words words)
+    option_or (option_or (option_or (option_or (option_or (option_or (option_or (option_or (walk_words words)
     (trace_words words))
+    (fates_words words))
     (capture_words words))
     (frames_words words))
     (decode_words words))
@@ -37,6 +39,7 @@ command_of words =
 abbrev pub task_at : WalkCommand → Task
 task_at Walk = reads walk_answer
 task_at Trace = reads trace_answer
+task_at Fates = reads fates_answer
 task_at Capture = reads capture_answer
 task_at Frames = reads frames_answer
 task_at Decode = reads decode_answer
@@ -47,6 +50,7 @@ task_at (Stream load) = makes (stream_answer load)
 abbrev pub HandsBack : {S : Type 0} → Lent S → Option Walked → WalkCommand → Type 0
 HandsBack source walk Walk = HandsScript source walk
 HandsBack source walk Trace = HandsScript source walk
+HandsBack source walk Fates = HandsScript source walk
 HandsBack source walk Capture = HandsScript source walk
 HandsBack source walk Frames = walk ≡ None
 HandsBack source walk Decode = walk ≡ None
@@ -58,6 +62,7 @@ HandsBack source walk (Stream rate) = walk ≡ None
 abbrev pub RunsScript : WalkCommand → Type 0
 RunsScript Walk = Unit {0}
 RunsScript Trace = Unit {0}
+RunsScript Fates = ⊥
 RunsScript Capture = ⊥
 RunsScript Frames = ⊥
 RunsScript Decode = ⊥

@@ -1,6 +1,7 @@
 pub mod HexLines
 pub mod Walk
 pub mod Trace
+pub mod Fates
 pub mod Capture
 pub mod Frames
 pub mod Decode

@@ -1,6 +1,6 @@
 //! The commands of the program, a line for each.
 
-use crate::{au4, capture, decode, frames, make, stream, trace, walk};
+use crate::{au4, capture, decode, fates, frames, make, stream, trace, walk};
 use cmd_words::FromWords;
 use rate_load::RateLoad;
 
@@ -11,6 +11,8 @@ pub enum WalkCommand {
     Walk,
     /// `trace`: the same, and write a line for each decision step.
     Trace,
+    /// `fates`: make the walk of a script, and write what became of each frame.
+    Fates,
     /// `capture`: make the walk of a script, and write a capture of the frames that it delivers.
     Capture,
     /// `frames`: write the lines of a script for the frames of a capture.
@@ -33,6 +35,7 @@ impl FromWords for WalkCommand {
     fn from_words(words: &[String]) -> Option<WalkCommand> {
         walk::words(words)
             .or(trace::words(words))
+            .or(fates::words(words))
             .or(capture::words(words))
             .or(frames::words(words))
             .or(decode::words(words))

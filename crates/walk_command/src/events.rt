@@ -1,7 +1,6 @@
 //! What the event lines of a script say is made, and what comes of it is written: the lines of delivered frames, of refused items and of
 //! totals, and after each decision step its line on `notes`.
 ghost use Rattle.std.specs.Prelude.{◌≡◌, ◌≢◌, ◌+◌, ◌-◌, ◌≤◌, ◌<◌, ℕ, List, ◌++◌, length, replicate, false, IfSome, IfNone, OnOk, OnErr};
-ghost use Rattle.std.specs.Bool.{OnTrue, OnFalse};
 ghost use Rattle.std.specs.List.{flat_map};
 ghost use Rattle.outside_io.specs.Transfer.{Appends, AppendsPart};
 ghost use Rattle.session_model.specs.declared.walk.Event.{Event};
@@ -29,6 +28,7 @@ use session_model::{Event, EventLine};
 use sink_core::FrameOut;
 use trace_core::{TRACE_ROOM, trace_line};
 use walk_core::Walk;
+use walk_fates::is_step;
 
 /// Takes frames, and does nothing with them.
 #[derive(Drop)]
@@ -67,16 +67,6 @@ fn tell_step<E: ByteSink>(walk: &Walk, lines: u8, notes: &mut E) -> Result<(), F
     let mut line = [0u8; TRACE_ROOM];
     let end = trace_line(note.packet, note.back, walk.table(), lines, &mut line);
     put_all(notes, &line[..end])
-}
-
-/// Whether a decision step was made since a number of ticks, after which one more was made at most.
-fn is_step(before: u32, now: u32) -> bool
-    requires least { before ≤ now }
-    requires most { now ≤ before + 1 }
-    ensures yes { OnTrue result (steps_in now ≡ steps_in before + 1) }
-    ensures no { OnFalse result (steps_in now ≡ steps_in before) }
-{
-    now != before && now % 16 == 9
 }
 
 /// Writes the line of the decision step that was made since a number of ticks, where one was.
@@ -150,13 +140,15 @@ pub fn make_turn<F: FrameOut>(walk: &mut Walk, turn: Turn, out: &mut F)
 }
 
 /// Makes a turn, of which nothing is told.
-fn silent_turn(walk: &mut Walk, turn: Turn)
+pub fn silent_turn(walk: &mut Walk, turn: Turn)
     requires { IsTurn (walk_plan walk.old.script) turn }
     ensures script { walk.new.script ≡ walk.old.script }
     ensures counts { let plan = walk_plan walk.old.script in
         walk.new.counts ≡ run plan walk.old.counts (events_of plan turn) }
     ensures rows { walk.old.counts.rows ≤ walk.new.counts.rows }
+    ensures one { walk.new.counts.rows ≤ walk.old.counts.rows + 1 }
     ensures least { walk.old.counts.ticks ≤ walk.new.counts.ticks }
+    ensures most { walk.new.counts.ticks ≤ walk.old.counts.ticks + 1 }
 {
     make_turn(walk, turn, &mut Silent);
 }

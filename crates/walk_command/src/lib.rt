@@ -10,6 +10,8 @@ mod command;
 mod decode;
 mod end;
 mod events;
+mod fate_turns;
+mod fates;
 mod frames;
 mod hex_lines;
 mod make;

@@ -3,7 +3,7 @@ use Rattle.std.proofs.Common.{rules, Err, refl, ap, arith}
 use Rattle.headline_law.specs.Texts.{walk_text}
 use Rattle.command_parts.specs.Task.{writes, writes_both}
 use Rattle.command_parts.specs.Ends.{lent}
-use Rattle.walk_command.specs.declared.command.WalkCommand.TheVariants.{Walk, Trace, Capture, Make, Stream}
+use Rattle.walk_command.specs.declared.command.WalkCommand.TheVariants.{Walk, Trace, Fates, Capture, Make, Stream}
 use Rattle.walk_command.specs.Trace.{trace_text}
 use Rattle.walk_command.specs.Make.{make_answer}
 use Rattle.walk_command.specs.Stream.{stream_answer}
@@ -29,6 +29,9 @@ returns-in-Ok-Trace-clause-headline g c =
 
 pub returns-in-Ok-Trace-clause-handed : goal.returns-in-Ok-Trace-clause-handed
 returns-in-Ok-Trace-clause-handed g c = some-command _ (command_in c.args.words.now) Trace (search rules) c.trace.ensures.handed
+
+pub returns-in-Ok-Fates-clause-handed : goal.returns-in-Ok-Fates-clause-handed
+returns-in-Ok-Fates-clause-handed g c = some-command _ (command_in c.args.words.now) Fates (search rules) c.fates.ensures.handed
 
 pub returns-in-Ok-Capture-clause-handed : goal.returns-in-Ok-Capture-clause-handed
 returns-in-Ok-Capture-clause-handed g c = some-command _ (command_in c.args.words.now) Capture (search rules) c.capture.ensures.handed

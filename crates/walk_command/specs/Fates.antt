@@ -1,0 +1,15 @@
+-- `fates`: a script's walk, and what became of each of its frames.
+use Rattle.std.specs.Prelude.{ℕ, List, codes, Option, Some, None, if◌then◌else◌}
+use Rattle.fate_law.specs.FateText.{fates_text}
+use Rattle.headline_law.specs.Texts.{counts_in}
+use Rattle.command_parts.specs.Task.{Answer, writes}
+use Rattle.command_parts.specs.Scripts.{script_answer}
+use Rattle.walk_command.specs.declared.command.WalkCommand.{WalkCommand}
+use Rattle.walk_command.specs.declared.command.WalkCommand.TheVariants.{Fates}
+use Rattle.walk_command.specs.Walk.{is_word}
+
+abbrev pub fates_words : List (List ℕ) → Option WalkCommand
+fates_words words = if is_word (codes "fates") words then Some Fates else None
+
+abbrev pub fates_answer : List ℕ → Answer
+fates_answer = script_answer (λ script. writes (fates_text script (counts_in script)))

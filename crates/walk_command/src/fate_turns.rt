@@ -1,0 +1,149 @@
+//! A walk is made turn by turn, and after each turn it is seen which lines carry payload under the packet that was begun, whether the row that was
+//! taken is whole and why not, and what is confirmed after it. Behind the last turn stand the places of the frames.
+ghost use Rattle.std.specs.Prelude.{◌≡◌, ◌+◌, ◌≤◌, ◌<◌, List, replicate, IfOk, OnOk};
+ghost use Rattle.std.specs.List.{flat_map};
+ghost use Rattle.session_model.specs.declared.walk.Event.{Event};
+ghost use Rattle.session_model.specs.Valid.{IsValid, IsEvent};
+ghost use Rattle.session_model.specs.Counts.{begin, run, run_line, drain, bound};
+ghost use Rattle.walk_law.specs.Walk.{walk_plan, IsWalked};
+ghost use Rattle.headline_law.specs.Texts.{counts_in};
+ghost use Rattle.walk_command.specs.Told.{events_of, IsTurn};
+ghost use Rattle.walk_fates.specs.Seen.{Sees};
+ghost use Rattle.walk_fates.specs.Lines.{SeesWalk};
+
+use crate::events::{Turn, silent_turn, turns_of};
+use crate::ready::LinesAndTicks;
+use session_model::EventLine;
+use std::alloc::{AllocError, Global};
+use walk_core::Walk;
+use walk_fates::{SeenRows, SeenWalk, nothing_seen, place_frames, see_since};
+
+/// Makes a turn, and sees what came of it.
+fn see_turn(walk: &mut Walk, turn: Turn, seen: &mut SeenRows) -> Result<(), AllocError>
+    requires valid { IsValid walk.old.script }
+    requires walked { IsWalked walk.old.script walk.old.counts }
+    requires turn { IsTurn (walk_plan walk.old.script) turn }
+    requires seen { Sees walk.old.script walk.old.counts.ticks walk.old.counts.rows seen.old }
+    ensures script { walk.new.script ≡ walk.old.script }
+    ensures counts { let plan = walk_plan walk.old.script in
+        walk.new.counts ≡ run plan walk.old.counts (events_of plan turn) }
+    ensures seen { OnOk result
+        (Sees walk.new.script walk.new.counts.ticks walk.new.counts.rows seen.new) }
+{
+    let totals = walk.totals();
+    silent_turn(walk, turn);
+    see_since(walk, totals.ticks, totals.taken, seen)
+}
+
+/// Makes a turn a number of times.
+fn see_turns(
+    walk: &mut Walk,
+    turn: Turn,
+    count: u32,
+    seen: &mut SeenRows,
+) -> Result<(), AllocError>
+    requires valid { IsValid walk.old.script }
+    requires walked { IsWalked walk.old.script walk.old.counts }
+    requires turn { IsTurn (walk_plan walk.old.script) turn }
+    requires seen { Sees walk.old.script walk.old.counts.ticks walk.old.counts.rows seen.old }
+    ensures script { walk.new.script ≡ walk.old.script }
+    ensures counts { let plan = walk_plan walk.old.script in
+        OnOk result (walk.new.counts ≡ run plan walk.old.counts
+        (flat_map (λ (tries : List Event). tries) (replicate count (events_of plan turn)))) }
+    ensures seen { OnOk result
+        (Sees walk.new.script walk.new.counts.ticks walk.new.counts.rows seen.new) }
+{
+    for _made in 0..count {
+        see_turn(walk, turn, seen)?;
+    }
+    Ok(())
+}
+
+/// Makes rounds until all rows are taken.
+fn see_drain(walk: &mut Walk, ticks: u32, seen: &mut SeenRows) -> Result<(), AllocError>
+    requires valid { IsValid walk.old.script }
+    requires walked { IsWalked walk.old.script walk.old.counts }
+    requires ticks { ticks ≡ walk.old.script.config.ticks }
+    requires seen { Sees walk.old.script walk.old.counts.ticks walk.old.counts.rows seen.old }
+    ensures script { walk.new.script ≡ walk.old.script }
+    ensures counts { let plan = walk_plan walk.old.script in
+        OnOk result (walk.new.counts ≡ drain (bound plan) plan walk.old.counts) }
+    ensures seen { OnOk result
+        (Sees walk.new.script walk.new.counts.ticks walk.new.counts.rows seen.new) }
+{
+    while walk.totals().taken < ticks {
+        see_turn(walk, Turn::Round, seen)?;
+    }
+    Ok(())
+}
+
+/// Makes what an event line says.
+fn see_event_line(
+    walk: &mut Walk,
+    line: EventLine,
+    ticks: u32,
+    seen: &mut SeenRows,
+) -> Result<(), AllocError>
+    requires valid { IsValid walk.old.script }
+    requires walked { IsWalked walk.old.script walk.old.counts }
+    requires event { IsEvent walk.old.script.config.lines line }
+    requires ticks { ticks ≡ walk.old.script.config.ticks }
+    requires seen { Sees walk.old.script walk.old.counts.ticks walk.old.counts.rows seen.old }
+    ensures script { walk.new.script ≡ walk.old.script }
+    ensures counts { OnOk result
+        (walk.new.counts ≡ run_line (walk_plan walk.old.script) walk.old.counts line) }
+    ensures seen { OnOk result
+        (Sees walk.new.script walk.new.counts.ticks walk.new.counts.rows seen.new) }
+{
+    match turns_of(line) {
+        Some((turn, count)) => see_turns(walk, turn, count, seen),
+        None => see_drain(walk, ticks, seen),
+    }
+}
+
+/// Makes what the event lines of a walk's script say. Where there are none, it drains.
+fn see_event_lines(
+    walk: &mut Walk,
+    lines: &[EventLine],
+    ticks: u32,
+    seen: &mut SeenRows,
+) -> Result<(), AllocError>
+    requires valid { IsValid walk.old.script }
+    requires events { lines.now ≡ walk.old.script.events }
+    requires begun { walk.old.counts ≡ begin (walk_plan walk.old.script) }
+    requires ticks { ticks ≡ walk.old.script.config.ticks }
+    requires seen { Sees walk.old.script walk.old.counts.ticks walk.old.counts.rows seen.old }
+    ensures script { walk.new.script ≡ walk.old.script }
+    ensures counts { OnOk result (walk.new.counts ≡ counts_in walk.old.script) }
+    ensures seen { OnOk result
+        (Sees walk.new.script walk.new.counts.ticks walk.new.counts.rows seen.new) }
+{
+    if lines.is_empty() {
+        return see_drain(walk, ticks, seen);
+    }
+    for line in lines {
+        see_event_line(walk, *line, ticks, seen)?;
+    }
+    Ok(())
+}
+
+/// Makes the walk of a script, and sees it.
+pub fn see_walk(
+    alloc: Global,
+    walk: &mut Walk,
+    lines: &[EventLine],
+    size: LinesAndTicks,
+) -> Result<SeenWalk, AllocError>
+    requires valid { IsValid walk.old.script }
+    requires events { lines.now ≡ walk.old.script.events }
+    requires begun { walk.old.counts ≡ begin (walk_plan walk.old.script) }
+    requires ticks { size.ticks ≡ walk.old.script.config.ticks }
+    ensures script { walk.new.script ≡ walk.old.script }
+    ensures counts { OnOk result (walk.new.counts ≡ counts_in walk.old.script) }
+    ensures seen { IfOk result (SeesWalk walk.new.script walk.new.counts) }
+{
+    let mut rows = nothing_seen(alloc, walk.script().config.size);
+    see_event_lines(walk, lines, size.ticks, &mut rows)?;
+    let ruler = place_frames(alloc, walk, &rows.packets)?;
+    Ok(SeenWalk { rows, ruler })
+}

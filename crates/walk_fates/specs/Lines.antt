@@ -1,0 +1,52 @@
+-- What is known of a walk that was made, and what its items came to, as private clauses say it.
+use Rattle.std.specs.Prelude.{◌≡◌, ℕ, ◌+◌, List, length, Option, Some, None}
+use Rattle.session_model.specs.declared.script.Script.{Script}
+use Rattle.session_model.specs.Counts.{Counts}
+use Rattle.session_model.specs.Valid.{IsValid}
+use Rattle.walk_law.specs.Walk.{IsWalked}
+use Rattle.walk_law.specs.Delivered.{session_rows}
+use Rattle.walk_law.specs.Promise.{session_pieces}
+use Rattle.fate_law.specs.declared.RowSegment.{RowSegment}
+use Rattle.report_text.specs.declared.report.Refusal.{Refusal}
+use Rattle.fate_law.specs.declared.Fate.{Fate}
+use Rattle.fate_law.specs.SessionFates.{End, refused, accepted, Ended, fate_at, is_refused, has_got, has_waited, count_of}
+use Rattle.fate_law.specs.FateText.{segment_text}
+use Rattle.fate_core.specs.Totals.{counted}
+use Rattle.walk_fates.specs.Places.{Rules}
+use Rattle.walk_fates.specs.Seen.{Sees}
+use Rattle.walk_fates.specs.declared.seen.SeenWalk.{SeenWalk}
+use Rattle.walk_fates.specs.declared.lines.EndedCount.{EndedCount}
+
+-- what is known of a walk that was made
+pub record SeesWalk (script : Script) (s : Counts) (seen : SeenWalk) : Type 0 where
+  pub valid : IsValid script
+  pub walked : IsWalked script s
+  pub rows : Sees script s.ticks s.rows seen.rows
+  pub places : Rules script s.ticks seen.ruler
+
+-- the line of a segment of some rows
+abbrev pub segment_in : Script → ℕ → RowSegment → List ℕ
+segment_in script rows segment = segment_text (session_pieces script) (session_rows script rows) segment
+
+-- the items whose lines were written, counted
+pub record Counted (all : List Ended) (count : EndedCount) : Type 0 where
+  pub items : length all ≡ count.frames + count.refused
+  pub refused : count_of is_refused all ≡ count.refused
+  pub got : count_of has_got all ≡ count.totals.got
+  pub waits : count_of has_waited all ≡ count.totals.waits
+  pub frames : count.frames ≡ count.totals.got + count.totals.lost + count.totals.waits
+
+-- ---- item by item
+-- what became of accepted frames after some rows
+abbrev pub fates_in : Script → ℕ → ℕ → Fate
+fates_in script rows = fate_at (session_pieces script) (session_rows script rows)
+
+-- the end of a client item, by why it is refused, where so many were accepted before it
+abbrev pub end_by : (ℕ → Fate) → Option Refusal → ℕ → End
+end_by fate None i = accepted (fate i)
+end_by fate (Some why) i = refused why
+
+-- one more item of such an end
+abbrev pub counted_end : EndedCount → End → EndedCount
+counted_end count (refused why) = record { frames = count.frames; refused = count.refused + 1; totals = count.totals }
+counted_end count (accepted fate) = record { frames = count.frames + 1; refused = count.refused; totals = counted count.totals fate }
