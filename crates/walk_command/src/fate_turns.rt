@@ -36,12 +36,7 @@ fn see_turn(walk: &mut Walk, turn: Turn, seen: &mut SeenRows) -> Result<(), Allo
 }
 
 /// Makes a turn a number of times.
-fn see_turns(
-    walk: &mut Walk,
-    turn: Turn,
-    count: u32,
-    seen: &mut SeenRows,
-) -> Result<(), AllocError>
+fn see_turns(walk: &mut Walk, turn: Turn, count: u32, seen: &mut SeenRows) -> Result<(), AllocError>
     requires valid { IsValid walk.old.script }
     requires walked { IsWalked walk.old.script walk.old.counts }
     requires turn { IsTurn (walk_plan walk.old.script) turn }

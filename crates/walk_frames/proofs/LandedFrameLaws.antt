@@ -96,9 +96,11 @@ module _ (script : Script) (s : Counts) (cursor : Cursor) (at : IsAt script s cu
   pub other-refusals : is_client item.kind ≡ false →
       (why : Option Refusal) × (drop cursor.refusal (refusals_of script s) ≡ refused_by cursor.item why ++ refusals_among script (landed_from cursor.left (at.commands - 1) (cursor.item + 1) behind))
   other-refusals other =
-      let parts = with-refusals (nat_lt 0 at.commands) (landed_from cursor.left (at.commands - 1) (cursor.item + 1) behind) in
-      (parts.0, at.refusals ∙ ap (refusals_among script) (from-here cursor.left at.commands ∙ landed-other cursor.left at.commands cursor.item item behind other
-      ∙ ap (with_if (nat_lt 0 at.commands) own) (numbers cursor.left (at.commands - 1))) ∙ parts.1)
+      let parts = with-refusals (nat_lt 0 at.commands) (landed_from cursor.left (at.commands - 1) (cursor.item + 1) behind) in (
+        parts.0,
+        at.refusals ∙ ap (refusals_among script) (from-here cursor.left at.commands ∙ landed-other cursor.left at.commands cursor.item item behind other
+            ∙ ap (with_if (nat_lt 0 at.commands) own) (numbers cursor.left (at.commands - 1))) ∙ parts.1,
+      )
 
   pub frame-rest : is_client item.kind ≡ true → frames_left script cursor ≡ own ∷ landed_from (cursor.left - 1) 0 (cursor.item + 1) behind
   frame-rest client = from-here cursor.left 0 ∙ landed-frame cursor.left 0 cursor.item item behind client some ∙ ap (λ l. own ∷ l) (numbers (cursor.left - 1) 0)
@@ -141,7 +143,7 @@ module _ (script : Script) (s : Counts) (cursor : Cursor) (at : IsAt script s cu
     (items : List Item) (are : items ≡ script.items) (refusals : List (ℕ × Refusal)) (told : refusals ≡ refusals_of script s)
     (i : ℕ) (here : i ≡ cursor.item) (item : Item) (item-is : item ≡ get_or items i item) (result : Option Refusal) (r : ℕ)
     (finds : (why : Option Refusal) (later : List (ℕ × Refusal)) → drop cursor.refusal refusals ≡ refused_by i why ++ later → All (λ (refused : ℕ × Refusal). i < refused.0) later →
-        (result ≡ why) × (drop r refusals ≡ later)) where
+    (result ≡ why) × (drop r refusals ≡ later)) where
   there : slice_get script.items cursor.item ≡ Some item
   there = get-there script.items cursor.item item low ∙ ap Some (sym (item-is ∙ ap₂ (λ l n. get_or l n item) are here))
 

@@ -95,8 +95,8 @@ fate-stays front more rows i reach =
     inside here (Some e) is =
         let between = get-all (IsBetween 0 (0 + length (stream_of front))) first i e (extents-between 0 front) is in
         let later = λ (k : ℕ) (other : Extent) (there : slice_get second k ≡ Some other).
-          let far = get-all (IsBetween (0 + length (stream_of front)) (0 + length (stream_of front) + length (stream_of more))) second k other (extents-between (0 + length (stream_of front)) more) there in
-          let low : e.from ≤ other.from = omega (arith, far.lower, between.upper, between.size) in low in
+        let far = get-all (IsBetween (0 + length (stream_of front)) (0 + length (stream_of front) + length (stream_of more))) second k other (extents-between (0 + length (stream_of front)) more) there in
+        let low : e.from ≤ other.from = omega (arith, far.lower, between.upper, between.size) in low in
         ap (fate_if (fate_of (front ++ more) rows)) (ap (λ l. slice_get l i) parts ∙ get-front first second i here ∙ is)
         ∙ ap (λ fate. if is_carried (length (octets_of_rows rows)) e then fate else Waits)
         (ap (λ all. fate_among (Cut (row_at rows e.from) (row_at rows (e.to - 1)) (spoiled_after rows (row_at rows e.from))) (segments rows) all e (row_at rows e.from) (row_at rows (e.to - 1))) parts
