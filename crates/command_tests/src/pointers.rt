@@ -1,5 +1,6 @@
-//! Links of AU-4 frames: what comes of numbered VC-4s on them, what is wrong with a text, and inputs and outputs that fail. What is expected
-//! comes of a model of the definitions. Rows stand behind functions, so that no proof sees them.
+//! Links of AU-4 frames: what comes of numbered VC-4s on them, what is wrong with a text, and inputs and
+//! outputs that fail. What is expected comes of a model of the definitions. Rows stand behind functions, so
+//! that no proof sees them.
 
 use crate::rows::Program::Walk;
 use crate::rows::{Turns, try_rows};

@@ -1,5 +1,6 @@
 -- The core header from which four octets differ in at most one bit.
-use Rattle.std.specs.Prelude.{◌≡◌, ℕ, zero, suc, ◌-◌, ◌^◌, ◌<◌, ◌≤◌, length, drop, true, false, Bool, List, ◌∷◌, ◌++◌, replicate, Option, Some, None}
+use Rattle.std.specs.Prelude.{◌≡◌, ℕ, zero, suc, ◌-◌, ◌^◌, ◌<◌, ◌≤◌, length, drop, true, false, Bool, List, ◌∷◌, ◌++◌}
+use Rattle.std.specs.Prelude.{replicate, Option, Some, None}
 use Rattle.remainder.specs.Bits.{bits, number, octet_bits, xors}
 use Rattle.hec16.specs.Hec.{hec_bits}
 use Rattle.session_model.specs.Core.{core_header, IsPli, head}

@@ -1,12 +1,15 @@
 -- Four octets that differ from a core header in at most one bit give that header: the 32 single errors leave
 -- remainders that differ from each other and from 0.
-use Rattle.std.proofs.Common.{◌≡◌, ◌≢◌, ℕ, zero, suc, ◌-◌, ◌*◌, ◌^◌, ◌<◌, ◌≤◌, ◌⊎◌, ◌==◌, ◌&&◌, Bool, true, false, if◌then◌else◌, List, [], ◌∷◌, ◌++◌, length, replicate, take, drop, All, Option, Some, None, refl, sym, ◌∙◌, ap, ap₂, subst, inl, inr, arith, le_of_eq}
+use Rattle.std.proofs.Common.{◌≡◌, ◌≢◌, ℕ, zero, suc, ◌-◌, ◌*◌, ◌^◌, ◌<◌, ◌≤◌, ◌⊎◌, ◌==◌, ◌&&◌, Bool, true, false}
+use Rattle.std.proofs.Common.{if◌then◌else◌, List, [], ◌∷◌, ◌++◌, length, replicate, take, drop, All, Option, Some}
+use Rattle.std.proofs.Common.{None, refl, sym, ◌∙◌, ap, ap₂, subst, inl, inr, arith, le_of_eq}
 use Rattle.std.proofs.lemmas.List.{length-append, length-replicate, length-take, length-drop, take_at, take-append-drop}
 use Rattle.std.specs.Prelude.{◌↔◌}
 use Rattle.std.proofs.lemmas.Bool.Decides.{nat_tests}
 use Rattle.remainder.specs.Bits.{bits, number_behind, number, octet_bits, octets_of, xors}
 use Rattle.remainder.specs.Remainder.{add_front, divide}
-use Rattle.remainder.proofs.XorLaws.{length_xors, xors_assoc, xors-self, xors-zeros, xors-zeros_right, xors_twice, xors_zero, xors-append}
+use Rattle.remainder.proofs.XorLaws.{length_xors, xors_assoc, xors-self, xors-zeros, xors-zeros_right, xors_twice}
+use Rattle.remainder.proofs.XorLaws.{xors_zero, xors-append}
 use Rattle.remainder.proofs.BitLaws.{length-bits, bits-add, bits_low, bits-number, same_from_bits}
 use Rattle.remainder.proofs.DivisionLaws.{divide-xors, divide-zeros, length-divide}
 use Rattle.remainder.proofs.RemainderLaws.{divide_behind}
@@ -14,7 +17,8 @@ use Rattle.remainder.proofs.OctetLaws.{octet_bits-append, length-octet_bits, oct
 use Rattle.hec16.specs.Hec.{crc16, hec_bits}
 use Rattle.hec16.proofs.HecLaws.{length-hec_bits}
 use Rattle.session_model.specs.Core.{core_header, IsPli, pli_of, head}
-use Rattle.session_model.proofs.CoreLaws.{length-core_header, core_header_below, head-core_header, core_header-head, IsPli-head}
+use Rattle.session_model.proofs.CoreLaws.{length-core_header, core_header_below, head-core_header, core_header-head}
+use Rattle.session_model.proofs.CoreLaws.{IsPli-head}
 use Rattle.fcs_model.specs.Flips.{count, flipped}
 use Rattle.fcs_model.specs.Near.{bit_at, or_else, turned_below, near, IsNear, IsFixed, check_of}
 use Rattle.flip_law.proofs.CountLaws.{count-append, count-zeros, count-true, OneAt, count_none, count_one, none_or_one}
