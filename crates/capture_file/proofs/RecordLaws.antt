@@ -64,7 +64,8 @@ cut_in-enough order zero (suc m) octets few enough = nothing order octets (cut_i
 cut_in-enough order (suc k) zero octets few enough = sym (nothing order octets (cut_in order k) (omega (arith, enough)))
 cut_in-enough order (suc k) (suc m) octets few enough =
     then-same octets (first_record order octets) (cut_in order k) (cut_in order m)
-    (λ own is. let short = found-short order octets own is in cut_in-enough order k m own.1 (omega (arith, short, few)) (omega (arith, short, enough)))
+    (λ own is. let short = found-short order octets own is in
+        cut_in-enough order k m own.1 (omega (arith, short, few)) (omega (arith, short, enough)))
 
 one-more : (order : ByteOrder) (octets : List ℕ) →
     cut_of order octets ≡ cut_then octets (first_record order octets) (cut_in order (length octets))

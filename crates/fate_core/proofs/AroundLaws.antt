@@ -55,7 +55,8 @@ look-low : (from : ℕ) (list : List RowSegment) (r : ℕ) → Rise from list �
 unfolding look Rise
 look-low from [] r rise low = refl
 look-low from (segment ∷ list) r rise low =
-    rw (lt-ltb r segment.end (let a = rise.0 in let b = rise.1 in omega (arith, a, b, low)), lt-leb segment.first r (let a = rise.0 in omega (arith, a, low))) refl
+    rw (lt-ltb r segment.end (let a = rise.0 in let b = rise.1 in omega (arith, a, b, low)),
+        lt-leb segment.first r (let a = rise.0 in omega (arith, a, low))) refl
 
 look-rows : (from : ℕ) (list : List RowSegment) (r : ℕ) → Rise from list → look (filter has_row list) r ≡ look list r
 unfolding look Rise
@@ -209,11 +210,13 @@ ends-low : (from : ℕ) (ended : List RowSegment) (end k : ℕ) (d : RowSegment)
     k < length ended → (from ≤ (slice_index_or ended k d).end) × ((slice_index_or ended k d).end ≤ end)
 unfolding AreInOrder
 ends-low from [] end k d are within = absurd (omega arith)
-ends-low from (segment ∷ ended) end zero d are within = (let a = are.0 in let b = are.1 in omega (arith, a, b), order-low segment.end ended end are.2)
+ends-low from (segment ∷ ended) end zero d are within =
+    (let a = are.0 in let b = are.1 in omega (arith, a, b), order-low segment.end ended end are.2)
   where
     order-low : (from : ℕ) (ended : List RowSegment) (end : ℕ) → AreInOrder from ended end → from ≤ end
     order-low from [] end are = are
-    order-low from (segment ∷ ended) end are = let rest = order-low segment.end ended end are.2 in let a = are.0 in let b = are.1 in omega (arith, rest, a, b)
+    order-low from (segment ∷ ended) end are = let rest = order-low segment.end ended end are.2 in let a = are.0 in
+        let b = are.1 in omega (arith, rest, a, b)
 ends-low from (segment ∷ ended) end (suc k) d are within =
     let rest = ends-low segment.end ended end k d are.2 (omega arith) in
     let a = are.0 in
@@ -251,8 +254,10 @@ front-of : (ended : List RowSegment) (i : ℕ) (segment : RowSegment) → Some s
         (slice_index_or ended i segment ≡ segment)
 front-of [] zero segment there = absurd cc
 front-of [] (suc i) segment there = absurd cc
-front-of (own ∷ ended) zero segment there = let same : own ≡ segment = cc in (ended, ap (λ s. s ∷ ended) same, omega arith, same)
-front-of (own ∷ ended) (suc i) segment there = let rest = front-of ended i segment there in (rest.0, rest.1, omega (arith, rest.2), rest.3)
+front-of (own ∷ ended) zero segment there = let same : own ≡ segment = cc in
+    (ended, ap (λ s. s ∷ ended) same, omega arith, same)
+front-of (own ∷ ended) (suc i) segment there = let rest = front-of ended i segment there in
+    (rest.0, rest.1, omega (arith, rest.2), rest.3)
 
 -- ---- what is told of a row
 module _ (kept : SegmentList) (rows : List StreamRow) (stands : Stands kept rows) (are : AreSegments kept) (r : ℕ)
@@ -316,7 +321,9 @@ module _ (kept : SegmentList) (rows : List StreamRow) (stands : Stands kept rows
               (lt-ltb kept.last.first kept.last.end (omega (arith, from, below))) in
       by-look (in_segment kept.last) high
       (sym (ap (λ b. look (kept.ended ++ (if b then kept.last ∷ [] else [])) r) is
-      ∙ look-more kept.ended (kept.last ∷ []) r (length kept.ended) (λ k d before within. let e = ends-low 0 kept.ended kept.last.first k d are.order within in omega (arith, e.1, from))
+      ∙ look-more kept.ended (kept.last ∷ []) r (length kept.ended)
+          (λ k d before within. let e = ends-low 0 kept.ended kept.last.first k d are.order within in
+          omega (arith, e.1, from))
       ∙ ap (λ l. look (l ++ kept.last ∷ []) r) (drop-end kept.ended (length kept.ended) (omega arith))
       ∙ rw (lt-ltb r kept.last.end below, le-leb kept.last.first r from) refl))
 

@@ -34,8 +34,10 @@ record IsExtent (all : List Extent) (i : ℕ) (side : ℕ × ℕ) : Type 0 where
 extent-at : (all : List Extent) (i : ℕ) (side : ℕ × ℕ) → Some side ≡ slice_get (sides all) i → IsExtent all i side
 extent-at [] zero side there = absurd cc
 extent-at [] (suc i) side there = absurd cc
-extent-at (e ∷ all) zero side there = let same : side ≡ (e.from, e.to) = cc in record { extent = e; there = refl; from = ap (λ (s : ℕ × ℕ). s.0) same; to = ap (λ (s : ℕ × ℕ). s.1) same }
-extent-at (e ∷ all) (suc i) side there = let rest = extent-at all i side there in record { extent = rest.extent; there = rest.there; from = rest.from; to = rest.to }
+extent-at (e ∷ all) zero side there = let same : side ≡ (e.from, e.to) = cc in
+    record { extent = e; there = refl; from = ap (λ (s : ℕ × ℕ). s.0) same; to = ap (λ (s : ℕ × ℕ). s.1) same }
+extent-at (e ∷ all) (suc i) side there = let rest = extent-at all i side there in
+    record { extent = rest.extent; there = rest.there; from = rest.from; to = rest.to }
 
 -- ---- the frame before
 later-none : (m from : ℕ) (all : List Extent) (end : ℕ) (e : Extent) → AreInOrder from (sides all) end → e.from ≤ from →
@@ -44,7 +46,8 @@ unfolding AreInOrder
 later-none m from [] end e are low = refl
 later-none m from (x ∷ all) end e are low =
     let late : nat_lt x.from e.from ≡ false = le-ltb x.from e.from (let a = are.0 in omega (arith, a, low)) in
-    ap₂ ◌||◌ (ap (λ b. nat_le m x.from && b) late ∙ and-false (nat_le m x.from)) (later-none m x.to all end e are.2 (let a = are.0 in let b = are.1 in omega (arith, a, b, low)))
+    ap₂ ◌||◌ (ap (λ b. nat_le m x.from && b) late ∙ and-false (nat_le m x.from))
+        (later-none m x.to all end e are.2 (let a = are.0 in let b = are.1 in omega (arith, a, b, low)))
   where
     and-false : (b : Bool) → (b && false) ≡ false
     and-false true = refl
@@ -55,8 +58,10 @@ side-late : (from : ℕ) (all : List Extent) (end k : ℕ) (e : Extent) → AreI
 unfolding AreInOrder
 side-late from [] end zero e are there = absurd cc
 side-late from [] end (suc k) e are there = absurd cc
-side-late from (x ∷ all) end zero e are there = let same : x ≡ e = cc in subst (λ (y : Extent). from ≤ y.from) same are.0
-side-late from (x ∷ all) end (suc k) e are there = let rest = side-late x.to all end k e are.2 there in let a = are.0 in let b = are.1 in omega (arith, rest, a, b)
+side-late from (x ∷ all) end zero e are there = let same : x ≡ e = cc in
+    subst (λ (y : Extent). from ≤ y.from) same are.0
+side-late from (x ∷ all) end (suc k) e are there = let rest = side-late x.to all end k e are.2 there in let a = are.0 in
+    let b = are.1 in omega (arith, rest, a, b)
 
 begins-late : (m from : ℕ) (all : List Extent) (end j : ℕ) (e : Extent) → AreInOrder from (sides all) end →
     slice_get all (suc j) ≡ Some e → m ≤ from → begins_from m (slice_get (sides all) j) ≡ true
@@ -64,7 +69,8 @@ unfolding AreInOrder
 begins-late m from [] end zero e are there low = absurd cc
 begins-late m from [] end (suc j) e are there low = absurd cc
 begins-late m from (x ∷ all) end zero e are there low = le-leb m x.from (let a = are.0 in omega (arith, a, low))
-begins-late m from (x ∷ all) end (suc j) e are there low = begins-late m x.to all end j e are.2 there (let a = are.0 in let b = are.1 in omega (arith, a, b, low))
+begins-late m from (x ∷ all) end (suc j) e are there low =
+    begins-late m x.to all end j e are.2 there (let a = are.0 in let b = are.1 in omega (arith, a, b, low))
 
 settled-by : (m from : ℕ) (all : List Extent) (end i : ℕ) (e : Extent) → AreInOrder from (sides all) end →
     slice_get all i ≡ Some e → list_any (is_settled_by m e) all ≡ settles (sides all) i m
@@ -76,7 +82,8 @@ settled-by m from (x ∷ all) end zero e are there =
     let here : nat_lt x.from e.from ≡ false =
             le-ltb x.from e.from (let e2 = ap (λ (y : Extent). y.from) same in omega (arith, e2)) in
     ap₂ ◌||◌ (ap (λ b. nat_le m x.from && b) here ∙ and-false (nat_le m x.from))
-    (later-none m x.to all end e are.2 (let e2 = ap (λ (y : Extent). y.from) same in let b = are.1 in omega (arith, e2, b)))
+    (later-none m x.to all end e are.2
+        (let e2 = ap (λ (y : Extent). y.from) same in let b = are.1 in omega (arith, e2, b)))
   where
     and-false : (b : Bool) → (b && false) ≡ false
     and-false true = refl
@@ -156,7 +163,8 @@ module _ (scenario : Scenario) (cells : List (Option Told)) where
   pub rows-count : (n : ℕ) → length (rows_of scenario cells n) ≡ n
   unfolding rows_of
   rows-count zero = refl
-  rows-count (suc n) = let rest = rows-count n in let all = length-append (rows_of scenario cells n) (row_of scenario cells n ∷ []) in omega (arith, rest, all)
+  rows-count (suc n) = let rest = rows-count n in
+      let all = length-append (rows_of scenario cells n) (row_of scenario cells n ∷ []) in omega (arith, rest, all)
 
   take-rows : (n k : ℕ) → k ≤ n → take k (rows_of scenario cells n) ≡ rows_of scenario cells k
   unfolding rows_of
@@ -185,7 +193,8 @@ module _ (scenario : Scenario) (cells : List (Option Told)) where
       omega (arith, grows, one, other)
 
   pub place-up : (j k : ℕ) → j ≤ k → place_of scenario cells j ≤ place_of scenario cells k
-  place-up j k low = let rises = place-rises j (k - j) in let same = ap (place_of scenario cells) (let e : j + (k - j) ≡ k = omega arith in e) in omega (arith, rises, same)
+  place-up j k low = let rises = place-rises j (k - j) in
+      let same = ap (place_of scenario cells) (let e : j + (k - j) ≡ k = omega arith in e) in omega (arith, rises, same)
 
   -- the row of a place
   pub row-is : (n place row : ℕ) → place < place_of scenario cells n → place_of scenario cells row ≤ place →

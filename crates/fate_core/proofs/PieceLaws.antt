@@ -23,7 +23,8 @@ piece_in start (side ∷ rest) end place =
 order-low : (from : ℕ) (list : List (ℕ × ℕ)) (end : ℕ) → AreInOrder from list end → from ≤ end
 unfolding AreInOrder
 order-low from [] end are = are
-order-low from (side ∷ list) end are = let rest = order-low side.1 list end are.2 in let a = are.0 in let b = are.1 in omega (arith, rest, a, b)
+order-low from (side ∷ list) end are = let rest = order-low side.1 list end are.2 in let a = are.0 in let b = are.1 in
+    omega (arith, rest, a, b)
 
 early : (start place : ℕ) → place < start → is_fourth start place ≡ false
 early start place low = ap (λ b. b && (place - start) % 4 == 0) (lt-leb start place low)
@@ -80,7 +81,8 @@ piece-next start (side ∷ list) end place are =
     elim (cases_lt place side.0) [
       | inl low ↦ rw (lt-ltb place side.0 low) (fourth-next start place)
       | inr high ↦ rw (le-ltb place side.0 high)
-          (sym (ap (λ b. b || (place == side.0 || piece_in side.1 list end place)) (ne_eqb start place (λ same. let a = are.0 in omega (arith, same, high, a)))))
+          (sym (ap (λ b. b || (place == side.0 || piece_in side.1 list end place))
+              (ne_eqb start place (λ same. let a = are.0 in omega (arith, same, high, a)))))
     ]
 
 -- ---- the pieces of a stream
@@ -204,4 +206,5 @@ piece-found start (own ∷ list) end place (suc i) side are low there begun abov
     side-late from (own ∷ list) end zero side are there =
         (let same : own ≡ side = cc in subst (λ (s : ℕ × ℕ). from ≤ s.0) same are.0)
     side-late from (own ∷ list) end (suc i) side are there =
-        (let rest = side-late own.1 list end i side are.2 there in let a = are.0 in let b = are.1 in omega (arith, rest, a, b))
+        (let rest = side-late own.1 list end i side are.2 there in let a = are.0 in let b = are.1 in
+            omega (arith, rest, a, b))

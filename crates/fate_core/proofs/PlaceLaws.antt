@@ -189,7 +189,8 @@ module _ (size : ℕ) (list : List Packet) (end : ℕ) (is : IsPacketList size l
       omega (arith, start, next, lines)
 
   pub start-low : (k : ℕ) → k ≤ length list → start_by size actives k ≤ 8796093022208
-  start-low k low = let few = is.few in start-few size actives k is.small (omega (arith, few, low)) (lines-few list is.lines)
+  start-low k low = let few = is.few in
+      start-few size actives k is.small (omega (arith, few, low)) (lines-few list is.lines)
 
   -- a row under packet k lies low
   pub row-low : (k q : ℕ) (packet : Packet) → slice_get list k ≡ Some packet → q < 16 →

@@ -156,11 +156,13 @@ pub side-low : (from : ℕ) (list : List (ℕ × ℕ)) (end k : ℕ) (side : ℕ
 unfolding AreInOrder
 side-low from [] end zero side are there = absurd cc
 side-low from [] end (suc k) side are there = absurd cc
-side-low from (own ∷ list) end zero side are there = let same : own ≡ side = cc in subst (λ (s : ℕ × ℕ). s.1 ≤ end) same (order-low own.1 list end are.2)
+side-low from (own ∷ list) end zero side are there = let same : own ≡ side = cc in
+    subst (λ (s : ℕ × ℕ). s.1 ≤ end) same (order-low own.1 list end are.2)
   where
     order-low : (from : ℕ) (list : List (ℕ × ℕ)) (end : ℕ) → AreInOrder from list end → from ≤ end
     order-low from [] end are = are
-    order-low from (side ∷ list) end are = let rest = order-low side.1 list end are.2 in let a = are.0 in let b = are.1 in omega (arith, rest, a, b)
+    order-low from (side ∷ list) end are = let rest = order-low side.1 list end are.2 in let a = are.0 in
+        let b = are.1 in omega (arith, rest, a, b)
 side-low from (own ∷ list) end (suc k) side are there = side-low own.1 list end k side are.2 there
 
 -- ---- the search among those that are begun
@@ -175,9 +177,11 @@ sides-rise from [] end i j d are before within = absurd (omega arith)
 sides-rise from (side ∷ list) end zero zero d are before within = (are.0, omega arith)
 sides-rise from (side ∷ list) end (suc i) zero d are before within = absurd (omega arith)
 sides-rise from (side ∷ list) end zero (suc j) d are before within =
-    let rest = sides-rise side.1 list end j j d are.2 (omega arith) (omega arith) in let a = are.0 in let b = are.1 in (a, omega (arith, rest.0, b))
+    let rest = sides-rise side.1 list end j j d are.2 (omega arith) (omega arith) in let a = are.0 in let b = are.1 in
+            (a, omega (arith, rest.0, b))
 sides-rise from (side ∷ list) end (suc i) (suc j) d are before within =
-    let rest = sides-rise side.1 list end i j d are.2 (omega arith) (omega arith) in let a = are.0 in let b = are.1 in (omega (arith, rest.0, a, b), rest.1)
+    let rest = sides-rise side.1 list end i j d are.2 (omega arith) (omega arith) in let a = are.0 in let b = are.1 in
+            (omega (arith, rest.0, a, b), rest.1)
 
 map-at : (frames : List Piece) (k : ℕ) (d : Piece) → k < length frames →
     slice_index_or (map side_of frames) k (side_of d) ≡ side_of (slice_index_or frames k d)
@@ -219,7 +223,8 @@ map-get : (frames : List Piece) (k : ℕ) (side : ℕ × ℕ) → slice_get (map
 map-get [] zero side there = absurd cc
 map-get [] (suc k) side there = absurd cc
 map-get (own ∷ frames) zero side there = (own, omega arith, refl, cc)
-map-get (own ∷ frames) (suc k) side there = let rest = map-get frames k side there in (rest.0, (let low = rest.1 in omega (arith, low)), rest.2, rest.3)
+map-get (own ∷ frames) (suc k) side there = let rest = map-get frames k side there in
+    (rest.0, (let low = rest.1 in omega (arith, low)), rest.2, rest.3)
 
 pub is-begun : (frames : List Piece) (place i : ℕ) → i ≤ length frames → Begun frames place i →
     IsBegun (map side_of frames) place i

@@ -35,7 +35,8 @@ beside-row : (come : Spans) (segments : Segments) (count : ℕ) (whole : Bool) (
     Beside come segments count → Beside (span_by whole come) (row_by whole segments octets) (suc count)
 beside-row come segments count true octets is = record { ended = is.ended; last = ap suc is.last }
 beside-row come segments count false octets is = record {
-  ended = (let a = length-append come.ended (come.last ∷ []) in let b = length-append segments.ended (segments.last ∷ []) in let c = is.ended in omega (arith, a, b, c));
+  ended = (let a = length-append come.ended (come.last ∷ []) in
+      let b = length-append segments.ended (segments.last ∷ []) in let c = is.ended in omega (arith, a, b, c));
   last = ap suc is.last;
 }
 
@@ -234,7 +235,8 @@ module _ (kept : SegmentList) (rows : List StreamRow) (row : StreamRow) (stands 
       omega (arith, low, count, last, ends, first)
 
   whole-first : kept.last.first ≤ kept.first → spoiled_from 0 rows ≡ 0 + length rows
-  whole-first low = let goes = are.goes low in let count = stands.count in let first = stands.first in omega (arith, goes, count, first)
+  whole-first low = let goes = are.goes low in let count = stands.count in let first = stands.first in
+      omega (arith, goes, count, first)
 
   pub go-on : (end : ℕ) (confirmed : Option ℕ) → row.whole ≡ true → Tells (rows ++ row ∷ []) end confirmed →
       Stands (gone_on kept confirmed) (rows ++ row ∷ [])

@@ -103,7 +103,9 @@ over : (list : List Window) (from count i : ℕ) → Parts list from i →
     whole_in list from count ≡ whole_in (drop i list) from count
 over list from count i point =
     whole-same (carried list) (carried (drop i list)) from count (λ n low.
-    carried-drop list n i (λ k d below inside. let ends = leb-true (slice_index_or list k d).end from (point.0 k d (omega arith) below) in omega (arith, ends, low)))
+    carried-drop list n i (λ k d below inside.
+        let ends = leb-true (slice_index_or list k d).end from (point.0 k d (omega arith) below) in
+        omega (arith, ends, low)))
 
 front-above : (list : List Window) (from i : ℕ) (window : Window) → Parts list from i →
     Some window ≡ slice_get (drop i list) 0 → from < window.end
@@ -117,7 +119,8 @@ front-above list from i window point there =
     front-at [] zero window there = absurd cc
     front-at [] (suc i) window there = absurd cc
     front-at (own ∷ list) zero window there = (omega arith, (let e : Some window ≡ Some own = there in cc))
-    front-at (own ∷ list) (suc i) window there = let rest = front-at list i window there in (omega (arith, rest.0), rest.1)
+    front-at (own ∷ list) (suc i) window there = let rest = front-at list i window there in
+        (omega (arith, rest.0), rest.1)
 
 pub some-tells : (list : List Window) (from count i : ℕ) (window : Window) → AreWindows 0 list → 0 < count →
     Parts list from i →

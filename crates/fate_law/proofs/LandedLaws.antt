@@ -191,7 +191,9 @@ before-few script s t valid walked low =
     sym (landed-judged (scenario_of script) (session_cells (scenario_of script)) t)
         ∙ ap (judged (scenario_of script) (session_cells (scenario_of script)) []) (offers_land offers t sorted) in
     let same : filter (is_come t) (take s.frames offers) ≡ come =
-    filter-first (is_come t) s.frames offers (λ k offer waits there. let late = frame-waits script s k offer walked waits there in le-ltb offer.due t (omega (arith, late, low))) in
+    filter-first (is_come t) s.frames offers
+        (λ k offer waits there. let late = frame-waits script s k offer walked waits there in
+        le-ltb offer.due t (omega (arith, late, low))) in
     let few : length come ≤ s.frames =
     omega (arith, ap length same, filter-few (is_come t) (take s.frames offers), take-few s.frames offers) in
     let first = come-first t offers sorted in

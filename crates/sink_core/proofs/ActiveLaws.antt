@@ -17,7 +17,8 @@ zero_on n = omega arith
 pub active_from-add : (sq a b : ℕ) (packets : List (Option Packet)) →
     active_from sq (a + b) packets ≡ active_from sq a packets ++ active_from (sq + a) b packets
 unfolding active_from
-active_from-add sq zero b packets = let e : sq ≡ sq + 0 = omega arith in let f : b ≡ 0 + b = omega arith in ap₂ (λ sq b. active_from sq b packets) e (sym f)
+active_from-add sq zero b packets = let e : sq ≡ sq + 0 = omega arith in let f : b ≡ 0 + b = omega arith in
+    ap₂ (λ sq b. active_from sq b packets) e (sym f)
 active_from-add sq (suc a) b packets =
     let e : sq + 1 + a ≡ sq + suc a = omega arith in
     let f : suc a + b ≡ suc (a + b) = omega arith in
@@ -65,7 +66,8 @@ has-before : (sq : ℕ) (packet : Option Packet) → has is_carrying sq packet �
 has-before sq None e = absurd cc
 has-before sq (Some packet) e =
     elim (cases_Bool (is_carrying packet.ctrl)) [
-      | inl on ↦ let f : (packet.sq == sq) ≡ true = rw on at e in let g : packet.sq ≡ sq = grind (arith, nat_tests, f) in omega arith
+      | inl on ↦ let f : (packet.sq == sq) ≡ true = rw on at e in
+          let g : packet.sq ≡ sq = grind (arith, nat_tests, f) in omega arith
       | inr off ↦ absurd (let f : false ≡ true = rw off at e in cc)
     ]
 

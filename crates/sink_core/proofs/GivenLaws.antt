@@ -81,7 +81,8 @@ decided-from [] t i none m own here = absurd cc
 decided-from (first ∷ cells) t i none zero own here =
     elim (cases_Bool (is_none (verdict first t))) [
       | inl open' ↦ absurd (let e : Some i ≡ None = rw open' at none in cc)
-      | inr shut ↦ let same : first ≡ own = cc in subst (λ own. IsSome (verdict own t)) same (not-none (verdict first t) shut)
+      | inr shut ↦ let same : first ≡ own = cc in
+          subst (λ own. IsSome (verdict own t)) same (not-none (verdict first t) shut)
     ]
 decided-from (first ∷ cells) t i none (suc m) own here =
     elim (cases_Bool (is_none (verdict first t))) [
@@ -128,7 +129,9 @@ governing-between cells t no_end =
     elim (cases_Bool (nat_lt 22 t)) [
       | inl late ↦
           let tested : (t % 16 == 7) ≡ false = rw late at no_end in
-          governing-same cells t (λ e. absurd (let f : (t % 16 == 7) ≡ true = grind (arith, nat_tests, (let h : t % 16 ≡ 7 = omega arith in h)) in let g : true ≡ false = sym f ∙ tested in cc))
+          governing-same cells t (λ e. absurd
+              (let f : (t % 16 == 7) ≡ true = grind (arith, nat_tests, (let h : t % 16 ≡ 7 = omega arith in h)) in
+              let g : true ≡ false = sym f ∙ tested in cc))
       | inr early ↦
           let low : t ≤ 22 = grind (arith, nat_tests, early) in
           let a : nat_lt (t + 1) 24 ≡ true = grind (arith, nat_tests, (let h : t + 1 < 24 = omega arith in h)) in

@@ -76,7 +76,8 @@ some-there (y ∷ xs) (suc i) low = some-there xs i (omega (arith, low))
 pub get-contains : {X : Type 0} (xs : List X) (i : ℕ) (x : X) → slice_get xs i ≡ Some x → Contains xs x
 get-contains [] i x there = absurd cc
 get-contains (y ∷ xs) zero x there = (0, omega arith, (let e : y ≡ x = cc in e))
-get-contains (y ∷ xs) (suc i) x there = let rest = get-contains xs i x there in (suc rest.0, (let low = rest.1 in omega (arith, low)), rest.2)
+get-contains (y ∷ xs) (suc i) x there = let rest = get-contains xs i x there in
+    (suc rest.0, (let low = rest.1 in omega (arith, low)), rest.2)
 
 -- ---- the marks of later segments
 abbrev MarkLow : ℕ → RowSegment → Type 0
@@ -337,10 +338,14 @@ module _ (all : List Ended) (count : EndedCount) (are : Counted all count) (numb
           now.totals.waits ≡ count.totals.waits + one_if w →
       now.frames ≡ now.totals.got + now.totals.lost + now.totals.waits → Counted (all ++ with_end end ∷ []) now
   more-by end now r g w rs gs ws sum refuses gets waits frames = record {
-    items = (let size = length-append all (with_end end ∷ []) in let items = are.items in omega (arith, size, items, sum));
-    refused = (let more = count-more is_refused all (with_end end) r rs in let was = are.refused in omega (arith, more, was, refuses));
-    got = (let more = count-more has_got all (with_end end) g gs in let was = are.got in omega (arith, more, was, gets));
-    waits = (let more = count-more has_waited all (with_end end) w ws in let was = are.waits in omega (arith, more, was, waits));
+    items = (let size = length-append all (with_end end ∷ []) in let items = are.items in
+        omega (arith, size, items, sum));
+    refused = (let more = count-more is_refused all (with_end end) r rs in let was = are.refused in
+        omega (arith, more, was, refuses));
+    got = (let more = count-more has_got all (with_end end) g gs in let was = are.got in
+        omega (arith, more, was, gets));
+    waits = (let more = count-more has_waited all (with_end end) w ws in let was = are.waits in
+        omega (arith, more, was, waits));
     frames = frames;
   }
 
@@ -439,7 +444,8 @@ frames-next script s was now count more done found next come at is =
       counted = subst (Counted (done ++ own ∷ [])) (sym is)
           (counted-next done count come.counted found.number found.due next.octets
           (end_by fate found.refusal count.frames));
-      size = (let one = length-append done (own ∷ []) in let before = come.size in let after = next-count script was now found next in omega (arith, one, before, after));
+      size = (let one = length-append done (own ∷ []) in let before = come.size in
+          let after = next-count script was now found next in omega (arith, one, before, after));
       rest = come.rest
           ∙ ap (λ l. done ++ l) (next-ended script fate was now found next count.frames)
           ∙ ap (λ n. done ++ own ∷ ended_on script fate (frames_left script now) n)

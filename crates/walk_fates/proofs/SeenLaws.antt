@@ -145,7 +145,8 @@ row-tells script s rows end confirmed is ends told = record {
 few-by : (octets : List ℕ) (found : Option Confirmed) → hunt true 0 octets ≡ found → length octets < 2 ^ 63 →
     ForSome (option_map (λ (found : Confirmed). found.place) found) (λ place. place < 2 ^ 63)
 few-by octets None is low place there = absurd (let e : None ≡ Some place = there in cc)
-few-by octets (Some found) is low place there = let within = confirmed-within octets found is in let e : found.place ≡ place = cc in omega (arith, within, low, e)
+few-by octets (Some found) is low place there = let within = confirmed-within octets found is in
+    let e : found.place ≡ place = cc in omega (arith, within, low, e)
 
 pub place-low : (script : Script) (rows : ℕ) → IsValid script → rows ≤ script.config.ticks →
     place_of (scenario_of script) (session_of script) rows < 2 ^ 63
@@ -170,7 +171,9 @@ causes-size script n = length-map-range_with_len (row_cause (scenario_of script)
 pub rows-size : (script : Script) (n : ℕ) → length (session_rows script n) ≡ n
 unfolding rows_of
 rows-size script zero = refl
-rows-size script (suc n) = let before = rows-size script n in let more = length-append (session_rows script n) (row_of (scenario_of script) (session_of script) n ∷ []) in omega (arith, before, more)
+rows-size script (suc n) = let before = rows-size script n in
+    let more = length-append (session_rows script n) (row_of (scenario_of script) (session_of script) n ∷ []) in
+    omega (arith, before, more)
 
 -- ---- before any row
 pub nothing-governs : (script : Script) (size : ℕ) (packets : PacketList) → script.config.size ≡ size →

@@ -171,7 +171,8 @@ found-refusal refusals r item x there own None later is far =
     first : (later : List (ℕ × Refusal)) → x ∷ drop (r + 1) refusals ≡ later →
         All (λ (refused : ℕ × Refusal). item < refused.0) later → ⊥
     first [] e far = cc
-    first (y ∷ ys) e far = let low = far 0 x (omega arith) in let same : x ≡ y = cc in let number = ap (λ (refused : ℕ × Refusal). refused.0) same in omega (arith, low, number, own)
+    first (y ∷ ys) e far = let low = far 0 x (omega arith) in let same : x ≡ y = cc in
+        let number = ap (λ (refused : ℕ × Refusal). refused.0) same in omega (arith, low, number, own)
 found-refusal refusals r item x there own (Some why) later is far =
     let parts : x ∷ drop (r + 1) refusals ≡ (item, why) ∷ later = sym (drop-one refusals r x there) ∙ is in
     let head : x ≡ (item, why) = cc in
@@ -330,7 +331,9 @@ past-end script s cursor at (inr past) =
     let no : drop cursor.item script.items ≡ [] = drop_all cursor.item script.items past in
     record {
       none = ap (landed_from cursor.left 0 cursor.item) no ∙ nothing cursor.left cursor.item;
-      late = λ j offer far there. absurd (let size = ap (λ items. length (offers_of items)) all in let low = get-within (offers_of script.items) j offer there in omega (arith, size, low, far));
+      late = λ j offer far there. absurd
+          (let size = ap (λ items. length (offers_of items)) all in
+          let low = get-within (offers_of script.items) j offer there in omega (arith, size, low, far));
     }
 
 pub past-before : (script : Script) (s : Counts) (was now : Cursor) → IsSkipped script was now → IsPast script s now →

@@ -63,7 +63,9 @@ module _ (all more : List Extent) (e : Extent)
   settled-stays : (place : ℕ) → list_any (is_settled_by place e) (all ++ more) ≡ list_any (is_settled_by place e) all
   settled-stays place =
       any-front (is_settled_by place e) all more
-      (any-none (is_settled_by place e) more (λ k other there. let none = le-ltb other.from e.from (later k other there) in rw none (and-false (nat_le place other.from))))
+      (any-none (is_settled_by place e) more
+          (λ k other there. let none = le-ltb other.from e.from (later k other there) in
+          rw none (and-false (nat_le place other.from))))
     where
       and-false : (b : Bool) → (b && false) ≡ false
       and-false true = refl

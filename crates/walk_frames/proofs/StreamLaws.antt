@@ -76,9 +76,12 @@ met-tick script k from t to between low high =
     let cells : List (Option Told) = session_of script in
     let frame_of = λ (offer : DueFrame). offer.frame in
     let all : filter (comes_at t) (take k scenario.offers) ≡ filter (comes_at t) scenario.offers =
-    filter-first (comes_at t) k scenario.offers (λ j offer far there. let due = between.late j offer far there in late t offer (omega (arith, due, high))) in
+    filter-first (comes_at t) k scenario.offers
+        (λ j offer far there. let due = between.late j offer far there in late t offer (omega (arith, due, high))) in
     let none : filter (comes_at (suc t)) (take k scenario.offers) ≡ [] =
-    take-none (comes_at (suc t)) k scenario.offers (λ j offer near there. let due = between.early j offer near there in early (suc t) offer (omega (arith, due, low))) in
+    take-none (comes_at (suc t)) k scenario.offers
+        (λ j offer near there. let due = between.early j offer near there in
+        early (suc t) offer (omega (arith, due, low))) in
     let next : t + 1 ≡ suc t = omega arith in
     ap (λ n. reached (place_of scenario cells n) (stream_met scenario cells t (take k scenario.offers))) next
     ∙ ap (λ offers. reached (place_of scenario cells (suc t))

@@ -141,7 +141,8 @@ areas-few : (longest : ℕ) (settled : Bool) (before : ℕ) (areas : List (List 
 unfolding outcomes_after_with
 areas-few longest settled before [] = omega arith
 areas-few longest settled before ([] ∷ areas) = let rest = areas-few longest settled (before + 0) areas in omega arith
-areas-few longest settled before ((o ∷ area) ∷ areas) = let rest = areas-few longest settled (before + length (o ∷ area)) areas in omega arith
+areas-few longest settled before ((o ∷ area) ∷ areas) =
+    let rest = areas-few longest settled (before + length (o ∷ area)) areas in omega arith
 
 run-few : (longest : ℕ) (run : Run) → length (run_outcomes_with (client_outcome longest) run) ≤ length run.areas
 run-few longest run =

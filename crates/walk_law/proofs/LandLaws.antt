@@ -84,8 +84,10 @@ held-commands ticks a (suc b) i (command_due first ∷ items) none (suc k) due l
 pub ahead-next : (items : List Due) (ticks frames commands : ℕ) → held ticks frames commands 0 items ≡ None →
     Ahead items (ticks + 1) frames commands
 ahead-next items ticks frames commands none = record {
-  of_frames = λ k due low there. let late = held-frames ticks frames commands 0 items none k due low there in omega arith;
-  of_commands = λ k due low there. let late = held-commands ticks frames commands 0 items none k due low there in omega arith;
+  of_frames = λ k due low there. let late = held-frames ticks frames commands 0 items none k due low there in
+      omega arith;
+  of_commands = λ k due low there. let late = held-commands ticks frames commands 0 items none k due low there in
+      omega arith;
 }
 
 -- ---- event by event

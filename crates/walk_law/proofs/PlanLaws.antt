@@ -58,7 +58,8 @@ own-at : (lists : List (List Window)) (m : ℕ) (own : List Window) → slice_ge
     (slice_index_or lists m [] ≡ own)
 own-at [] m own here = absurd cc
 own-at (windows ∷ lists) zero own here = (omega arith, cc)
-own-at (windows ∷ lists) (suc m) own here = let rest = own-at lists m own here in (let low = rest.0 in omega arith, rest.1)
+own-at (windows ∷ lists) (suc m) own here = let rest = own-at lists m own here in
+    (let low = rest.0 in omega arith, rest.1)
 
 pub has-plan : (script : Script) → CanWalk script → IsPlan (walk_plan script)
 has-plan script can =

@@ -54,7 +54,9 @@ popped-list : (script : Script) (lines : List LineCounts) → length lines ≡ l
 popped-list script lines size =
     ap (λ n. map (popped_on script lines) (range_with_len 0 n)) (sym size)
     ∙ map-from (popped_on script lines) (line_cells script) 0 lines
-    (λ k low. let e : 0 + k ≡ k = omega arith in subst (λ m. popped_on script lines m ≡ take (slice_index_or lines k no_counts).popped (line_cells script m)) (sym e) refl)
+    (λ k low. let e : 0 + k ≡ k = omega arith in
+        subst (λ m. popped_on script lines m ≡ take (slice_index_or lines k no_counts).popped (line_cells script m))
+        (sym e) refl)
 
 -- the paths from one on say which numbers the cells decide
 unfoldable Decide : ℕ → (ℕ → List Cell) → ℕ → List LinePath → Type 0
@@ -109,7 +111,8 @@ decide-from t all m (path ∷ paths) each =
     let here : m + 0 ≡ m = omega arith in (
       λ y. subst (λ i. IsSome (verdict (take y (all i)) t) ↔ (t < path.decided y)) here (each 0 path refl y),
       decide-from t all (suc m) paths
-          (λ k other there y. let e : m + suc k ≡ suc m + k = omega arith in subst (λ i. IsSome (verdict (take y (all i)) t) ↔ (t < other.decided y)) e (each (suc k) other there y)),
+          (λ k other there y. let e : m + suc k ≡ suc m + k = omega arith in
+              subst (λ i. IsSome (verdict (take y (all i)) t) ↔ (t < other.decided y)) e (each (suc k) other there y)),
     )
 
 pop-size : (t m : ℕ) (paths : List LinePath) (lines : List LineCounts) → length lines ≡ length paths →
@@ -230,7 +233,8 @@ first-open script lines m t size inside low before =
           (λ i under. subst (λ k. is_open t (popped_on script lines k) ≡ false) (let g : i ≡ 0 + i = omega arith in g)
               (told i under))
           (subst (λ k. is_open t (popped_on script lines k) ≡ true) (let g : m ≡ 0 + m = omega arith in g)
-          (is-open (verdict (popped_on script lines m) t) (λ some. let past = (popped-decides script m y t low).0 some in omega arith)))
+          (is-open (verdict (popped_on script lines m) t)
+              (λ some. let past = (popped-decides script m y t low).0 some in omega arith)))
           ∙ ap Some (let g : 0 + m ≡ m = omega arith in g),
     )
 

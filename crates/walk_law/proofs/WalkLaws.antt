@@ -52,7 +52,8 @@ unfolding Each
 each-there P [] [] m path d all here = absurd cc
 each-there P [] (line ∷ lines) m path d all here = absurd all
 each-there P (first ∷ paths) [] m path d all here = absurd all
-each-there P (first ∷ paths) (line ∷ lines) zero path d all here = let e : first ≡ path = cc in subst (λ path. P path line) e all.0
+each-there P (first ∷ paths) (line ∷ lines) zero path d all here = let e : first ≡ path = cc in
+    subst (λ path. P path line) e all.0
 each-there P (first ∷ paths) (line ∷ lines) (suc m) path d all here = each-there P paths lines m path d all.1 here
 
 -- the first cells that all carries give are those of some carries, where these give as many

@@ -22,7 +22,8 @@ loop-preserved c =
     let items : c.push.new.self.items ≡ c.loop.tx.items ++ c.in_ok-end.end ∷ [] = search rules in
     let more = length-append c.loop.tx.items (c.in_ok-end.end ∷ []) in
     record {
-      count = let count = c.loop.invariant.count in omega (arith, subst (λ xs. length xs ≡ length c.loop.tx.items + 1) (sym items) more, count);
+      count = let count = c.loop.invariant.count in
+          omega (arith, subst (λ xs. length xs ≡ length c.loop.tx.items + 1) (sym items) more, count);
       unused = subst AreUnused (sym items)
           (unused-more c.loop.tx.items c.in_ok-end.end c.loop.invariant.unused (search rules));
     }

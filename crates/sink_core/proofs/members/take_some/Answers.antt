@@ -6,7 +6,8 @@ use Rattle.sink_core.proofs.GivingLaws.{next-told}
 use Rattle.sink_core.proofs.members.take_some.Goals as goal
 
 pub give-requires-clause-short : goal.give-requires-clause-short
-give-requires-clause-short g c = let (first, octets, stands) = c.requires in c.feed-taken.ensures.short 9600 first octets stands
+give-requires-clause-short g c = let (first, octets, stands) = c.requires in
+    c.feed-taken.ensures.short 9600 first octets stands
 
 pub returns-in-Frame-clause-grows : goal.returns-in-Frame-clause-grows
 returns-in-Frame-clause-grows g c first octets stands = c.feed-taken.ensures.stands_in 9600 first octets stands

@@ -10,10 +10,12 @@ use Rattle.walk_fates.proofs.seen.see_since.Goals as goal
 use Rattle.walk_fates.proofs.seen.see_since.Goals.{then-is_step+in_ok-push, else-is_step}
 
 pub is_step-requires-clause-least : goal.is_step-requires-clause-least
-is_step-requires-clause-least c = let e = ap (λ (t : Totals). t.ticks) c.totals-totals.ensures in let h = c.requires.least in omega (arith, e, h)
+is_step-requires-clause-least c = let e = ap (λ (t : Totals). t.ticks) c.totals-totals.ensures in
+    let h = c.requires.least in omega (arith, e, h)
 
 pub is_step-requires-clause-most : goal.is_step-requires-clause-most
-is_step-requires-clause-most c = let e = ap (λ (t : Totals). t.ticks) c.totals-totals.ensures in let h = c.requires.most in omega (arith, e, h)
+is_step-requires-clause-most c = let e = ap (λ (t : Totals). t.ticks) c.totals-totals.ensures in
+    let h = c.requires.most in omega (arith, e, h)
 
 pub push-requires : goal.push-requires
 push-requires c =

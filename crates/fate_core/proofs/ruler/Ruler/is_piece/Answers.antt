@@ -40,4 +40,5 @@ get-some (side ∷ list) (suc k) low none = get-some list k (omega arith) none
 pub returns-in-None : goal.returns-in-None
 returns-in-None c =
     absurd (get-some c.args.self.now.sent (c.begun_by-begun.result - 1)
-    (let within = c.begun_by-begun.ensures.within in let isnt = c.if-begun-eq0.false in omega (arith, within, isnt)) c.in-None.ensures.sides)
+    (let within = c.begun_by-begun.ensures.within in let isnt = c.if-begun-eq0.false in omega (arith, within, isnt))
+        c.in-None.ensures.sides)
