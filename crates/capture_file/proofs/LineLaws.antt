@@ -26,7 +26,7 @@ pub digits-then : (octets : List ℕ) (at end : ℕ) → at ≤ end
 digits-then octets at end low =
     ap (λ n. encode_lower (take n octets)) (let e : end ≡ at + (end - at) = omega (arith, low) in e)
     ∙ ap encode_lower (take-add at (end - at) octets)
-        ∙ encode-append lower_digits (take at octets) (take (end - at) (drop at octets))
+    ∙ encode-append lower_digits (take at octets) (take (end - at) (drop at octets))
 
 pub digits-append : (xs ys : List ℕ) → encode_lower (xs ++ ys) ≡ encode_lower xs ++ encode_lower ys
 digits-append xs ys = encode-append lower_digits xs ys
@@ -43,11 +43,11 @@ single form before r = append-nil
 
 pub texts-more : (form : Form) (before : List Record) (r : Record) (due : ℕ) → due ≡ due_of form.unit (before ++ r ∷ [])
     → frame_texts (frames_behind form [] before) ++ frame_text
-        (record { due = due; frame = client_frame form.has_fcs r.octets })
+    (record { due = due; frame = client_frame form.has_fcs r.octets })
     ≡ frame_texts (frames_behind form [] (before ++ r ∷ []))
 texts-more form before r due is =
     ap (λ n. frame_texts (frames_behind form [] before) ++ frame_text
-        (record { due = n; frame = client_frame form.has_fcs r.octets })) is
+    (record { due = n; frame = client_frame form.has_fcs r.octets })) is
     ∙ ap (λ l. frame_texts (frames_behind form [] before) ++ l) (sym (single form before r))
     ∙ sym (ap frame_texts (frames-append form [] before (r ∷ []))
-        ∙ flat_map-append frame_text (frames_behind form [] before) (frames_behind form before (r ∷ [])))
+    ∙ flat_map-append frame_text (frames_behind form [] before) (frames_behind form before (r ∷ [])))

@@ -36,7 +36,7 @@ stands-begun unit = record { first = refl; due = refl }
 pub stands-more : (unit : TimeUnit) (first : Option ℕ) (due time next : ℕ) (before : List Record) (r : Record) →
     time ≡ time_of unit r.head
     → next ≡ max due ((time - unwrap_or first time) / 125000) →
-        Stands (record { unit = unit; first = first; due = due }) before
+    Stands (record { unit = unit; first = first; due = due }) before
     → Stands (record { unit = unit; first = Some (unwrap_or first time); due = next }) (before ++ r ∷ [])
 unfolding greatest
 stands-more unit first due time next [] r at moves stands =
@@ -45,19 +45,19 @@ stands-more unit first due time next [] r at moves stands =
       due = moves ∙ ap (λ n. max n ((time - unwrap_or first time) / 125000)) stands.due
           ∙ ap (λ t. max 0 ((time - t) / 125000)) at_first
           ∙ ap (λ t. max 0 ((t - t) / 125000)) at
-              ∙ sym (max-zero (ticks_between (time_of unit r.head) (time_of unit r.head)));
+          ∙ sym (max-zero (ticks_between (time_of unit r.head) (time_of unit r.head)));
     }
 stands-more unit first due time next (f ∷ before) r at moves stands =
     let at_first : unwrap_or first time ≡ time_of unit f.head = ap (λ o. unwrap_or o time) stands.first in
     let ticks : List Record → List ℕ =
-            map (λ (r : Record). ticks_between (time_of unit f.head) (time_of unit r.head)) in record {
+    map (λ (r : Record). ticks_between (time_of unit f.head) (time_of unit r.head)) in record {
       first = ap Some at_first;
       due = moves ∙ ap (λ n. max n ((time - unwrap_or first time) / 125000)) stands.due
           ∙ ap (λ t. max (greatest (ticks (f ∷ before))) ((time - t) / 125000)) at_first
           ∙ ap (λ t. max (greatest (ticks (f ∷ before))) ((t - time_of unit f.head) / 125000)) at
           ∙ sym (greatest-more (ticks (f ∷ before)) (ticks_between (time_of unit f.head) (time_of unit r.head)))
           ∙ ap greatest (sym (map-append (λ (r : Record). ticks_between (time_of unit f.head) (time_of unit r.head))
-              (f ∷ before) (r ∷ [])));
+          (f ∷ before) (r ∷ [])));
     }
 
 -- ---- faults and frames of records one after another
@@ -68,8 +68,8 @@ faults-append form before [] ys = ap (λ b. faults_behind form b ys) (sym (appen
 faults-append form before (x ∷ xs) ys =
     ap (λ l. record_fault form.has_fcs x.head (due_of form.unit (before ++ x ∷ [])) ∷ l)
     (faults-append form (before ++ x ∷ []) xs ys
-        ∙ ap (λ b. faults_behind form (before ++ x ∷ []) xs ++ faults_behind form b ys)
-        (append_assoc before (x ∷ []) xs))
+    ∙ ap (λ b. faults_behind form (before ++ x ∷ []) xs ++ faults_behind form b ys)
+    (append_assoc before (x ∷ []) xs))
 
 pub frames-append : (form : Form) (before xs ys : List Record) →
     frames_behind form before (xs ++ ys) ≡ frames_behind form before xs ++ frames_behind form (before ++ xs) ys
@@ -78,8 +78,8 @@ frames-append form before [] ys = ap (λ b. frames_behind form b ys) (sym (appen
 frames-append form before (x ∷ xs) ys =
     ap (λ l. record { due = due_of form.unit (before ++ x ∷ []); frame = client_frame form.has_fcs x.octets } ∷ l)
     (frames-append form (before ++ x ∷ []) xs ys
-        ∙ ap (λ b. frames_behind form (before ++ x ∷ []) xs ++ frames_behind form b ys)
-        (append_assoc before (x ∷ []) xs))
+    ∙ ap (λ b. frames_behind form (before ++ x ∷ []) xs ++ frames_behind form b ys)
+    (append_assoc before (x ∷ []) xs))
 
 length-faults : (form : Form) (before xs : List Record) → length (faults_behind form before xs) ≡ length xs
 unfolding faults_behind
@@ -122,23 +122,23 @@ pub sound-more : (form : Form) (before : List Record) (r : Record) → AreSound 
     → record_fault form.has_fcs r.head (due_of form.unit (before ++ r ∷ [])) ≡ None → AreSound form (before ++ r ∷ [])
 sound-more form before r sound none =
     ap first_there (faults-append form [] before (r ∷ [])
-        ∙ ap (λ l. faults_behind form [] before ++ l) (single form before r None none))
+    ∙ ap (λ l. faults_behind form [] before ++ l) (single form before r None none))
     ∙ none-more (faults_behind form [] before) sound
 
 split : (form : Form) (before more : List Record) (r : Record) (own : RecordFault) →
     record_fault form.has_fcs r.head (due_of form.unit (before ++ r ∷ [])) ≡ Some own
     → faults_behind form [] (before ++ r ∷ more) ≡ faults_behind form [] before ++ Some own ∷ faults_behind form
-        (before ++ r ∷ []) more
+    (before ++ r ∷ []) more
 unfolding faults_behind
 split form before more r own is =
     faults-append form [] before (r ∷ more)
-        ∙ ap (λ o. faults_behind form [] before ++ o ∷ faults_behind form (before ++ r ∷ []) more) is
+    ∙ ap (λ o. faults_behind form [] before ++ o ∷ faults_behind form (before ++ r ∷ []) more) is
 
 -- ---- what is said
 pub said-fault : (form : Form) (body : List ℕ) (before more : List Record) (r : Record) (own : RecordFault)
     (number : ℕ) → records_of form.order body ≡ before ++ r ∷ more
     → number ≡ length before → AreSound form before →
-        record_fault form.has_fcs r.head (due_of form.unit (before ++ r ∷ [])) ≡ Some own
+    record_fault form.has_fcs r.head (due_of form.unit (before ++ r ∷ [])) ≡ Some own
     → body_said form body ≡ Err (fault.Record number own)
 said-fault form body before more r own number all at sound is =
     let first : first_there (faults_behind form [] (records_of form.order body)) ≡ Some (number, own) =
@@ -155,13 +155,13 @@ said-by-rest form records (o ∷ rest) some = refl
 pub said-cut : (form : Form) (body rest : List ℕ) (before : List Record) (number : ℕ) →
     records_of form.order body ≡ before → rest_of form.order body ≡ rest
     → number ≡ length before → AreSound form before → 0 < length rest →
-        body_said form body ≡ Err (fault.Record number wrong.Cut)
+    body_said form body ≡ Err (fault.Record number wrong.Cut)
 said-cut form body rest before number all left at sound some =
     let none : first_there (faults_behind form [] (records_of form.order body)) ≡ None =
-            ap (λ l. first_there (faults_behind form [] l)) all ∙ sound in
+    ap (λ l. first_there (faults_behind form [] l)) all ∙ sound in
     ap (said_with form (records_of form.order body) (rest_of form.order body)) none
     ∙ said-by-rest form (records_of form.order body) (rest_of form.order body)
-        (let e = ap length left in omega (arith, e, some))
+    (let e = ap length left in omega (arith, e, some))
     ∙ ap (λ n. Err (fault.Record n wrong.Cut)) (ap length all ∙ sym at)
 
 pub said-sound : (form : Form) (body : List ℕ) (before : List Record) → records_of form.order body ≡ before →
@@ -169,6 +169,6 @@ pub said-sound : (form : Form) (body : List ℕ) (before : List Record) → reco
     → AreSound form before → body_said form body ≡ Ok (frames_behind form [] (records_of form.order body))
 said-sound form body before all left sound =
     let none : first_there (faults_behind form [] (records_of form.order body)) ≡ None =
-            ap (λ l. first_there (faults_behind form [] l)) all ∙ sound in
+    ap (λ l. first_there (faults_behind form [] l)) all ∙ sound in
     ap (said_with form (records_of form.order body) (rest_of form.order body)) none
     ∙ ap (λ l. said_with form (records_of form.order body) l None) left

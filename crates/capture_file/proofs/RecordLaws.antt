@@ -16,14 +16,14 @@ use Rattle.capture_file.specs.Form.{cut_of, records_of, rest_of}
 pub record-there : (order : ByteOrder) (octets found rest : List ℕ) (head : RecordHead) → head ≡ head_of order octets →
     16 + head.captured ≤ length octets
     → found ≡ take head.captured (drop 16 octets) → rest ≡ drop (16 + head.captured) octets →
-        first_record order octets ≡ Some (record { head = head; octets = found }, rest)
+    first_record order octets ≡ Some (record { head = head; octets = found }, rest)
 record-there order octets found rest head is fits there behind =
     let P : RecordHead → Type 0 =
     λ head. 16 + head.captured ≤ length octets → found ≡ take head.captured (drop 16 octets) →
-        rest ≡ drop (16 + head.captured) octets
+    rest ≡ drop (16 + head.captured) octets
     → first_record order octets ≡ Some (record { head = head; octets = found }, rest) in
     subst P (sym is) (λ fits there behind. rw (le-leb (16 + number_at order 8 octets) (length octets) fits)
-        (rw there (rw behind refl))) fits there behind
+    (rw there (rw behind refl))) fits there behind
 
 pub record-none : (order : ByteOrder) (octets : List ℕ) → length octets < 16 + number_at order 8 octets →
     first_record order octets ≡ None
@@ -43,12 +43,12 @@ pub found-short : (order : ByteOrder) (octets : List ℕ) (found : Record × Lis
 found-short order octets found is =
     short-by (nat_le (16 + number_at order 8 octets) (length octets)) (16 + number_at order 8 octets) octets
     (record { head = head_of order octets; octets = take (number_at order 8 octets) (drop 16 octets) }) found refl
-        (omega arith) is
+    (omega arith) is
 
 -- ---- all of them
 then-same : (octets : List ℕ) (found : Option (Record × List ℕ)) (f g : List ℕ → Cut)
     → ((own : Record × List ℕ) → found ≡ Some own → f own.1 ≡ g own.1) →
-        cut_then octets found f ≡ cut_then octets found g
+    cut_then octets found f ≡ cut_then octets found g
 then-same octets None f g same = refl
 then-same octets (Some own) f g same = ap (behind_record own.0) (same own refl)
 
@@ -65,7 +65,7 @@ cut_in-enough order (suc k) zero octets few enough = sym (nothing order octets (
 cut_in-enough order (suc k) (suc m) octets few enough =
     then-same octets (first_record order octets) (cut_in order k) (cut_in order m)
     (λ own is. let short = found-short order octets own is in
-        cut_in-enough order k m own.1 (omega (arith, short, few)) (omega (arith, short, enough)))
+    cut_in-enough order k m own.1 (omega (arith, short, few)) (omega (arith, short, enough)))
 
 one-more : (order : ByteOrder) (octets : List ℕ) →
     cut_of order octets ≡ cut_then octets (first_record order octets) (cut_in order (length octets))
@@ -83,7 +83,7 @@ cut_of-some order octets found is =
     let short = found-short order octets found is in
     one-more order octets ∙ ap (λ o. cut_then octets o (cut_in order (length octets))) is
     ∙ ap (behind_record found.0) (cut_in-enough order (length octets) (length found.1) found.1 (omega (arith, short))
-        (omega arith))
+    (omega arith))
 
 -- ---- behind records that were read
 pub record HasCut (order : ByteOrder) (body rest : List ℕ) (before : List Record) : Type 0 where
@@ -114,9 +114,11 @@ pub has-ended : (order : ByteOrder) (body rest : List ℕ) (before : List Record
     HasCut order body rest before
     → (records_of order body ≡ before) × (rest_of order body ≡ rest)
 has-ended order body rest before none has =
-    let last = cut_of-none order rest none in
-    (has.records ∙ ap (λ (cut : Cut). before ++ cut.records) last ∙ append-nil before, has.left
-        ∙ ap (λ (cut : Cut). cut.rest) last)
+    let last = cut_of-none order rest none in (
+      has.records ∙ ap (λ (cut : Cut). before ++ cut.records) last ∙ append-nil before,
+      has.left
+          ∙ ap (λ (cut : Cut). cut.rest) last,
+    )
 
 -- ---- what a slice has from a place on
 pub rest-whole : (k : ℕ) (octets : List ℕ) → take (length octets - k) (drop k octets) ≡ drop k octets

@@ -46,7 +46,7 @@ head-is own rest row few =
     let fraction = from_le_bytes-to_le_bytes_4 (125 * own.row % 1000000) (omega arith) in
     let size = from_le_bytes-to_le_bytes_4 n (omega (arith, few)) in
     sym (ap (λ s. H s (from_le_bytes w32 (to_le_bytes w32 (125 * own.row % 1000000)))
-        (from_le_bytes w32 (to_le_bytes w32 n))) seconds
+    (from_le_bytes w32 (to_le_bytes w32 n))) seconds
     ∙ ap (λ f. H (125 * own.row / 1000000) f (from_le_bytes w32 (to_le_bytes w32 n))) fraction
     ∙ ap (H (125 * own.row / 1000000) (125 * own.row % 1000000)) size)
 
@@ -58,7 +58,7 @@ record-said own rest row few =
     omega (arith, length-append (record_octets own) rest, length-append own.frame rest) in
     record-there LeastFirst octets own.frame rest (head_for own) (head-is own rest row few) (omega (arith, size))
     (sym (take-append_seam own.frame rest))
-        (sym (drop-append_seam own.frame rest) ∙ drop-drop (length own.frame) 16 octets)
+    (sym (drop-append_seam own.frame rest) ∙ drop-drop (length own.frame) 16 octets)
 
 records-said : (least : ℕ) (frames : List RowFrame) → AreRising least frames →
     cut_of LeastFirst (records_octets frames) ≡ record { records = map record_for frames; rest = [] }
@@ -66,7 +66,7 @@ unfolding AreRising
 records-said least [] rising = cut_of-none LeastFirst [] (record-none LeastFirst [] (omega arith))
 records-said least (own ∷ frames) rising =
     cut_of-some LeastFirst (record_octets own ++ records_octets frames) (record_for own, records_octets frames)
-        (record-said own (records_octets frames) rising.1 rising.2)
+    (record-said own (records_octets frames) rising.1 rising.2)
     ∙ ap (behind_record (record_for own)) (records-said own.row frames rising.3)
 
 -- ---- its times
@@ -76,18 +76,18 @@ ticks-are first own = omega arith
 
 due-more : (first r : Record) (before : List Record)
     → due_of Microseconds (first ∷ before ++ r ∷ []) ≡ max (due_of Microseconds (first ∷ before))
-        (ticks_between (time_of Microseconds first.head) (time_of Microseconds r.head))
+    (ticks_between (time_of Microseconds first.head) (time_of Microseconds r.head))
 due-more first r before =
     let ticks = ticks_between (time_of Microseconds first.head) (time_of Microseconds r.head) in
     ap greatest (map-append (λ (r : Record). ticks_between (time_of Microseconds first.head)
-        (time_of Microseconds r.head)) (first ∷ before) (r ∷ []))
+    (time_of Microseconds r.head)) (first ∷ before) (r ∷ []))
     ∙ greatest-more (ticks_in Microseconds (first ∷ before)) ticks
 
 fault-none : (own : RowFrame) (due : ℕ) → length own.frame ≤ 65535 → due ≤ 999999 →
     record_fault true (head_for own) due ≡ None
 fault-none own due few low =
     rw (eq-eqb (length own.frame) (length own.frame) refl)
-        (rw (le-ltb 65535 (length own.frame) few) (rw (le-ltb 999999 due low) refl))
+    (rw (le-ltb 65535 (length own.frame) few) (rw (le-ltb 999999 due low) refl))
 
 -- those behind a first one
 following : (first : RowFrame) (before : List Record) (last : ℕ) (frames : List RowFrame) →
@@ -95,22 +95,22 @@ following : (first : RowFrame) (before : List Record) (last : ℕ) (frames : Lis
     → AreRising last frames
     → (first_there (faults_behind written_form (record_for first ∷ before) (map record_for frames)) ≡ None)
     × (frames_behind written_form (record_for first ∷ before) (map record_for frames) ≡ map
-        (due_after first.row) frames)
+    (due_after first.row) frames)
 unfolding AreRising faults_behind frames_behind first_there
 following first before last [] due low rising = (refl, refl)
 following first before last (own ∷ frames) due low rising =
     let first_low = rising.0 in
     let next : due_of Microseconds (record_for first ∷ before ++ record_for own ∷ []) ≡ own.row - first.row =
     due-more (record_for first) (record_for own) before
-        ∙ ap (λ n. max (due_of Microseconds (record_for first ∷ before)) n) (ticks-are first own)
+    ∙ ap (λ n. max (due_of Microseconds (record_for first ∷ before)) n) (ticks-are first own)
     ∙ ap (λ n. max n (own.row - first.row)) due
-        ∙ (let e : max (last - first.row) (own.row - first.row) ≡ own.row - first.row = omega (arith, first_low) in e)
-        in
+    ∙ (let e : max (last - first.row) (own.row - first.row) ≡ own.row - first.row = omega (arith, first_low) in e)
+    in
     let rest = following first (before ++ record_for own ∷ []) own.row frames next
-            (omega (arith, low, first_low)) rising.3 in
+    (omega (arith, low, first_low)) rising.3 in
     let bound = rising.1 in
     let fault = fault-none own (due_of Microseconds (record_for first ∷ before ++ record_for own ∷ [])) rising.2
-            (omega (arith, next, bound)) in (
+    (omega (arith, next, bound)) in (
       ap (λ o. there_or o (first_there
           (faults_behind written_form (record_for first ∷ before ++ record_for own ∷ []) (map record_for frames))))
           fault ∙ ap one_on rest.0,
@@ -122,12 +122,12 @@ following first before last (own ∷ frames) due low rising =
 -- all of them
 all-of : (least : ℕ) (frames : List RowFrame) → AreRising least frames
     → (first_there (faults_behind written_form [] (map record_for frames)) ≡ None) ×
-        (frames_behind written_form [] (map record_for frames) ≡ due_frames frames)
+    (frames_behind written_form [] (map record_for frames) ≡ due_frames frames)
 unfolding AreRising faults_behind frames_behind first_there greatest
 all-of least [] rising = (refl, refl)
 all-of least (own ∷ frames) rising =
     let none : due_of Microseconds (record_for own ∷ []) ≡ own.row - own.row = ap (λ n. max n 0) (ticks-are own own)
-            ∙ (let e : max (own.row - own.row) 0 ≡ own.row - own.row = omega arith in e) in
+    ∙ (let e : max (own.row - own.row) 0 ≡ own.row - own.row = omega arith in e) in
     let rest = following own [] own.row frames none (omega arith) rising.3 in
     let fault = fault-none own (due_of Microseconds (record_for own ∷ [])) rising.2 (omega (arith, none)) in (
       ap (λ o. there_or o (first_there (faults_behind written_form (record_for own ∷ []) (map record_for frames))))
@@ -145,5 +145,5 @@ read-back frames rising =
     let all = all-of 0 frames rising in
     ap (λ form. said_by form body) (head-said body)
     ∙ said-sound written_form body (map record_for frames) (ap (λ (cut : Cut). cut.records) cut)
-        (ap (λ (cut : Cut). cut.rest) cut) all.0
+    (ap (λ (cut : Cut). cut.rest) cut) all.0
     ∙ ap Ok (ap (λ (cut : Cut). frames_behind written_form [] cut.records) cut ∙ all.1)

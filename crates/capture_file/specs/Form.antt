@@ -23,7 +23,7 @@ two_at place octets = slice_index octets place ∷ slice_index octets (place + 1
 abbrev pub four_at : ℕ → List ℕ → List ℕ
 four_at place octets =
     slice_index octets place ∷ slice_index octets (place + 1) ∷ slice_index octets (place + 2) ∷ slice_index octets
-        (place + 3) ∷ []
+    (place + 3) ∷ []
 
 abbrev pub short_at : ByteOrder → ℕ → List ℕ → ℕ
 short_at LeastFirst place octets = from_le_bytes w16 (two_at place octets)
@@ -97,8 +97,10 @@ pub record Record : Type 0 where
 abbrev pub first_record : ByteOrder → List ℕ → Option (Record × List ℕ)
 first_record order octets =
     if nat_le (16 + number_at order 8 octets) (length octets) then
-    Some (record { head = head_of order octets; octets = take (number_at order 8 octets) (drop 16 octets) },
-        drop (16 + number_at order 8 octets) octets)
+    Some (
+      record { head = head_of order octets; octets = take (number_at order 8 octets) (drop 16 octets) },
+      drop (16 + number_at order 8 octets) octets,
+    )
     else None
 
 -- the whole records that octets begin with, one behind the other, and what lies behind the last one

@@ -79,7 +79,7 @@ unfoldable pub frames_behind : Form → List Record → List Record → List Due
 frames_behind form before [] = []
 frames_behind form before (r ∷ rs) =
     record { due = due_of form.unit (before ++ r ∷ []); frame = client_frame form.has_fcs r.octets } ∷ frames_behind
-        form (before ++ r ∷ []) rs
+    form (before ++ r ∷ []) rs
 
 -- the first of some that is there, with its place
 abbrev pub one_on : {T : Type 0} → Option (ℕ × T) → Option (ℕ × T)
@@ -105,7 +105,7 @@ said_with form records (o ∷ rest) None = Err (fault.Record (length records) wr
 abbrev pub body_said : Form → List ℕ → Result (List DueFrame) CaptureFault
 body_said form body =
     said_with form (records_of form.order body) (rest_of form.order body)
-        (first_there (faults_behind form [] (records_of form.order body)))
+    (first_there (faults_behind form [] (records_of form.order body)))
 
 abbrev pub frames_of : Form → List ℕ → List DueFrame
 frames_of form body = frames_behind form [] (records_of form.order body)

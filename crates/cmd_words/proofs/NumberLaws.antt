@@ -28,4 +28,4 @@ too_large least most n next i d w value within is less =
     let large : most < number_of w = omega (arith, value, step, grown, is, less) in
     ap (λ (b : Bool). if b then Some (number_of w) else None)
     (sym (no_and (is_number w) (nat_le least (number_of w)) (nat_le (number_of w) most)
-        (above most (number_of w) large)))
+    (above most (number_of w) large)))

@@ -85,27 +85,27 @@ read-two w0 w1 b0 b1 =
 read-three : (w0 w1 w2 : Text) → Begins w0 → Begins w1 → Begins w2 → Reads (w0 ∷ w1 ∷ w2 ∷ [])
 read-three w0 w1 w2 b0 b1 b2 =
     rw (b0.word_is, b1.word_is, b2.word_is)
-        (three b0.first b1.first b2.first b0.rest b1.rest b2.rest b0.no_dash b1.no_dash b2.no_dash)
+    (three b0.first b1.first b2.first b0.rest b1.rest b2.rest b0.no_dash b1.no_dash b2.no_dash)
 
 read-four : (w0 w1 w2 w3 : Text) → Begins w0 → Begins w1 → Begins w2 → Begins w3 → Reads (w0 ∷ w1 ∷ w2 ∷ w3 ∷ [])
 read-four w0 w1 w2 w3 b0 b1 b2 b3 =
     rw (b0.word_is, b1.word_is, b2.word_is, b3.word_is)
-        (four b0.first b1.first b2.first b3.first b0.rest b1.rest b2.rest b3.rest b0.no_dash b1.no_dash b2.no_dash
-        b3.no_dash)
+    (four b0.first b1.first b2.first b3.first b0.rest b1.rest b2.rest b3.rest b0.no_dash b1.no_dash b2.no_dash
+    b3.no_dash)
 
 read-five : (w0 w1 w2 w3 w4 : Text) → Begins w0 → Begins w1 → Begins w2 → Begins w3 → Begins w4 →
     Reads (w0 ∷ w1 ∷ w2 ∷ w3 ∷ w4 ∷ [])
 read-five w0 w1 w2 w3 w4 b0 b1 b2 b3 b4 =
     rw (b0.word_is, b1.word_is, b2.word_is, b3.word_is, b4.word_is)
-        (five b0.first b1.first b2.first b3.first b4.first b0.rest b1.rest b2.rest b3.rest b4.rest b0.no_dash b1.no_dash
-        b2.no_dash b3.no_dash b4.no_dash)
+    (five b0.first b1.first b2.first b3.first b4.first b0.rest b1.rest b2.rest b3.rest b4.rest b0.no_dash b1.no_dash
+    b2.no_dash b3.no_dash b4.no_dash)
 
 read-six : (w0 w1 w2 w3 w4 w5 : Text) → Begins w0 → Begins w1 → Begins w2 → Begins w3 → Begins w4 → Begins w5 →
     Reads (w0 ∷ w1 ∷ w2 ∷ w3 ∷ w4 ∷ w5 ∷ [])
 read-six w0 w1 w2 w3 w4 w5 b0 b1 b2 b3 b4 b5 =
     rw (b0.word_is, b1.word_is, b2.word_is, b3.word_is, b4.word_is, b5.word_is)
-        (six b0.first b1.first b2.first b3.first b4.first b5.first b0.rest b1.rest b2.rest b3.rest b4.rest b5.rest
-        b0.no_dash b1.no_dash b2.no_dash b3.no_dash b4.no_dash b5.no_dash)
+    (six b0.first b1.first b2.first b3.first b4.first b5.first b0.rest b1.rest b2.rest b3.rest b4.rest b5.rest
+    b0.no_dash b1.no_dash b2.no_dash b3.no_dash b4.no_dash b5.no_dash)
 
 pub reads : (words : List Text) → are_plain words ≡ true → Reads words
 reads [] h = absurd (false≢true h)
@@ -142,6 +142,6 @@ reads (w0 ∷ w1 ∷ w2 ∷ w3 ∷ w4 ∷ w5 ∷ []) h =
     let p4 = and_parts _ _ p3.1 in
     let p5 = and_parts _ _ p4.1 in
     read-six w0 w1 w2 w3 w4 w5 (begins w0 p0.0) (begins w1 p1.0) (begins w2 p2.0) (begins w3 p3.0) (begins w4 p4.0)
-        (begins w5 p5.0)
+    (begins w5 p5.0)
 reads (w0 ∷ w1 ∷ w2 ∷ w3 ∷ w4 ∷ w5 ∷ w6 ∷ more) h =
     absurd (false≢true (sym (too-many (w0 ∷ w1 ∷ w2 ∷ w3 ∷ w4 ∷ w5 ∷ w6 ∷ more) (omega arith)) ∙ h))

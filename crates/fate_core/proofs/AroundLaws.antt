@@ -55,8 +55,10 @@ look-low : (from : ℕ) (list : List RowSegment) (r : ℕ) → Rise from list �
 unfolding look Rise
 look-low from [] r rise low = refl
 look-low from (segment ∷ list) r rise low =
-    rw (lt-ltb r segment.end (let a = rise.0 in let b = rise.1 in omega (arith, a, b, low)),
-        lt-leb segment.first r (let a = rise.0 in omega (arith, a, low))) refl
+    rw (
+      lt-ltb r segment.end (let a = rise.0 in let b = rise.1 in omega (arith, a, b, low)),
+      lt-leb segment.first r (let a = rise.0 in omega (arith, a, low)),
+    ) refl
 
 look-rows : (from : ℕ) (list : List RowSegment) (r : ℕ) → Rise from list → look (filter has_row list) r ≡ look list r
 unfolding look Rise
@@ -89,9 +91,12 @@ rises (row ∷ rows) span segment within =
     elim (cases_Bool row.whole) [
       | inl whole ↦ rw whole (rises rows (record { first = span.first; end = suc span.end })
           (with_row segment row.octets) (omega arith))
-      | inr cut ↦ rw cut (omega arith, within,
-          rises rows (record { first = suc span.end; end = suc span.end }) (next_segment segment row.octets)
-          (omega arith))
+      | inr cut ↦ rw cut (
+        omega arith,
+        within,
+        rises rows (record { first = suc span.end; end = suc span.end }) (next_segment segment row.octets)
+            (omega arith),
+      )
     ]
 
 look-spoiled : (rows : List StreamRow) (span : Span) (segment : Segment) (r : ℕ) → span.first ≤ span.end →
@@ -107,7 +112,7 @@ look-spoiled (row ∷ rows) span segment r within from below =
     elim (cases_Bool row.whole) [
       | inl whole ↦ (
           let rest = look-spoiled rows (record { first = span.first; end = suc span.end })
-                  (with_row segment row.octets) r (omega arith) from (omega (arith, below)) in
+          (with_row segment row.octets) r (omega arith) from (omega (arith, below)) in
           elim (cases_lt span.end r) [
             | inl later ↦ (
                 let same : max r (suc span.end) ≡ max r span.end = omega arith in
@@ -128,21 +133,21 @@ look-spoiled (row ∷ rows) span segment r within from below =
         | inr high ↦ elim (cases_lt span.end r) [
           | inl later ↦ (
               let rest = look-spoiled rows (record { first = suc span.end; end = suc span.end })
-                      (next_segment segment row.octets) r (omega arith) (omega arith) (omega (arith, below)) in
+              (next_segment segment row.octets) r (omega arith) (omega arith) (omega (arith, below)) in
               let same : max r (suc span.end) ≡ max r span.end = omega arith in
               let dropped : r - span.end ≡ suc (r - suc span.end) = omega arith in
               rw (cut, le-ltb r span.end high, dropped)
-                  (rest ∙ ap (λ n. spoiled_from n (drop (r - suc span.end) rows)) same))
+              (rest ∙ ap (λ n. spoiled_from n (drop (r - suc span.end) rows)) same))
           | inr here ↦ (
               let most : max r span.end ≡ span.end = omega arith in
               let none : r - span.end ≡ 0 = omega arith in
               let low = look-low (suc span.end)
-                      (from_here rows (record { first = suc span.end; end = suc span.end })
-                      (next_segment segment row.octets)) r
+              (from_here rows (record { first = suc span.end; end = suc span.end })
+              (next_segment segment row.octets)) r
               (rises rows (record { first = suc span.end; end = suc span.end }) (next_segment segment row.octets)
-                  (omega arith)) (omega arith) in
+              (omega arith)) (omega arith) in
               rw (cut, le-ltb r span.end high, most, none)
-                  (ap (λ (a : Around). a.spoiled) low ∙ (let e : r ≡ span.end = omega arith in e)))
+              (ap (λ (a : Around). a.spoiled) low ∙ (let e : r ≡ span.end = omega arith in e)))
         ]
       ]
     ]
@@ -163,7 +168,7 @@ looked rows r low =
     ap (λ l. (look l r).spoiled) (from-start rows)
     ∙ look-spoiled rows no_span start r (omega arith) (omega arith) (omega (arith, low))
     ∙ ap₂ (λ n k. spoiled_from n (drop k rows)) (let e : max r 0 ≡ r = omega arith in e)
-        (let e : r - 0 ≡ r = omega arith in e)
+    (let e : r - 0 ≡ r = omega arith in e)
 
 all-rise : (rows : List StreamRow) → Rise 0 (row_segments rows)
 all-rise rows = subst (Rise 0) (sym (from-start rows)) (rises rows no_span start (omega arith))
@@ -203,7 +208,7 @@ look-more ended more r zero passed = refl
 look-more [] more r (suc i) passed = refl
 look-more (segment ∷ ended) more r (suc i) passed =
     ap (λ b. if b then at_first segment r else look (ended ++ more) r)
-        (le-ltb r segment.end (passed zero segment (omega arith) (omega arith)))
+    (le-ltb r segment.end (passed zero segment (omega arith) (omega arith)))
     ∙ look-more ended more r i (λ k d low within. passed (suc k) d (omega arith) (omega arith))
 
 ends-low : (from : ℕ) (ended : List RowSegment) (end k : ℕ) (d : RowSegment) → AreInOrder from ended end →
@@ -251,7 +256,7 @@ passed-low ended r i point k d low within = leb-true (slice_index_or ended k d).
 
 front-of : (ended : List RowSegment) (i : ℕ) (segment : RowSegment) → Some segment ≡ slice_get (drop i ended) 0 →
     (rest : List RowSegment) × (drop i ended ≡ segment ∷ rest) × (i < length ended) ×
-        (slice_index_or ended i segment ≡ segment)
+    (slice_index_or ended i segment ≡ segment)
 front-of [] zero segment there = absurd cc
 front-of [] (suc i) segment there = absurd cc
 front-of (own ∷ ended) zero segment there = let same : own ≡ segment = cc in
@@ -318,12 +323,12 @@ module _ (kept : SegmentList) (rows : List StreamRow) (stands : Stands kept rows
         | inr isnt ↦ absurd (let all = are.goes isnt in omega (arith, all, high, low, count))
       ] in
       let is : is_told kept ≡ true = ap₂ ◌&&◌ (lt-ltb kept.first kept.last.first later)
-              (lt-ltb kept.last.first kept.last.end (omega (arith, from, below))) in
+      (lt-ltb kept.last.first kept.last.end (omega (arith, from, below))) in
       by-look (in_segment kept.last) high
       (sym (ap (λ b. look (kept.ended ++ (if b then kept.last ∷ [] else [])) r) is
       ∙ look-more kept.ended (kept.last ∷ []) r (length kept.ended)
-          (λ k d before within. let e = ends-low 0 kept.ended kept.last.first k d are.order within in
-          omega (arith, e.1, from))
+      (λ k d before within. let e = ends-low 0 kept.ended kept.last.first k d are.order within in
+      omega (arith, e.1, from))
       ∙ ap (λ l. look (l ++ kept.last ∷ []) r) (drop-end kept.ended (length kept.ended) (omega arith))
       ∙ rw (lt-ltb r kept.last.end below, le-leb kept.last.first r from) refl))
 
@@ -337,7 +342,7 @@ module _ (kept : SegmentList) (rows : List StreamRow) (stands : Stands kept rows
       let below : r < segment.end = omega (arith, above, ap (λ (s : RowSegment). s.end) front.3) in
       by-look (if nat_le segment.first r then in_segment segment else in_none r) high
       (sym (look-more kept.ended told r i (passed-low kept.ended r i point) ∙ ap (λ l. look (l ++ told) r) front.1
-          ∙ rw (lt-ltb r segment.end below) refl))
+      ∙ rw (lt-ltb r segment.end below) refl))
 
   pub in-no : (i : ℕ) → kept.first ≤ r → r < kept.last.first → Passed kept.ended r i →
       None ≡ slice_get (drop i kept.ended) 0 → IsAround rows r (in_none r)
@@ -345,7 +350,7 @@ module _ (kept : SegmentList) (rows : List StreamRow) (stands : Stands kept rows
   in-no i high before point there =
       by-look (in_none r) high
       (sym (look-more kept.ended told r i (passed-low kept.ended r i point)
-          ∙ ap (λ l. look (l ++ told) r) (empty (drop i kept.ended) there) ∙ rest (is_told kept)))
+      ∙ ap (λ l. look (l ++ told) r) (empty (drop i kept.ended) there) ∙ rest (is_told kept)))
     where
       empty : (list : List RowSegment) → None ≡ slice_get list 0 → list ≡ []
       empty [] there = refl

@@ -47,7 +47,7 @@ later-none m from [] end e are low = refl
 later-none m from (x ∷ all) end e are low =
     let late : nat_lt x.from e.from ≡ false = le-ltb x.from e.from (let a = are.0 in omega (arith, a, low)) in
     ap₂ ◌||◌ (ap (λ b. nat_le m x.from && b) late ∙ and-false (nat_le m x.from))
-        (later-none m x.to all end e are.2 (let a = are.0 in let b = are.1 in omega (arith, a, b, low)))
+    (later-none m x.to all end e are.2 (let a = are.0 in let b = are.1 in omega (arith, a, b, low)))
   where
     and-false : (b : Bool) → (b && false) ≡ false
     and-false true = refl
@@ -80,10 +80,10 @@ settled-by m from [] end (suc i) e are there = absurd cc
 settled-by m from (x ∷ all) end zero e are there =
     let same : x ≡ e = cc in
     let here : nat_lt x.from e.from ≡ false =
-            le-ltb x.from e.from (let e2 = ap (λ (y : Extent). y.from) same in omega (arith, e2)) in
+    le-ltb x.from e.from (let e2 = ap (λ (y : Extent). y.from) same in omega (arith, e2)) in
     ap₂ ◌||◌ (ap (λ b. nat_le m x.from && b) here ∙ and-false (nat_le m x.from))
     (later-none m x.to all end e are.2
-        (let e2 = ap (λ (y : Extent). y.from) same in let b = are.1 in omega (arith, e2, b)))
+    (let e2 = ap (λ (y : Extent). y.from) same in let b = are.1 in omega (arith, e2, b)))
   where
     and-false : (b : Bool) → (b && false) ≡ false
     and-false true = refl
@@ -131,11 +131,11 @@ around-fate rows all e r q around settled is rising same =
       | inr cut ↦ rw (is.spoiled, le-leb (spoiled_after rows r) q cut, le-ltb q (spoiled_after rows r) cut) refl
       | inl whole ↦ rw (is.spoiled, lt-leb (spoiled_after rows r) q whole, lt-ltb q (spoiled_after rows r) whole)
           (elim (cases_lt r (spoiled_after rows 0)) [
-        | inl first ↦ rw (is.first, lt-ltb r (spoiled_after rows 0) first) refl
-        | inr later ↦ rw (is.first, le-ltb r (spoiled_after rows 0) later)
-            (ap (λ m. fate_by_mark m r q e.from settled) (is.mark (omega (arith, whole, rising)) later)
+            | inl first ↦ rw (is.first, lt-ltb r (spoiled_after rows 0) first) refl
+            | inr later ↦ rw (is.first, le-ltb r (spoiled_after rows 0) later)
+                (ap (λ m. fate_by_mark m r q e.from settled) (is.mark (omega (arith, whole, rising)) later)
                 ∙ by-mark (mark_of_row (row_segments rows) r) all e r q settled same)
-      ])
+          ])
     ]
 
 -- ---- rows and places of a session
@@ -174,9 +174,9 @@ module _ (scenario : Scenario) (cells : List (Option Told)) where
       elim (cases_lt n k) [
         | inl all ↦ (
             let same : k ≡ length (rows_of scenario cells (suc n)) =
-                    (let e = rows-count (suc n) in omega (arith, e, all)) in
+            (let e = rows-count (suc n) in omega (arith, e, all)) in
             ap (λ k. take k (rows_of scenario cells (suc n))) same ∙ take-all (rows_of scenario cells (suc n))
-                ∙ ap (rows_of scenario cells) (let e : suc n ≡ k = omega arith in e))
+            ∙ ap (rows_of scenario cells) (let e : suc n ≡ k = omega arith in e))
         | inr front ↦ take-front (rows_of scenario cells n) (row_of scenario cells n ∷ []) k
             (let e = rows-count n in omega (arith, e, front)) ∙ take-rows n k front
       ]
@@ -238,22 +238,22 @@ module _ (scenario : Scenario) (cells : List (Option Told)) where
     late-waits late =
         let all = rows-length scenario cells n n (omega arith) in
         let isnt : is_carried (length (octets_of_rows rows)) found.extent ≡ false =
-                lt-leb found.extent.to (length (octets_of_rows rows))
-                (let to = found.to in omega (arith, all, to, late)) in
+        lt-leb found.extent.to (length (octets_of_rows rows))
+        (let to = found.to in omega (arith, all, to, late)) in
         sym (is-fate ∙ rw isnt refl)
 
     pub carried-fate : side.1 ≤ place_of scenario cells n → (first last : ℕ) → place_of scenario cells first ≤ side.0 →
         side.0 < place_of scenario cells (suc first) →
         place_of scenario cells last ≤ side.1 - 1 → side.1 - 1 < place_of scenario cells (suc last) →
-            (around : Around) → (first < length rows → IsAround rows first around) →
+        (around : Around) → (first < length rows → IsAround rows first around) →
         fate_around around first last side.0 (settles (ruler_of stream).sent i) ≡ fate_at stream.pieces rows i
     carried-fate carried first last from below last-from last-below around is =
         let e : Extent = found.extent in
         let one : first ≡ row_at rows e.from = row-is n side.0 first (omega (arith, some, carried)) from below
-                ∙ ap (row_at rows) found.from in
+        ∙ ap (row_at rows) found.from in
         let other : last ≡ row_at rows (e.to - 1) =
-                row-is n (side.1 - 1) last (omega (arith, some, carried)) last-from last-below
-                ∙ ap (λ m. row_at rows (m - 1)) found.to in
+        row-is n (side.1 - 1) last (omega (arith, some, carried)) last-from last-below
+        ∙ ap (λ m. row_at rows (m - 1)) found.to in
         let rising : first ≤ last = elim (cases_lt last first) [
           | inl wrong ↦ absurd (let up = place-up (suc last) first (omega (arith, wrong)) in omega
               (arith, up, from, last-below, some))
@@ -268,9 +268,9 @@ module _ (scenario : Scenario) (cells : List (Option Told)) where
         let begins = found.from in
         ap (λ m. fate_around around first last m (settles (ruler_of stream).sent i)) found.from
         ∙ around-fate rows (extents 0 stream.pieces) e first last around (settles (ruler_of stream).sent i)
-            (is (let count = rows-count n in omega (arith, count, within))) rising
+        (is (let count = rows-count n in omega (arith, count, within))) rising
         (λ m. settled-by m 0 (extents 0 stream.pieces) (0 + size stream.pieces) i e
-            (order-of 0 stream.pieces) found.there)
+        (order-of 0 stream.pieces) found.there)
         ∙ ap₂ (fate_by_rows rows (extents 0 stream.pieces) e) one other
         ∙ sym (fate-rows stream.pieces rows e (omega (arith, to, begins, some)) (omega (arith, to, all, carried)))
         ∙ sym is-fate

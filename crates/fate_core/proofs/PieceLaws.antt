@@ -52,13 +52,13 @@ fourth-next start place =
             let e : start ≡ place = omega arith in
             let none : (place - start) % 4 ≡ 0 = (let d : place - start ≡ 0 = omega arith in ap (λ n. n % 4) d) in
             ap₂ ◌&&◌ (le-leb start place high) (eq-eqb ((place - start) % 4) 0 none)
-                ∙ sym (ap (λ b. b || is_fourth (start + 4) place) (eq-eqb start place e)))
+            ∙ sym (ap (λ b. b || is_fourth (start + 4) place) (eq-eqb start place e)))
         | inl above ↦ (
             let apart : (start == place) ≡ false = ne_eqb start place (λ same. omega (arith, same, above)) in
             elim (cases_lt place (start + 4)) [
               | inl near ↦ (
                   let some : ((place - start) % 4 == 0) ≡ false =
-                          ne_eqb ((place - start) % 4) 0 (λ none. omega (arith, none, near, above)) in
+                  ne_eqb ((place - start) % 4) 0 (λ none. omega (arith, none, near, above)) in
                   ap₂ ◌&&◌ (le-leb start place high) some ∙ sym (ap₂ ◌||◌ apart (early (start + 4) place near)))
               | inr far ↦ (
                   let same : (place - start) % 4 ≡ (place - (start + 4)) % 4 = omega arith in
@@ -82,7 +82,7 @@ piece-next start (side ∷ list) end place are =
       | inl low ↦ rw (lt-ltb place side.0 low) (fourth-next start place)
       | inr high ↦ rw (le-ltb place side.0 high)
           (sym (ap (λ b. b || (place == side.0 || piece_in side.1 list end place))
-              (ne_eqb start place (λ same. let a = are.0 in omega (arith, same, high, a)))))
+          (ne_eqb start place (λ same. let a = are.0 in omega (arith, same, high, a)))))
     ]
 
 -- ---- the pieces of a stream
@@ -95,7 +95,7 @@ unfolding AreInOrder extents
 order-of start [] = omega arith
 order-of start (idle ∷ pieces) =
     let all : start + 4 + size pieces ≡ start + size (idle ∷ pieces) =
-            (let e = cons-size idle pieces in omega (arith, e)) in
+    (let e = cons-size idle pieces in omega (arith, e)) in
     order-more start (start + 4) (sides (extents (start + 4) pieces)) (start + size (idle ∷ pieces)) (omega arith)
     (subst (AreInOrder (start + 4) (sides (extents (start + 4) pieces))) all (order-of (start + 4) pieces))
   where
@@ -106,9 +106,12 @@ order-of start (idle ∷ pieces) =
 order-of start (client frame ∷ pieces) =
     let s : ℕ = size_of (client frame) in
     let all : start + s + size pieces ≡ start + size (client frame ∷ pieces) =
-            (let e = cons-size (client frame) pieces in omega (arith, e)) in
-    (omega arith, omega arith, subst (AreInOrder (start + s) (sides (extents (start + s) pieces))) all
-        (order-of (start + s) pieces))
+    (let e = cons-size (client frame) pieces in omega (arith, e)) in (
+      omega arith,
+      omega arith,
+      subst (AreInOrder (start + s) (sides (extents (start + s) pieces))) all
+          (order-of (start + s) pieces),
+    )
 
 pieces-in : (start : ℕ) (pieces : List Piece) (place : ℕ) →
     list_any (λ at. at == place) (places start pieces) ≡ piece_in start (sides (extents start pieces))
@@ -127,11 +130,11 @@ pieces-in start [] place =
 pieces-in start (idle ∷ pieces) place =
     let list : List (ℕ × ℕ) = sides (extents (start + 4) pieces) in
     let all : start + 4 + size pieces ≡ start + size (idle ∷ pieces) =
-            (let e = cons-size idle pieces in omega (arith, e)) in
+    (let e = cons-size idle pieces in omega (arith, e)) in
     ap (λ b. (start == place) || b)
-        (pieces-in (start + 4) pieces place ∙ ap (λ n. piece_in (start + 4) list n place) all)
+    (pieces-in (start + 4) pieces place ∙ ap (λ n. piece_in (start + 4) list n place) all)
     ∙ sym (piece-next start list (start + size (idle ∷ pieces)) place
-        (subst (AreInOrder (start + 4) list) all (order-of (start + 4) pieces)))
+    (subst (AreInOrder (start + 4) list) all (order-of (start + 4) pieces)))
 pieces-in start (client frame ∷ pieces) place =
     let s : ℕ = size_of (client frame) in
     let list : List (ℕ × ℕ) = sides (extents (start + s) pieces) in
@@ -142,7 +145,7 @@ pieces-in start (client frame ∷ pieces) place =
     elim (cases_lt place start) [
       | inl low ↦ rw (lt-ltb place start low)
           (ap₂ ◌||◌ (ne_eqb start place (λ same. omega (arith, same, low)))
-              (rest ∙ piece-early (start + s) list end place are (omega (arith, low))) ∙ sym (early start place low))
+          (rest ∙ piece-early (start + s) list end place are (omega (arith, low))) ∙ sym (early start place low))
       | inr high ↦ rw (le-ltb place start high) (ap₂ ◌||◌ (eqb-sym start place) rest)
     ]
   where
@@ -164,8 +167,8 @@ piece-late start (side ∷ list) end place are high =
     let low = order-low side.1 list end are.2 in
     let some = are.1 in
     rw (le-ltb place side.0 (omega (arith, low, some, high)))
-        (ap₂ ◌||◌ (ne_eqb place side.0 (λ same. omega (arith, same, low, some, high)))
-        (piece-late side.1 list end place are.2 high))
+    (ap₂ ◌||◌ (ne_eqb place side.0 (λ same. omega (arith, same, low, some, high)))
+    (piece-late side.1 list end place are.2 high))
 
 abbrev pub Above : List (ℕ × ℕ) → ℕ → ℕ → Type 0
 Above list place i = (k : ℕ) (d : ℕ × ℕ) → i ≤ k → k < length list → place < (slice_index_or list k d).0
@@ -180,7 +183,7 @@ piece-none start (side ∷ list) end place low above =
 pub piece-found : (start : ℕ) (list : List (ℕ × ℕ)) (end place i : ℕ) (side : ℕ × ℕ) → AreInOrder start list end →
     place < end →
     slice_get list i ≡ Some side → side.0 ≤ place → Above list place (suc i) →
-        piece_in start list end place ≡ (place == side.0 || is_fourth side.1 place)
+    piece_in start list end place ≡ (place == side.0 || is_fourth side.1 place)
 unfolding piece_in AreInOrder
 piece-found start [] end place zero side are low there begun above = absurd cc
 piece-found start [] end place (suc i) side are low there begun above = absurd cc
@@ -189,7 +192,7 @@ piece-found start (own ∷ list) end place zero side are low there begun above =
     let here : own.0 ≤ place = subst (λ (s : ℕ × ℕ). s.0 ≤ place) (sym same) begun in
     rw (le-ltb place own.0 here)
     (ap (λ b. place == own.0 || b) (piece-none own.1 list end place low
-        (λ k d from within. above (suc k) d (omega arith) (omega arith)))
+    (λ k d from within. above (suc k) d (omega arith) (omega arith)))
     ∙ ap (λ (s : ℕ × ℕ). place == s.0 || is_fourth s.1 place) same)
 piece-found start (own ∷ list) end place (suc i) side are low there begun above =
     let later : own.1 ≤ side.0 = side-late own.1 list end i side are.2 there in
@@ -197,7 +200,7 @@ piece-found start (own ∷ list) end place (suc i) side are low there begun abov
     rw (le-ltb place own.0 (omega (arith, later, some, begun)))
     (ap (λ b. b || piece_in own.1 list end place) (ne_eqb place own.0 (λ same. omega (arith, same, later, some, begun)))
     ∙ piece-found own.1 list end place i side are.2 low there begun
-        (λ k d from within. above (suc k) d (omega arith) (omega arith)))
+    (λ k d from within. above (suc k) d (omega arith) (omega arith)))
   where
     side-late : (from : ℕ) (list : List (ℕ × ℕ)) (end i : ℕ) (side : ℕ × ℕ) → AreInOrder from list end →
         slice_get list i ≡ Some side → from ≤ side.0
@@ -207,4 +210,4 @@ piece-found start (own ∷ list) end place (suc i) side are low there begun abov
         (let same : own ≡ side = cc in subst (λ (s : ℕ × ℕ). from ≤ s.0) same are.0)
     side-late from (own ∷ list) end (suc i) side are there =
         (let rest = side-late own.1 list end i side are.2 there in let a = are.0 in let b = are.1 in
-            omega (arith, rest, a, b))
+        omega (arith, rest, a, b))

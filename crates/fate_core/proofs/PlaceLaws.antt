@@ -30,7 +30,7 @@ sum-next (x ∷ xs) zero low =
 sum-next (x ∷ xs) (suc k) low =
     let rest = sum-next xs k (omega arith) in
     let more : sum_by length (take (suc (suc k)) (x ∷ xs)) ≡ length x + sum_by length (take (suc k) xs) =
-            cons-sum x (take (suc k) xs) in
+    cons-sum x (take (suc k) xs) in
     let less : sum_by length (take (suc k) (x ∷ xs)) ≡ length x + sum_by length (take k xs) = cons-sum x (take k xs) in
     let own : slice_index_or (x ∷ xs) (suc k) [] ≡ slice_index_or xs k [] = refl in
     omega (arith, rest, more, less, ap length own)
@@ -80,7 +80,7 @@ start-rises size xs i (suc d) within =
     let before = start-rises size xs i d (omega arith) in
     let next = start-next size xs (i + d) (omega arith) in
     let same : start_by size xs (suc (i + d)) ≡ start_by size xs (i + suc d) =
-            ap (start_by size xs) (let e : suc (i + d) ≡ i + suc d = omega arith in e) in
+    ap (start_by size xs) (let e : suc (i + d) ≡ i + suc d = omega arith in e) in
     omega (arith, before, next, same)
 
 -- ---- a session
@@ -103,7 +103,7 @@ module _ (scenario : Scenario) (cells : List (Option Told)) where
 
     pub place-in : (k q : ℕ) → k < length packets.active → q ≤ 16 →
         place_of scenario cells (24 + 16 * k + q) ≡ place_of scenario cells (24 + 16 * k) + q *
-            (packets.size * length (slice_index_or packets.active k []))
+        (packets.size * length (slice_index_or packets.active k []))
     unfolding place_of
     place-in k zero low high = ap (place_of scenario cells) (let e : 24 + 16 * k + 0 ≡ 24 + 16 * k = omega arith in e)
         ∙ (let e : place_of scenario cells (24 + 16 * k) ≡ place_of scenario cells (24 + 16 * k) + 0 *
@@ -112,13 +112,13 @@ module _ (scenario : Scenario) (cells : List (Option Told)) where
         let before = place-in k q low (omega arith) in
         let own : ℕ = packets.size * length (slice_index_or packets.active k []) in
         let next : place_of scenario cells (24 + 16 * k + suc q) ≡ place_of scenario cells (suc (24 + 16 * k + q)) =
-                ap (place_of scenario cells) (let e : 24 + 16 * k + suc q ≡ suc (24 + 16 * k + q) = omega arith in e) in
+        ap (place_of scenario cells) (let e : 24 + 16 * k + suc q ≡ suc (24 + 16 * k + q) = omega arith in e) in
         let row : scenario.size * width scenario cells (24 + 16 * k + q) ≡ own =
-                ap₂ ◌*◌ (sym are.size) (wide k q low (omega arith)) in
+        ap₂ ◌*◌ (sym are.size) (wide k q low (omega arith)) in
         let more : suc q * own ≡ q * own + own = omega arith in
         next ∙ (let e : place_of scenario cells (24 + 16 * k + q) + scenario.size * width scenario cells
-            (24 + 16 * k + q) ≡ place_of scenario cells (24 + 16 * k) + suc q * own =
-            omega (arith, before, row, more) in e)
+        (24 + 16 * k + q) ≡ place_of scenario cells (24 + 16 * k) + suc q * own =
+        omega (arith, before, row, more) in e)
 
     pub place-first : (k : ℕ) → k ≤ length packets.active →
         place_of scenario cells (24 + 16 * k) ≡ start_by packets.size packets.active k
@@ -133,12 +133,12 @@ module _ (scenario : Scenario) (cells : List (Option Told)) where
         let next = start-next packets.size packets.active k (omega arith) in
         ap (place_of scenario cells) (let e : 24 + 16 * suc k ≡ 24 + 16 * k + 16 = omega arith in e)
         ∙ (let e : place_of scenario cells (24 + 16 * k + 16) ≡ start_by packets.size packets.active (suc k) =
-            omega (arith, before, row, next) in e)
+        omega (arith, before, row, next) in e)
 
     -- a row under packet k
     pub place-at : (k q : ℕ) → k < length packets.active → q ≤ 16 →
         place_of scenario cells (24 + 16 * k + q) ≡ start_by packets.size packets.active k + q *
-            (packets.size * length (slice_index_or packets.active k []))
+        (packets.size * length (slice_index_or packets.active k []))
     place-at k q low high =
         let row = place-in k q low high in
         let first = place-first k (omega arith) in
@@ -185,7 +185,7 @@ module _ (size : ℕ) (list : List Packet) (end : ℕ) (is : IsPacketList size l
       let start = is.starts k packet there in
       let next = start-next size actives k (omega (arith, low, actives-length)) in
       let lines : size * length (slice_index_or actives k []) ≡ size * length packet.lines.items =
-              ap (λ (l : List ℕ). size * length l) (lines-at list k packet there) in
+      ap (λ (l : List ℕ). size * length l) (lines-at list k packet there) in
       omega (arith, start, next, lines)
 
   pub start-low : (k : ℕ) → k ≤ length list → start_by size actives k ≤ 8796093022208
@@ -204,21 +204,21 @@ module _ (size : ℕ) (list : List Packet) (end : ℕ) (is : IsPacketList size l
       omega (arith, next, most, rows)
 
   module _ (scenario : Scenario) (cells : List (Option Told)) (are : ArePackets scenario cells (packets_in size list))
-      where
-    pub row-place : (k q : ℕ) (packet : Packet) → slice_get list k ≡ Some packet → q ≤ 16 →
-        place_of scenario cells (24 + 16 * k + q) ≡ packet.start + q * (size * length packet.lines.items)
-    row-place k q packet there small =
-        let low = get-low list k packet there in
-        let start = is.starts k packet there in
-        let row = place-at scenario cells (packets_in size list) are k q (omega (arith, low, actives-length)) small in
-        let lines : q * (size * length (slice_index_or actives k [])) ≡ q * (size * length packet.lines.items) =
-                ap (λ (l : List ℕ). q * (size * length l)) (lines-at list k packet there) in
-        omega (arith, start, row, lines)
+    where
+      pub row-place : (k q : ℕ) (packet : Packet) → slice_get list k ≡ Some packet → q ≤ 16 →
+          place_of scenario cells (24 + 16 * k + q) ≡ packet.start + q * (size * length packet.lines.items)
+      row-place k q packet there small =
+          let low = get-low list k packet there in
+          let start = is.starts k packet there in
+          let row = place-at scenario cells (packets_in size list) are k q (omega (arith, low, actives-length)) small in
+          let lines : q * (size * length (slice_index_or actives k [])) ≡ q * (size * length packet.lines.items) =
+          ap (λ (l : List ℕ). q * (size * length l)) (lines-at list k packet there) in
+          omega (arith, start, row, lines)
 
-    pub end-place : (row : ℕ) → row ≡ 24 + 16 * length list → end ≡ place_of scenario cells row
-    end-place row last =
-        is.ends ∙ sym (place-first scenario cells (packets_in size list) are (length list)
-            (omega (arith, actives-length))) ∙ ap (place_of scenario cells) (sym last)
+      pub end-place : (row : ℕ) → row ≡ 24 + 16 * length list → end ≡ place_of scenario cells row
+      end-place row last =
+          is.ends ∙ sym (place-first scenario cells (packets_in size list) are (length list)
+          (omega (arith, actives-length))) ∙ ap (place_of scenario cells) (sym last)
 
   -- ---- the packet of a place
   module _ (place : ℕ) where
@@ -240,7 +240,7 @@ module _ (size : ℕ) (list : List Packet) (end : ℕ) (is : IsPacketList size l
         let other = start-at j d within in
         let rises = start-rises size actives i (j - i) (omega (arith, before, within, actives-length)) in
         let same : start_by size actives (i + (j - i)) ≡ start_by size actives j =
-                ap (start_by size actives) (let e : i + (j - i) ≡ j = omega (arith, before) in e) in
+        ap (start_by size actives) (let e : i + (j - i) ≡ j = omega (arith, before) in e) in
         let low = leb-true (slice_index_or list j d).start place ended in
         le-leb (slice_index_or list i d).start place (omega (arith, one, other, rises, same, low))
 
@@ -251,7 +251,7 @@ module _ (size : ℕ) (list : List Packet) (end : ℕ) (is : IsPacketList size l
         none [] same =
             let ends = is.ends in
             let empty : start_by size actives (length list) ≡ 0 =
-                    ap (λ xs. start_by size (map (λ (p : Packet). p.lines.items) xs) (length xs)) (sym same) ∙ zeros in
+            ap (λ xs. start_by size (map (λ (p : Packet). p.lines.items) xs) (length xs)) (sym same) ∙ zeros in
             omega (arith, ends, empty, low)
           where
             zeros : size * 0 * 16 ≡ 0
@@ -272,20 +272,20 @@ module _ (size : ℕ) (list : List Packet) (end : ℕ) (is : IsPacketList size l
         by (x ∷ xs) same =
             let start = start-at (i - 1) x (omega (arith, some, within)) in
             let low = leb-true (slice_index_or list (i - 1) x).start place
-                    (point.0 (i - 1) x (omega arith) (omega (arith, some))) in
+            (point.0 (i - 1) x (omega arith) (omega (arith, some))) in
             omega (arith, start, low)
 
     pub begun-high : (i : ℕ) → 1 ≤ i → i ≤ length list → Begun i → place < end →
         place < start_by size actives (suc (i - 1))
     begun-high i some within point low =
         let same : start_by size actives (suc (i - 1)) ≡ start_by size actives i =
-                ap (start_by size actives) (let e : suc (i - 1) ≡ i = omega (arith, some) in e) in
+        ap (start_by size actives) (let e : suc (i - 1) ≡ i = omega (arith, some) in e) in
         elim (cases_lt i (length list)) [
           | inl more ↦ (let above = beyond list refl more in omega (arith, same, above))
           | inr last ↦ (
               let ends = is.ends in
               let e : start_by size actives (length list) ≡ start_by size actives i =
-                      ap (start_by size actives) (let e : length list ≡ i = omega (arith, last, within) in e) in
+              ap (start_by size actives) (let e : length list ≡ i = omega (arith, last, within) in e) in
               omega (arith, same, ends, e, low))
         ]
       where
@@ -305,16 +305,16 @@ pub record Found (list : List Packet) (k : ℕ) (packet : Packet) (w place : ℕ
 pub found : (size : ℕ) (list : List Packet) (end : ℕ) → IsPacketList size list end → (packets : PacketList) →
     packets_in size list ≡ packets →
     (k : ℕ) (packet : Packet) (w place : ℕ) → k < length packets.active → packet ≡ slice_index_or list k packet →
-        w ≡ packets.size * length packet.lines.items →
+    w ≡ packets.size * length packet.lines.items →
     start_by packets.size packets.active k ≤ place → place < start_by packets.size packets.active (suc k) →
-        Found list k packet w place
+    Found list k packet w place
 found size list end is packets view k packet w place within is-at wide from below =
     let few = ap (λ (p : PacketList). length p.active) view in
     let there : slice_get list k ≡ Some packet =
-            get-at list k packet (let all = actives-length size list end is in omega (arith, all, few, within)) is-at in
+    get-at list k packet (let all = actives-length size list end is in omega (arith, all, few, within)) is-at in
     let start = is.starts k packet there in
     let own : w ≡ size * length packet.lines.items = wide
-            ∙ ap (λ (p : PacketList). p.size * length packet.lines.items) (sym view) in
+    ∙ ap (λ (p : PacketList). p.size * length packet.lines.items) (sym view) in
     let low = subst (λ (p : PacketList). start_by p.size p.active k ≤ place) (sym view) from in
     let high = subst (λ (p : PacketList). place < start_by p.size p.active (suc k)) (sym view) below in
     let next = next-start size list end is k packet there in
@@ -355,8 +355,8 @@ start-front : (size : ℕ) (list : List Packet) (packet : Packet) (k : ℕ) → 
 start-front size list packet k low =
     ap (λ xs. size * sum_by length (take k xs) * 16) (map-append (λ (p : Packet). p.lines.items) list (packet ∷ []))
     ∙ ap (λ xs. size * sum_by length xs * 16)
-        (take-front (packets_in size list).active packet.lines.items k
-        (let e = length-map list (λ (p : Packet). p.lines.items) in omega (arith, e, low)))
+    (take-front (packets_in size list).active packet.lines.items k
+    (let e = length-map list (λ (p : Packet). p.lines.items) in omega (arith, e, low)))
 
 last-get : (xs : List Packet) (x : Packet) → slice_get (xs ++ x ∷ []) (length xs) ≡ Some x
 last-get [] x = refl
@@ -365,7 +365,7 @@ last-get (own ∷ xs) x = last-get xs x
 pub pushed : (size : ℕ) (list : List Packet) (end : ℕ) (packet : Packet) (next : ℕ) → IsPacketList size list end →
     length list < 65536 → length packet.lines.items ≤ 128 →
     packet.start ≡ end → next ≡ end + size * length packet.lines.items * 16 →
-        IsPacketList size (list ++ packet ∷ []) next
+    IsPacketList size (list ++ packet ∷ []) next
 pushed size list end packet next is few own start ends = record {
   small = is.small;
   few = (let e = length-append list (packet ∷ []) in omega (arith, e, few));
@@ -390,12 +390,12 @@ pushed size list end packet next is few own start ends = record {
     last =
         let all : List (List ℕ) = (packets_in size (list ++ packet ∷ [])).active in
         let count : length (list ++ packet ∷ []) ≡ suc (length list) =
-                (let e = length-append list (packet ∷ []) in omega (arith, e)) in
+        (let e = length-append list (packet ∷ []) in omega (arith, e)) in
         let size-all = length-map (list ++ packet ∷ []) (λ (p : Packet). p.lines.items) in
         let step = start-next size all (length list) (omega (arith, size-all, count)) in
         let front = start-front size list packet (length list) (omega arith) in
         let own-lines : size * length (slice_index_or all (length list) []) ≡ size * length packet.lines.items =
         ap (λ (l : List ℕ). size * length l)
-            (lines-at (list ++ packet ∷ []) (length list) packet (last-get list packet)) in
+        (lines-at (list ++ packet ∷ []) (length list) packet (last-get list packet)) in
         let before = is.ends in
         omega (arith, ends, step, front, own-lines, before) ∙ ap (start_by size all) (sym count)

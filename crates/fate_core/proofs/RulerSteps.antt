@@ -18,7 +18,7 @@ take-set [] i x low = absurd (omega arith)
 take-set (own ∷ xs) zero x low = refl
 take-set (own ∷ xs) (suc i) x low =
     ap (λ n. take n (own ∷ slice_set xs i x)) (let e : suc i + 1 ≡ suc (i + 1) = omega arith in e)
-        ∙ ap (λ l. own ∷ l) (take-set xs i x (omega arith))
+    ∙ ap (λ l. own ∷ l) (take-set xs i x (omega arith))
 
 drop-set : {X : Type 0} (xs : List X) (i : ℕ) (x : X) → i < length xs →
     drop (i + 1) (slice_set xs i x) ≡ drop (i + 1) xs
@@ -26,7 +26,7 @@ drop-set [] i x low = absurd (omega arith)
 drop-set (own ∷ xs) zero x low = refl
 drop-set (own ∷ xs) (suc i) x low =
     ap (λ n. drop n (own ∷ slice_set xs i x)) (let e : suc i + 1 ≡ suc (i + 1) = omega arith in e)
-        ∙ drop-set xs i x (omega arith)
+    ∙ drop-set xs i x (omega arith)
     ∙ ap (λ n. drop n (own ∷ xs)) (let e : suc (i + 1) ≡ suc i + 1 = omega arith in e)
 
 set-length : {X : Type 0} (xs : List X) (i : ℕ) (x : X) → length (slice_set xs i x) ≡ length xs
@@ -41,7 +41,7 @@ set-short (own ∷ xs) zero x low all =
     All-cons (λ (p : Piece). p.length < 2 ^ 16) x xs low (λ k d within. all (suc k) d (omega arith))
 set-short (own ∷ xs) (suc i) x low all =
     All-cons (λ (p : Piece). p.length < 2 ^ 16) own (slice_set xs i x) (all zero own (omega arith))
-        (set-short xs i x low (λ k d within. all (suc k) d (omega arith)))
+    (set-short xs i x low (λ k d within. all (suc k) d (omega arith)))
 
 order-push : (from : ℕ) (list : List (ℕ × ℕ)) (end next : ℕ) → AreInOrder from list end → end < next →
     AreInOrder from (list ++ (end, next) ∷ []) next
@@ -79,15 +79,15 @@ begins frames begun end piece is low below from short = record {
   short = set-short frames begun piece short is.short;
   order = subst (λ l. AreInOrder 0 l (end + (8 + piece.length)))
       (sym (ap (map side_of) (take-set frames begun piece low) ∙ map-append side_of (take begun frames) (piece ∷ [])
-          ∙ ap (λ n. map side_of (take begun frames) ++ (n, n + (8 + piece.length)) ∷ []) from))
+      ∙ ap (λ n. map side_of (take begun frames) ++ (n, n + (8 + piece.length)) ∷ []) from))
       (order-push 0 (map side_of (take begun frames)) end (end + (8 + piece.length)) is.order (omega arith));
   low = omega (arith, below, short);
 }
 
 pub ruled-step : (place end : ℕ) (sent : List (ℕ × ℕ)) (waiting : List ℕ) → 0 < length waiting → end < place →
     ruled place (with_begun (record { end = end; sent = sent; waiting = waiting })).end
-        (with_begun (record { end = end; sent = sent; waiting = waiting })).sent
-        (with_begun (record { end = end; sent = sent; waiting = waiting })).waiting
+    (with_begun (record { end = end; sent = sent; waiting = waiting })).sent
+    (with_begun (record { end = end; sent = sent; waiting = waiting })).waiting
     ≡ ruled place end sent waiting
 unfolding ruled
 ruled-step place end sent [] some low = absurd (omega (arith, some))
@@ -121,13 +121,13 @@ ruled-there place ruler high = by ruler.end ruler.sent ruler.waiting high
 
 pub ruled-idles : (place : ℕ) (ruler : Ruler) → ruler.end < place → ruler.waiting ≡ [] →
     ruled place ruler.end ruler.sent ruler.waiting
-        ≡ record { end = ruler.end + (place - ruler.end + 3) / 4 * 4; sent = ruler.sent; waiting = ruler.waiting }
+    ≡ record { end = ruler.end + (place - ruler.end + 3) / 4 * 4; sent = ruler.sent; waiting = ruler.waiting }
 unfolding ruled
 ruled-idles place ruler low none =
     ap (ruled place ruler.end ruler.sent) none
     ∙ rw (lt-leb place ruler.end low) (ap₂ (λ n (w : List ℕ). record { end = n; sent = ruler.sent; waiting = w })
     (let e : ruler.end + 4 * ((place - ruler.end + 3) / 4) ≡ ruler.end + (place - ruler.end + 3) / 4 * 4 =
-        omega arith in e) (sym none))
+    omega arith in e) (sym none))
 
 order-more : (from : ℕ) (list : List (ℕ × ℕ)) (end next : ℕ) → AreInOrder from list end → end ≤ next →
     AreInOrder from list next
@@ -138,8 +138,13 @@ order-more from (side ∷ list) end next are more = (are.0, are.1, order-more si
 pub longer : (frames : List Piece) (begun end next : ℕ) → IsRuler frames begun end → end ≤ next →
     next < 2 ^ 63 + 65544 → IsRuler frames begun next
 longer frames begun end next is more low =
-    record { within = is.within; short = is.short; order =
-    order-more 0 (map side_of (take begun frames)) end next is.order more; low = low }
+    record {
+      within = is.within;
+      short = is.short;
+      order =
+          order-more 0 (map side_of (take begun frames)) end next is.order more;
+      low = low;
+    }
 
 -- ---- the sides of a frame
 pub side-at : (frames : List Piece) (begun k : ℕ) (piece : Piece) → k < begun → begun ≤ length frames →
@@ -178,10 +183,10 @@ sides-rise from (side ∷ list) end zero zero d are before within = (are.0, omeg
 sides-rise from (side ∷ list) end (suc i) zero d are before within = absurd (omega arith)
 sides-rise from (side ∷ list) end zero (suc j) d are before within =
     let rest = sides-rise side.1 list end j j d are.2 (omega arith) (omega arith) in let a = are.0 in let b = are.1 in
-            (a, omega (arith, rest.0, b))
+    (a, omega (arith, rest.0, b))
 sides-rise from (side ∷ list) end (suc i) (suc j) d are before within =
     let rest = sides-rise side.1 list end i j d are.2 (omega arith) (omega arith) in let a = are.0 in let b = are.1 in
-            (omega (arith, rest.0, a, b), rest.1)
+    (omega (arith, rest.0, a, b), rest.1)
 
 map-at : (frames : List Piece) (k : ℕ) (d : Piece) → k < length frames →
     slice_index_or (map side_of frames) k (side_of d) ≡ side_of (slice_index_or frames k d)

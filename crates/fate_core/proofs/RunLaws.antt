@@ -52,11 +52,11 @@ module _ (t n : ℕ) (first cause : Cause) where
         | inl meets ↦ (
             let same : first ≡ cause = same-is first cause (and_second (n == suc t) (same_cause first cause) meets) in
             let other : (suc t == n && same_cause first cause) ≡ true =
-                    ap (λ b. b && same_cause first cause) (eqb-sym (suc t) n) ∙ meets in
+            ap (λ b. b && same_cause first cause) (eqb-sym (suc t) n) ∙ meets in
             rw (meets, other) (ap (λ c. record { first = t; end = suc n; cause = c } ∷ []) (sym same)))
         | inr apart ↦ (
             let other : (suc t == n && same_cause first cause) ≡ false =
-                    ap (λ b. b && same_cause first cause) (eqb-sym (suc t) n) ∙ apart in
+            ap (λ b. b && same_cause first cause) (eqb-sym (suc t) n) ∙ apart in
             rw (apart, other) refl)
       ]
 
@@ -97,7 +97,7 @@ runs-push t (first ∷ causes) cause =
     ap (spoiled_then t first) (runs-push (suc t) causes cause)
     ∙ then-row t (suc t + length causes) first cause (spoiled_runs (suc t) causes)
     ∙ ap (λ n. with_row_of n cause (spoiled_then t first (spoiled_runs (suc t) causes)))
-        (let e : suc t + length causes ≡ t + suc (length causes) = omega arith in e)
+    (let e : suc t + length causes ≡ t + suc (length causes) = omega arith in e)
 
 -- what is kept of rows and one more
 pub runs-more : (was now : RunList) (causes : List (Option Cause)) (cause : Option Cause) → AreRuns was causes →
@@ -120,10 +120,10 @@ unfolding with_row
 row-meets [] row cause i run other count there again meets = absurd (omega arith)
 row-meets (own ∷ []) row cause zero run other count there again meets =
     let own-meets : (own.end == row && same_cause own.cause cause) ≡ true =
-            ap (λ (r : SpoiledRun). r.end == row && same_cause r.cause cause) (sym there) ∙ meets in
+    ap (λ (r : SpoiledRun). r.end == row && same_cause r.cause cause) (sym there) ∙ meets in
     rw own-meets (ap (λ (r : SpoiledRun). record { first = r.first; end = row + 1; cause = r.cause } ∷ []) again
     ∙ ap (λ n. record { first = own.first; end = n; cause = own.cause } ∷ [])
-        (let e : row + 1 ≡ suc row = omega arith in e))
+    (let e : row + 1 ≡ suc row = omega arith in e))
 row-meets (own ∷ []) row cause (suc i) run other count there again meets = absurd (omega arith)
 row-meets (own ∷ next ∷ items) row cause zero run other count there again meets = absurd (omega arith)
 row-meets (own ∷ next ∷ items) row cause (suc i) run other count there again meets =
@@ -140,8 +140,8 @@ row-apart [] row cause apart = ap (λ n. record { first = row; end = n; cause = 
 row-apart (own ∷ []) row cause apart =
     let last = apart zero (omega arith) in
     let isnt : (own.end == row && same_cause own.cause cause) ≡ false =
-            ap (λ (r : SpoiledRun). r.end == row && same_cause r.cause cause) (sym last.1) ∙ last.2 in
+    ap (λ (r : SpoiledRun). r.end == row && same_cause r.cause cause) (sym last.1) ∙ last.2 in
     rw isnt (ap (λ n. own ∷ record { first = row; end = n; cause = cause } ∷ [])
-        (let e : row + 1 ≡ suc row = omega arith in e))
+    (let e : row + 1 ≡ suc row = omega arith in e))
 row-apart (own ∷ next ∷ items) row cause apart =
     ap (λ l. own ∷ l) (row-apart (next ∷ items) row cause (λ i count. apart (suc i) (omega arith)))

@@ -46,16 +46,16 @@ unfolding spans_on segments_on
 beside-on come segments count [] is = subst (Beside come segments) (let e : count ≡ count + 0 = omega arith in e) is
 beside-on come segments count (row ∷ rows) is =
     subst (Beside (spans_on (span_by row.whole come) rows) (segments_on (row_by row.whole segments row.octets) rows))
-        (let e : suc count + length rows ≡ count + suc (length rows) = omega arith in e)
+    (let e : suc count + length rows ≡ count + suc (length rows) = omega arith in e)
     (beside-on (span_by row.whole come) (row_by row.whole segments row.octets) (suc count) rows
-        (beside-row come segments count row.whole row.octets is))
+    (beside-row come segments count row.whole row.octets is))
 
 beside : (rows : List StreamRow) → Beside (spans_on no_spans rows) (segments_of rows) (length rows)
 beside rows =
     subst (Beside (spans_on no_spans rows) (segments_of rows))
-        (let e : 0 + length rows ≡ length rows = omega arith in e)
+    (let e : 0 + length rows ≡ length rows = omega arith in e)
     (beside-on no_spans (record { ended = []; last = record { first = true; base = 0; octets = [] } }) 0 rows
-        (record { ended = refl; last = refl }))
+    (record { ended = refl; last = refl }))
 
 with-last : (front : List Span) (others : List Segment) (a : Span) (b : Segment) → length front ≡ length others →
     row_segments_with (front ++ a ∷ []) (others ++ b ∷ []) ≡ row_segments_with front others ++ row_segment a b ∷ []
@@ -80,9 +80,11 @@ module _ (rows : List StreamRow) (row : StreamRow) where
   both : (whole : Bool) → row.whole ≡ whole →
       (spans_on no_spans (rows ++ row ∷ []) ≡ span_by whole (spans_on no_spans rows)) ×
       (segments_of (rows ++ row ∷ []) ≡ row_by whole (segments_of rows) row.octets)
-  both whole is =
-      (spans-push no_spans rows row ∙ ap (λ b. span_by b (spans_on no_spans rows)) is, segments_of-push rows row
-          ∙ ap (λ b. row_by b (segments_of rows) row.octets) is)
+  both whole is = (
+    spans-push no_spans rows row ∙ ap (λ b. span_by b (spans_on no_spans rows)) is,
+    segments_of-push rows row
+        ∙ ap (λ b. row_by b (segments_of rows) row.octets) is,
+  )
 
   abbrev ended_by : Spans → Segments → List RowSegment
   ended_by come segments = row_segments_with come.ended segments.ended
@@ -91,14 +93,26 @@ module _ (rows : List StreamRow) (row : StreamRow) where
   whole-ended is = let e = both true is in ap₂ (λ (come : Spans) (segments : Segments). ended_by come segments) e.0 e.1
 
   pub whole-last : row.whole ≡ true → last_segment (rows ++ row ∷ [])
-      ≡ record { first = (last_segment rows).first; end = suc (length rows); mark =
-          confirmed_in (segments_of (rows ++ row ∷ [])).last }
+      ≡ record {
+        first = (last_segment rows).first;
+        end = suc (length rows);
+        mark =
+            confirmed_in (segments_of (rows ++ row ∷ [])).last;
+      }
   whole-last is =
       let e = both true is in
-      ap (λ (come : Spans). record { first = come.last.first; end = come.last.end; mark =
-          confirmed_in (segments_of (rows ++ row ∷ [])).last }) e.0
-      ∙ ap (λ n. record { first = (last_segment rows).first; end = suc n; mark =
-          confirmed_in (segments_of (rows ++ row ∷ [])).last }) (last-end rows)
+      ap (λ (come : Spans). record {
+        first = come.last.first;
+        end = come.last.end;
+        mark =
+            confirmed_in (segments_of (rows ++ row ∷ [])).last;
+      }) e.0
+      ∙ ap (λ n. record {
+        first = (last_segment rows).first;
+        end = suc n;
+        mark =
+            confirmed_in (segments_of (rows ++ row ∷ [])).last;
+      }) (last-end rows)
 
   pub whole-base : row.whole ≡ true → (segments_of (rows ++ row ∷ [])).last.base ≡ (segments_of rows).last.base
   whole-base is = let e = both true is in ap (λ (s : Segments). s.last.base) e.1
@@ -108,7 +122,7 @@ module _ (rows : List StreamRow) (row : StreamRow) where
       let e = both false is in
       ap₂ (λ (come : Spans) (segments : Segments). ended_by come segments) e.0 e.1
       ∙ with-last (spans_on no_spans rows).ended (segments_of rows).ended (spans_on no_spans rows).last
-          (segments_of rows).last (beside rows).ended
+      (segments_of rows).last (beside rows).ended
 
   nothing : (segment : Segment) → segment.octets ≡ [] → confirmed_in segment ≡ None
   unfolding hunt_within
@@ -119,7 +133,7 @@ module _ (rows : List StreamRow) (row : StreamRow) where
   cut-last is =
       let e = both false is in
       let mark : confirmed_in (segments_of (rows ++ row ∷ [])).last ≡ None =
-              nothing (segments_of (rows ++ row ∷ [])).last (ap (λ (s : Segments). s.last.octets) e.1) in
+      nothing (segments_of (rows ++ row ∷ [])).last (ap (λ (s : Segments). s.last.octets) e.1) in
       ap₂ (λ (come : Spans) m. record { first = come.last.first; end = come.last.end; mark = m }) e.0 mark
       ∙ ap (λ n. record { first = suc n; end = suc n; mark = None }) (last-end rows)
 
@@ -129,7 +143,7 @@ module _ (rows : List StreamRow) (row : StreamRow) where
       let e = both false is in
       let ends = (Stands-all (rows ++ row ∷ [])).ends in
       let none : length (segments_of (rows ++ row ∷ [])).last.octets ≡ 0 =
-              ap (λ (s : Segments). length s.last.octets) e.1 in
+      ap (λ (s : Segments). length s.last.octets) e.1 in
       omega (arith, ends, none)
 
 -- ---- the first row that isn't whole
@@ -163,9 +177,9 @@ spoiled-next t (first ∷ rows) row all =
     elim (cases_Bool first.whole) [
       | inl whole ↦
           rw whole (spoiled-next (suc t) rows row
-              (let e : spoiled_from (suc t) rows ≡ t + suc (length rows) = rw whole at all in omega (arith, e))
+          (let e : spoiled_from (suc t) rows ≡ t + suc (length rows) = rw whole at all in omega (arith, e))
           ∙ ap (λ n. if row.whole then suc n else n)
-              (let e : suc t + length rows ≡ t + suc (length rows) = omega arith in e))
+          (let e : suc t + length rows ≡ t + suc (length rows) = omega arith in e))
       | inr cut ↦ absurd (let e : t ≡ t + suc (length rows) = rw cut at all in omega (arith, e))
     ]
 
@@ -198,13 +212,13 @@ later-kept kept rows stands = ap (λ l. filter has_row (drop 1 l)) (all-segments
     by : (ended : List RowSegment) → kept.ended ≡ filter has_row (drop 1 ended) →
         nat_lt kept.first kept.last.first ≡ nat_lt 0 (length ended) →
         filter has_row (drop 1 (ended ++ last_segment rows ∷ [])) ≡ kept.ended ++
-            (if is_told kept then kept.last ∷ [] else [])
+        (if is_told kept then kept.last ∷ [] else [])
     by [] none goes = rw goes (sym (append-nil kept.ended ∙ none))
     by (first ∷ ended) are goes =
         let told : nat_lt kept.first kept.last.first ≡ true = goes ∙ lt-ltb 0 (length (first ∷ ended)) (omega arith) in
         filter-append has_row ended (last_segment rows ∷ [])
         ∙ ap₂ ◌++◌ (sym are) (rw told (ap (λ (last : RowSegment). filter has_row (last ∷ [])) (sym stands.last)
-            ∙ own (has_row kept.last) refl))
+        ∙ own (has_row kept.last) refl))
       where
         own : (b : Bool) → has_row kept.last ≡ b →
             filter has_row (kept.last ∷ []) ≡ (if nat_lt kept.last.first kept.last.end then kept.last ∷ [] else [])
@@ -248,13 +262,17 @@ module _ (kept : SegmentList) (rows : List StreamRow) (row : StreamRow) (stands 
         let first = ap (λ (s : RowSegment). s.first) stands.last in
         let count : kept.rows + 1 ≡ suc (length rows) = (let e = stands.count in omega (arith, e)) in
         let base : kept.base ≡ (segments_of (rows ++ row ∷ [])).last.base = stands.base
-                ∙ sym (whole-base rows row whole) in
+        ∙ sym (whole-base rows row whole) in
         ap (λ n. record { first = n; end = kept.rows + 1; mark = option_map (λ place. kept.base + place) confirmed })
-            first
-        ∙ ap (λ n. record { first = (last_segment rows).first; end = n; mark =
-            option_map (λ place. kept.base + place) confirmed }) count
+        first
+        ∙ ap (λ n. record {
+          first = (last_segment rows).first;
+          end = n;
+          mark =
+              option_map (λ place. kept.base + place) confirmed;
+        }) count
         ∙ ap (λ m. record { first = (last_segment rows).first; end = suc (length rows); mark = m })
-            (ap (λ b. option_map (λ place. b + place) confirmed) base ∙ tells.confirms)
+        (ap (λ b. option_map (λ place. b + place) confirmed) base ∙ tells.confirms)
         ∙ sym (whole-last rows row whole)
         );
     base = stands.base ∙ sym (whole-base rows row whole);
@@ -271,7 +289,7 @@ module _ (kept : SegmentList) (rows : List StreamRow) (row : StreamRow) (stands 
                 let all = whole-first high in
                 let first = stands.first in
                 let next : spoiled_from 0 (rows ++ row ∷ []) ≡ suc (0 + length rows) = spoiled-next 0 rows row all
-                        ∙ ap (λ b. if b then suc (0 + length rows) else 0 + length rows) whole in
+                ∙ ap (λ b. if b then suc (0 + length rows) else 0 + length rows) whole in
                 omega (arith, all, first, next))
           ]
 
@@ -282,7 +300,7 @@ module _ (kept : SegmentList) (rows : List StreamRow) (row : StreamRow) (stands 
             | inl low ↦ rw (lt-leb kept.last.first kept.first low) stands.broken
             | inr high ↦ rw (le-leb kept.last.first kept.first high)
                 (le-ltb (kept.first + 1) kept.last.first (omega arith) ∙ sym (le-ltb kept.first kept.last.first high)
-                    ∙ stands.broken)
+                ∙ stands.broken)
           ]
 
   pub break-off : (end : ℕ) (confirmed : Option ℕ) → row.whole ≡ false → Tells (rows ++ row ∷ []) end confirmed →
@@ -300,9 +318,9 @@ module _ (kept : SegmentList) (rows : List StreamRow) (row : StreamRow) (stands 
     broken = (
         let within = are.within in
         let some : length (ended_segments (rows ++ row ∷ [])) ≡ length (ended_segments rows) + 1 =
-                ap length (cut-ended rows row cut) ∙ length-append (ended_segments rows) (last_segment rows ∷ []) in
+        ap length (cut-ended rows row cut) ∙ length-append (ended_segments rows) (last_segment rows ∷ []) in
         lt-ltb kept.first (kept.rows + 1) (omega (arith, within))
-            ∙ sym (lt-ltb 0 (length (ended_segments (rows ++ row ∷ []))) (omega (arith, some)))
+        ∙ sym (lt-ltb 0 (length (ended_segments (rows ++ row ∷ []))) (omega (arith, some)))
         );
   }
     where
@@ -313,7 +331,7 @@ module _ (kept : SegmentList) (rows : List StreamRow) (row : StreamRow) (stands 
             | inr high ↦ (
                 let all = whole-first high in
                 let next : spoiled_from 0 (rows ++ row ∷ []) ≡ 0 + length rows = spoiled-next 0 rows row all
-                        ∙ ap (λ b. if b then suc (0 + length rows) else 0 + length rows) cut in
+                ∙ ap (λ b. if b then suc (0 + length rows) else 0 + length rows) cut in
                 stands.first ∙ all ∙ sym next)
           ]
 

@@ -28,10 +28,10 @@ module _ (pieces : List Piece) where
   own : (span : Span) (segment : Segment) (rest : Bool) (others : List RowSegment) → segment.first ≡ false →
       (has_row (row_segment span segment) ≡ false → segment.octets ≡ []) →
       rest ≡ list_all test (filter has_row others) →
-          (has_true_mark pieces segment && rest) ≡ list_all test (filter has_row (row_segment span segment ∷ others))
+      (has_true_mark pieces segment && rest) ≡ list_all test (filter has_row (row_segment span segment ∷ others))
   own span segment rest others later empty same =
       let mark : has_true_mark pieces segment ≡ is_true_mark pieces (confirmed_in segment) =
-              ap (λ b. b || is_true_mark pieces (confirmed_in segment)) later in
+      ap (λ b. b || is_true_mark pieces (confirmed_in segment)) later in
       elim (cases_Bool (has_row (row_segment span segment))) [
         | inl some ↦ rw some (ap₂ ◌&&◌ mark same)
         | inr none ↦ rw none (ap₂ ◌&&◌ (mark ∙ no-mark segment (empty none)) same)
@@ -46,18 +46,18 @@ module _ (pieces : List Piece) where
       elim (cases_Bool row.whole) [
         | inl whole ↦ rw whole
             (later-tail rows (record { first = span.first; end = suc span.end }) (with_row segment row.octets) later
-                (omega arith)
+            (omega arith)
             (λ none. absurd (let some = lt-ltb span.first (suc span.end) (omega arith) in cc)))
         | inr cut ↦ rw cut
             (own span segment _ (from_here rows (record { first = suc span.end; end = suc span.end })
-                (next_segment segment row.octets)) later empty
+            (next_segment segment row.octets)) later empty
             (later-tail rows (record { first = suc span.end; end = suc span.end })
-                (next_segment segment row.octets) refl (omega arith) (λ none. refl)))
+            (next_segment segment row.octets) refl (omega arith) (λ none. refl)))
       ]
 
   first-tail : (rows : List StreamRow) (span : Span) (segment : Segment) → segment.first ≡ true →
       list_all (has_true_mark pieces) (tail rows segment) ≡ list_all test
-          (filter has_row (drop 1 (from_here rows span segment)))
+      (filter has_row (drop 1 (from_here rows span segment)))
   unfolding row_segments_with span_tail tail
   first-tail [] span segment first = ap (λ b. (b || is_true_mark pieces (confirmed_in segment)) && true) first
   first-tail (row ∷ rows) span segment first =
@@ -66,16 +66,16 @@ module _ (pieces : List Piece) where
             (with_row segment row.octets) first)
         | inr cut ↦ rw cut
             (ap (λ b. (b || is_true_mark pieces (confirmed_in segment)) && list_all (has_true_mark pieces)
-                (tail rows (next_segment segment row.octets))) first
+            (tail rows (next_segment segment row.octets))) first
             ∙ later-tail rows (record { first = suc span.end; end = suc span.end })
-                (next_segment segment row.octets) refl (omega arith) (λ none. refl))
+            (next_segment segment row.octets) refl (omega arith) (λ none. refl))
       ]
 
   pub marks-later : (rows : List StreamRow) → list_all test (later_segments rows) ≡ are_true_marks pieces rows
   marks-later rows =
       ap (λ l. list_all test (filter has_row (drop 1 l))) (from-start rows)
       ∙ sym (ap (list_all (has_true_mark pieces)) (segments-tail (record { ended = []; last = start }) rows)
-          ∙ first-tail rows no_span start refl)
+      ∙ first-tail rows no_span start refl)
 
   pub test-at : (list : List RowSegment) (i : ℕ) →
       list_all test (drop i list) ≡ (is_true_of pieces (slice_get list i) && list_all test (drop (i + 1) list))

@@ -36,7 +36,7 @@ whole-none carries from (suc count) n low high isnt =
       | inr here ↦ (
           let same : n ≡ from + count = omega arith in
           ap (λ m. are_whole carries from count && is_whole (carries m)) (sym same)
-              ∙ ap (λ b. are_whole carries from count && b) isnt ∙ and_false (are_whole carries from count))
+          ∙ ap (λ b. are_whole carries from count && b) isnt ∙ and_false (are_whole carries from count))
     ]
 
 whole-same : (one other : ℕ → Carried) (from count : ℕ) → ((n : ℕ) → from ≤ n → one n ≡ other n) →
@@ -68,7 +68,7 @@ first-tells end (own ∷ windows) from count window are there above some =
           let high : n < from + count = omega arith in
           let within : n < own.end = omega arith in
           whole-none (carried (own ∷ windows)) from count n low high
-              (ap is_whole (carried-in own windows n begins within) ∙ spoils own n)
+          (ap is_whole (carried-in own windows n begins within) ∙ spoils own n)
           ∙ sym (lt-leb (from + count) own.first inside))
       | inr outside ↦
           whole-all (carried (own ∷ windows)) from count (λ n low high.
@@ -104,8 +104,8 @@ over : (list : List Window) (from count i : ℕ) → Parts list from i →
 over list from count i point =
     whole-same (carried list) (carried (drop i list)) from count (λ n low.
     carried-drop list n i (λ k d below inside.
-        let ends = leb-true (slice_index_or list k d).end from (point.0 k d (omega arith) below) in
-        omega (arith, ends, low)))
+    let ends = leb-true (slice_index_or list k d).end from (point.0 k d (omega arith) below) in
+    omega (arith, ends, low)))
 
 front-above : (list : List Window) (from i : ℕ) (window : Window) → Parts list from i →
     Some window ≡ slice_get (drop i list) 0 → from < window.end
@@ -125,16 +125,16 @@ front-above list from i window point there =
 pub some-tells : (list : List Window) (from count i : ℕ) (window : Window) → AreWindows 0 list → 0 < count →
     Parts list from i →
     Some window ≡ slice_get (take (length list - i) (drop i list)) 0 →
-        nat_le (from + count) window.first ≡ whole_in list from count
+    nat_le (from + count) window.first ≡ whole_in list from count
 some-tells list from count i window are some point there =
     let here : Some window ≡ slice_get (drop i list) 0 = there ∙ ap (λ l. slice_get l 0) (rest list i) in
     let left = are-drop 0 list i are in
     sym (over list from count i point
-        ∙ first-tells left.0 (drop i list) from count window left.1 here (front-above list from i window point here)
-        some)
+    ∙ first-tells left.0 (drop i list) from count window left.1 here (front-above list from i window point here)
+    some)
 
 pub nothing-tells : (list : List Window) (from count i : ℕ) → Parts list from i →
     None ≡ slice_get (take (length list - i) (drop i list)) 0 → true ≡ whole_in list from count
 nothing-tells list from count i point there =
     sym (over list from count i point
-        ∙ none-tells (drop i list) from count (there ∙ ap (λ l. slice_get l 0) (rest list i)))
+    ∙ none-tells (drop i list) from count (there ∙ ap (λ l. slice_get l 0) (rest list i)))

@@ -19,6 +19,6 @@ unfoldable pub with_row : ℕ → Cause → List SpoiledRun → List SpoiledRun
 with_row row cause [] = record { first = row; end = suc row; cause = cause } ∷ []
 with_row row cause (run ∷ []) =
     if run.end == row && same_cause run.cause cause then record { first = run.first; end = suc row; cause = run.cause }
-        ∷ []
+    ∷ []
     else run ∷ record { first = row; end = suc row; cause = cause } ∷ []
 with_row row cause (run ∷ next ∷ runs) = run ∷ with_row row cause (next ∷ runs)

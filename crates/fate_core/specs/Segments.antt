@@ -54,8 +54,12 @@ gone_on kept confirmed = record {
   rows = kept.rows + 1;
   first = if nat_le kept.last.first kept.first then kept.first + 1 else kept.first;
   ended = kept.ended;
-  last = record { first = kept.last.first; end = kept.rows + 1; mark =
-      option_map (λ place. kept.base + place) confirmed };
+  last = record {
+    first = kept.last.first;
+    end = kept.rows + 1;
+    mark =
+        option_map (λ place. kept.base + place) confirmed;
+  };
   base = kept.base;
 }
 

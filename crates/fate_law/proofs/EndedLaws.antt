@@ -109,14 +109,18 @@ module _ (script : Script) (fate : Extent → Fate) (all : List Extent) where
       (within : Within all i) →
       Fits (within.extent ∷ drop (suc i) all) (octets ∷ flat_map (accepts script) items) →
       got_frames (ended_by item octets (accepted (nth i)) ∷ ended_on script nth items (suc i)) ≡ frames_of
-          (filter gets (within.extent ∷ drop (suc i) all))
+      (filter gets (within.extent ∷ drop (suc i) all))
   next-got item octets items i rest within fits =
       ap (λ found. got_frames (ended_by item octets (accepted (fate_if fate found)) ∷ ended_on script nth items
-          (suc i))) within.there
+      (suc i))) within.there
       ∙ front-got item octets within.extent (drop (suc i) all) (ended_on script nth items (suc i))
-          (let same = fits.frames in cc)
-      (rest (suc i) (record { waiting = fits.waiting; later = fits.later; frames = (let same = fits.frames in cc);
-          none = fits.none }))
+      (let same = fits.frames in cc)
+      (rest (suc i) (record {
+        waiting = fits.waiting;
+        later = fits.later;
+        frames = (let same = fits.frames in cc);
+        none = fits.none;
+      }))
 
   then-got : (item : Numbered) (why : Option Refusal) (kind : ItemKind) (items : List Numbered) (i : ℕ) → Rest items →
       Fits (drop i all) (frame_by why kind ++ flat_map (accepts script) items) →
@@ -126,13 +130,13 @@ module _ (script : Script) (fate : Extent → Fate) (all : List Extent) where
       elim (where-at all i) [
         | inl end ↦ (
             let none : got_frames (ended_on script nth items (suc i)) ≡ [] =
-                    none-got items (suc i) (omega (arith, end.0)) in
+            none-got items (suc i) (omega (arith, end.0)) in
             ap (λ found. got_frames (ended_by item octets (accepted (fate_if fate found)) ∷ ended_on script nth items
-                (suc i))) end.1
+            (suc i))) end.1
             ∙ none ∙ sym (ap (λ l. frames_of (filter gets l)) end.2))
         | inr within ↦
             next-got item octets items i rest within
-                (subst (λ l. Fits l (octets ∷ flat_map (accepts script) items)) within.parts fits)
+            (subst (λ l. Fits l (octets ∷ flat_map (accepts script) items)) within.parts fits)
             ∙ sym (ap (λ l. frames_of (filter gets l)) within.parts)
       ]
   then-got item (Some why) (Add line) items i rest fits = rest i fits

@@ -47,8 +47,10 @@ module _ (script : Script) (s : Counts) (valid : IsValid script) (walked : IsWal
   pub starts-decided : (are_true_marks (session_pieces script) (session_rows script s.rows) ≡ true →
       ConfirmsTrue script s.rows) × (ConfirmsTrue script s.rows →
       are_true_marks (session_pieces script) (session_rows script s.rows) ≡ true)
-  starts-decided = (marks-starts (session_pieces script) (session_rows script s.rows),
-      starts-marks (session_pieces script) (session_rows script s.rows) carries)
+  starts-decided = (
+    marks-starts (session_pieces script) (session_rows script s.rows),
+    starts-marks (session_pieces script) (session_rows script s.rows) carries,
+  )
 
   -- ---- frames
   abbrev fate : Extent → Fate
@@ -59,9 +61,9 @@ module _ (script : Script) (s : Counts) (valid : IsValid script) (walked : IsWal
       e.from < e.to → is_got (fate e) ≡ false
   not-got e late some =
       let size = rows-length (scenario_of script) (session_cells (scenario_of script)) s.rows script.config.ticks
-              rows-low in
+      rows-low in
       let past : is_carried (length (octets_of_rows (session_rows script s.rows))) e ≡ false =
-              lt-leb e.to (length (octets_of_rows (session_rows script s.rows))) (omega (arith, size, late, some)) in
+      lt-leb e.to (length (octets_of_rows (session_rows script s.rows))) (omega (arith, size, late, some)) in
       rw past refl
 
   drop-over : {X : Type 0} (P : X → Type 0) (k : ℕ) (front back : List X) → length front ≤ k → All P back →
@@ -81,29 +83,38 @@ module _ (script : Script) (s : Counts) (valid : IsValid script) (walked : IsWal
       let begins = pieces-begin scenario cells s.rows script.config.ticks rows-low in
       let start : ℕ = 0 + length (stream_of front) in
       let parts : session_extents script ≡ extents 0 front ++ extents start begins.0 = ap (extents 0) begins.1
-              ∙ extents-append 0 front begins.0 in
+      ∙ extents-append 0 front begins.0 in
       let reaches = stream-reaches scenario cells s.rows in
       let within = counts-within script s (valid-walks script valid) walked in
       let count : length (extents 0 front) ≡ length (frames_in front) =
-              sym (length-map (extents 0 front) (λ (e : Extent). e.frame)) ∙ ap length (frames-extents 0 front) in
+      sym (length-map (extents 0 front) (λ (e : Extent). e.frame)) ∙ ap length (frames-extents 0 front) in
       let few : length (extents 0 front) ≤ length (flat_map (accepts script) (landed_items script s)) =
-      omega (arith, count, ap length (stream_before-frames scenario cells s.rows),
-          length-append (frames_in front) (stream_before scenario cells s.rows).waiting,
-          before-few script s s.rows valid walked within.0) in
+      omega (
+        arith,
+        count,
+        ap length (stream_before-frames scenario cells s.rows),
+        length-append (frames_in front) (stream_before scenario cells s.rows).waiting,
+        before-few script s s.rows valid walked within.0,
+      ) in
       subst (λ l. All (NotGot script fate (session_extents script))
-          (drop (length (flat_map (accepts script) (landed_items script s))) l)) (sym parts)
+      (drop (length (flat_map (accepts script) (landed_items script s))) l)) (sym parts)
       (drop-over (NotGot script fate (session_extents script))
-          (length (flat_map (accepts script) (landed_items script s))) (extents 0 front) (extents start begins.0) few
+      (length (flat_map (accepts script) (landed_items script s))) (extents 0 front) (extents start begins.0) few
       (All-weaker (IsBetween start (start + length (stream_of begins.0))) (NotGot script fate (session_extents script))
       (λ e is. not-got e (omega (arith, is.lower, reaches)) is.size) (extents start begins.0)
-          (extents-between start begins.0)))
+      (extents-between start begins.0)))
 
   fits : Fits script fate (session_extents script) (session_extents script)
       (flat_map (accepts script) (landed_items script s))
   fits =
       let first = landed-first script s.frames s.commands in
-      record { waiting = session_waiting script; later = first.0; frames = frames-known script valid ∙ first.1; none =
-          none-behind }
+      record {
+        waiting = session_waiting script;
+        later = first.0;
+        frames = frames-known script valid ∙ first.1;
+        none =
+            none-behind;
+      }
 
   pub got-delivered : are_true_marks (session_pieces script) (session_rows script s.rows) ≡ true →
       got_frames (ended_of script s) ≡ delivered_of script s.rows

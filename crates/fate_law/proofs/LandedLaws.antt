@@ -65,7 +65,7 @@ module _ (script : Script) where
 
   landed-accepts : (rest front : List Item) (a b : ℕ) → script.items ≡ front ++ rest →
       flat_map (accepts script) (landed_from a b (length front) rest) ≡ judged scenario cells (offers_of front)
-          (take a (offers_of rest))
+      (take a (offers_of rest))
   unfolding landed_from
   landed-accepts [] front a b parts =
       sym (ap (judged scenario cells (offers_of front)) (nil a) ∙ judged-nil (offers_of front))
@@ -77,32 +77,32 @@ module _ (script : Script) where
       let longer : script.items ≡ (front ++ item ∷ []) ++ rest = parts ∙ sym (append_assoc front (item ∷ []) rest) in
       let size : length (front ++ item ∷ []) ≡ suc (length front) = let e = length-append front (item ∷ []) in omega arith in
       let offers : offers_of (front ++ item ∷ []) ≡ offers_of front ++ offers_by item =
-              flat_map-append offers_by front (item ∷ [])
-              ∙ ap (λ l. offers_of front ++ l) (append-nil (offers_by item)) in
+      flat_map-append offers_by front (item ∷ [])
+      ∙ ap (λ l. offers_of front ++ l) (append-nil (offers_by item)) in
       let first : take (length front) script.items ≡ front = ap (take (length front)) parts
-              ∙ take_at front (item ∷ rest) (length front) refl in
+      ∙ take_at front (item ∷ rest) (length front) refl in
       let next : (a b : ℕ) → flat_map (accepts script) (landed_from a b (suc (length front)) rest)
-              ≡ judged scenario cells (offers_of front ++ offers_by item) (take a (offers_of rest)) =
+      ≡ judged scenario cells (offers_of front ++ offers_by item) (take a (offers_of rest)) =
       λ a b. ap (λ n. flat_map (accepts script) (landed_from a b n rest)) (sym size)
-          ∙ landed-accepts rest (front ++ item ∷ []) a b longer
-          ∙ ap (λ before. judged scenario cells before (take a (offers_of rest))) offers in
+      ∙ landed-accepts rest (front ++ item ∷ []) a b longer
+      ∙ ap (λ before. judged scenario cells before (take a (offers_of rest))) offers in
       elim (cases_Bool (is_client item.kind)) [
         | inl e ↦ rw e (clients a first next e)
         | inr e ↦ rw e
             (with-none (nat_lt 0 b) script (record { number = length front; item = item })
-                (landed_from a (b - 1) (suc (length front)) rest) (no-frame _ item.kind e)
+            (landed_from a (b - 1) (suc (length front)) rest) (no-frame _ item.kind e)
             ∙ next a (b - 1)
             ∙ ap (λ own. judged scenario cells (offers_of front ++ own) (take a (offers_of rest)))
-                (no-offer item.due item.kind e)
+            (no-offer item.due item.kind e)
             ∙ ap₂ (λ before offers. judged scenario cells before (take a offers)) (append-nil (offers_of front))
-                (ap (λ own. own ++ offers_of rest) (sym (no-offer item.due item.kind e))))
+            (ap (λ own. own ++ offers_of rest) (sym (no-offer item.due item.kind e))))
       ]
     where
       clients : (a : ℕ) → take (length front) script.items ≡ front →
           ((a b : ℕ) → flat_map (accepts script) (landed_from a b (suc (length front)) rest) ≡ judged scenario cells
-              (offers_of front ++ offers_by item) (take a (offers_of rest))) → is_client item.kind ≡ true →
+          (offers_of front ++ offers_by item) (take a (offers_of rest))) → is_client item.kind ≡ true →
           flat_map (accepts script) (with_if (nat_lt 0 a) (record { number = length front; item = item })
-              (landed_from (a - 1) b (suc (length front)) rest))
+          (landed_from (a - 1) b (suc (length front)) rest))
           ≡ judged scenario cells (offers_of front) (take a (offers_by item ++ offers_of rest))
       clients zero first next e =
           let less : 0 - 1 ≡ 0 = omega arith in
@@ -112,8 +112,8 @@ module _ (script : Script) where
           let less : suc a - 1 ≡ a = omega arith in
           let some : nat_lt 0 (suc a) ≡ true = lt-ltb 0 (suc a) (omega arith) in
           ap (λ there. flat_map (accepts script)
-              (with_if there (record { number = length front; item = item })
-              (landed_from (suc a - 1) b (suc (length front)) rest))) some
+          (with_if there (record { number = length front; item = item })
+          (landed_from (suc a - 1) b (suc (length front)) rest))) some
           ∙ ap₂ ◌++◌ (ap (λ earlier. frame_by (kind_refusal scenario cells item.due earlier item.kind) item.kind) first)
           (ap (λ a. flat_map (accepts script) (landed_from a b (suc (length front)) rest)) less ∙ next a b)
           ∙ kind-judged scenario cells item.due front item.kind (take a (offers_of rest))
@@ -132,7 +132,7 @@ module _ (script : Script) where
         all-accepts ∙ ap (judged scenario cells []) (sym (take-append-drop a offers))
             ∙ judged-append scenario cells [] (take a offers) (drop a offers)
             ∙ ap (λ l. l ++ judged scenario cells (take a offers) (drop a offers))
-                (sym (landed-accepts script.items [] a b refl)),
+            (sym (landed-accepts script.items [] a b refl)),
       )
 
 -- ---- offers that come before a tick are the first ones
@@ -181,30 +181,34 @@ take-over (suc a) (x ∷ front) more enough =
 -- ---- the frames that are accepted before a tick that is made are those of items that have landed
 pub before-few : (script : Script) (s : Counts) (t : ℕ) → IsValid script → IsWalked script s → t ≤ s.ticks →
     length (frames_before (scenario_of script) (session_cells (scenario_of script)) t) ≤ length
-        (flat_map (accepts script) (landed_items script s))
+    (flat_map (accepts script) (landed_items script s))
 before-few script s t valid walked low =
     let offers : List DueFrame = offers_of script.items in
     let come : List DueFrame = filter (is_come t) offers in
     let sorted = offers_rise script.items valid.items.frames in
     let before : frames_before (scenario_of script) (session_cells (scenario_of script)) t ≡ judged (scenario_of script)
-            (session_cells (scenario_of script)) [] come =
+    (session_cells (scenario_of script)) [] come =
     sym (landed-judged (scenario_of script) (session_cells (scenario_of script)) t)
-        ∙ ap (judged (scenario_of script) (session_cells (scenario_of script)) []) (offers_land offers t sorted) in
+    ∙ ap (judged (scenario_of script) (session_cells (scenario_of script)) []) (offers_land offers t sorted) in
     let same : filter (is_come t) (take s.frames offers) ≡ come =
     filter-first (is_come t) s.frames offers
-        (λ k offer waits there. let late = frame-waits script s k offer walked waits there in
-        le-ltb offer.due t (omega (arith, late, low))) in
+    (λ k offer waits there. let late = frame-waits script s k offer walked waits there in
+    le-ltb offer.due t (omega (arith, late, low))) in
     let few : length come ≤ s.frames =
     omega (arith, ap length same, filter-few (is_come t) (take s.frames offers), take-few s.frames offers) in
     let first = come-first t offers sorted in
     let over = take-over s.frames come first.0 few in
     let own : flat_map (accepts script) (landed_items script s) ≡ judged (scenario_of script)
-            (session_cells (scenario_of script)) [] come ++ judged (scenario_of script)
-            (session_cells (scenario_of script)) come over.0 =
+    (session_cells (scenario_of script)) [] come ++ judged (scenario_of script)
+    (session_cells (scenario_of script)) come over.0 =
     landed-accepts script script.items [] s.frames s.commands refl
     ∙ ap (λ l. judged (scenario_of script) (session_cells (scenario_of script)) [] (take s.frames l)) first.1
     ∙ ap (judged (scenario_of script) (session_cells (scenario_of script)) []) over.1
     ∙ judged-append (scenario_of script) (session_cells (scenario_of script)) [] come over.0 in
-    omega (arith, ap length before, ap length own,
-        length-append (judged (scenario_of script) (session_cells (scenario_of script)) [] come)
-        (judged (scenario_of script) (session_cells (scenario_of script)) come over.0))
+    omega (
+      arith,
+      ap length before,
+      ap length own,
+      length-append (judged (scenario_of script) (session_cells (scenario_of script)) [] come)
+          (judged (scenario_of script) (session_cells (scenario_of script)) come over.0),
+    )

@@ -28,7 +28,7 @@ behind m e low high (other ∷ others) all late =
     let is = All-head (IsBetween low high) other others all in
     let lower = is.lower in
     ap₂ ◌||◌ (ap (λ b. nat_le m other.from && b) (le-ltb other.from e.from (omega (arith, lower, late)))
-        ∙ and-false (nat_le m other.from))
+    ∙ and-false (nat_le m other.from))
     (behind m e low high others (All-tail (IsBetween low high) other others all) late)
   where
     and-false : (b : Bool) → (b && false) ≡ false
@@ -60,12 +60,12 @@ unfolding fate_among
 among-same none [] all other e r q same = refl
 among-same none (segment ∷ list) all other e r q same =
     ap₂ (λ here later. if lies_in segment e then here else later) (in-same segment.first segment all other e r q same)
-        (among-same none list all other e r q same)
+    (among-same none list all other e r q same)
 
 -- ---- an extent is one of the first, or behind them
 front-or-behind : (front more : List Extent) (i : ℕ) →
     (slice_get (front ++ more) i ≡ slice_get front i) ⊎
-        ((slice_get front i ≡ None) × ((k : ℕ) × (slice_get (front ++ more) i ≡ slice_get more k)))
+    ((slice_get front i ≡ None) × ((k : ℕ) × (slice_get (front ++ more) i ≡ slice_get more k)))
 front-or-behind [] more zero = inr (refl, (zero, refl))
 front-or-behind [] more (suc i) = inr (refl, (suc i, refl))
 front-or-behind (e ∷ front) more zero = inl refl
@@ -100,14 +100,14 @@ module _ (pieces more : List Piece) (rows : List StreamRow)
             let fits = leb-true e.to (length (octets_of_rows rows)) carried in
             let some = is.size in
             let settled : (m : ℕ) → list_any (is_settled_by m e) (extents 0 (pieces ++ more)) ≡ list_any
-                    (is_settled_by m e) front =
+            (is_settled_by m e) front =
             λ m. ap (list_any (is_settled_by m e)) parts
             ∙ any-front (is_settled_by m e) front later
-                (behind m e size (size + length (stream_of more)) later (extents-between size more)
-                (omega (arith, fits, some, reach))) in
+            (behind m e size (size + length (stream_of more)) later (extents-between size more)
+            (omega (arith, fits, some, reach))) in
             rw carried
             (among-same (Cut (row_at rows e.from) (row_at rows (e.to - 1)) (spoiled_after rows (row_at rows e.from)))
-                (segments rows) (extents 0 (pieces ++ more)) front e
+            (segments rows) (extents 0 (pieces ++ more)) front e
             (row_at rows e.from) (row_at rows (e.to - 1)) settled))
       ]
 
@@ -116,7 +116,7 @@ module _ (pieces more : List Piece) (rows : List StreamRow)
       let lower = is.lower in
       let some = is.size in
       let past : is_carried (length (octets_of_rows rows)) e ≡ false =
-              lt-leb e.to (length (octets_of_rows rows)) (omega (arith, lower, some, reach)) in
+      lt-leb e.to (length (octets_of_rows rows)) (omega (arith, lower, some, reach)) in
       rw past refl
 
   pub made-same : (i : ℕ) → fate_at (pieces ++ more) rows i ≡ fate_at pieces rows i
@@ -125,30 +125,30 @@ module _ (pieces more : List Piece) (rows : List StreamRow)
       ∙ elim (front-or-behind front later i) [
         | inl here ↦ ap (fate_if (fate_of (pieces ++ more) rows)) here
             ∙ elim (get-between 0 size front i (extents-between 0 pieces)) [
-          | inl none ↦ ap (fate_if (fate_of (pieces ++ more) rows)) none ∙ sym (ap (fate_if (fate_of pieces rows)) none)
-          | inr some ↦ ap (fate_if (fate_of (pieces ++ more) rows)) some.1 ∙ same-fate some.0 some.2
-              ∙ sym (ap (fate_if (fate_of pieces rows)) some.1)
-        ]
+              | inl none ↦ ap (fate_if (fate_of (pieces ++ more) rows)) none ∙ sym (ap (fate_if (fate_of pieces rows)) none)
+              | inr some ↦ ap (fate_if (fate_of (pieces ++ more) rows)) some.1 ∙ same-fate some.0 some.2
+                  ∙ sym (ap (fate_if (fate_of pieces rows)) some.1)
+            ]
         | inr past ↦ ap (fate_if (fate_of (pieces ++ more) rows)) past.1.1
             ∙ elim (get-between size (size + length (stream_of more)) later past.1.0 (extents-between size more)) [
-          | inl none ↦ ap (fate_if (fate_of (pieces ++ more) rows)) none
-              ∙ sym (ap (fate_if (fate_of pieces rows)) past.0)
-          | inr some ↦ ap (fate_if (fate_of (pieces ++ more) rows)) some.1
-              ∙ behind-waits some.0 (size + length (stream_of more)) some.2
-              ∙ sym (ap (fate_if (fate_of pieces rows)) past.0)
-        ]
+              | inl none ↦ ap (fate_if (fate_of (pieces ++ more) rows)) none
+                  ∙ sym (ap (fate_if (fate_of pieces rows)) past.0)
+              | inr some ↦ ap (fate_if (fate_of (pieces ++ more) rows)) some.1
+                  ∙ behind-waits some.0 (size + length (stream_of more)) some.2
+                  ∙ sym (ap (fate_if (fate_of pieces rows)) past.0)
+            ]
       ]
 
 -- ---- in a session
 pub session-made : (scenario : Scenario) (cells : List (Option Told)) (taken t n i : ℕ) → taken ≤ t → t ≤ n →
     fate_at (stream_before scenario cells n).pieces (rows_of scenario cells taken) i ≡ fate_at
-        (stream_before scenario cells t).pieces (rows_of scenario cells taken) i
+    (stream_before scenario cells t).pieces (rows_of scenario cells taken) i
 session-made scenario cells taken t n i low high =
     let begins = pieces-begin scenario cells t n high in
     let carries = rows-carry scenario cells taken t low in
     let reach : length (octets_of_rows (rows_of scenario cells taken)) ≤ length
-            (stream_of (stream_before scenario cells t).pieces) =
+    (stream_of (stream_before scenario cells t).pieces) =
     (let sum = length-append (octets_of_rows (rows_of scenario cells taken)) carries.rest in omega
-        (arith, ap length carries.stream, sum)) in
+    (arith, ap length carries.stream, sum)) in
     ap (λ pieces. fate_at pieces (rows_of scenario cells taken) i) begins.1
-        ∙ made-same (stream_before scenario cells t).pieces begins.0 (rows_of scenario cells taken) reach i
+    ∙ made-same (stream_before scenario cells t).pieces begins.0 (rows_of scenario cells taken) reach i

@@ -37,10 +37,13 @@ ends-at start place (piece ∷ pieces) any =
       | inl here ↦ ([], piece ∷ pieces, refl, omega (arith, no_octets, eqb-true start place here))
       | inr other ↦ (
           let rest = ends-at (start + size_of piece) place pieces
-                  (sym (ap (λ b. b || list_any (λ at. at == place) (places (start + size_of piece) pieces)) other)
-                  ∙ any) in
-          (piece ∷ rest.0, rest.1, ap (λ l. piece ∷ l) rest.2,
-              omega (arith, length-stream_of-cons piece rest.0, rest.3)))
+          (sym (ap (λ b. b || list_any (λ at. at == place) (places (start + size_of piece) pieces)) other)
+          ∙ any) in (
+            piece ∷ rest.0,
+            rest.1,
+            ap (λ l. piece ∷ l) rest.2,
+            omega (arith, length-stream_of-cons piece rest.0, rest.3),
+          ))
     ]
 
 place-found : (start place : ℕ) (front more : List Piece) → start + length (stream_of front) ≡ place → 0 < length more →
@@ -49,11 +52,11 @@ unfolding places
 place-found start place [] [] ends some = absurd (omega (arith, some))
 place-found start place [] (piece ∷ more) ends some =
     ap (λ b. b || list_any (λ at. at == place) (places (start + size_of piece) more))
-        (eq-eqb start place (omega (arith, no_octets, ends)))
+    (eq-eqb start place (omega (arith, no_octets, ends)))
 place-found start place (piece ∷ front) more ends some =
     ap (λ b. (start == place) || b)
-        (place-found (start + size_of piece) place front more (omega (arith, length-stream_of-cons piece front, ends))
-        some)
+    (place-found (start + size_of piece) place front more (omega (arith, length-stream_of-cons piece front, ends))
+    some)
     ∙ or_true (start == place)
 
 pub place-of : (pieces : List Piece) (place : ℕ) → is_piece_at pieces place ≡ true → IsPlaceOfPiece pieces place
@@ -92,7 +95,7 @@ module _ (pieces : List Piece) where
   low-by : (sent : List ℕ) (segment : Segment) → IsPart sent segment → length sent ≤ length (stream_of pieces) →
       (found : Option Confirmed) → hunt true 0 segment.octets ≡ found →
       IfSome (option_map (λ (found : Confirmed). segment.base + found.place) found)
-          (λ place. place < length (stream_of pieces))
+      (λ place. place < length (stream_of pieces))
   low-by sent segment part within None is = tt
   low-by sent segment part within (Some found) is =
       omega (arith, confirmed-within segment.octets found is, part.fits, within)
@@ -104,7 +107,7 @@ module _ (pieces : List Piece) where
         | inl first ↦ ap (λ b. b || is_true_mark pieces (confirmed_in segment)) first
         | inr later ↦ ap (λ b. b || is_true_mark pieces (confirmed_in segment)) later
             ∙ true-mark (confirmed_in segment) (low-by sent segment part within (hunt true 0 segment.octets) refl)
-                (starts later)
+            (starts later)
       ]
 
   and_first : (a b : Bool) → (a && b) ≡ true → a ≡ true
@@ -120,7 +123,7 @@ module _ (pieces : List Piece) where
   all-true [] is = All-nil (StartsTrue pieces)
   all-true (segment ∷ further) is =
       All-cons (StartsTrue pieces) segment further
-          (starts-true segment (and_first (has_true_mark pieces segment) (list_all (has_true_mark pieces) further) is))
+      (starts-true segment (and_first (has_true_mark pieces segment) (list_all (has_true_mark pieces) further) is))
       (all-true further (and_second (has_true_mark pieces segment) (list_all (has_true_mark pieces) further) is))
 
   pub true-all : (sent : List ℕ) (segments : List Segment) → All (IsPart sent) segments →
@@ -129,9 +132,9 @@ module _ (pieces : List Piece) where
   true-all sent [] parts within starts = refl
   true-all sent (segment ∷ further) parts within starts =
       ap₂ ◌&&◌ (true-start sent segment (All-head (IsPart sent) segment further parts) within
-          (All-head (StartsTrue pieces) segment further starts))
+      (All-head (StartsTrue pieces) segment further starts))
       (true-all sent further (All-tail (IsPart sent) segment further parts) within
-          (All-tail (StartsTrue pieces) segment further starts))
+      (All-tail (StartsTrue pieces) segment further starts))
 
 -- the segments of rows are parts of their octets
 pub parts-of : (rows : List StreamRow) → All (IsPart (octets_of_rows rows)) (segments rows)
@@ -150,5 +153,5 @@ pub starts-marks : (pieces : List Piece) (rows : List StreamRow) → CarriesStre
 starts-marks pieces rows carried starts =
     let sent : List ℕ = octets_of_rows rows in
     let within : length sent ≤ length (stream_of pieces) =
-            omega (arith, ap length carried.stream, length-append sent carried.rest) in
+    omega (arith, ap length carried.stream, length-append sent carried.rest) in
     true-all pieces sent (segments rows) (parts-of rows) within starts

@@ -46,7 +46,7 @@ module _ (e : Extent) (all : List Extent) (other : Fate) (r q : ℕ) where
   abbrev Found : Bool → Segment → Fate → Option ℕ → ℕ → Type 0
   Found first own fate mark spoiled =
       ((fate ≡ fate_in first own all e r q) × (mark ≡ confirmed_in own) × (r < spoiled)) ⊎
-          ((fate ≡ fate_after mark all e r q) × (spoiled ≤ r))
+      ((fate ≡ fate_after mark all e r q) × (spoiled ≤ r))
 
   abbrev Begins : List StreamRow → Segment → Span → Type 0
   Begins rows last span = ((e.from < end_of last) × (r < span.end)) ⊎
@@ -81,7 +81,7 @@ module _ (e : Extent) (all : List Extent) (other : Fate) (r q : ℕ) where
   found : (rows : List StreamRow) (last : Segment) (span : Span) → e.from < e.to →
       e.to ≤ end_of last + length (octets_of_rows rows) → Begins rows last span → lies_among e (tail rows last) ≡ true →
       Found last.first (grown rows last) (fate_among other (tail rows last) all e r q)
-          (mark_of_row (row_segments_with (span_tail rows span) (tail rows last)) r) (spoiled_from span.end rows)
+      (mark_of_row (row_segments_with (span_tail rows span) (tail rows last)) r) (spoiled_from span.end rows)
   unfolding tail span_tail grown fate_among row_segments_with mark_of_row spoiled_from
   found [] last span some fits (inl early) lies =
       let is : lies_in last e ≡ true = or_left (lies_in last e) lies in
@@ -98,35 +98,41 @@ module _ (e : Extent) (all : List Extent) (other : Fate) (r q : ℕ) where
       elim (cases_Bool row.whole) [
         | inl whole ↦ rw whole
             (found rows (with_row last row.octets) (record { first = span.first; end = suc span.end }) some
-                (omega (arith, fits, all_octets, size-more last row.octets)) (begins-whole row rows last span begins)
-                (rw whole at lies))
+            (omega (arith, fits, all_octets, size-more last row.octets)) (begins-whole row rows last span begins)
+            (rw whole at lies))
         | inr lost ↦ (
             let lies_here : (lies_in last e || lies_among e (tail rows next)) ≡ true = rw lost at lies in
             rw lost (elim begins [
               | inl early ↦ (
                   let later : lies_among e (tail rows next) ≡ false =
-                          tail-before e rows next (omega (arith, early.0)) in
+                  tail-before e rows next (omega (arith, early.0)) in
                   let is : lies_in last e ≡ true =
-                          or_here (lies_in last e) (lies_among e (tail rows next)) later lies_here in
+                  or_here (lies_in last e) (lies_among e (tail rows next)) later lies_here in
                   rw (is, lt-ltb r span.end early.1) (inl (refl, refl, early.1)))
               | inr late ↦ (
                   let low : ℕ = e.from - end_of last in
                   let isnt : lies_in last e ≡ false = too_long e last (omega (arith, some, late.0)) in
                   let rest : lies_among e (tail rows next) ≡ true =
-                          or_there (lies_in last e) (lies_among e (tail rows next)) isnt lies_here in
+                  or_there (lies_in last e) (lies_among e (tail rows next)) isnt lies_here in
                   let above : span.end ≤ r = omega (arith, late.1, row-low span.end (row ∷ rows) low) in
                   elim (cases_lt low (length row.octets)) [
                     | inl in_row ↦ absurd (let wrong : true ≡ false = sym rest
                         ∙ tail-before e rows next (omega (arith, in_row, late.0)) in cc)
                     | inr past ↦ (
                         let further = found rows next next_span some (omega (arith, fits, all_octets))
-                        (inr (omega (arith, past, late.0), late.1 ∙ from-next e row rows span.end low past
-                            ∙ ap (row_from (suc span.end) rows)
-                            (let e : low - length row.octets ≡ e.from - end_of next = omega arith in e))) rest in
+                        (inr (
+                          omega (arith, past, late.0),
+                          late.1 ∙ from-next e row rows span.end low past
+                              ∙ ap (row_from (suc span.end) rows)
+                              (let e : low - length row.octets ≡ e.from - end_of next = omega arith in e),
+                        )) rest in
                         rw (isnt, le-ltb r span.end above)
-                            (inr (either (grown rows next) (fate_among other (tail rows next) all e r q)
-                            (mark_of_row (row_segments_with (span_tail rows next_span) (tail rows next)) r)
-                            (spoiled_from (suc span.end) rows) further, above)))
+                        (inr (
+                          either (grown rows next) (fate_among other (tail rows next) all e r q)
+                              (mark_of_row (row_segments_with (span_tail rows next_span) (tail rows next)) r)
+                              (spoiled_from (suc span.end) rows) further,
+                          above,
+                        )))
                   ])
             ]))
       ]
@@ -178,17 +184,17 @@ fate-rows pieces rows e some fits =
     let lies : lies_among e (segments rows) ≡ nat_lt q spoiled = lies-rows rows e some fits in
     let carried : fate_of pieces rows e ≡ fate_among (Cut r q spoiled) (segments rows) all e r q =
     ap (λ b. if b then fate_among (Cut r q spoiled) (segments rows) all e r q else Waits)
-        (le-leb e.to (length (octets_of_rows rows)) fits) in
+    (le-leb e.to (length (octets_of_rows rows)) fits) in
     elim (cases_Bool (nat_lt q spoiled)) [
       | inr cut ↦ carried ∙ none-among e all (Cut r q spoiled) r q (segments rows) (lies ∙ cut)
           ∙ sym (ap (λ b. if b then (if nat_lt r (spoiled_after rows 0) then Got r q else fate_after
-              (mark_of_row (row_segments rows) r) all e r q) else Cut r q spoiled) cut)
+          (mark_of_row (row_segments rows) r) all e r q) else Cut r q spoiled) cut)
       | inl whole ↦ carried ∙ ap (λ l. fate_among (Cut r q spoiled) l all e r q) parts
           ∙ by (found e all (Cut r q spoiled) r q rows start span some (omega (arith, fits))
-              (inr (omega arith, ap (row_from 0 rows) (let e2 : e.from ≡ e.from - end_of start = omega arith in e2)))
-              (sym (ap (lies_among e) parts) ∙ lies ∙ whole))
+          (inr (omega arith, ap (row_from 0 rows) (let e2 : e.from ≡ e.from - end_of start = omega arith in e2)))
+          (sym (ap (lies_among e) parts) ∙ lies ∙ whole))
           ∙ sym (ap (λ b. if b then (if nat_lt r (spoiled_after rows 0) then Got r q else fate_after
-              (mark_of_row (row_segments rows) r) all e r q) else Cut r q spoiled) whole)
+          (mark_of_row (row_segments rows) r) all e r q) else Cut r q spoiled) whole)
     ]
   where
     by : Found e (extents 0 pieces)
@@ -196,28 +202,28 @@ fate-rows pieces rows e some fits =
         (row_at rows e.from) (row_at rows (e.to - 1))
         true (grown rows (record { first = true; base = 0; octets = [] }))
         (fate_among (Cut (row_at rows e.from) (row_at rows (e.to - 1)) (spoiled_after rows (row_at rows e.from)))
-            (tail rows (record { first = true; base = 0; octets = [] })) (extents 0 pieces) e (row_at rows e.from)
-            (row_at rows (e.to - 1)))
+        (tail rows (record { first = true; base = 0; octets = [] })) (extents 0 pieces) e (row_at rows e.from)
+        (row_at rows (e.to - 1)))
         (mark_of_row (row_segments_with (span_tail rows (record { first = 0; end = 0 }))
-            (tail rows (record { first = true; base = 0; octets = [] }))) (row_at rows e.from)) (spoiled_from 0 rows) →
+        (tail rows (record { first = true; base = 0; octets = [] }))) (row_at rows e.from)) (spoiled_from 0 rows) →
         fate_among (Cut (row_at rows e.from) (row_at rows (e.to - 1)) (spoiled_after rows (row_at rows e.from)))
-            (tail rows (record { first = true; base = 0; octets = [] })) (extents 0 pieces) e (row_at rows e.from)
-            (row_at rows (e.to - 1))
+        (tail rows (record { first = true; base = 0; octets = [] })) (extents 0 pieces) e (row_at rows e.from)
+        (row_at rows (e.to - 1))
         ≡ (if nat_lt (row_at rows e.from) (spoiled_after rows 0) then Got (row_at rows e.from) (row_at rows (e.to - 1))
         else fate_after (mark_of_row (row_segments rows) (row_at rows e.from)) (extents 0 pieces) e (row_at rows e.from)
-            (row_at rows (e.to - 1)))
+        (row_at rows (e.to - 1)))
     by (inl own) =
         own.0 ∙ sym (ap (λ b. if b then Got (row_at rows e.from) (row_at rows (e.to - 1)) else fate_after
-            (mark_of_row (row_segments rows) (row_at rows e.from)) (extents 0 pieces) e (row_at rows e.from)
-            (row_at rows (e.to - 1)))
+        (mark_of_row (row_segments rows) (row_at rows e.from)) (extents 0 pieces) e (row_at rows e.from)
+        (row_at rows (e.to - 1)))
         (lt-ltb (row_at rows e.from) (spoiled_after rows 0) own.2))
     by (inr later) =
         later.0
         ∙ ap (λ marks. fate_after (mark_of_row marks (row_at rows e.from)) (extents 0 pieces) e (row_at rows e.from)
-            (row_at rows (e.to - 1)))
+        (row_at rows (e.to - 1)))
         (sym (ap₂ row_segments_with (spans-tail (record { ended = []; last = record { first = 0; end = 0 } }) rows)
-            (segments-tail (record { ended = []; last = record { first = true; base = 0; octets = [] } }) rows)))
+        (segments-tail (record { ended = []; last = record { first = true; base = 0; octets = [] } }) rows)))
         ∙ sym (ap (λ b. if b then Got (row_at rows e.from) (row_at rows (e.to - 1)) else fate_after
-            (mark_of_row (row_segments rows) (row_at rows e.from)) (extents 0 pieces) e (row_at rows e.from)
-            (row_at rows (e.to - 1)))
+        (mark_of_row (row_segments rows) (row_at rows e.from)) (extents 0 pieces) e (row_at rows e.from)
+        (row_at rows (e.to - 1)))
         (le-ltb (row_at rows e.from) (spoiled_after rows 0) later.1))

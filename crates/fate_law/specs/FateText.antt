@@ -47,7 +47,7 @@ mark_text pieces rows (Some place) = truth_text (is_piece_at pieces place) ++ co
 abbrev pub segment_text : List Piece → List StreamRow → RowSegment → List ℕ
 segment_text pieces rows segment =
     codes "segment " ++ decimal segment.first ++ codes " " ++ decimal segment.end ++ codes " " ++ mark_text pieces rows
-        segment.mark ++ codes "\n"
+    segment.mark ++ codes "\n"
 
 -- ---- frames
 abbrev pub rows_text : ℕ → ℕ → List ℕ
@@ -76,7 +76,7 @@ fates_end ticks rows all starts =
     ++ codes " frames " ++ decimal (length all - count_of is_refused all)
     ++ codes " got " ++ decimal (count_of has_got all)
     ++ codes " lost " ++ decimal (length all -
-        (count_of is_refused all + count_of has_got all + count_of has_waited all))
+    (count_of is_refused all + count_of has_got all + count_of has_waited all))
     ++ codes " waits " ++ decimal (count_of has_waited all)
     ++ codes " refused " ++ decimal (count_of is_refused all)
     ++ codes " starts " ++ truth_text starts ++ codes "\n"
@@ -86,7 +86,7 @@ abbrev pub fates_text : Script → Counts → List ℕ
 fates_text script s =
     flat_map spoiled_text (spoiled_of (scenario_of script) (session_of script) s.rows)
     ++ flat_map (segment_text (session_pieces script) (session_rows script s.rows))
-        (later_segments (session_rows script s.rows))
+    (later_segments (session_rows script s.rows))
     ++ flat_map ended_text (ended_of script s)
     ++ fates_end s.ticks s.rows (ended_of script s)
-        (are_true_marks (session_pieces script) (session_rows script s.rows))
+    (are_true_marks (session_pieces script) (session_rows script s.rows))

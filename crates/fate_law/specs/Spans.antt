@@ -21,8 +21,11 @@ pub record Spans : Type 0 where
 -- a row that is whole goes on with the last one, and another ends it
 abbrev pub span_by : Bool → Spans → Spans
 span_by true come = record { ended = come.ended; last = record { first = come.last.first; end = suc come.last.end } }
-span_by false come = record { ended = come.ended ++ come.last ∷ []; last =
-    record { first = suc come.last.end; end = suc come.last.end } }
+span_by false come = record {
+  ended = come.ended ++ come.last ∷ [];
+  last =
+      record { first = suc come.last.end; end = suc come.last.end };
+}
 
 unfoldable pub spans_on : Spans → List StreamRow → Spans
 spans_on come [] = come
@@ -71,5 +74,5 @@ abbrev pub fate_by_rows : List StreamRow → List Extent → Extent → ℕ → 
 fate_by_rows rows all frame r q =
     if nat_lt q (spoiled_after rows r)
     then (if nat_lt r (spoiled_after rows 0) then Got r q else fate_after (mark_of_row (row_segments rows) r) all frame
-        r q)
+    r q)
     else Cut r q (spoiled_after rows r)

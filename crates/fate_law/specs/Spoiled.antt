@@ -61,7 +61,7 @@ spoiled_then t None runs = runs
 spoiled_then t (Some cause) [] = record { first = t; end = suc t; cause = cause } ∷ []
 spoiled_then t (Some cause) (run ∷ runs) =
     if run.first == suc t && same_cause cause run.cause then record { first = t; end = run.end; cause = run.cause } ∷
-        runs
+    runs
     else record { first = t; end = suc t; cause = cause } ∷ run ∷ runs
 
 -- by the causes of rows that are numbered from t

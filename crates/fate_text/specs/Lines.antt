@@ -24,7 +24,7 @@ item_text number due end = ended_text (record { number = number; due = due; fram
 abbrev pub last_text : ℕ → ℕ → Tally → Bool → List ℕ
 last_text ticks rows tally starts =
     codes "fates ticks " ++ decimal ticks ++ codes " taken " ++ decimal rows ++ codes " frames " ++ decimal tally.frames
-        ++ codes " got " ++ decimal tally.got
+    ++ codes " got " ++ decimal tally.got
     ++ codes " lost " ++ decimal tally.lost ++ codes " waits " ++ decimal tally.waits ++ codes " refused " ++ decimal
-        tally.refused
+    tally.refused
     ++ codes " starts " ++ truth_text starts ++ codes "\n"

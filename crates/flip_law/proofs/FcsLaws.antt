@@ -137,8 +137,12 @@ fcs_area_below frame is =
 
 pub length-fcs_area : (frame : List ℕ) → length (fcs_area frame) ≡ length frame + 8
 length-fcs_area frame =
-    omega (arith, length-append fcs_header (frame ++ fcs_of frame), length-append frame (fcs_of frame),
-        length-fcs_of frame)
+    omega (
+      arith,
+      length-append fcs_header (frame ++ fcs_of frame),
+      length-append frame (fcs_of frame),
+      length-fcs_of frame,
+    )
 
 -- it is delivered as it is sent
 pub fcs_area-delivered : (frame : List ℕ) → IsFrame frame → fcs_outcome true (fcs_area frame) ≡ delivery frame

@@ -51,7 +51,7 @@ hunt_by-lies : (header : Option ℕ) (p : ℕ) (octets : List ℕ) (f : Bool →
 hunt_by-lies None p octets f lies = later p 1 octets (f true (p + 1) (drop 1 octets)) (lies (p + 1) (drop 1 octets))
 hunt_by-lies (Some pli) p octets f lies =
     later p (4 + pli) octets (confirm_with head true (p + (4 + pli)) (drop (4 + pli) octets) f)
-        (confirm-lies (p + (4 + pli)) (drop (4 + pli) octets) f lies)
+    (confirm-lies (p + (4 + pli)) (drop (4 + pli) octets) f lies)
 
 hunt_within-lies : (k p : ℕ) (octets : List ℕ) → LiesIn p octets (hunt_within head k true p octets)
 unfolding hunt_within
@@ -63,8 +63,10 @@ header-front : (octets : List ℕ) (m : ℕ) → 4 ≤ m → header_at (take m o
 unfolding header_with
 header-front octets m long = elim (cases_lt (length octets) 4) [
   | inl few ↦ ap header_at (take_all m octets (omega (arith, few, long)))
-  | inr some ↦ rw (le-leb 4 (length octets) some,
-      le-leb 4 (length (take m octets)) (omega (arith, length-take m octets, some, long)))
+  | inr some ↦ rw (
+    le-leb 4 (length octets) some,
+    le-leb 4 (length (take m octets)) (omega (arith, length-take m octets, some, long)),
+  )
       (ap head (take-take 4 m octets long))
 ]
 
@@ -82,10 +84,10 @@ lies-some p octets result found lies is = subst (LiesIn p octets) is lies
 confirm_by-front : (header : Option ℕ) (p : ℕ) (octets : List ℕ) (m : ℕ) (f : Bool → ℕ → List ℕ → Option Confirmed)
     (found : Confirmed) → Searches (f true) → Fronts (f true) →
     confirm_by header true p octets f ≡ Some found → found.place + 4 ≤ p + m →
-        Finds (confirm_by header true p (take m octets) f)
+    Finds (confirm_by header true p (take m octets) f)
 confirm_by-front None p octets m f found lies fronts is fits =
     let there = lies-some (p + 1) (drop 1 octets) (f true (p + 1) (drop 1 octets)) found
-            (lies (p + 1) (drop 1 octets)) is in
+    (lies (p + 1) (drop 1 octets)) is in
     subst (λ l. Finds (f true (p + 1) l)) (sym (drop-part 1 m octets))
     (fronts (p + 1) (drop 1 octets) (m - 1) found is (omega (arith, there.0, fits)))
 confirm_by-front (Some pli) p octets m f found lies fronts is fits = (_, refl)
@@ -93,7 +95,7 @@ confirm_by-front (Some pli) p octets m f found lies fronts is fits = (_, refl)
 confirm-front : (p : ℕ) (octets : List ℕ) (m : ℕ) (f : Bool → ℕ → List ℕ → Option Confirmed) (found : Confirmed) →
     Searches (f true) → Fronts (f true) →
     confirm_with head true p octets f ≡ Some found → found.place + 4 ≤ p + m →
-        Finds (confirm_with head true p (take m octets) f)
+    Finds (confirm_with head true p (take m octets) f)
 confirm-front p octets m f found lies fronts is fits =
     let there = lies-some p octets (confirm_with head true p octets f) found (confirm-lies p octets f lies) is in
     let four : 4 ≤ m = omega (arith, there.0, fits) in
@@ -101,25 +103,27 @@ confirm-front p octets m f found lies fronts is fits =
       | inl few ↦ absurd (omega (arith, there.0, there.1, there.2, few))
       | inr long ↦
           let opened : confirm_by (header_at octets) true p octets f ≡ Some found =
-                  rw (le-leb 4 (length octets) long) at is in
-          rw (le-leb 4 (length (take m octets)) (omega (arith, length-take m octets, long, four)),
-              header-front octets m four)
+          rw (le-leb 4 (length octets) long) at is in
+          rw (
+            le-leb 4 (length (take m octets)) (omega (arith, length-take m octets, long, four)),
+            header-front octets m four,
+          )
           (confirm_by-front (header_at octets) p octets m f found lies fronts opened fits)
     ]
 
 hunt_by-front : (header : Option ℕ) (p : ℕ) (octets : List ℕ) (m : ℕ) (f : Bool → ℕ → List ℕ → Option Confirmed)
     (found : Confirmed) → Searches (f true) → Fronts (f true) →
     hunt_by head header true p octets f ≡ Some found → found.place + 4 ≤ p + m →
-        Finds (hunt_by head header true p (take m octets) f)
+    Finds (hunt_by head header true p (take m octets) f)
 hunt_by-front None p octets m f found lies fronts is fits =
     let there = lies-some (p + 1) (drop 1 octets) (f true (p + 1) (drop 1 octets)) found
-            (lies (p + 1) (drop 1 octets)) is in
+    (lies (p + 1) (drop 1 octets)) is in
     subst (λ l. Finds (f true (p + 1) l)) (sym (drop-part 1 m octets))
     (fronts (p + 1) (drop 1 octets) (m - 1) found is (omega (arith, there.0, fits)))
 hunt_by-front (Some pli) p octets m f found lies fronts is fits =
     let after : List ℕ = drop (4 + pli) octets in
     let there = lies-some (p + (4 + pli)) after (confirm_with head true (p + (4 + pli)) after f) found
-            (confirm-lies (p + (4 + pli)) after f lies) is in
+    (confirm-lies (p + (4 + pli)) after f lies) is in
     subst (λ l. Finds (confirm_with head true (p + (4 + pli)) l f)) (sym (drop-part (4 + pli) m octets))
     (confirm-front (p + (4 + pli)) after (m - (4 + pli)) f found lies fronts is (omega (arith, there.0, fits)))
 
@@ -128,11 +132,11 @@ unfolding hunt_within
 hunt_within-front zero p octets m found is fits = absurd (let e : None ≡ Some found = is in cc)
 hunt_within-front (suc k) p octets m found is fits =
     let there = lies-some p octets (hunt_by head (header_at octets) true p octets (hunt_within head k)) found
-            (hunt_by-lies (header_at octets) p octets (hunt_within head k) (hunt_within-lies k)) is in
+    (hunt_by-lies (header_at octets) p octets (hunt_within head k) (hunt_within-lies k)) is in
     subst (λ h. Finds (hunt_by head h true p (take m octets) (hunt_within head k)))
-        (sym (header-front octets m (omega (arith, there.0, fits))))
+    (sym (header-front octets m (omega (arith, there.0, fits))))
     (hunt_by-front (header_at octets) p octets m (hunt_within head k) found (hunt_within-lies k)
-        (hunt_within-front k) is fits)
+    (hunt_within-front k) is fits)
 
 -- ---- the state SYNC
 abbrev view : Bool → List ℕ → Bool × List ℕ
@@ -149,7 +153,7 @@ open-header : (octets : List ℕ) (pli : ℕ) → length octets ≡ 4 → header
 open-header octets zero four is =
     ap (λ (found : Followed). found.after) (follow-whole head octets 0 is (omega (arith, four)))
     ∙ ap (λ (found : Followed). found.after)
-        (follow-few head (drop 4 octets) (omega (arith, length-drop 4 octets, four)))
+    (follow-few head (drop 4 octets) (omega (arith, length-drop 4 octets, four)))
 open-header octets (suc pli) four is =
     ap (λ (found : Followed). found.after) (follow-part head octets (suc pli) is (omega (arith, four)))
 
@@ -177,12 +181,12 @@ module _ (octets : List ℕ) (o : ℕ) (none : hunt true 0 octets ≡ None) wher
   found-none : (k : ℕ) → length octets ≤ k → (other : Confirmed) → hunt_within head k true 0 octets ≡ Some other → ⊥
   found-none k enough other is =
       let follows = hunt_within-longer [] k (length octets) true 0 octets enough
-              (omega (arith, length-append octets [])) in
+      (omega (arith, length-append octets [])) in
       let moved : FollowsIn [] (length octets) (Some other) (hunt_within head (length octets) true 0 (octets ++ [])) =
       subst (λ found. FollowsIn [] (length octets) found (hunt_within head (length octets) true 0 (octets ++ []))) is
-          follows in
+      follows in
       let same : hunt true 0 octets ≡ hunt_within head (length octets) true 0 (octets ++ []) =
-              ap (hunt_within head (length octets) true 0) (sym (append-nil octets)) in
+      ap (hunt_within head (length octets) true 0) (sym (append-nil octets)) in
       let wrong : None ≡ Some _ = sym none ∙ same ∙ moved.0 in cc
 
   ends-here : (found : Confirmed) → hunt true 0 all ≡ Some found → found.place + 4 ≡ length octets + 1
@@ -204,7 +208,7 @@ module _ (octets : List ℕ) (o : ℕ) (none : hunt true 0 octets ≡ None) wher
       by None is = is
       by (Some found) is =
           absurd (let wrong : true ≡ false = sym (sync-confirmed all found is (omega (arith, ends-here found is, size)))
-              ∙ out in cc)
+          ∙ out in cc)
 
   pub is-confirmed : is_sync all ≡ true → (found : Confirmed) × (hunt true 0 all ≡ Some found) ×
       (found.place + 4 ≡ length octets + 1)

@@ -17,7 +17,7 @@ place-stays : (octets more : List ℕ) (place : ℕ) (result : Option Confirmed)
 place-stays octets more place None is there = absurd (let e : None ≡ Some place = there in cc)
 place-stays octets more place (Some found) is there =
     let follows = hunt_within-longer more (length octets) (length (octets ++ more)) true 0 octets (omega arith)
-            (omega arith) in
+    (omega arith) in
     let moved : FollowsIn more (length octets) (Some found) (hunt true 0 (octets ++ more)) =
     subst (λ result. FollowsIn more (length octets) result (hunt true 0 (octets ++ more))) is follows in
     ap (option_map (λ (found : Confirmed). found.place)) moved.0 ∙ there
@@ -38,7 +38,7 @@ mark-next (Hunting come) octets o true is has low =
 mark-next (Hunting come) octets o false is has low =
     let own = has (omega (arith, low, length-append octets (o ∷ []))) in
     let counts : nat_lt come (2 ^ 64 - 1) ≡ true =
-            lt-ltb come (2 ^ 64 - 1) (omega (arith, low, own.1, length-append octets (o ∷ []))) in
+    lt-ltb come (2 ^ 64 - 1) (omega (arith, low, own.1, length-append octets (o ∷ []))) in
     rw counts (stays-none octets o own.0 (sym is), omega (arith, own.1, length-append octets (o ∷ [])))
 mark-next (Confirms place) octets o synced is has low = confirms-stays octets (o ∷ []) place has low
 

@@ -23,7 +23,7 @@ text_then put waiting text next is = sym (append_assoc put waiting next) ∙ ap 
 pub Holds-then : {K : Type 0} (written : K → Option (List ℕ)) (faults : K → ℕ) (start old new : K)
     (waiting after text next : List ℕ)
     → Holds written faults start old waiting text → Holds written faults old new after (waiting ++ next) →
-        Holds written faults start new after (text ++ next)
+    Holds written faults start new after (text ++ next)
 Holds-then written faults start old new waiting after text next before then =
     record {
       put = before.put ++ then.put;

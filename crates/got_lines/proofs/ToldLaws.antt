@@ -24,11 +24,15 @@ told-stopped false first now waiting after text next is told = absurd cc
 pub told-more : {K : Type 0} (written : K → Option (List ℕ)) (faults : K → ℕ) (failed : Bool) (first : Seen)
     (old new : K) (waiting after text next : List ℕ) → failed ≡ false
     → Holds written faults old new after (waiting ++ next) →
-        WritesOrWaits failed first (seen (written old) (faults old)) waiting text
+    WritesOrWaits failed first (seen (written old) (faults old)) waiting text
     → WritesOrWaits failed first (seen (written new) (faults new)) after (text ++ next)
 told-more written faults false first old new waiting after text next is more told =
     Holds-then known_of faults_of first (seen (written old) (faults old)) (seen (written new) (faults new)) waiting
-        after text next told
-    (record { put = more.put; appends = record { appended = more.appends.appended; quiet = more.appends.quiet }; all =
-        more.all })
+    after text next told
+    (record {
+      put = more.put;
+      appends = record { appended = more.appends.appended; quiet = more.appends.quiet };
+      all =
+          more.all;
+    })
 told-more written faults true first old new waiting after text next is more told = absurd cc

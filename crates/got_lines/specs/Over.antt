@@ -12,4 +12,4 @@ name_of got = got.out.ghost_name
 abbrev pub HasText : {K : Type 0} → (K → Option (List ℕ)) → (K → ℕ) → LentGotLines K → Start → List ℕ → Type 0
 HasText written faults got start text = (got.out.ghost_name ≡ start.name)
     × WritesOrWaits got.failed (seen (told_of start.octets) start.faults)
-        (seen (written got.out.now) (faults got.out.now)) got.block.now text
+    (seen (written got.out.now) (faults got.out.now)) got.block.now text

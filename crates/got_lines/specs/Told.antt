@@ -62,7 +62,7 @@ start_at written faults first name = record { octets = named (written first); fa
 abbrev pub HasText : {K : Type 0} → (K → Option (List ℕ)) → (K → ℕ) → GotLines K → Start → List ℕ → Type 0
 HasText written faults got start text = (got.out.ghost_name ≡ start.name)
     × WritesOrWaits got.failed (seen (told_of start.octets) start.faults)
-        (seen (written got.out.now) (faults got.out.now)) got.block text
+    (seen (written got.out.now) (faults got.out.now)) got.block text
 
 -- a prefix of a text was appended to the sink, which may be nothing or the whole, and no fault was counted
 pub record AppendsSome {K : Type 0} (written : K → Option (List ℕ)) (faults : K → ℕ) (old new : K)

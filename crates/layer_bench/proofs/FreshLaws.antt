@@ -11,7 +11,7 @@ pub one_more : (ends : List (RingIn Cell)) (end : RingIn Cell) (n : ℕ) → rec
     → received (ends ++ end ∷ []) ≡ replicate (n + 1) []
 one_more ends end n are is =
     map-append in_passed ends (end ∷ []) ∙ ap₂ (λ (a : List (List Cell)) (b : List Cell). a ++ b ∷ []) are is
-        ∙ replicate-append-replicate n 1 []
+    ∙ replicate-append-replicate n 1 []
 
 pub so_many : (ends : List (RingIn Cell)) (n : ℕ) → received ends ≡ replicate n [] → length ends ≡ n
 so_many ends n are = sym (length-map ends in_passed) ∙ ap length are ∙ length-replicate n []

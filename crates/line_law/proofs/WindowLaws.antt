@@ -156,7 +156,7 @@ unfolding AreWindows carried
 carried-early from [] n are before = refl
 carried-early from (window ∷ windows) n are before =
     carried-before window windows n (let first = are.0 in omega arith)
-        ∙ carried-early window.end windows n are.2 (let first = are.0 in let sign = are.1 in omega arith)
+    ∙ carried-early window.end windows n are.2 (let first = are.0 in let sign = are.1 in omega arith)
 
 -- the sum of the run that a window ends
 abbrev run_with : ℕ → ℕ → Window → ℕ

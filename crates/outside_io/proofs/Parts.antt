@@ -24,7 +24,7 @@ Appends-none written faults sink = record { appended = sym (append_known-nil (wr
 pub Appends-then : {K : Type 0} (written : K → Option (List ℕ)) (faults : K → ℕ) (old middle new : K)
     (text next : List ℕ)
     → Appends written faults old middle text → Appends written faults middle new next →
-        Appends written faults old new (text ++ next)
+    Appends written faults old new (text ++ next)
 Appends-then written faults old middle new text next before then =
     record {
       appended = then.appended ∙ ap (λ known. append_known known next) before.appended
@@ -36,7 +36,7 @@ Appends-then written faults old middle new text next before then =
 pub AppendsPart-then : {K : Type 0} (written : K → Option (List ℕ)) (faults : K → ℕ) (old middle new : K)
     (text next : List ℕ)
     → Appends written faults old middle text → AppendsPart written faults middle new next →
-        AppendsPart written faults old new (text ++ next)
+    AppendsPart written faults old new (text ++ next)
 AppendsPart-then written faults old middle new text next before stops =
     record {
       part = text ++ stops.part;
@@ -66,7 +66,7 @@ AppendsPart-longer written faults old new text more stops =
 pub Appends-more : {K : Type 0} (written : K → Option (List ℕ)) (faults : K → ℕ) (old middle new : K) (text : List ℕ)
     (at n : ℕ)
     → Appends written faults old middle (take at text) →
-        written new ≡ append_known (written middle) (take n (drop at text)) → faults new ≡ faults middle
+    written new ≡ append_known (written middle) (take n (drop at text)) → faults new ≡ faults middle
     → Appends written faults old new (take (at + n) text)
 Appends-more written faults old middle new text at n before put quiet =
     record {
@@ -80,7 +80,7 @@ Appends-more written faults old middle new text at n before put quiet =
 pub AppendsPart-stop : {K : Type 0} (written : K → Option (List ℕ)) (faults : K → ℕ) (old middle new : K)
     (text : List ℕ) (at : ℕ)
     → at < length text → Appends written faults old middle (take at text) → written new ≡ written middle →
-        faults new ≡ one_more (faults middle)
+    faults new ≡ one_more (faults middle)
     → AppendsPart written faults old new text
 AppendsPart-stop written faults old middle new text at within before stays counted =
     record {

@@ -122,7 +122,7 @@ module _ (slow fast slip : ℕ) (plan : Plan) (is : IsPlanOf slow fast slip plan
       (each-map (At s) (λ path line. (line.carried ≤ plan.ticks + path.delay + 1) × (line.popped ≤ plan.ticks + 1))
       plan.paths s.lines (λ path line at_. few path line at_) (lines-at s fits)) in
       let ticks = fits.ticks in let rows = fits.rows in let frames = fits.frames in let commands = fits.commands in
-              let backs = fits.backs in
+      let backs = fits.backs in
       let both = kinds plan.items in
       let product : (2 * length plan.paths + 3) * plan.ticks ≡ length plan.paths * (2 * plan.ticks) + 3 * plan.ticks =
       grind arith in
@@ -339,7 +339,7 @@ module _ (slow fast slip : ℕ) (plan : Plan) (is : IsPlanOf slow fast slip plan
     missing_moves : IsMissing plan s → Moves plan s
     missing_moves missing =
         let late = missing.late in let place = missing.place in let none = missing.none in let close = near in
-                let lag = is.lag in
+        let lag = is.lag in
         try_back (λ empty_. absurd (omega (arith, late, place, none, close, lag, empty_)))
 
     tick_moves : Moves plan s

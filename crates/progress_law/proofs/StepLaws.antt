@@ -24,8 +24,11 @@ land-kept : (plan : Plan) (s next : Counts) (ticks : ℕ) (due : Option ℕ) →
 land-kept plan s next ticks None moves = inl (refl, λ d e. absurd cc)
 land-kept plan s next ticks (Some due) moves =
     elim (cases_Bool (nat_lt ticks due)) [
-      | inl e ↦ rw e (inl (refl, λ d same. let early = ltb-true ticks due e in let f : due ≡ d = cc in
-          omega (arith, early, f)))
+      | inl e ↦ rw e (inl (
+        refl,
+        λ d same. let early = ltb-true ticks due e in let f : due ≡ d = cc in
+            omega (arith, early, f),
+      ))
       | inr e ↦ rw e (inr (moves due refl))
     ]
 
@@ -106,7 +109,7 @@ pub data TickWhy (plan : Plan) (s : Counts) : Type 0 where
 missing-true : (plan : Plan) (s : Counts) → is_missing plan s ≡ true → IsMissing plan s
 missing-true plan s e =
     let a : Bool = nat_le (16 * plan.lag + 8) s.ticks in let b : Bool = s.ticks % 16 == 8 in
-            let c : Bool = nat_le (in_inbox plan s) 0 in
+    let c : Bool = nat_le (in_inbox plan s) 0 in
     let ab : (a && b) ≡ true = (and_parts (a && b) c e).0 in
     record {
       late = leb-true (16 * plan.lag + 8) s.ticks ((and_parts a b ab).0);

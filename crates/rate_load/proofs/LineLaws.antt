@@ -40,7 +40,7 @@ next_state load k octets before after size is moves =
 length-check : (octets : List ℕ) → length (fcs_in least_first octets) ≡ 4
 length-check octets =
     length-map (fcs_of (map (ordered least_first) octets)) (ordered least_first)
-        ∙ length-fcs_of (map (ordered least_first) octets)
+    ∙ length-fcs_of (map (ordered least_first) octets)
 
 pub length-frame_of : (octets state : ℕ) → 64 ≤ octets → length (frame_of octets state) ≡ octets
 length-frame_of octets state h =
@@ -93,8 +93,11 @@ total-more load k total start octets made h same is within so_far =
     omega (arith, line, whole)
 
 rest_from : (load : RateLoad) (k more : ℕ) → (rest : List ℕ) × (lines_of load (k + more) ≡ lines_of load k ++ rest)
-rest_from load k zero = ([], ap (lines_of load) (let e : k + 0 ≡ k = omega arith in e)
-    ∙ sym (append-nil (lines_of load k)))
+rest_from load k zero = (
+  [],
+  ap (lines_of load) (let e : k + 0 ≡ k = omega arith in e)
+      ∙ sym (append-nil (lines_of load k)),
+)
 rest_from load k (suc more) =
     let before = rest_from load k more in (
       before.0 ++ line_at load (k + more),
@@ -128,13 +131,13 @@ due_before load k is =
     let by_product = div-lt_iff_lt-mul {x = 8 * k * load.octets} {y = load.end - load.first} moves in (
       λ h.
           let more : b * (k + 1) ≤ b * count_of load =
-                  mul-le-mul_left b (let e : k + 1 ≤ count_of load = omega (arith, h) in e) in
+          mul-le-mul_left b (let e : k + 1 ≤ count_of load = omega (arith, h) in e) in
           let below : 8 * k * load.octets < a = omega (arith, more, bounds.1) in
           let early = by_product.1 below in
           omega (arith, early, is.before),
       λ due.
           let early : 8 * k * load.octets / (125 * load.mbits) < load.end - load.first =
-                  omega (arith, due, is.before) in
+          omega (arith, due, is.before) in
           let below = by_product.0 early in
           lt_of_mul-lt-mul_left b (let e : b * k < b * count_of load = omega (arith, below, bounds.0) in e),
     )

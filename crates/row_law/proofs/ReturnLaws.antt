@@ -102,7 +102,7 @@ status-order (member ∷ order) lines sq chg k act (suc i) readable once below =
     (λ l. head-rest is_member refl member order sq chg k act l (sq + suc i) (readable l) (omega arith) (once l))
     ∙ ap (λ s. list_any (has is_member s) (all_read (read_of order (sq + 1) chg k act readable) 0 lines)) e
     ∙ status-order order lines (sq + 1) chg k act i readable (λ l. let most = once l in omega arith)
-        (λ l high. let none = below l high in omega arith)
+    (λ l high. let none = below l high in omega arith)
 
 says-has : (sq : ℕ) (found : Option Packet) → says_at sq found ≡ has is_member sq found
 says-has sq None = refl

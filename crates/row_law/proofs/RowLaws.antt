@@ -266,7 +266,7 @@ active_from-order (member ∷ order) lines sq chg k act (suc count) readable fit
     (sq + 1) count
     (λ s l low. head-rest is_carrying refl member order sq chg k act l s (readable l) low (once l))
     ∙ active_from-order order lines (sq + 1) chg k act count readable (omega arith)
-        (λ l. let most = once l in omega arith) (λ l high. let none = below l high in omega arith))
+    (λ l. let most = once l in omega arith) (λ l high. let none = below l high in omega arith))
     ∙ first-carrying member order readable
 
 -- ---- the count

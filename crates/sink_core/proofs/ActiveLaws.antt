@@ -35,7 +35,7 @@ pub active_from-more : (n : ℕ) (packets : List (Option Packet)) →
     active_from 0 (n + 1) packets ≡ active_from 0 n packets ++ lines_at n 0 packets
 active_from-more n packets =
     active_from-add 0 n 1 packets ∙ ap (λ l. active_from 0 n packets ++ l)
-        (ap (λ sq. active_from sq 1 packets) (zero_on n) ∙ active_from-one n packets)
+    (ap (λ sq. active_from sq 1 packets) (zero_on n) ∙ active_from-one n packets)
 
 pub active_from-none : (sq : ℕ) (packets : List (Option Packet)) → active_from sq 0 packets ≡ []
 unfolding active_from
@@ -107,7 +107,7 @@ one-before zero sq packet packets before = length-none sq (packet ∷ packets) �
 one-before (suc n) sq packet packets before =
     length-both sq n (packet ∷ packets)
     ∙ ap₂ ◌+◌ (one-other sq packet packets (before-other sq packet before))
-        (one-before n (sq + 1) packet packets (before-later sq packet before))
+    (one-before n (sq + 1) packet packets (before-later sq packet before))
     ∙ sym (length-both sq n packets)
 
 one-more : (n sq : ℕ) (packet : Option Packet) (packets : List (Option Packet)) →
@@ -156,9 +156,9 @@ active_of-found n packets below all =
     let found : List ℕ = active_from 0 n packets in
     let rest : List ℕ = active_from n (256 - n) packets in
     let parts : active_of packets ≡ found ++ rest =
-            ap (λ k. active_from 0 k packets) (let e : 256 ≡ n + (256 - n) = omega arith in e)
-            ∙ active_from-add 0 n (256 - n) packets
-            ∙ ap (λ sq. found ++ active_from sq (256 - n) packets) (zero_on n) in
+    ap (λ k. active_from 0 k packets) (let e : 256 ≡ n + (256 - n) = omega arith in e)
+    ∙ active_from-add 0 n (256 - n) packets
+    ∙ ap (λ sq. found ++ active_from sq (256 - n) packets) (zero_on n) in
     let size = ap length parts ∙ length-append found rest in
     let fits = active_from-fits 256 0 packets in
     let none : rest ≡ [] = nil_from_length rest (omega arith) in
@@ -190,7 +190,7 @@ unfolding active_from
 active_from-lines zero sq packets = λ rank low. absurd (omega arith)
 active_from-lines (suc n) sq packets =
     lines-append (length packets) (lines_at sq 0 packets) (active_from (sq + 1) n packets)
-        (lines_at-lines (length packets) sq 0 packets (omega arith)) (active_from-lines n (sq + 1) packets)
+    (lines_at-lines (length packets) sq 0 packets (omega arith)) (active_from-lines n (sq + 1) packets)
 
 pub active_of-lines : (packets : List (Option Packet)) → AreLines (length packets) (active_of packets)
 active_of-lines packets = active_from-lines 256 0 packets

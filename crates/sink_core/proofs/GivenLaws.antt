@@ -130,8 +130,8 @@ governing-between cells t no_end =
       | inl late ↦
           let tested : (t % 16 == 7) ≡ false = rw late at no_end in
           governing-same cells t (λ e. absurd
-              (let f : (t % 16 == 7) ≡ true = grind (arith, nat_tests, (let h : t % 16 ≡ 7 = omega arith in h)) in
-              let g : true ≡ false = sym f ∙ tested in cc))
+          (let f : (t % 16 == 7) ≡ true = grind (arith, nat_tests, (let h : t % 16 ≡ 7 = omega arith in h)) in
+          let g : true ≡ false = sym f ∙ tested in cc))
       | inr early ↦
           let low : t ≤ 22 = grind (arith, nat_tests, early) in
           let a : nat_lt (t + 1) 24 ≡ true = grind (arith, nat_tests, (let h : t + 1 < 24 = omega arith in h)) in

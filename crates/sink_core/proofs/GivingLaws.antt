@@ -43,14 +43,14 @@ gives-more stands was then' a b before middle after grows one two first octets h
     let back : List (List ℕ) = next_frames 9600 first (octets ++ a) b in
     subst (stands after)
     (append_assoc frames front back
-        ∙ ap (λ l. frames ++ l) (sym (next-more 9600 first octets a b (adds 9600 first octets a)
-        (adds 9600 first (octets ++ a) b))))
+    ∙ ap (λ l. frames ++ l) (sym (next-more 9600 first octets a b (adds 9600 first octets a)
+    (adds 9600 first (octets ++ a) b))))
     (two first (octets ++ a) (grows first octets has) (frames ++ front) (one first octets has frames given))
 
 -- the frames that octets add are those that the answer tells
 pub next-told : (receiver : Receiver) (step : Step) (first : Bool) (octets more : List ℕ) →
     outcomes 9600 first (octets ++ more) ≡ outcomes 9600 first octets ++ told_outcomes receiver step →
-        next_frames 9600 first octets more ≡ told receiver.receiver step
+    next_frames 9600 first octets more ≡ told receiver.receiver step
 next-told receiver step first octets more outcome =
     let before : List (List ℕ) = frames_in 9600 first octets in
     ap (drop (length before))
@@ -85,7 +85,7 @@ pub take-further : (at n : ℕ) (piece : List ℕ) →
 take-further at n piece =
     take-add at n piece
     ∙ ap (λ l. take at piece ++ take n l)
-        (sym (take_all (length piece - at) (drop at piece) (let size = length-drop at piece in omega arith)))
+    (sym (take_all (length piece - at) (drop at piece) (let size = length-drop at piece in omega arith)))
 
 -- ---- the octets of one member
 pub octets_from-single : (place n : ℕ) (payload : List ℕ) → place + n ≤ length payload →
@@ -95,8 +95,8 @@ octets_from-single place zero payload fits = refl
 octets_from-single place (suc n) payload fits =
     let next = drop_more payload place 0 (omega arith) in
     ap (λ l. slice_index payload place ∷ l)
-        (octets_from-single (suc place) n payload (omega arith)
-        ∙ ap (λ k. take n (drop k payload)) (let e : suc place ≡ place + 1 = omega arith in e))
+    (octets_from-single (suc place) n payload (omega arith)
+    ∙ ap (λ k. take n (drop k payload)) (let e : suc place ≡ place + 1 = omega arith in e))
     ∙ sym (ap (take (suc n)) next)
 
 pub long-enough : (size : ℕ) (payload : List ℕ) → length (take size payload) ≡ size → size ≤ length payload

@@ -35,7 +35,7 @@ pub get-eights : (n i : ℕ) (octets : List ℕ) → length octets ≡ 8 → i <
     slice_index (repeated n octets) i ≡ slice_index octets (i % 8)
 get-eights n i octets size within =
     ap (slice_index (repeated n octets)) (sym (div-add-mod' i 8))
-        ∙ get-turn n 8 (i / 8) (i % 8) octets size (omega arith) (omega arith)
+    ∙ get-turn n 8 (i / 8) (i % 8) octets size (omega arith) (omega arith)
 
 pub get-eight : (octet : ℕ → ℕ) (a b c d e f g h : ℕ) → a ≡ octet 0 → b ≡ octet 1 → c ≡ octet 2 → d ≡ octet 3 →
     e ≡ octet 4 → f ≡ octet 5 → g ≡ octet 6 → h ≡ octet 7 →
@@ -102,36 +102,36 @@ unfolding turn
 get-idles have count i below within =
     ap (slice_index (repeated count (turn have))) (sym (div-add-mod' i 4))
     ∙ get-turn count 4 (i / 4) (i % 4) (turn have) (ap length (turn-is have) ∙ length-turned have below) (omega arith)
-        (omega arith)
+    (omega arith)
     ∙ ap (λ l. slice_index l (i % 4)) (turn-is have)
     ∙ get-turned have (i % 4) below (omega arith)
     ∙ ap₂ (λ header n. slice_index header n) (sym core_header-idle)
-        (let e : (have + i % 4) % 4 ≡ (have + i) % 4 = omega arith in e)
+    (let e : (have + i % 4) % 4 ≡ (have + i) % 4 = omega arith in e)
 
 -- ---- dealt to members
 -- eight places on a member is at the same place of a header
 same-place : (have rank p x : ℕ) → (have + (p * x + rank)) % 4 ≡ (have + rank + p % 8 * x) % 4
 same-place have rank p x =
     let parts : p * x ≡ 8 * (p / 8 * x) + p % 8 * x = ap (λ n. n * x) (sym (div-add-mod' p 8))
-            ∙ (let e : (p / 8 * 8 + p % 8) * x ≡ 8 * (p / 8 * x) + p % 8 * x = omega arith in e) in
+    ∙ (let e : (p / 8 * 8 + p % 8) * x ≡ 8 * (p / 8 * x) + p % 8 * x = omega arith in e) in
     omega (arith, parts)
 
 -- the octets of idle frames at a place of each of these members
 abbrev pub AreDealt : ℕ → ℕ → ℕ → ℕ → List Container → List ℕ → Type 0
 AreDealt have place places upto containers active = (rank p : ℕ) → rank < upto → p < places →
     slice_index (payload_at containers (slice_index active rank)) (place + p) ≡ slice_index (core_header 0)
-        ((have + rank + p % 8 * length active) % 4)
+    ((have + rank + p % 8 * length active) % 4)
 
 pub idles-dealt : (have place places : ℕ) (containers : List Container) (active : List ℕ) → have < 4 → places % 8 ≡ 0 →
     AreDealt have place places (length active) containers active →
-        octets_from place places (payloads_of containers active) ≡ idles_from have (places / 4 * length active)
+    octets_from place places (payloads_of containers active) ≡ idles_from have (places / 4 * length active)
 idles-dealt have place places containers active below eights dealt =
     let x : ℕ = length active in
     let fours : places ≡ places / 4 * 4 = omega (arith, eights) in
     let size : places / 4 * x * 4 ≡ places * x = (let e : places / 4 * x * 4 ≡ places / 4 * 4 * x = omega arith in e)
-            ∙ ap (λ n. n * x) (sym fours) in
+    ∙ ap (λ n. n * x) (sym fours) in
     sym (is-row containers active place places (idles_from have (places / 4 * x))
-        (length-idles have (places / 4 * x) below ∙ size)
+    (length-idles have (places / 4 * x) below ∙ size)
     (λ p rank low few.
     get-idles have (places / 4 * x) (p * x + rank) below (omega (arith, size, within-row x places p rank low few))
     ∙ ap (slice_index (core_header 0)) (same-place have rank p x)

@@ -47,7 +47,7 @@ governing-stays taken cells longer more decided =
       | inr late ↦
           let high : 24 ≤ taken = grind (arith, nat_tests, late) in
           rw late (read-stays cells longer ((taken - 24) / 16) more
-              (decided (16 * ((taken - 24) / 16) + 23) (omega arith)))
+          (decided (16 * ((taken - 24) / 16) + 23) (omega arith)))
     ]
 
 decided-stays : (t : ℕ) (cells longer : List (List Cell)) → IsLonger cells longer → AreDecidedAt cells t →
@@ -117,7 +117,7 @@ received-split : (size : ℕ) (cells : List (List Cell)) (n more : ℕ) → (res
     (received_rows size cells (n + more) ≡ received_rows size cells n ++ rest)
 received-split size cells n zero =
     let e : n + 0 ≡ n = omega arith in
-            ([], ap (received_rows size cells) e ∙ sym (append-nil (received_rows size cells n)))
+    ([], ap (received_rows size cells) e ∙ sym (append-nil (received_rows size cells n)))
 received-split size cells n (suc more) =
     let (rest, is) = received-split size cells n more in
     let e : n + suc more ≡ n + more + 1 = omega arith in
@@ -133,7 +133,7 @@ frames-grow size before taken cells low =
     let (rest, is) = received-split size cells before (taken - before) in
     let e : before + (taken - before) ≡ taken = omega arith in
     let all : received_rows size cells taken ≡ received_rows size cells before ++ rest =
-            ap (received_rows size cells) (sym e) ∙ is in
+    ap (received_rows size cells) (sym e) ∙ is in
     ap (deliver 9600) all ∙ deliver-grows 9600 (received_rows size cells before) rest
     ∙ ap (λ rows. given_frames size cells before ++ drop (length (given_frames size cells before)) (deliver 9600 rows))
-        (sym all)
+    (sym all)

@@ -16,14 +16,14 @@ pub receives-whole : (was now : Receiver) (come : List StreamRow) (octets : List
     Receives was come → Receives now (come ++ whole_row octets ∷ [])
 receives-whole was now come octets grows has =
     subst (λ (come : Segments). StandsIn now 9600 come.last.first come.last.octets)
-        (sym (segments_of-push come (whole_row octets)))
+    (sym (segments_of-push come (whole_row octets)))
     (grows (segments_of come).last.first (segments_of come).last.octets has)
 
 pub receives-lost : (now : Receiver) (come : List StreamRow) (octets : List ℕ) → StandsIn now 9600 false [] →
     Receives now (come ++ lost_row octets ∷ [])
 receives-lost now come octets stands =
     subst (λ (come : Segments). StandsIn now 9600 come.last.first come.last.octets)
-        (sym (segments_of-push come (lost_row octets))) stands
+    (sym (segments_of-push come (lost_row octets))) stands
 
 pub gives-whole : {A : Type 0} (stands : A → List (List ℕ) → Type 0) (was : Receiver) (come : List StreamRow)
     (octets : List ℕ) (before after : A) → Gives stands was octets before after → Receives was come →
@@ -46,4 +46,4 @@ pub row-late : (size : ℕ) (cells : List (List Cell)) (t : ℕ) → 24 ≤ t �
     row_at size cells t ≡ row_under (governing cells t) size cells t
 row-late size cells t late =
     let e : nat_lt t 24 ≡ false = grind (arith, nat_tests, late) in ap
-            (λ early. if early then Some [] else row_under (governing cells t) size cells t) e
+    (λ early. if early then Some [] else row_under (governing cells t) size cells t) e

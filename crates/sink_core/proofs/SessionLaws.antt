@@ -34,14 +34,14 @@ agree-whole a b octets agree =
       frames =
           grows-whole 9600 a octets (adds 9600 last-a.first last-a.octets octets)
           ∙ ap₂ ◌++◌ agree.frames (added-whole 9600 a octets
-              ∙ ap₂ (λ first before. next_frames 9600 first before octets) agree.first agree.octets
-              ∙ sym (added-whole 9600 b octets))
+          ∙ ap₂ (λ first before. next_frames 9600 first before octets) agree.first agree.octets
+          ∙ sym (added-whole 9600 b octets))
           ∙ sym (grows-whole 9600 b octets (adds 9600 last-b.first last-b.octets octets));
       first = ap (λ (s : Segments). s.last.first) (segments_of-push a (whole_row octets)) ∙ agree.first
           ∙ sym (ap (λ (s : Segments). s.last.first) (segments_of-push b (whole_row octets)));
       octets =
           ap (λ (s : Segments). s.last.octets) (segments_of-push a (whole_row octets))
-              ∙ ap (λ l. l ++ octets) agree.octets
+          ∙ ap (λ l. l ++ octets) agree.octets
           ∙ sym (ap (λ (s : Segments). s.last.octets) (segments_of-push b (whole_row octets)));
     }
 
@@ -69,11 +69,11 @@ rows-agree scenario returns cells zero are = record { frames = refl; first = ref
 rows-agree scenario returns cells (suc n) are =
     let e : suc n ≡ n + 1 = omega arith in
     let all : received_rows scenario.size cells (suc n) ≡ received_rows scenario.size cells n ++ row_in
-            (row_at scenario.size cells n) ∷ [] =
+    (row_at scenario.size cells n) ∷ [] =
     ap (received_rows scenario.size cells) e ∙ received-more scenario.size cells n in
     subst (λ rows. Agree rows (rows_of scenario returns n ++ row_of scenario returns n ∷ [])) (sym all)
     (agree-row (received_rows scenario.size cells n) (rows_of scenario returns n) (is_whole_row scenario returns n)
-        (payload_of scenario returns n) (row_at scenario.size cells n) (are n (omega arith))
+    (payload_of scenario returns n) (row_at scenario.size cells n) (are n (omega arith))
     (rows-agree scenario returns cells n (λ t low. are t (omega arith))))
 
 pub session-frames : (scenario : Scenario) (returns : List (Option Told)) (cells : List (List Cell)) (n : ℕ) →
@@ -84,7 +84,7 @@ session-frames scenario returns cells n are = let agree = rows-agree scenario re
 pub session-last : (scenario : Scenario) (returns : List (Option Told)) (cells : List (List Cell)) (n : ℕ) →
     AreSessionRows scenario returns cells n →
     (segments_of (received_rows scenario.size cells n)).last.octets ≡
-        (segments_of (rows_of scenario returns n)).last.octets
+    (segments_of (rows_of scenario returns n)).last.octets
 session-last scenario returns cells n are = let agree = rows-agree scenario returns cells n are in agree.octets
 
 pub session-rows : (scenario : Scenario) (returns : List (Option Told)) (cells : List (List Cell)) (n : ℕ) →
@@ -93,4 +93,4 @@ session-rows scenario returns cells n few tell t low =
     let tells = tell t low in
     row-whole scenario returns tells.sent cells t few tells.tells
     ∙ ap (λ octets. if is_whole_row scenario returns t then Some octets else None)
-        (row-payload scenario returns tells.sent t tells.dealt)
+    (row-payload scenario returns tells.sent t tells.dealt)

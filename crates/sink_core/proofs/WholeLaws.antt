@@ -27,7 +27,7 @@ with-whole first (Some rest) = refl
 -- what is said of a line of the group
 pub container_on-told : (cells : List (List Cell)) (line t : ℕ) (told : Option Container) → line < length cells →
     ((own : List Cell) → slice_get cells line ≡ Some own → verdict own t ≡ Some told) →
-        container_on (slice_get cells line) t ≡ told
+    container_on (slice_get cells line) t ≡ told
 container_on-told cells line t told inside said =
     let (own, here) = slice_get-inside cells line inside in
     rw here (ap container_in (said own here))
@@ -65,11 +65,11 @@ payloads-whole : (cells : List (List Cell)) (places : List Container) (t : ℕ) 
 payloads-whole cells places t [] all hold is = let e : all ≡ [] = cc in ap (map (λ container. container.payload)) e
 payloads-whole cells places t (line ∷ lines) all hold is =
     let (x, xs, first, rest, e) = both-whole (container_on (slice_get cells line) t)
-            (containers_at cells t lines) all is in
+    (containers_at cells t lines) all is in
     let (own, here, said) = on-whole (slice_get cells line) t x first in
     ap (map (λ container. container.payload)) e
     ∙ ap₂ (λ p ps. p ∷ ps) (sym (ap payload_or (hold line own x here said)))
-        (payloads-whole cells places t lines xs hold rest)
+    (payloads-whole cells places t lines xs hold rest)
 
 carried-whole : (size : ℕ) (cells : List (List Cell)) (places : List Container) (t : ℕ) (lines : List ℕ)
     (given : Option (List Container)) → Hold places cells t → containers_at cells t lines ≡ given →
@@ -86,7 +86,7 @@ is_whole_by (Some act) lines all = (length lines == act) && all
 row-by : (first : Option Packet) (size : ℕ) (cells : List (List Cell)) (places : List Container) (t : ℕ)
     (lines : List ℕ) → Hold places cells t →
     row_by first lines size cells t ≡ octets_if
-        (is_whole_by (act_of first) lines (is_some (containers_at cells t lines))) size places lines
+    (is_whole_by (act_of first) lines (is_some (containers_at cells t lines))) size places lines
 row-by None size cells places t lines hold = refl
 row-by (Some packet) size cells places t lines hold =
     elim (cases_Bool (length lines == packet.act)) [
@@ -97,11 +97,11 @@ row-by (Some packet) size cells places t lines hold =
 pub row-under : (packets : List (Option Packet)) (size : ℕ) (cells : List (List Cell)) (places : List Container) (t : ℕ)
     (lines : List ℕ) (whole : Bool) → lines ≡ active_of packets → Hold places cells t →
     whole ≡ is_whole_by (act_of (leader packets)) lines (is_some (containers_at cells t lines)) →
-        row_under packets size cells t ≡ octets_if whole size places lines
+    row_under packets size cells t ≡ octets_if whole size places lines
 row-under packets size cells places t lines whole are hold is =
     ap (λ lines. row_by (leader packets) lines size cells t) (sym are)
-        ∙ row-by (leader packets) size cells places t lines hold
-        ∙ ap (λ whole. octets_if whole size places lines) (sym is)
+    ∙ row-by (leader packets) size cells places t lines hold
+    ∙ ap (λ whole. octets_if whole size places lines) (sym is)
 
 -- ---- containers at the places of their lines
 abbrev pub told_or : Option Container → Container
@@ -112,5 +112,5 @@ pub hold-some : (cells : List (List Cell)) (t : ℕ) →
     Hold (map (λ own. told_or (container_in (verdict own t))) cells) cells t
 hold-some cells t = λ m own found here said.
     slice_get-map (λ own. told_or (container_in (verdict own t))) cells m
-        ∙ ap (option_map (λ own. told_or (container_in (verdict own t)))) here
-        ∙ ap (λ told. Some (told_or (container_in told))) said
+    ∙ ap (option_map (λ own. told_or (container_in (verdict own t)))) here
+    ∙ ap (λ told. Some (told_or (container_in told))) said

@@ -22,7 +22,7 @@ Grows was now more = (first : Bool) (octets : List ℕ) → StandsIn was longest
 abbrev pub Gives : {A : Type 0} → (A → List (List ℕ) → Type 0) → Receiver → List ℕ → A → A → Type 0
 Gives stands was more before after = (first : Bool) (octets : List ℕ) → StandsIn was longest_frame first octets →
     (frames : List (List ℕ)) → stands before frames →
-        stands after (frames ++ next_frames longest_frame first octets more)
+    stands after (frames ++ next_frames longest_frame first octets more)
 
 -- these octets change nothing of a receiver, and add no frame
 abbrev pub IsIdle : Receiver → List ℕ → Type 0

@@ -29,11 +29,11 @@ are_at-more [] lock o = and-true (is_at (sight_of lock o))
 are_at-more (h4 ∷ octets) lock o =
     ap (λ b. is_at (sight_of lock h4) && b) (are_at-more octets (lock_by lock (Some h4)) o)
     ∙ sym (and_assoc (is_at (sight_of lock h4)) (are_at (lock_by lock (Some h4)) octets)
-        (is_at (sight_of (lock_on (lock_by lock (Some h4)) octets) o)))
+    (is_at (sight_of (lock_on (lock_by lock (Some h4)) octets) o)))
 
 front-more : (h4 : ℕ) (octets : List ℕ) (lock : LineLock) (o : ℕ) →
     is_front lock (h4 ∷ octets ++ o ∷ []) ≡
-        (is_front lock (h4 ∷ octets) && is_at (sight_of (lock_on lock (h4 ∷ octets)) o))
+    (is_front lock (h4 ∷ octets) && is_at (sight_of (lock_on lock (h4 ∷ octets)) o))
 front-more h4 octets lock o =
     ap (λ b. h4 % 16 == 8 && b) (are_at-more (h4 ∷ octets) lock o)
     ∙ sym (and_assoc (h4 % 16 == 8) (are_at lock (h4 ∷ octets)) (is_at (sight_of (lock_on lock (h4 ∷ octets)) o)))
@@ -78,7 +78,7 @@ here-more lock place octets o other =
       | inl few ↦
           let front : is_front lock (octets ++ o ∷ []) ≡ false = rw (lt-ltb (length octets) 16 few) at other in
           let all : take 16 (octets ++ o ∷ []) ≡ octets ++ o ∷ [] =
-                  take_all 16 (octets ++ o ∷ []) (omega (arith, length-append octets (o ∷ []))) in
+          take_all 16 (octets ++ o ∷ []) (omega (arith, length-append octets (o ∷ []))) in
           not_here lock place (octets ++ o ∷ []) (ap (is_front lock) all ∙ front) ∙ sym (few_here lock place octets few)
       | inr enough ↦ same_here lock place octets o enough
     ]
@@ -87,18 +87,19 @@ here-more lock place octets o other =
 pub packets-out : (octets : List ℕ) (lock : LineLock) (place o : ℕ) → is_at (sight_of (lock_on lock octets) o) ≡ false →
     (begun_on lock (octets ++ o ∷ []) ≡ []) × (packets_on lock place (octets ++ o ∷ []) ≡ packets_on lock place octets)
 unfolding begun_on packets_on lock_on sights_on
-packets-out [] lock place o out =
-    (rw (and_right (o % 16 == 8) (is_at (sight_of lock o) && true) (and_left (is_at (sight_of lock o)) true out)) refl,
-        refl)
+packets-out [] lock place o out = (
+  rw (and_right (o % 16 == 8) (is_at (sight_of lock o) && true) (and_left (is_at (sight_of lock o)) true out)) refl,
+  refl,
+)
 packets-out (h4 ∷ octets) lock place o out =
     let more = packets-out octets (lock_by lock (Some h4)) (place + 1) o out in
     let all = h4 ∷ octets ++ o ∷ [] in
     let front : is_front lock all ≡ false = front-more h4 octets lock o
-            ∙ and_right (is_front lock (h4 ∷ octets)) (is_at (sight_of (lock_on lock (h4 ∷ octets)) o)) out in (
+    ∙ and_right (is_front lock (h4 ∷ octets)) (is_at (sight_of (lock_on lock (h4 ∷ octets)) o)) out in (
       rw (and_right (nat_lt (length all) 16) (is_front lock all) front) more.0,
       ap₂ (λ (a b : List Found). a ++ b)
           (here-more lock place (h4 ∷ octets) o
-              (and_right (nat_lt (length (h4 ∷ octets)) 16) (is_front lock all) front)) more.1,
+          (and_right (nat_lt (length (h4 ∷ octets)) 16) (is_front lock all) front)) more.1,
     )
 
 -- ---- octets that come while the line is locked have rising MFI1
@@ -131,9 +132,9 @@ none_later (o ∷ octets) mfi1 j e few all =
     let next = not_eight mfi1 j o e (omega arith) (due-mfi1 mfi1 o both.0) in
     let lock : lock_by (locked mfi1) (Some o) ≡ locked (o % 16) = lock-at (locked mfi1) o both.0 in
     let front : is_front (locked mfi1) (o ∷ octets) ≡ false =
-            and_left (o % 16 == 8) (are_at (locked mfi1) (o ∷ octets)) (ne_eqb (o % 16) 8 next.0) in
+    and_left (o % 16 == 8) (are_at (locked mfi1) (o ∷ octets)) (ne_eqb (o % 16) 8 next.0) in
     let rest = none_later octets (o % 16) (suc j) next.1 (omega arith) (subst (λ l. are_at l octets ≡ true) lock both.1)
-            in
+    in
     rw (and_right (nat_lt (length (o ∷ octets)) 16) (is_front (locked mfi1) (o ∷ octets)) front)
     (subst (λ l. begun_on l octets ≡ []) (sym lock) rest)
 
@@ -156,7 +157,7 @@ abbrev pub Grows : LineLock → ℕ → List ℕ → ℕ → List ℕ → Type 0
 Grows lock place octets o nibbles =
     (begun_on lock (octets ++ o ∷ []) ≡ going_on nibbles)
     × (packets_on lock place (octets ++ o ∷ []) ≡ packets_on lock place octets ++ whole_at
-        (place + (length octets + 1) - 16) nibbles)
+    (place + (length octets + 1) - 16) nibbles)
 
 begun-front : (h4 : ℕ) (octets : List ℕ) (lock : LineLock) → length (h4 ∷ octets) < 16 →
     is_front lock (h4 ∷ octets) ≡ true →
@@ -164,7 +165,7 @@ begun-front : (h4 : ℕ) (octets : List ℕ) (lock : LineLock) → length (h4 �
 unfolding begun_on
 begun-front h4 octets lock few front =
     rw (and_from (nat_lt (length (h4 ∷ octets)) 16) (is_front lock (h4 ∷ octets))
-        (lt-ltb (length (h4 ∷ octets)) 16 few) front) refl
+    (lt-ltb (length (h4 ∷ octets)) 16 few) front) refl
 
 begun-other : (h4 : ℕ) (octets : List ℕ) (lock : LineLock) →
     (nat_lt (length (h4 ∷ octets)) 16 && is_front lock (h4 ∷ octets)) ≡ false →
@@ -174,7 +175,7 @@ begun-other h4 octets lock other = rw other refl
 
 packets-first : (h4 : ℕ) (octets : List ℕ) (lock : LineLock) (place : ℕ) →
     packets_on lock place (h4 ∷ octets) ≡ packet_here lock place (h4 ∷ octets) ++ packets_on (lock_by lock (Some h4))
-        (place + 1) octets
+    (place + 1) octets
 unfolding packets_on
 packets-first h4 octets lock place = refl
 
@@ -183,18 +184,18 @@ front-same : (h4 : ℕ) (octets : List ℕ) (lock : LineLock) (o : ℕ) →
     is_front lock (h4 ∷ octets ++ o ∷ []) ≡ is_front lock (h4 ∷ octets)
 front-same h4 octets lock o comes =
     front-more h4 octets lock o ∙ ap (λ b. is_front lock (h4 ∷ octets) && b) comes
-        ∙ and-true (is_front lock (h4 ∷ octets))
+    ∙ and-true (is_front lock (h4 ∷ octets))
 
 -- a packet that has begun goes on
 front-grows : (h4 : ℕ) (octets : List ℕ) (lock : LineLock) (place o : ℕ) →
     is_at (sight_of (lock_on lock (h4 ∷ octets)) o) ≡ true →
     is_front lock (h4 ∷ octets) ≡ true → length (h4 ∷ octets) < 15 →
-        Grows lock place (h4 ∷ octets) o (upper_halves (h4 ∷ octets ++ o ∷ []))
+    Grows lock place (h4 ∷ octets) o (upper_halves (h4 ∷ octets ++ o ∷ []))
 front-grows h4 octets lock place o comes front few =
     let all = h4 ∷ octets ++ o ∷ [] in
     let size : length all ≡ length octets + 2 = let more = length-append octets (o ∷ []) in omega arith in
     let short : nat_le 16 (length (upper_halves all)) ≡ false =
-            lt-leb 16 (length (upper_halves all)) (omega (arith, length-map all (λ octet. octet / 16))) in (
+    lt-leb 16 (length (upper_halves all)) (omega (arith, length-map all (λ octet. octet / 16))) in (
       rw short (begun-front h4 (octets ++ o ∷ []) lock (omega arith) (front-same h4 octets lock o comes ∙ front)),
       rw short (few_packets all lock place (omega arith)
           ∙ sym (append-nil (packets_on lock place (h4 ∷ octets))
@@ -205,7 +206,7 @@ front-grows h4 octets lock place o comes front few =
 front-whole : (h4 : ℕ) (octets : List ℕ) (lock : LineLock) (place o : ℕ) →
     is_at (sight_of (lock_on lock (h4 ∷ octets)) o) ≡ true →
     is_front lock (h4 ∷ octets) ≡ true → length (h4 ∷ octets) ≡ 15 →
-        Grows lock place (h4 ∷ octets) o (upper_halves (h4 ∷ octets ++ o ∷ []))
+    Grows lock place (h4 ∷ octets) o (upper_halves (h4 ∷ octets ++ o ∷ []))
 unfolding sights_on
 front-whole h4 octets lock place o comes front size =
     let all = h4 ∷ octets ++ o ∷ [] in
@@ -213,7 +214,7 @@ front-whole h4 octets lock place o comes front size =
     let rest : List ℕ = octets ++ o ∷ [] in
     let sixteen : length all ≡ 16 = let more = length-append octets (o ∷ []) in omega arith in
     let long : nat_le 16 (length (upper_halves all)) ≡ true =
-            le-leb 16 (length (upper_halves all)) (omega (arith, length-map all (λ octet. octet / 16))) in
+    le-leb 16 (length (upper_halves all)) (omega (arith, length-map all (λ octet. octet / 16))) in
     let is : is_front lock all ≡ true = front-same h4 octets lock o comes ∙ front in
     let parts = and_parts (h4 % 16 == 8) (are_at lock all) is in
     let both = and_parts (is_at (sight_of lock h4)) (are_at next rest) parts.1 in
@@ -221,11 +222,11 @@ front-whole h4 octets lock place o comes front size =
     let none : begun_on next rest ≡ [] =
     subst (λ l. begun_on l rest ≡ []) (sym locked_next)
     (none_later rest (h4 % 16) 0 (eqb-true (h4 % 16) 8 parts.0) (omega arith)
-        (subst (λ l. are_at l rest ≡ true) locked_next both.1)) in
+    (subst (λ l. are_at l rest ≡ true) locked_next both.1)) in
     let other : (nat_lt (length all) 16 && is_front lock all) ≡ false =
-            and_left (nat_lt (length all) 16) (is_front lock all) (le-ltb (length all) 16 (omega arith)) in
+    and_left (nat_lt (length all) 16) (is_front lock all) (le-ltb (length all) 16 (omega arith)) in
     let here : packet_here lock place all ≡ (place, read_of (upper_halves all)) ∷ [] =
-            whole_here lock place all sixteen is in
+    whole_here lock place all sixteen is in
     let there : place ≡ place + (length (h4 ∷ octets) + 1) - 16 = omega arith in (
       rw long (begun-other h4 rest lock other ∙ none),
       rw long
@@ -233,26 +234,29 @@ front-whole h4 octets lock place o comes front size =
           ∙ ap₂ (λ (a b : List Found). a ++ b) here (few_packets rest next (place + 1) (omega arith))
           ∙ ap (λ (n : ℕ). (n, read_of (upper_halves all)) ∷ []) there
           ∙ ap (λ (l : List Found). l ++ (place + (length (h4 ∷ octets) + 1) - 16, read_of (upper_halves all)) ∷ [])
-              (sym (few_packets (h4 ∷ octets) lock place (omega arith)))),
+          (sym (few_packets (h4 ∷ octets) lock place (omega arith)))),
     )
 
 -- the octets before it are one more octet before others, from which on the packet that has begun is looked for
 front-passes : (h4 : ℕ) (octets : List ℕ) (lock : LineLock) (place o : ℕ) (nibbles : List ℕ) →
     is_at (sight_of (lock_on lock (h4 ∷ octets)) o) ≡ true →
     (nat_lt (length (h4 ∷ octets)) 16 && is_front lock (h4 ∷ octets)) ≡ false →
-        Grows (lock_by lock (Some h4)) (place + 1) octets o nibbles →
+    Grows (lock_by lock (Some h4)) (place + 1) octets o nibbles →
     Grows lock place (h4 ∷ octets) o nibbles
 front-passes h4 octets lock place o nibbles comes other (goes_on, packets) =
     let all = h4 ∷ octets ++ o ∷ [] in
     let next : LineLock = lock_by lock (Some h4) in
     let same = front-same h4 octets lock o comes in
     let still : (nat_lt (length (h4 ∷ octets)) 16 && is_front lock all) ≡ false =
-            ap (λ b. nat_lt (length (h4 ∷ octets)) 16 && b) same ∙ other in
+    ap (λ b. nat_lt (length (h4 ∷ octets)) 16 && b) same ∙ other in
     let passed : (nat_lt (length all) 16 && is_front lock all) ≡ false =
     elim (and_cases (nat_lt (length (h4 ∷ octets)) 16) (is_front lock all) still) [
       | inl long ↦ and_left (nat_lt (length all) 16) (is_front lock all)
-          (le-ltb (length all) 16 (omega (arith, ltb-false (length (h4 ∷ octets)) 16 long,
-          length-append octets (o ∷ []))))
+          (le-ltb (length all) 16 (omega (
+            arith,
+            ltb-false (length (h4 ∷ octets)) 16 long,
+            length-append octets (o ∷ []),
+          )))
       | inr not_front ↦ and_right (nat_lt (length all) 16) (is_front lock all) not_front
     ] in
     let there : place + 1 + (length octets + 1) - 16 ≡ place + (length (h4 ∷ octets) + 1) - 16 = omega arith in (
@@ -260,9 +264,9 @@ front-passes h4 octets lock place o nibbles comes other (goes_on, packets) =
       packets-first h4 (octets ++ o ∷ []) lock place
           ∙ ap₂ (λ (a b : List Found). a ++ b) (here-more lock place (h4 ∷ octets) o still) packets
           ∙ sym (append_assoc (packet_here lock place (h4 ∷ octets)) (packets_on next (place + 1) octets)
-              (whole_at (place + 1 + (length octets + 1) - 16) nibbles))
+          (whole_at (place + 1 + (length octets + 1) - 16) nibbles))
           ∙ ap (λ (l : List Found). l ++ whole_at (place + 1 + (length octets + 1) - 16) nibbles)
-              (sym (packets-first h4 octets lock place))
+          (sym (packets-first h4 octets lock place))
           ∙ ap (λ (n : ℕ). packets_on lock place (h4 ∷ octets) ++ whole_at n nibbles) there,
     )
 

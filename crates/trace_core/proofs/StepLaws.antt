@@ -70,7 +70,7 @@ sight-here : (octets : List ℕ) (o : ℕ) (answer : Place) → IsAnswer octets 
     is_at (sight_of (lock_on unlocked octets) o) ≡ is_at_answer answer
 sight-here octets o answer is =
     same-sight (good_cells octets ++ Some o ∷ []) (length (good_cells octets)) answer
-        (sight_of (lock_on unlocked octets) o) is
+    (sight_of (lock_on unlocked octets) o) is
     (sight-is (lock_on unlocked octets) (good_cells octets) o (stands-of octets))
 
 not_answer : (answer : Place) → ((number : ℕ) → answer ≡ At number → ⊥) → is_at_answer answer ≡ false
@@ -94,12 +94,15 @@ Goes after octets o found = Stands after (octets ++ o ∷ []) ×
 -- after an octet that didn't come while the line was locked
 pub goes-out : (before : Decoding) (lock : MfiLock) (nibbles octets : List ℕ) (o : ℕ) (answer : Place) →
     ((number : ℕ) → answer ≡ At number → ⊥) → IsAnswer octets o answer →
-        LockStands lock (good_cells octets ++ Some o ∷ []) → Stands before octets →
+    LockStands lock (good_cells octets ++ Some o ∷ []) → Stands before octets →
     Goes (record { given = before.given + 1; lock = lock; nibbles = nibbles; begun = 0 }) octets o []
 goes-out before lock nibbles octets o answer other is lock_stands stands =
     let none = packets-out octets unlocked 0 o (sight-here octets o answer is ∙ not_answer answer other) in (
-      record { count = next_count before.given octets o stands.count; lock = next_lock lock octets o lock_stands;
-          begun = sym none.0 },
+      record {
+        count = next_count before.given octets o stands.count;
+        lock = next_lock lock octets o lock_stands;
+        begun = sym none.0;
+      },
       none.1 ∙ sym (append-nil (packets_in octets)),
     )
 
@@ -129,7 +132,7 @@ module _ (before : Decoding) (lock : MfiLock) (nibbles octets grew : List ℕ) (
   -- they are
   pub goes-whole : (reading : Result Packet PacketFault) → length grew ≡ 16 → reading ≡ read_of grew →
       Goes (record { given = before.given + 1; lock = lock; nibbles = nibbles; begun = 0 }) octets o
-          ((before.given + 1 - 16, reading) ∷ [])
+      ((before.given + 1 - 16, reading) ∷ [])
   goes-whole reading size read =
       let long : nat_le 16 (length grew) ≡ true = le-leb 16 (length grew) (omega arith) in
       let place : 0 + (length octets + 1) - 16 ≡ before.given + 1 - 16 = omega (arith, stands.count) in (
@@ -156,7 +159,7 @@ grown-take (x ∷ nibbles) zero o upper inside first is =
     rw (eq-eqb (o % 16) 8 (first refl)) (ap (λ (n : ℕ). n ∷ []) (sym is))
 grown-take (x ∷ nibbles) (suc n) o upper inside first is =
     ap (λ (l : ℕ). take (suc n) (x ∷ nibbles) ++ l ∷ []) (sym is)
-        ∙ sym (take_more_set (x ∷ nibbles) (suc n) upper inside)
+    ∙ sym (take_more_set (x ∷ nibbles) (suc n) upper inside)
 
 pub length-grown : (nibbles : List ℕ) (begun octet : ℕ) → begun < length nibbles →
     length (take (begun + 1) (slice_set nibbles begun octet)) ≡ begun + 1

@@ -21,7 +21,7 @@ pub texts-more : (f : ℕ → List ℕ) (n : ℕ) →
     flat_map f (range_with_len 0 (n + 1)) ≡ flat_map f (range_with_len 0 n) ++ f n
 texts-more f n =
     ap (flat_map f) (range-more n) ∙ flat_map-append f (range_with_len 0 n) (n ∷ [])
-        ∙ ap (λ l. flat_map f (range_with_len 0 n) ++ l) (append-nil (f n))
+    ∙ ap (λ l. flat_map f (range_with_len 0 n) ++ l) (append-nil (f n))
 
 -- a line more
 pub places-next : (first middle now : LineCursor) (table : Table) (n : ℕ) → Extends first middle (place_texts table n)

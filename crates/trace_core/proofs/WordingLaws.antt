@@ -29,7 +29,7 @@ slice_index-append : (before rest : List ℕ) (k : ℕ) →
 slice_index-append [] rest k = ap (slice_index rest) (let e : 0 + k ≡ k = omega arith in e)
 slice_index-append (x ∷ before) rest k =
     ap (slice_index (x ∷ before ++ rest)) (let e : suc (length before) + k ≡ suc (length before + k) = omega arith in e)
-        ∙ slice_index-append before rest k
+    ∙ slice_index-append before rest k
 
 IsAt_inside : (octets : List ℕ) (place : ℕ) → IsAt (good_cells octets) place → place < length octets
 IsAt_inside octets place is =
@@ -65,10 +65,10 @@ module _ (before : List (Option ℕ)) (lock : LineLock) (stands : SightStands lo
   each-at octets all k inside =
       let sights = sights_on lock (good_cells octets) in
       let (sight, here) = slice_get-inside sights k
-              (omega (arith, length-sights_on (good_cells octets) lock, length-good_cells octets)) in
+      (omega (arith, length-sights_on (good_cells octets) lock, length-good_cells octets)) in
       let same : sight ≡ at = is_at-at sight (all-true is_at sights all k sight here) in
       subst (IsSight (before ++ good_cells octets) (length before + k)) same
-          (sights-each (good_cells octets) lock before k sight stands here)
+      (sights-each (good_cells octets) lock before k sight stands here)
 
   at-each : (octets : List ℕ) → ((k : ℕ) → k < length octets → IsAt (before ++ good_cells octets) (length before + k)) →
       list_all is_at (sights_on lock (good_cells octets)) ≡ true
@@ -77,10 +77,14 @@ module _ (before : List (Option ℕ)) (lock : LineLock) (stands : SightStands lo
       true-all is_at (sights_on lock cells)
       (λ k sight here.
       let inside : k < length octets =
-              omega (arith, length-sights_on cells lock, length-good_cells octets,
-              slice_get_within (sights_on lock cells) k sight here) in
+      omega (
+        arith,
+        length-sights_on cells lock,
+        length-good_cells octets,
+        slice_get_within (sights_on lock cells) k sight here,
+      ) in
       ap is_at (IsSight_only (before ++ cells) (length before + k) sight at
-          (sights-each cells lock before k sight stands here) (each k inside)))
+      (sights-each cells lock before k sight stands here) (each k inside)))
 
 -- ---- a packet stands at the front of octets
 cells-cut : (before rest : List ℕ) →
@@ -89,7 +93,7 @@ cells-cut before rest =
     ap (λ (cells : List (Option ℕ)). cells ++ good_cells (drop 16 rest)) (sym (good_cells-append before (take 16 rest)))
     ∙ sym (good_cells-append (before ++ take 16 rest) (drop 16 rest))
     ∙ ap good_cells (append_assoc before (take 16 rest) (drop 16 rest)
-        ∙ ap (λ (l : List ℕ). before ++ l) (take-append-drop 16 rest))
+    ∙ ap (λ (l : List ℕ). before ++ l) (take-append-drop 16 rest))
 
 head-take : (rest : List ℕ) → slice_index (take 16 rest) 0 ≡ slice_index rest 0
 head-take [] = refl
@@ -105,18 +109,18 @@ begins-packet before rest begins =
     let lock = lock_on unlocked before in
     let parts = and_parts (nat_le 16 (length rest)) (is_front lock (take 16 rest)) begins in
     let front = and_parts (slice_index (take 16 rest) 0 % 16 == 8)
-            (list_all is_at (sights_on lock (good_cells (take 16 rest)))) parts.1 in
+    (list_all is_at (sights_on lock (good_cells (take 16 rest)))) parts.1 in
     let enough : 16 ≤ length rest = leb-true 16 (length rest) parts.0 in
     record {
       first = ap (λ o. o % 16) (here-index before rest ∙ sym (head-take rest))
           ∙ eqb-true (slice_index (take 16 rest) 0 % 16) 8 front.0;
       locked = λ k few.
           let here = each-at (good_cells before) lock (stands-of before) (take 16 rest) front.1 k
-                  (omega (arith, length-take 16 rest)) in
+          (omega (arith, length-take 16 rest)) in
           subst (λ n. IsAt (good_cells (before ++ rest)) (n + k)) (length-good_cells before)
           (subst (λ cells. IsAt cells (length (good_cells before) + k)) (cells-cut before rest)
           (IsAt-append (good_cells before ++ good_cells (take 16 rest)) (good_cells (drop 16 rest))
-              (length (good_cells before) + k) here));
+          (length (good_cells before) + k) here));
     }
 
 packet-begins : (before rest : List ℕ) → HasPacketAt (before ++ rest) (length before) →
@@ -126,19 +130,19 @@ packet-begins before rest packet =
     let last = IsAt_inside (before ++ rest) (length before + 15) (packet.locked 15 (omega arith)) in
     let enough : 16 ≤ length rest = omega (arith, length-append before rest) in
     let first : slice_index (take 16 rest) 0 % 16 ≡ 8 = ap (λ o. o % 16) (head-take rest ∙ sym (here-index before rest))
-            ∙ packet.first in
+    ∙ packet.first in
     let size = length-take 16 rest in
     let all = at-each (good_cells before) lock (stands-of before) (take 16 rest)
     (λ k few.
     IsAt_before (good_cells before ++ good_cells (take 16 rest)) (good_cells (drop 16 rest))
-        (length (good_cells before) + k)
+    (length (good_cells before) + k)
     (omega (arith, length-append (good_cells before) (good_cells (take 16 rest)), length-good_cells (take 16 rest)))
     (subst (λ cells. IsAt cells (length (good_cells before) + k)) (sym (cells-cut before rest))
     (subst (λ n. IsAt (good_cells (before ++ rest)) (n + k)) (sym (length-good_cells before))
-        (packet.locked k (omega arith))))) in
+    (packet.locked k (omega arith))))) in
     and_from (nat_le 16 (length rest)) (is_front lock (take 16 rest)) (le-leb 16 (length rest) enough)
     (and_from (slice_index (take 16 rest) 0 % 16 == 8) (list_all is_at (sights_on lock (good_cells (take 16 rest))))
-        (eq-eqb (slice_index (take 16 rest) 0 % 16) 8 first) all)
+    (eq-eqb (slice_index (take 16 rest) 0 % 16) 8 first) all)
 
 -- ---- those that are computed are the packets of octets
 lock_on-more : (before : List ℕ) (lock : LineLock) (h4 : ℕ) →
@@ -187,26 +191,26 @@ worded (h4 ∷ rest) before =
     let size : length (before ++ h4 ∷ []) ≡ length before + 1 = length-append before (h4 ∷ []) in
     let more : AreFound all (length before + 1) later =
     subst (λ l. AreFound all (length before + 1) (packets_on l (length before + 1) rest))
-        (lock_on-more before unlocked h4)
+    (lock_on-more before unlocked h4)
     (subst (λ n. AreFound all n (packets_on (lock_on unlocked (before ++ h4 ∷ [])) n rest)) size
     (subst (λ l. AreFound l (length (before ++ h4 ∷ []))
-        (packets_on (lock_on unlocked (before ++ h4 ∷ [])) (length (before ++ h4 ∷ [])) rest))
-        (sym (append_one before h4 rest))
+    (packets_on (lock_on unlocked (before ++ h4 ∷ [])) (length (before ++ h4 ∷ [])) rest))
+    (sym (append_one before h4 rest))
     (worded rest (before ++ h4 ∷ [])))) in
     elim (cases_Bool (begins_packet lock (h4 ∷ rest))) [
       | inl begins ↦
           let here : packet_here lock (length before) (h4 ∷ rest) ≡
-                  (length before, read_of (front_nibbles (drop (length before) all))) ∷ [] =
+          (length before, read_of (front_nibbles (drop (length before) all))) ∷ [] =
           rw begins (ap (λ (l : List ℕ). (length before, read_of (front_nibbles l)) ∷ [])
-              (sym (drop-append_seam before (h4 ∷ rest)))) in
+          (sym (drop-append_seam before (h4 ∷ rest)))) in
           subst (λ (l : List Found). AreFound all (length before) (l ++ later)) (sym here)
           (found-here all (length before) later (begins-packet before (h4 ∷ rest) begins) more)
       | inr other ↦
           let here : packet_here lock (length before) (h4 ∷ rest) ≡ [] = rw other refl in
           subst (λ (l : List Found). AreFound all (length before) (l ++ later)) (sym here)
           (found-before all (length before) later
-              (λ packet. both_ways (begins_packet lock (h4 ∷ rest)) other (packet-begins before (h4 ∷ rest) packet))
-              more)
+          (λ packet. both_ways (begins_packet lock (h4 ∷ rest)) other (packet-begins before (h4 ∷ rest) packet))
+          more)
     ]
 
 pub are_worded : AreWorded

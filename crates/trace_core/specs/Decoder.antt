@@ -22,7 +22,7 @@ unfoldable pub begun_on : LineLock → List ℕ → List ℕ
 begun_on lock [] = []
 begun_on lock (h4 ∷ octets) =
     if nat_lt (length (h4 ∷ octets)) 16 && is_front lock (h4 ∷ octets) then upper_halves (h4 ∷ octets) else begun_on
-        (lock_by lock (Some h4)) octets
+    (lock_by lock (Some h4)) octets
 
 abbrev pub begun_in : List ℕ → List ℕ
 begun_in octets = begun_on unlocked octets

@@ -19,7 +19,7 @@ back_text None = codes "none"
 back_text (Some Lost) = codes "lost"
 back_text (Some (Packet nibbles)) =
     nibble_text (nibble_at nibbles 0) ++ nibble_text (nibble_at nibbles 1) ++ codes "/" ++ bit_text
-        (nibble_at nibbles 2 % 2 == 1)
+    (nibble_at nibbles 2 % 2 == 1)
 
 -- a line: its code and its SQ
 abbrev pub place_text : LineFields → List ℕ
@@ -33,5 +33,5 @@ place_texts table lines = flat_map (λ line. place_text (place_in table.order 0 
 abbrev pub step_text : ℕ → Option BackCell → Table → ℕ → List ℕ
 step_text packet back table lines =
     codes "packet " ++ decimal packet ++ codes " chg " ++ bit_text (table.count % 2 == 1) ++ codes " act " ++ decimal
-        (length (active table))
+    (length (active table))
     ++ codes " back " ++ back_text back ++ place_texts table lines ++ codes "\n"

@@ -86,7 +86,7 @@ MarkLow n segment = (place : ℕ) → segment.mark ≡ Some place → place < n
 own-low : (sent : List ℕ) (segment : Segment) (found : Option Confirmed) → IsPart sent segment →
     hunt true 0 segment.octets ≡ found →
     (place : ℕ) → option_map (λ (found : Confirmed). segment.base + found.place) found ≡ Some place →
-        place < length sent
+    place < length sent
 own-low sent segment None part is place there = absurd cc
 own-low sent segment (Some found) part is place there =
     let within = confirmed-within segment.octets found is in
@@ -102,15 +102,15 @@ with-low sent (span ∷ spans) [] parts = All-nil (MarkLow (length sent))
 with-low sent (span ∷ spans) (segment ∷ segments) parts =
     All-cons (MarkLow (length sent)) (row_segment span segment) (row_segments_with spans segments)
     (λ place there. own-low sent segment (hunt true 0 segment.octets) (All-head (IsPart sent) segment segments parts)
-        refl place there)
+    refl place there)
     (with-low sent spans segments (All-tail (IsPart sent) segment segments parts))
 
 later-low : (rows : List StreamRow) → All (MarkLow (length (octets_of_rows rows))) (later_segments rows)
 later-low rows =
     let n = length (octets_of_rows rows) in
     All-filter has_row (MarkLow n) (drop 1 (row_segments rows))
-        (All-drop (MarkLow n) 1 (row_segments rows)
-        (with-low (octets_of_rows rows) (spans rows) (segments rows) (parts-of rows)))
+    (All-drop (MarkLow n) 1 (row_segments rows)
+    (with-low (octets_of_rows rows) (spans rows) (segments rows) (parts-of rows)))
 
 pub mark-low : (rows : List StreamRow) (segment : RowSegment) (place : ℕ) → Contains (later_segments rows) segment →
     segment.mark ≡ Some place → place < length (octets_of_rows rows)
@@ -121,21 +121,21 @@ mark-low rows segment place among marked =
 pub piece-stays : (script : Script) (ticks rows place : ℕ) → rows ≤ ticks → ticks ≤ script.config.ticks →
     place < length (octets_of_rows (session_rows script rows)) →
     is_piece_at (stream_before (scenario_of script) (session_of script) ticks).pieces place ≡ is_piece_at
-        (session_pieces script) place
+    (session_pieces script) place
 piece-stays script ticks rows place low high within =
     let front = (stream_before (scenario_of script) (session_of script) ticks).pieces in
     let begins = pieces-begin (scenario_of script) (session_of script) ticks script.config.ticks high in
     let octets = ap length (rows-octets (scenario_of script) (session_of script) rows ticks low) in
     let part = length-take (place_of (scenario_of script) (session_of script) rows) (stream_of front) in
     sym (ap (λ pieces. is_piece_at pieces place) begins.1
-        ∙ piece-front place front begins.0 (omega (arith, octets, part, within)))
+    ∙ piece-front place front begins.0 (omega (arith, octets, part, within)))
 
 module _ (front whole : List Piece) (sent : List ℕ)
     (same : (place : ℕ) → place < length sent → is_piece_at front place ≡ is_piece_at whole place) where
   mark-same : (segment : Segment) (found : Option Confirmed) → IsPart sent segment →
       hunt true 0 segment.octets ≡ found →
       is_true_mark front (option_map (λ (found : Confirmed). segment.base + found.place) found) ≡ is_true_mark whole
-          (option_map (λ (found : Confirmed). segment.base + found.place) found)
+      (option_map (λ (found : Confirmed). segment.base + found.place) found)
   mark-same segment None part is = refl
   mark-same segment (Some found) part is =
       let within = confirmed-within segment.octets found is in
@@ -147,17 +147,17 @@ module _ (front whole : List Piece) (sent : List ℕ)
   marks-same [] parts = refl
   marks-same (segment ∷ segments) parts =
       ap₂ ◌&&◌ (ap (λ b. segment.first || b)
-          (mark-same segment (hunt true 0 segment.octets) (All-head (IsPart sent) segment segments parts) refl))
+      (mark-same segment (hunt true 0 segment.octets) (All-head (IsPart sent) segment segments parts) refl))
       (marks-same segments (All-tail (IsPart sent) segment segments parts))
 
 pub marks-stay : (script : Script) (ticks rows : ℕ) → rows ≤ ticks → ticks ≤ script.config.ticks →
     are_true_marks (stream_before (scenario_of script) (session_of script) ticks).pieces (session_rows script rows)
-        ≡ are_true_marks (session_pieces script) (session_rows script rows)
+    ≡ are_true_marks (session_pieces script) (session_rows script rows)
 marks-stay script ticks rows low high =
     marks-same (stream_before (scenario_of script) (session_of script) ticks).pieces (session_pieces script)
-        (octets_of_rows (session_rows script rows))
+    (octets_of_rows (session_rows script rows))
     (λ place within. piece-stays script ticks rows place low high within) (segments (session_rows script rows))
-        (parts-of (session_rows script rows))
+    (parts-of (session_rows script rows))
 
 -- ---- a walk that was seen
 module _ (script : Script) (s : Counts) (seen : SeenWalk) (sees : SeesWalk script s seen) where
@@ -198,7 +198,7 @@ module _ (script : Script) (s : Counts) (seen : SeenWalk) (sees : SeesWalk scrip
         place → ⊥
     not-beyond beyond =
         let up = place-up (scenario_of script) (session_of script) s.rows (16 * length seen.rows.packets.active + 24)
-                reach in
+        reach in
         let low = mark-within in
         omega (arith, up, low, beyond)
 
@@ -250,13 +250,13 @@ module _ (script : Script) (fate : ℕ → Fate) where
 
   landed-client : (a b i : ℕ) (item : Item) (items : List Item) → is_client item.kind ≡ true →
       landed_from a b i (item ∷ items) ≡ with_if (nat_lt 0 a) (record { number = i; item = item })
-          (landed_from (a - 1) b (suc i) items)
+      (landed_from (a - 1) b (suc i) items)
   unfolding landed_from
   landed-client a b i item items client = rw client refl
 
   landed-other : (a b i : ℕ) (item : Item) (items : List Item) → is_client item.kind ≡ false →
       landed_from a b i (item ∷ items) ≡ with_if (nat_lt 0 b) (record { number = i; item = item })
-          (landed_from a (b - 1) (suc i) items)
+      (landed_from a (b - 1) (suc i) items)
   unfolding landed_from
   landed-other a b i item items other = rw other refl
 
@@ -269,7 +269,7 @@ module _ (script : Script) (fate : ℕ → Fate) where
       elim (cases_Bool (is_client item.kind)) [
         | inl client ↦ ap (λ l. ended_on script fate l n) (landed-client a b i item items client)
             ∙ with-same (nat_lt 0 a) own (landed_from (a - 1) b (suc i) items) (landed_from (a - 1) 0 (suc i) items) n
-                (λ m. commands-none (a - 1) b (suc i) items m)
+            (λ m. commands-none (a - 1) b (suc i) items m)
             ∙ sym (ap (λ l. ended_on script fate l n) (landed-client a 0 i item items client))
         | inr other ↦ ap (λ l. ended_on script fate l n) (landed-other a b i item items other)
             ∙ with-skips (nat_lt 0 b) own (landed_from a (b - 1) (suc i) items) n other
@@ -283,18 +283,23 @@ module _ (script : Script) (fate : ℕ → Fate) where
   accepted_by (Some why) i = i
 
   abbrev pub ended_frame : LandedFrame → List ℕ → ℕ → Ended
-  ended_frame found octets i = record { number = found.number; due = found.due; frame = octets; end =
-      end_by fate found.refusal i }
+  ended_frame found octets i = record {
+    number = found.number;
+    due = found.due;
+    frame = octets;
+    end =
+        end_by fate found.refusal i;
+  }
 
   frame-then : (item : Numbered) (octets : List ℕ) (why : Option Refusal) (i : ℕ) (others : ℕ → List Ended) →
       ended_then fate item why (Frame octets) i others ≡ ended_by item octets (end_by fate why i) ∷ others
-          (accepted_by why i)
+      (accepted_by why i)
   frame-then item octets None i others = refl
   frame-then item octets (Some why) i others = refl
 
   pub next-ended : (was now : Cursor) (found : LandedFrame) (next : IsNext script was now found) (i : ℕ) →
       ended_on script fate (frames_left script was) i ≡ ended_frame found next.octets i ∷ ended_on script fate
-          (frames_left script now) (accepted_by found.refusal i)
+      (frames_left script now) (accepted_by found.refusal i)
   unfolding ended_on
   next-ended was now found next i =
       let own : Numbered = record { number = found.number; item = next.item } in
@@ -303,7 +308,7 @@ module _ (script : Script) (fate : ℕ → Fate) where
       ∙ ap₂ (λ why kind. ended_then fate own why kind i others) (sym next.refusal) next.kind
       ∙ frame-then own next.octets found.refusal i others
       ∙ ap (λ due. record { number = found.number; due = due; frame = next.octets; end = end_by fate found.refusal i } ∷
-          others (accepted_by found.refusal i)) (sym next.due)
+      others (accepted_by found.refusal i)) (sym next.due)
 
   pub ended-count : (count : EndedCount) (why : Option Refusal) →
       (counted_end count (end_by fate why count.frames)).frames ≡ accepted_by why count.frames
@@ -335,7 +340,7 @@ module _ (all : List Ended) (count : EndedCount) (are : Counted all count) (numb
   more-by : (end : End) (now : EndedCount) (r g w : Bool) → is_refused end ≡ r → has_got end ≡ g → has_waited end ≡ w →
       now.frames + now.refused ≡ count.frames + count.refused + 1 →
       now.refused ≡ count.refused + one_if r → now.totals.got ≡ count.totals.got + one_if g →
-          now.totals.waits ≡ count.totals.waits + one_if w →
+      now.totals.waits ≡ count.totals.waits + one_if w →
       now.frames ≡ now.totals.got + now.totals.lost + now.totals.waits → Counted (all ++ with_end end ∷ []) now
   more-by end now r g w rs gs ws sum refuses gets waits frames = record {
     items = (let size = length-append all (with_end end ∷ []) in let items = are.items in
@@ -377,8 +382,14 @@ line_of ticks rows starts frames got lost waits kept_out =
     last_text ticks rows (record { frames = frames; got = got; lost = lost; waits = waits; refused = kept_out }) starts
 
 pub end-text : (ticks rows : ℕ) (all : List Ended) (count : EndedCount) (starts : Bool) → Counted all count →
-    last_text ticks rows (record { frames = count.frames; got = count.totals.got; lost = count.totals.lost; waits =
-        count.totals.waits; refused = count.refused }) starts
+    last_text ticks rows (record {
+      frames = count.frames;
+      got = count.totals.got;
+      lost = count.totals.lost;
+      waits =
+          count.totals.waits;
+      refused = count.refused;
+    }) starts
     ≡ fates_end ticks rows all starts
 end-text ticks rows all count starts are =
     let items = are.items in
@@ -388,19 +399,19 @@ end-text ticks rows all count starts are =
     let sum = are.frames in
     let frames : count.frames ≡ length all - count_of is_refused all = omega (arith, items, none) in
     let lost : count.totals.lost ≡ length all -
-            (count_of is_refused all + count_of has_got all + count_of has_waited all) =
-            omega (arith, items, none, gets, wait, sum) in
+    (count_of is_refused all + count_of has_got all + count_of has_waited all) =
+    omega (arith, items, none, gets, wait, sum) in
     ap (λ n. line_of ticks rows starts n count.totals.got count.totals.lost count.totals.waits count.refused) frames
     ∙ ap (λ n. line_of ticks rows starts (length all - count_of is_refused all) n count.totals.lost count.totals.waits
-        count.refused) (sym gets)
+    count.refused) (sym gets)
     ∙ ap (λ n. line_of ticks rows starts (length all - count_of is_refused all)
-        (count_of has_got all) n count.totals.waits count.refused) lost
+    (count_of has_got all) n count.totals.waits count.refused) lost
     ∙ ap (λ n. line_of ticks rows starts (length all - count_of is_refused all) (count_of has_got all)
-        (length all - (count_of is_refused all + count_of has_got all + count_of has_waited all)) n count.refused)
-        (sym wait)
+    (length all - (count_of is_refused all + count_of has_got all + count_of has_waited all)) n count.refused)
+    (sym wait)
     ∙ ap (λ n. line_of ticks rows starts (length all - count_of is_refused all) (count_of has_got all)
-        (length all - (count_of is_refused all + count_of has_got all + count_of has_waited all))
-        (count_of has_waited all) n) (sym none)
+    (length all - (count_of is_refused all + count_of has_got all + count_of has_waited all))
+    (count_of has_waited all) n) (sym none)
 
 -- ---- the client's items so far
 pub record FramesDone (script : Script) (s : Counts) (cursor : Cursor) (count : EndedCount)
@@ -420,22 +431,27 @@ frames-begun script s cursor count at first frames kept got lost waits =
     let all : s.frames ≡ cursor.left = omega (arith, left, none) in
     record {
       at = at;
-      counted = record { items = omega (arith, frames, kept); refused = sym kept; got = sym got; waits = sym waits;
-          frames = omega (arith, frames, got, lost, waits) };
+      counted = record {
+        items = omega (arith, frames, kept);
+        refused = sym kept;
+        got = sym got;
+        waits = sym waits;
+        frames = omega (arith, frames, got, lost, waits);
+      };
       size = sym none;
       rest = commands-none script (fates_in script s.rows) s.frames s.commands 0 script.items 0
           ∙ ap (λ n. ended_on script (fates_in script s.rows) (landed_from n 0 0 script.items) 0) all
           ∙ ap (λ i. ended_on script (fates_in script s.rows) (landed_from cursor.left 0 i (drop i script.items)) 0)
-              (sym first)
+          (sym first)
           ∙ ap (ended_on script (fates_in script s.rows) (frames_left script cursor)) (sym frames);
     }
 
 pub frames-next : (script : Script) (s : Counts) (was now : Cursor) (count more : EndedCount) (done : List Ended)
     (found : LandedFrame) (next : IsNext script was now found) →
     FramesDone script s was count done → IsAt script s now →
-        more ≡ counted_end count (end_by (fates_in script s.rows) found.refusal count.frames) →
+    more ≡ counted_end count (end_by (fates_in script s.rows) found.refusal count.frames) →
     FramesDone script s now more (done ++ ended_frame script (fates_in script s.rows) found next.octets count.frames ∷
-        [])
+    [])
 frames-next script s was now count more done found next come at is =
     let fate = fates_in script s.rows in
     let own : Ended = ended_frame script fate found next.octets count.frames in
@@ -449,7 +465,7 @@ frames-next script s was now count more done found next come at is =
       rest = come.rest
           ∙ ap (λ l. done ++ l) (next-ended script fate was now found next count.frames)
           ∙ ap (λ n. done ++ own ∷ ended_on script fate (frames_left script now) n)
-              (sym (ap (λ (c : EndedCount). c.frames) is ∙ ended-count script fate count found.refusal))
+          (sym (ap (λ (c : EndedCount). c.frames) is ∙ ended-count script fate count found.refusal))
           ∙ sym (append_assoc done (own ∷ []) (ended_on script fate (frames_left script now) more.frames));
     }
 
@@ -485,11 +501,11 @@ pub frames-past : (script : Script) (s : Counts) (cursor : Cursor) (count : Ende
 unfolding ended_on
 frames-past script s cursor count done come past =
     sym (come.rest ∙ ap (λ l. done ++ ended_on script (fates_in script s.rows) l count.frames) past.none
-        ∙ append-nil done)
+    ∙ append-nil done)
 
 pub texts-next : (done : List Ended) (own : Ended) (before : List ℕ) →
     before ++ flat_map ended_text done ++ ended_text own ≡ before ++ flat_map ended_text (done ++ own ∷ [])
 texts-next done own before =
     append_assoc before (flat_map ended_text done) (ended_text own)
     ∙ ap (λ l. before ++ l) (ap (λ l. flat_map ended_text done ++ l) (sym (append-nil (ended_text own)))
-        ∙ sym (flat_map-append ended_text done (own ∷ [])))
+    ∙ sym (flat_map-append ended_text done (own ∷ [])))

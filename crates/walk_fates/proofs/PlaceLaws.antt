@@ -35,12 +35,12 @@ place-few script row valid low = let most = place-most script row valid low in o
 pub reach-tick : (script : Script) (frames from t to place : ℕ) (was now : Ruler) → Between script frames from to →
     from ≤ t → t < to → place ≡ place_in script (t + 1) →
     now ≡ ruled place was.end was.sent was.waiting → was ≡ ruler_of (stream_in script t frames) →
-        now ≡ ruler_of (stream_in script (t + 1) frames)
+    now ≡ ruler_of (stream_in script (t + 1) frames)
 reach-tick script frames from t to place was now between low high is made ruler =
     made
     ∙ ap (λ (r : Ruler). ruled place r.end r.sent r.waiting) ruler
     ∙ ap (λ at. ruled at (ruler_of (stream_in script t frames)).end (ruler_of (stream_in script t frames)).sent
-        (ruler_of (stream_in script t frames)).waiting) is
+    (ruler_of (stream_in script t frames)).waiting) is
     ∙ sym (reached-ruled (place_in script (t + 1)) (stream_in script t frames))
     ∙ ap ruler_of (met-tick script frames from t to between low high)
 
@@ -64,8 +64,8 @@ pub next-waits : (script : Script) (was now : Cursor) (found : LandedFrame) (tic
     IsLate script (frames_before_item script was.item) ticks
 next-waits script was now found ticks valid next waits j offer far there =
     let order : found.due ≤ offer.due =
-            due-order script (frames_before_item script was.item) j (own script was now found next) offer valid far
-            (next-offer script was now found next) there in
+    due-order script (frames_before_item script was.item) j (own script was now found next) offer valid far
+    (next-offer script was now found next) there in
     omega (arith, order, waits)
 
 -- the frames so far are ruled, and those after them aren't due before the last of them
@@ -104,47 +104,47 @@ module _ (script : Script) (s : Counts) (ruler : Ruler) (was now : Cursor) (tick
       (offers_of script.items) - frames_before_item script was.item
   next-fewer =
       let there = inside (offers_of script.items) count (own script was now found next)
-              (next-offer script was now found next) in
+      (next-offer script was now found next) in
       let more = next-count script was now found next in
       omega (arith, there, more)
 
   module _ (at : IsAt script s now) (due : found.due < s.ticks) (reached : Ruler)
       (reaches : (frames : ℕ) → Between script frames ticks found.due →
-          ruler ≡ ruler_of (stream_in script ticks frames) → reached ≡ ruler_of (stream_in script found.due frames))
-          where
-    reached-is : reached ≡ ruler_of (stream_in script found.due count)
-    reached-is = reaches count (next-between script was now found next ticks at.valid is.early) is.ruled
+      ruler ≡ ruler_of (stream_in script ticks frames) → reached ≡ ruler_of (stream_in script found.due frames))
+    where
+      reached-is : reached ≡ ruler_of (stream_in script found.due count)
+      reached-is = reaches count (next-between script was now found next ticks at.valid is.early) is.ruled
 
-    ruled-next : (r : Ruler) → r ≡ ruler_of (stream_in script found.due (count + 1)) → IsRuled script s r now found.due
-    ruled-next r made =
-        let more = next-count script was now found next in
-        record {
-          at = at;
-          early = subst (λ n. IsEarly script n found.due) (sym more) (next-early script was now found next at.valid);
-          late = subst (λ n. IsLate script n found.due) (sym more) (next-late script was now found next at.valid);
-          before = λ j offer low there. (let early =
-              next-early script was now found next at.valid j offer (omega (arith, low, more)) there in omega
-              (arith, early, due));
-          low = omega (arith, due);
-          ruled = made ∙ ap (λ n. ruler_of (stream_in script found.due n)) (sym more);
-        }
+      ruled-next : (r : Ruler) → r ≡ ruler_of (stream_in script found.due (count + 1)) → IsRuled script s r now found.due
+      ruled-next r made =
+          let more = next-count script was now found next in
+          record {
+            at = at;
+            early = subst (λ n. IsEarly script n found.due) (sym more) (next-early script was now found next at.valid);
+            late = subst (λ n. IsLate script n found.due) (sym more) (next-late script was now found next at.valid);
+            before = λ j offer low there. (let early =
+                next-early script was now found next at.valid j offer (omega (arith, low, more)) there in omega
+                (arith, early, due));
+            low = omega (arith, due);
+            ruled = made ∙ ap (λ n. ruler_of (stream_in script found.due n)) (sym more);
+          }
 
-    pub ruled-refused : (refusal : Refusal) → found.refusal ≡ Some refusal → IsRuled script s reached now found.due
-    ruled-refused refusal refused =
-        ruled-next reached (reached-is ∙ sym (next-refused script was now found next refusal refused))
+      pub ruled-refused : (refusal : Refusal) → found.refusal ≡ Some refusal → IsRuled script s reached now found.due
+      ruled-refused refusal refused =
+          ruled-next reached (reached-is ∙ sym (next-refused script was now found next refusal refused))
 
-    pub ruled-accepted : (r : Ruler) → found.refusal ≡ None → r ≡ with_waiting reached found.length →
-        IsRuled script s r now found.due
-    ruled-accepted r none made =
-        ruled-next r (made ∙ ap (λ (r : Ruler). with_waiting r found.length) reached-is
-            ∙ sym (next-accepted script was now found next none))
+      pub ruled-accepted : (r : Ruler) → found.refusal ≡ None → r ≡ with_waiting reached found.length →
+          IsRuled script s r now found.due
+      ruled-accepted r none made =
+          ruled-next r (made ∙ ap (λ (r : Ruler). with_waiting r found.length) reached-is
+          ∙ sym (next-accepted script was now found next none))
 
 -- ---- the end
 pub ruled-end : (script : Script) (s : Counts) (ruler : Ruler) (cursor : Cursor) (ticks : ℕ) (reached : Ruler) →
     IsRuled script s ruler cursor ticks →
     IsLate script (frames_before_item script cursor.item) s.ticks →
     ((frames : ℕ) → Between script frames ticks s.ticks → ruler ≡ ruler_of (stream_in script ticks frames) →
-        reached ≡ ruler_of (stream_in script s.ticks frames)) →
+    reached ≡ ruler_of (stream_in script s.ticks frames)) →
     Rules script s.ticks reached
 ruled-end script s ruler cursor ticks reached is late reaches =
     let count = frames_before_item script cursor.item in

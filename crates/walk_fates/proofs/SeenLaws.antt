@@ -74,21 +74,24 @@ list-next f all last n size before is k low = elim (cases_lt k n) [
 pub packets-next : (script : Script) (before ticks : ℕ) (packets : PacketList) (lines : List ℕ) (next : PacketList) →
     Governs script before packets →
     steps_in ticks ≡ steps_in before + 1 → lines ≡ active (table_in script ticks) →
-        next ≡ record { size = packets.size; active = packets.active ++ lines ∷ [] } →
+    next ≡ record { size = packets.size; active = packets.active ++ lines ∷ [] } →
     Governs script ticks next
 packets-next script before ticks packets lines next governs step is made =
     let are = governs.are in
     let steps : length packets.active + 1 ≡ steps_in ticks = omega (arith, governs.steps, step) in
     let table = λ (k : ℕ). active (table_of (scenario_of script) (session_of script) k) in
     let count : length (packets.active ++ lines ∷ []) ≡ length packets.active + 1 =
-            length-append packets.active (lines ∷ []) in
+    length-append packets.active (lines ∷ []) in
     let here : lines ≡ table (length packets.active) = is
-            ∙ ap (λ n. active (table-after n))
-            (let e : steps_in ticks ≡ suc (length packets.active) = omega (arith, steps) in e) in
+    ∙ ap (λ n. active (table-after n))
+    (let e : steps_in ticks ≡ suc (length packets.active) = omega (arith, steps) in e) in
     subst (Governs script ticks) (sym made) (record {
-      are = record { size = are.size; lines =
-          λ k low. list-next table packets.active lines (length packets.active) refl are.lines here k
-          (omega (arith, low, count)) };
+      are = record {
+        size = are.size;
+        lines =
+            λ k low. list-next table packets.active lines (length packets.active) refl are.lines here k
+            (omega (arith, low, count));
+      };
       steps = omega (arith, count, steps);
     })
   where
@@ -99,7 +102,7 @@ packets-next script before ticks packets lines next governs step is made =
 pub causes-next : (script : Script) (n : ℕ) →
     map (row_cause (scenario_of script) (session_of script)) (range_with_len 0 (n + 1))
     ≡ map (row_cause (scenario_of script) (session_of script)) (range_with_len 0 n) ++ row_cause (scenario_of script)
-        (session_of script) n ∷ []
+    (session_of script) n ∷ []
 causes-next script n = map-range_with_len_more (row_cause (scenario_of script) (session_of script)) 0 n n (omega arith)
 
 pub rows-next : (script : Script) (n : ℕ) →
@@ -132,14 +135,14 @@ confirms-by base (Some found) = refl
 pub row-tells : (script : Script) (s : Counts) (rows end : ℕ) (confirmed : Option ℕ) → rows ≡ s.rows →
     end ≡ place_of (scenario_of script) (session_of script) s.rows →
     confirmed ≡ first_place (segments_of (session_rows script s.rows)).last.octets →
-        Tells (session_rows script rows) end confirmed
+    Tells (session_rows script rows) end confirmed
 row-tells script s rows end confirmed is ends told = record {
   ends = ends ∙ sym (rows-length (scenario_of script) (session_of script) s.rows s.rows (omega arith))
       ∙ ap (λ n. length (octets_of_rows (session_rows script n))) (sym is);
   confirms = ap (option_map (λ place. (segments_of (session_rows script rows)).last.base + place))
       (told ∙ ap (λ n. first_place (segments_of (session_rows script n)).last.octets) (sym is))
       ∙ confirms-by (segments_of (session_rows script rows)).last.base
-          (hunt true 0 (segments_of (session_rows script rows)).last.octets);
+      (hunt true 0 (segments_of (session_rows script rows)).last.octets);
 }
 
 few-by : (octets : List ℕ) (found : Option Confirmed) → hunt true 0 octets ≡ found → length octets < 2 ^ 63 →
@@ -201,7 +204,7 @@ pub one-row : (script : Script) (ticks row rows : ℕ) (seen : SeenRows) → row
     Governs script ticks seen.packets →
     Stands seen.segments (session_rows script row ++ row_of (scenario_of script) (session_of script) row ∷ []) →
     AreRuns seen.runs (map (row_cause (scenario_of script) (session_of script)) (range_with_len 0 row) ++ row_cause
-        (scenario_of script) (session_of script) row ∷ []) → Sees script ticks rows seen
+    (scenario_of script) (session_of script) row ∷ []) → Sees script ticks rows seen
 one-row script ticks row rows seen next packets segments runs = subst (λ n. Sees script ticks n seen) next (record {
   packets = packets;
   segments = subst (Stands seen.segments) (sym (rows-next script row)) segments;
@@ -216,10 +219,10 @@ pub sees-step : (script : Script) (before ticks rows : ℕ) (seen next : SeenRow
     next ≡ record { packets = packets; segments = seen.segments; runs = seen.runs } → Sees script ticks rows next
 sees-step script before ticks rows seen next packets lines sees step is made so =
     subst (Sees script ticks rows) (sym so) (record {
-  packets = packets-next script before ticks seen.packets lines packets sees.packets step is made;
-  segments = sees.segments;
-  runs = sees.runs;
-})
+      packets = packets-next script before ticks seen.packets lines packets sees.packets step is made;
+      segments = sees.segments;
+      runs = sees.runs;
+    })
 
 pub sees-same : (script : Script) (before ticks rows : ℕ) (seen next : SeenRows) → Sees script before rows seen →
     steps_in ticks ≡ steps_in before → next ≡ seen → Sees script ticks rows next

@@ -39,7 +39,7 @@ pub offers-next : (items : List Item) (i : ℕ) (item : Item) → slice_get item
 offers-next items i item there =
     let offer = λ (item : Item). offer_of item.due item.kind in
     ap offers_of (take-one items i item there) ∙ flat_map-append offer (take i items) (item ∷ [])
-        ∙ ap (λ l. offers_of (take i items) ++ l) (append-nil (offer item))
+    ∙ ap (λ l. offers_of (take i items) ++ l) (append-nil (offer item))
 
 -- ---- what has landed of the items from one on
 module _ (a b i : ℕ) (item : Item) (items : List Item) where
@@ -69,13 +69,13 @@ with-late : (script : Script) (least i : ℕ) (item : Item) (there : Bool) (rest
 with-late script least i item true rest low each =
     let why : Option Refusal = refusal_at script (record { number = i; item = item }) in
     All-append (λ (refused : ℕ × Refusal). least ≤ refused.0) (refused_by i why) (refusals_among script rest)
-        (refused-late least i why low) each
+    (refused-late least i why low) each
 with-late script least i item false rest low each = each
 
 one-late : (script : Script) (least a b i : ℕ) (item : Item) (frames others : List Numbered) (client : Bool) →
     least ≤ i → AreLate script least frames → AreLate script least others →
     AreLate script least (if client then with_if (nat_lt 0 a) (record { number = i; item = item }) frames else with_if
-        (nat_lt 0 b) (record { number = i; item = item }) others)
+    (nat_lt 0 b) (record { number = i; item = item }) others)
 one-late script least a b i item frames others true low one other =
     with-late script least i item (nat_lt 0 a) frames low one
 one-late script least a b i item frames others false low one other =
@@ -88,9 +88,9 @@ unfolding landed_from
 refusals-late script least a b i [] low = All-nil (λ (refused : ℕ × Refusal). least ≤ refused.0)
 refusals-late script least a b i (item ∷ items) low =
     one-late script least a b i item (landed_from (a - 1) b (suc i) items) (landed_from a (b - 1) (suc i) items)
-        (is_client item.kind) low
+    (is_client item.kind) low
     (refusals-late script least (a - 1) b (suc i) items (omega (arith, low)))
-        (refusals-late script least a (b - 1) (suc i) items (omega (arith, low)))
+    (refusals-late script least a (b - 1) (suc i) items (omega (arith, low)))
 
 -- ---- one item is passed
 module _ (script : Script) (s : Counts) (cursor : Cursor) (at : IsAt script s cursor) (item : Item)
@@ -111,11 +111,11 @@ module _ (script : Script) (s : Counts) (cursor : Cursor) (at : IsAt script s cu
   -- what the refusals from here on are, by whether the item is a frame
   pub frame-refusals : is_client item.kind ≡ true →
       drop cursor.refusal (refusals_of script s) ≡ refused_by cursor.item (refusal_at script own) ++ refusals_among
-          script (landed_from (cursor.left - 1) at.commands (cursor.item + 1) behind)
+      script (landed_from (cursor.left - 1) at.commands (cursor.item + 1) behind)
   frame-refusals client =
       at.refusals ∙ ap (refusals_among script)
-          (from-here cursor.left at.commands ∙ landed-frame cursor.left at.commands cursor.item item behind client some
-          ∙ ap (λ l. own ∷ l) (numbers (cursor.left - 1) at.commands))
+      (from-here cursor.left at.commands ∙ landed-frame cursor.left at.commands cursor.item item behind client some
+      ∙ ap (λ l. own ∷ l) (numbers (cursor.left - 1) at.commands))
 
   with-refusals : (landed : Bool) (rest : List Numbered) → (why : Option Refusal) ×
       (refusals_among script (with_if landed own rest) ≡ refused_by cursor.item why ++ refusals_among script rest)
@@ -124,11 +124,11 @@ module _ (script : Script) (s : Counts) (cursor : Cursor) (at : IsAt script s cu
 
   pub other-refusals : is_client item.kind ≡ false →
       (why : Option Refusal) × (drop cursor.refusal (refusals_of script s)
-          ≡ refused_by cursor.item why ++ refusals_among script
-          (landed_from cursor.left (at.commands - 1) (cursor.item + 1) behind))
+      ≡ refused_by cursor.item why ++ refusals_among script
+      (landed_from cursor.left (at.commands - 1) (cursor.item + 1) behind))
   other-refusals other =
       let parts = with-refusals (nat_lt 0 at.commands)
-              (landed_from cursor.left (at.commands - 1) (cursor.item + 1) behind) in (
+      (landed_from cursor.left (at.commands - 1) (cursor.item + 1) behind) in (
         parts.0,
         at.refusals ∙ ap (refusals_among script)
             (from-here cursor.left at.commands ∙ landed-other cursor.left at.commands cursor.item item behind other
@@ -150,7 +150,7 @@ module _ (script : Script) (s : Counts) (cursor : Cursor) (at : IsAt script s cu
       (refusals_among script (landed_from a b (cursor.item + 1) behind))
   late-refusals a b =
       All-weaker (λ (refused : ℕ × Refusal). cursor.item + 1 ≤ refused.0)
-          (λ (refused : ℕ × Refusal). cursor.item < refused.0) (λ refused low. omega (arith, low)) _
+      (λ (refused : ℕ × Refusal). cursor.item < refused.0) (λ refused low. omega (arith, low)) _
       (refusals-late script (cursor.item + 1) a b (cursor.item + 1) behind (omega arith))
 
   pub before-next : length (offer_of item.due item.kind) + frames_before_item script cursor.item
@@ -164,7 +164,7 @@ module _ (script : Script) (s : Counts) (cursor : Cursor) (at : IsAt script s cu
 pub found-refusal : (refusals : List (ℕ × Refusal)) (r item : ℕ) (x : ℕ × Refusal) → slice_get refusals r ≡ Some x →
     x.0 ≡ item → (why : Option Refusal) (later : List (ℕ × Refusal)) →
     drop r refusals ≡ refused_by item why ++ later → All (λ (refused : ℕ × Refusal). item < refused.0) later →
-        (Some x.1 ≡ why) × (drop (r + 1) refusals ≡ later)
+    (Some x.1 ≡ why) × (drop (r + 1) refusals ≡ later)
 found-refusal refusals r item x there own None later is far =
     absurd (first later (sym (drop-one refusals r x there) ∙ is) far)
   where
@@ -188,12 +188,12 @@ get-there (x ∷ xs) (suc k) d low = get-there xs k d (omega (arith, low))
 module _ (script : Script) (s : Counts) (cursor : Cursor) (at : IsAt script s cursor) (some : 0 < cursor.left)
     (low : cursor.item < length script.items)
     (items : List Item) (are : items ≡ script.items) (refusals : List (ℕ × Refusal))
-        (told : refusals ≡ refusals_of script s)
+    (told : refusals ≡ refusals_of script s)
     (i : ℕ) (here : i ≡ cursor.item) (item : Item) (item-is : item ≡ get_or items i item) (result : Option Refusal)
-        (r : ℕ)
+    (r : ℕ)
     (finds : (why : Option Refusal) (later : List (ℕ × Refusal)) →
-        drop cursor.refusal refusals ≡ refused_by i why ++ later →
-        All (λ (refused : ℕ × Refusal). i < refused.0) later →
+    drop cursor.refusal refusals ≡ refused_by i why ++ later →
+    All (λ (refused : ℕ × Refusal). i < refused.0) later →
     (result ≡ why) × (drop r refusals ≡ later)) where
   there : slice_get script.items cursor.item ≡ Some item
   there = get-there script.items cursor.item item low ∙ ap Some (sym (item-is ∙ ap₂ (λ l n. get_or l n item) are here))
@@ -201,10 +201,10 @@ module _ (script : Script) (s : Counts) (cursor : Cursor) (at : IsAt script s cu
   found : (why : Option Refusal) (later : List (ℕ × Refusal)) →
       drop cursor.refusal (refusals_of script s) ≡ refused_by cursor.item why ++ later →
       All (λ (refused : ℕ × Refusal). cursor.item < refused.0) later → (result ≡ why) ×
-          (drop r (refusals_of script s) ≡ later)
+      (drop r (refusals_of script s) ≡ later)
   found why later is far =
       let both = finds why later (ap (drop cursor.refusal) told ∙ is ∙ ap (λ n. refused_by n why ++ later) (sym here))
-              (subst (λ n. All (λ (refused : ℕ × Refusal). n < refused.0) later) (sym here) far) in
+      (subst (λ n. All (λ (refused : ℕ × Refusal). n < refused.0) later) (sym here) far) in
       (both.0, sym (ap (drop r) told) ∙ both.1)
 
   one-offer : (octets : List ℕ) → item.kind ≡ Frame octets → length (offer_of item.due item.kind) ≡ 1
@@ -218,13 +218,13 @@ module _ (script : Script) (s : Counts) (cursor : Cursor) (at : IsAt script s cu
   pass-at octets now kind is =
       let why = refusal_at script (record { number = cursor.item; item = item }) in
       let later = refusals_among script
-              (landed_from (cursor.left - 1) at.commands (cursor.item + 1) (drop (cursor.item + 1) script.items)) in
+      (landed_from (cursor.left - 1) at.commands (cursor.item + 1) (drop (cursor.item + 1) script.items)) in
       let both = found why later (frame-refusals script s cursor at item there some (client octets kind))
-              (late-refusals script s cursor at item there some (cursor.left - 1) at.commands) in
+      (late-refusals script s cursor at item there some (cursor.left - 1) at.commands) in
       let before = before-next script s cursor at item there some in
       let one = one-offer octets kind in
       subst (IsAt script s) (sym (is ∙ ap (λ n. record { item = n + 1; refusal = r; left = cursor.left - 1 }) here))
-          (record {
+      (record {
         valid = at.valid;
         walked = at.walked;
         commands = at.commands;
@@ -239,14 +239,14 @@ module _ (script : Script) (s : Counts) (cursor : Cursor) (at : IsAt script s cu
   pass-next octets n now kind size is =
       let why = refusal_at script (record { number = cursor.item; item = item }) in
       let later = refusals_among script
-              (landed_from (cursor.left - 1) at.commands (cursor.item + 1) (drop (cursor.item + 1) script.items)) in
+      (landed_from (cursor.left - 1) at.commands (cursor.item + 1) (drop (cursor.item + 1) script.items)) in
       let both = found why later (frame-refusals script s cursor at item there some (client octets kind))
-              (late-refusals script s cursor at item there some (cursor.left - 1) at.commands) in
+      (late-refusals script s cursor at item there some (cursor.left - 1) at.commands) in
       subst (λ k. IsNext script cursor now (record { number = k; due = item.due; length = n; refusal = result }))
-          (sym here)
+      (sym here)
       (subst (λ (now : Cursor). IsNext script cursor now
-          (record { number = cursor.item; due = item.due; length = n; refusal = result }))
-          (sym (is ∙ ap (λ n. record { item = n + 1; refusal = r; left = cursor.left - 1 }) here)) (record {
+      (record { number = cursor.item; due = item.due; length = n; refusal = result }))
+      (sym (is ∙ ap (λ n. record { item = n + 1; refusal = r; left = cursor.left - 1 }) here)) (record {
         item = item;
         octets = octets;
         there = there;
@@ -272,13 +272,13 @@ module _ (script : Script) (s : Counts) (cursor : Cursor) (at : IsAt script s cu
   skip-at now other is =
       let parts = other-refusals script s cursor at item there some other in
       let later = refusals_among script
-              (landed_from cursor.left (at.commands - 1) (cursor.item + 1) (drop (cursor.item + 1) script.items)) in
+      (landed_from cursor.left (at.commands - 1) (cursor.item + 1) (drop (cursor.item + 1) script.items)) in
       let both = found parts.0 later parts.1
-              (late-refusals script s cursor at item there some cursor.left (at.commands - 1)) in
+      (late-refusals script s cursor at item there some cursor.left (at.commands - 1)) in
       let before = before-next script s cursor at item there some in
       let none = none-here other in
       subst (IsAt script s) (sym (is ∙ ap (λ n. record { item = n + 1; refusal = r; left = cursor.left }) here))
-          (record {
+      (record {
         valid = at.valid;
         walked = at.walked;
         commands = at.commands - 1;
@@ -293,7 +293,7 @@ module _ (script : Script) (s : Counts) (cursor : Cursor) (at : IsAt script s cu
       let before = before-next script s cursor at item there some in
       let none = none-here other in
       subst (λ (now : Cursor). IsSkipped script cursor now)
-          (sym (is ∙ ap (λ n. record { item = n + 1; refusal = r; left = cursor.left }) here)) (record {
+      (sym (is ∙ ap (λ n. record { item = n + 1; refusal = r; left = cursor.left }) here)) (record {
         before = omega (arith, before, none);
         rest = other-rest script s cursor at item there some other;
       })

@@ -69,7 +69,7 @@ module _ (script : Script) (was now : Cursor) (found : LandedFrame) (next : IsNe
   pub next-stream : stream_in script found.due (count + 1) ≡ offered (stream_in script found.due count) next.octets
   next-stream =
       ap (stream_met (scenario_of script) (session_of script) found.due)
-          (take-one (offers_of script.items) count own at.0)
+      (take-one (offers_of script.items) count own at.0)
       ∙ met-next (scenario_of script) (session_of script) (take count (offers_of script.items)) own
 
   -- why it is refused, where it is
@@ -78,10 +78,10 @@ module _ (script : Script) (was now : Cursor) (found : LandedFrame) (next : IsNe
   next-refusal =
       next.refusal
       ∙ ap (kind_refusal (scenario_of script) (session_of script) next.item.due (take found.number script.items))
-          next.kind
+      next.kind
       ∙ ap₂ (λ due offers. option_map frame_fault
-          (frame_refusal next.octets (stream_met (scenario_of script) (session_of script) due offers)))
-          (sym next.due) at.1
+      (frame_refusal next.octets (stream_met (scenario_of script) (session_of script) due offers)))
+      (sym next.due) at.1
 
   refused-by : (why : Option AcceptFault) → frame_refusal next.octets (stream_in script found.due count) ≡ why →
       (refusal : Refusal) → option_map frame_fault why ≡ Some refusal →
@@ -93,7 +93,7 @@ module _ (script : Script) (was now : Cursor) (found : LandedFrame) (next : IsNe
       ruler_of (stream_in script found.due (count + 1)) ≡ ruler_of (stream_in script found.due count)
   next-refused refusal is =
       ap ruler_of (next-stream ∙ refused-by (frame_refusal next.octets (stream_in script found.due count)) refl refusal
-          (sym next-refusal ∙ is))
+      (sym next-refusal ∙ is))
 
   accepted-by : (why : Option AcceptFault) → frame_refusal next.octets (stream_in script found.due count) ≡ why →
       option_map frame_fault why ≡ None → frame_refusal next.octets (stream_in script found.due count) ≡ None
@@ -105,9 +105,9 @@ module _ (script : Script) (was now : Cursor) (found : LandedFrame) (next : IsNe
       found.length
   next-accepted none =
       let accepted = accepted-by (frame_refusal next.octets (stream_in script found.due count)) refl
-              (sym next-refusal ∙ none) in
+      (sym next-refusal ∙ none) in
       ap ruler_of next-stream ∙ ruler-accepted (stream_in script found.due count) next.octets accepted
-          ∙ ap (with_waiting (ruler_of (stream_in script found.due count))) (sym next.length_is)
+      ∙ ap (with_waiting (ruler_of (stream_in script found.due count))) (sym next.length_is)
 
   pub next-between : (from : ℕ) → IsValid script → IsEarly script count from → Between script count from found.due
   next-between from valid early =

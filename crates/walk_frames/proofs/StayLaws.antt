@@ -64,8 +64,8 @@ module _ (all more : List Extent) (e : Extent)
   settled-stays place =
       any-front (is_settled_by place e) all more
       (any-none (is_settled_by place e) more
-          (λ k other there. let none = le-ltb other.from e.from (later k other there) in
-          rw none (and-false (nat_le place other.from))))
+      (λ k other there. let none = le-ltb other.from e.from (later k other there) in
+      rw none (and-false (nat_le place other.from))))
     where
       and-false : (b : Bool) → (b && false) ≡ false
       and-false true = refl
@@ -114,14 +114,14 @@ fate-stays front more rows i reach =
         let between = get-all (IsBetween 0 (0 + length (stream_of front))) first i e (extents-between 0 front) is in
         let later = λ (k : ℕ) (other : Extent) (there : slice_get second k ≡ Some other).
         let far = get-all (IsBetween (0 + length (stream_of front))
-                (0 + length (stream_of front) + length (stream_of more))) second k other
-                (extents-between (0 + length (stream_of front)) more) there in
+        (0 + length (stream_of front) + length (stream_of more))) second k other
+        (extents-between (0 + length (stream_of front)) more) there in
         let low : e.from ≤ other.from = omega (arith, far.lower, between.upper, between.size) in low in
         ap (fate_if (fate_of (front ++ more) rows)) (ap (λ l. slice_get l i) parts ∙ get-front first second i here ∙ is)
         ∙ ap (λ fate. if is_carried (length (octets_of_rows rows)) e then fate else Waits)
         (ap (λ all. fate_among (Cut (row_at rows e.from) (row_at rows (e.to - 1))
-            (spoiled_after rows (row_at rows e.from))) (segments rows) all e (row_at rows e.from)
-            (row_at rows (e.to - 1))) parts
+        (spoiled_after rows (row_at rows e.from))) (segments rows) all e (row_at rows e.from)
+        (row_at rows (e.to - 1))) parts
         ∙ among-stays first second e later _ (segments rows) (row_at rows e.from) (row_at rows (e.to - 1)))
         ∙ sym (ap (fate_if (fate_of front rows)) is)
 
@@ -130,8 +130,8 @@ fate-stays front more rows i reach =
     waits k None is = refl
     waits k (Some e) is =
         let far = get-all (IsBetween (0 + length (stream_of front))
-                (0 + length (stream_of front) + length (stream_of more))) second k e
-                (extents-between (0 + length (stream_of front)) more) is in
+        (0 + length (stream_of front) + length (stream_of more))) second k e
+        (extents-between (0 + length (stream_of front)) more) is in
         let beyond = lt-leb e.to (length (octets_of_rows rows)) (omega (arith, far.lower, far.size, reach)) in
         rw beyond refl
 
@@ -139,19 +139,19 @@ fate-stays front more rows i reach =
     outside far =
         let behind = get-behind first second i far in
         ap (fate_if (fate_of (front ++ more) rows)) (ap (λ l. slice_get l i) parts ∙ behind.1)
-            ∙ waits behind.0 (slice_get second behind.0) refl
+        ∙ waits behind.0 (slice_get second behind.0) refl
         ∙ sym (ap (fate_if (fate_of front rows)) (get-beyond first i far))
 
 -- ---- of a session
 pub session-fate : (script : Script) (ticks rows i : ℕ) → rows ≤ ticks → ticks ≤ script.config.ticks →
     fate_at (session_pieces script) (session_rows script rows) i ≡ fate_at
-        (stream_before (scenario_of script) (session_of script) ticks).pieces (session_rows script rows) i
+    (stream_before (scenario_of script) (session_of script) ticks).pieces (session_rows script rows) i
 session-fate script ticks rows i low high =
     let begins = pieces-begin (scenario_of script) (session_of script) ticks script.config.ticks high in
     ap (λ pieces. fate_at pieces (session_rows script rows) i) begins.1
     ∙ fate-stays (stream_before (scenario_of script) (session_of script) ticks).pieces begins.0
-        (session_rows script rows) i
+    (session_rows script rows) i
     (let octets = ap length (rows-octets (scenario_of script) (session_of script) rows ticks low) in
     let part = length-take (place_of (scenario_of script) (session_of script) rows)
-            (stream_of (stream_before (scenario_of script) (session_of script) ticks).pieces) in
+    (stream_of (stream_before (scenario_of script) (session_of script) ticks).pieces) in
     omega (arith, octets, part))

@@ -31,25 +31,25 @@ pub ruler-accepted : (stream : Stream) (octets : List ℕ) → frame_refusal oct
 ruler-accepted stream octets none =
     ap (λ why. ruler_of (offered_by why octets stream)) none
     ∙ ap (λ (waiting : List ℕ). record (ruler_of stream) { waiting = waiting })
-        (map-append length stream.waiting (octets ∷ []))
+    (map-append length stream.waiting (octets ∷ []))
 
 comes-here : (offer : DueFrame) → comes_at offer.due offer ≡ true
 comes-here offer = grind (arith, nat_tests)
 
 pub met-next : (scenario : Scenario) (cells : List (Option Told)) (earlier : List DueFrame) (offer : DueFrame) →
     stream_met scenario cells offer.due (earlier ++ offer ∷ []) ≡ offered (stream_met scenario cells offer.due earlier)
-        offer.frame
+    offer.frame
 met-next scenario cells earlier offer =
     let frame_of = λ (offer : DueFrame). offer.frame in
     let here = comes-here offer in
     let last : filter (comes_at offer.due) (offer ∷ []) ≡ offer ∷ [] = rw here refl in
     ap (λ offers. fold offered (stream_before scenario cells offer.due) (map frame_of offers))
-        (filter-append (comes_at offer.due) earlier (offer ∷ [])
-        ∙ ap (λ l. filter (comes_at offer.due) earlier ++ l) last)
+    (filter-append (comes_at offer.due) earlier (offer ∷ [])
+    ∙ ap (λ l. filter (comes_at offer.due) earlier ++ l) last)
     ∙ ap (fold offered (stream_before scenario cells offer.due))
-        (map-append frame_of (filter (comes_at offer.due) earlier) (offer ∷ []))
+    (map-append frame_of (filter (comes_at offer.due) earlier) (offer ∷ []))
     ∙ fold-append offered (stream_before scenario cells offer.due) (map frame_of (filter (comes_at offer.due) earlier))
-        (offer.frame ∷ [])
+    (offer.frame ∷ [])
 
 -- ---- a tick
 late : (t : ℕ) (offer : DueFrame) → t < offer.due → comes_at t offer ≡ false
@@ -77,15 +77,15 @@ met-tick script k from t to between low high =
     let frame_of = λ (offer : DueFrame). offer.frame in
     let all : filter (comes_at t) (take k scenario.offers) ≡ filter (comes_at t) scenario.offers =
     filter-first (comes_at t) k scenario.offers
-        (λ j offer far there. let due = between.late j offer far there in late t offer (omega (arith, due, high))) in
+    (λ j offer far there. let due = between.late j offer far there in late t offer (omega (arith, due, high))) in
     let none : filter (comes_at (suc t)) (take k scenario.offers) ≡ [] =
     take-none (comes_at (suc t)) k scenario.offers
-        (λ j offer near there. let due = between.early j offer near there in
-        early (suc t) offer (omega (arith, due, low))) in
+    (λ j offer near there. let due = between.early j offer near there in
+    early (suc t) offer (omega (arith, due, low))) in
     let next : t + 1 ≡ suc t = omega arith in
     ap (λ n. reached (place_of scenario cells n) (stream_met scenario cells t (take k scenario.offers))) next
     ∙ ap (λ offers. reached (place_of scenario cells (suc t))
-        (fold offered (stream_before scenario cells t) (map frame_of offers))) all
+    (fold offered (stream_before scenario cells t) (map frame_of offers))) all
     ∙ sym (ap (λ offers. fold offered (stream_before scenario cells (suc t)) (map frame_of offers)) none)
     ∙ ap (λ n. stream_met scenario cells n (take k scenario.offers)) (sym next)
 

@@ -42,7 +42,7 @@ module _ (scenario : Scenario) (cells : List (Option Told)) where
   judged before [] = []
   judged before (offer ∷ offers) =
       kept (frame_refusal offer.frame (stream_met scenario cells offer.due before)) offer.frame ++ judged
-          (before ++ offer ∷ []) offers
+      (before ++ offer ∷ []) offers
 
   pub judged-append : (before xs ys : List DueFrame) →
       judged before (xs ++ ys) ≡ judged before xs ++ judged (before ++ xs) ys
@@ -51,7 +51,7 @@ module _ (scenario : Scenario) (cells : List (Option Told)) where
   judged-append before (x ∷ xs) ys =
       let own : List (List ℕ) = kept (frame_refusal x.frame (stream_met scenario cells x.due before)) x.frame in
       ap (λ l. own ++ l) (judged-append (before ++ x ∷ []) xs ys
-          ∙ ap (λ l. judged (before ++ x ∷ []) xs ++ judged l ys) (append_assoc before (x ∷ []) xs))
+      ∙ ap (λ l. judged (before ++ x ∷ []) xs ++ judged l ys) (append_assoc before (x ∷ []) xs))
       ∙ sym (append_assoc own (judged (before ++ x ∷ []) xs) (judged (before ++ x ∷ xs) ys))
 
   -- ---- those that land in one number of ticks
@@ -63,8 +63,8 @@ module _ (scenario : Scenario) (cells : List (Option Told)) where
       All (λ (offer : DueFrame). comes_at t offer ≡ true) offers →
       judged (before ++ earlier) offers
       ≡ map (λ (offer : DueFrame). offer.frame)
-          (accepted_offers (fold offered (stream_before scenario cells t)
-          (map (λ (offer : DueFrame). offer.frame) earlier)) offers)
+      (accepted_offers (fold offered (stream_before scenario cells t)
+      (map (λ (offer : DueFrame). offer.frame) earlier)) offers)
   unfolding judged
   accepted-on t before earlier [] none all come = refl
   accepted-on t before earlier (offer ∷ offers) none all come =
@@ -78,19 +78,19 @@ module _ (scenario : Scenario) (cells : List (Option Told)) where
       ∙ ap (λ l. fold offered start (map frame_of l)) (filter-append (comes_at t) before earlier ∙ ap₂ ◌++◌ none all) in
       let more : fold offered start (map frame_of (earlier ++ offer ∷ [])) ≡ offered state offer.frame =
       ap (fold offered start) (map-append frame_of earlier (offer ∷ []))
-          ∙ fold-append offered start (map frame_of earlier) (offer.frame ∷ []) in
+      ∙ fold-append offered start (map frame_of earlier) (offer.frame ∷ []) in
       let longer : filter (comes_at t) (earlier ++ offer ∷ []) ≡ earlier ++ offer ∷ [] =
       filter-append (comes_at t) earlier (offer ∷ []) ∙ ap₂ ◌++◌ all (filter-keep (comes_at t) offer [] here) in
       let rest = accepted-on t before (earlier ++ offer ∷ []) offers none longer
-              (λ k d inside. come (suc k) d (omega arith)) in
+      (λ k d inside. come (suc k) d (omega arith)) in
       ap₂ (λ (stream : Stream) l. kept (frame_refusal offer.frame stream) offer.frame ++ l) met
       (ap (λ l. judged l offers) (append_assoc before earlier (offer ∷ [])) ∙ rest
-          ∙ ap (λ (stream : Stream). map frame_of (accepted_offers stream offers)) more)
+      ∙ ap (λ (stream : Stream). map frame_of (accepted_offers stream offers)) more)
       ∙ kept-map (frame_refusal offer.frame state) offer (accepted_offers (offered state offer.frame) offers)
     where
       kept-map : (why : Option AcceptFault) (offer : DueFrame) (offers : List DueFrame) →
           kept why offer.frame ++ map (λ (offer : DueFrame). offer.frame) offers ≡ map
-              (λ (offer : DueFrame). offer.frame) (kept_by why offer offers)
+          (λ (offer : DueFrame). offer.frame) (kept_by why offer offers)
       kept-map None offer offers = refl
       kept-map (Some why) offer offers = refl
 
@@ -123,9 +123,9 @@ module _ (scenario : Scenario) (cells : List (Option Told)) where
       ∙ ap₂ ◌++◌ (landed-judged n)
       (ap (λ l. judged l now) (sym (append-nil before))
       ∙ accepted-on n before [] now (none-yet scenario.offers n n (omega arith)) refl
-          (filter_passes (comes_at n) scenario.offers))
+      (filter_passes (comes_at n) scenario.offers))
       ∙ sym (map-append frame_of (offers_before scenario cells n)
-          (accepted_offers (stream_before scenario cells n) now))
+      (accepted_offers (stream_before scenario cells n) now))
 
 -- ---- the items of a script
 abbrev pub offers_by : Item → List DueFrame
@@ -147,7 +147,7 @@ no-frame-remove (Some why) line = refl
 pub kind-judged : (scenario : Scenario) (cells : List (Option Told)) (due : ℕ) (front : List Item) (kind : ItemKind)
     (more : List DueFrame) →
     frame_by (kind_refusal scenario cells due front kind) kind ++ judged scenario cells
-        (offers_of front ++ offer_of due kind) more
+    (offers_of front ++ offer_of due kind) more
     ≡ judged scenario cells (offers_of front) (offer_of due kind ++ more)
 unfolding judged
 kind-judged scenario cells due front (Frame octets) more =
@@ -155,10 +155,10 @@ kind-judged scenario cells due front (Frame octets) more =
     (frame-kept (frame_refusal octets (stream_met scenario cells due (offers_of front))) octets)
 kind-judged scenario cells due front (Add line) more =
     ap₂ (λ l (before : List DueFrame). l ++ judged scenario cells before more)
-        (no-frame-add (kind_refusal scenario cells due front (Add line)) line) (append-nil (offers_of front))
+    (no-frame-add (kind_refusal scenario cells due front (Add line)) line) (append-nil (offers_of front))
 kind-judged scenario cells due front (Remove line) more =
     ap₂ (λ l (before : List DueFrame). l ++ judged scenario cells before more)
-        (no-frame-remove (kind_refusal scenario cells due front (Remove line)) line) (append-nil (offers_of front))
+    (no-frame-remove (kind_refusal scenario cells due front (Remove line)) line) (append-nil (offers_of front))
 
 pub items-judged : (script : Script) (rest front : List Item) → script.items ≡ front ++ rest →
     flat_map (λ (item : Numbered). frame_by (refusal_at script item) item.item.kind) (numbered (length front) rest)
@@ -169,15 +169,15 @@ items-judged script (item ∷ rest) front parts =
     let scenario : Scenario = scenario_of script in
     let cells : List (Option Told) = session_cells (scenario_of script) in
     let first : take (length front) script.items ≡ front = ap (take (length front)) parts
-            ∙ take_at front (item ∷ rest) (length front) refl in
+    ∙ take_at front (item ∷ rest) (length front) refl in
     let size : suc (length front) ≡ length (front ++ item ∷ []) = let e = length-append front (item ∷ []) in omega arith in
     let next = items-judged script rest (front ++ item ∷ []) (parts ∙ sym (append_assoc front (item ∷ []) rest)) in
     let offers : offers_of (front ++ item ∷ []) ≡ offers_of front ++ offers_by item =
-            flat_map-append offers_by front (item ∷ [])
-            ∙ ap (λ l. offers_of front ++ l) (append-nil (offers_by item)) in
+    flat_map-append offers_by front (item ∷ [])
+    ∙ ap (λ l. offers_of front ++ l) (append-nil (offers_by item)) in
     ap₂ ◌++◌ (ap (λ earlier. frame_by (kind_refusal scenario cells item.due earlier item.kind) item.kind) first)
     (ap (λ n. flat_map (λ (item : Numbered). frame_by (refusal_at script item) item.item.kind) (numbered n rest)) size
-        ∙ next
+    ∙ next
     ∙ ap (λ before. judged scenario cells before (offers_of rest)) offers)
     ∙ kind-judged scenario cells item.due front item.kind (offers_of rest)
 
@@ -195,7 +195,7 @@ all-come ticks [] each = refl
 all-come ticks (item ∷ items) each =
     filter-append (is_come ticks) (offers_by item) (offers_of items)
     ∙ ap₂ ◌++◌ (kind-comes ticks item.due item.kind (each 0 item (omega arith)).0)
-        (all-come ticks items (λ k d inside. each (suc k) d (omega arith)))
+    (all-come ticks items (λ k d inside. each (suc k) d (omega arith)))
 
 pub frames-accepted : (script : Script) → IsValid script →
     frames_before (scenario_of script) (session_cells (scenario_of script)) script.config.ticks ≡ accepted_frames script
@@ -206,6 +206,6 @@ frames-accepted script valid =
     let sorted = offers_rise script.items valid.items.frames in
     sym (landed-judged scenario cells script.config.ticks)
     ∙ ap (judged scenario cells [])
-        (offers_land scenario.offers script.config.ticks sorted
-        ∙ all-come script.config.ticks script.items valid.items.each)
+    (offers_land scenario.offers script.config.ticks sorted
+    ∙ all-come script.config.ticks script.items valid.items.each)
     ∙ sym (items-judged script script.items [] refl)

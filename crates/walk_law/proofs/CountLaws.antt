@@ -44,14 +44,14 @@ shorter-drop m octets (Some found) h = let e = length-drop m octets in omega ari
 confirm_by-shorter : (header : Option ℕ) (refused : Bool) (p : ℕ) (octets : List ℕ)
     (f : Bool → ℕ → List ℕ → Option Confirmed) →
     ((r : Bool) (p : ℕ) (more : List ℕ) → Shorter more (f r p more)) →
-        Shorter octets (confirm_by header refused p octets f)
+    Shorter octets (confirm_by header refused p octets f)
 confirm_by-shorter None refused p octets f each =
     shorter-drop 1 octets (f true (p + 1) (drop 1 octets)) (each true (p + 1) (drop 1 octets))
 confirm_by-shorter (Some pli) refused p octets f each = omega arith
 
 confirm-shorter : (refused : Bool) (p : ℕ) (octets : List ℕ) (f : Bool → ℕ → List ℕ → Option Confirmed) →
     ((r : Bool) (p : ℕ) (more : List ℕ) → Shorter more (f r p more)) →
-        Shorter octets (confirm_with head refused p octets f)
+    Shorter octets (confirm_with head refused p octets f)
 confirm-shorter refused p octets f each =
     elim (cases_Bool (nat_le 4 (length octets))) [
       | inl e ↦ rw e (confirm_by-shorter (header_with head octets) refused p octets f each)
@@ -61,12 +61,12 @@ confirm-shorter refused p octets f each =
 hunt_by-shorter : (header : Option ℕ) (refused : Bool) (p : ℕ) (octets : List ℕ)
     (f : Bool → ℕ → List ℕ → Option Confirmed) →
     ((r : Bool) (p : ℕ) (more : List ℕ) → Shorter more (f r p more)) →
-        Shorter octets (hunt_by head header refused p octets f)
+    Shorter octets (hunt_by head header refused p octets f)
 hunt_by-shorter None refused p octets f each =
     shorter-drop 1 octets (f refused (p + 1) (drop 1 octets)) (each refused (p + 1) (drop 1 octets))
 hunt_by-shorter (Some pli) refused p octets f each =
     shorter-drop (4 + pli) octets (confirm_with head refused (p + (4 + pli)) (drop (4 + pli) octets) f)
-        (confirm-shorter refused (p + (4 + pli)) (drop (4 + pli) octets) f each)
+    (confirm-shorter refused (p + (4 + pli)) (drop (4 + pli) octets) f each)
 
 hunt-shorter : (k : ℕ) (refused : Bool) (p : ℕ) (octets : List ℕ) → Shorter octets (hunt_within head k refused p octets)
 unfolding hunt_within
@@ -133,7 +133,7 @@ unfolding delineate_within
 delineate-few zero refused octets = omega arith
 delineate-few (suc steps) refused octets =
     delineate_by-few (hunt_with head refused 0 octets) octets (delineate_within head head steps true)
-        (hunt-shorter (length octets) refused 0 octets) (delineate-few steps true)
+    (hunt-shorter (length octets) refused 0 octets) (delineate-few steps true)
 
 -- ---- outcomes and frames
 areas-few : (longest : ℕ) (settled : Bool) (before : ℕ) (areas : List (List ℕ)) →
@@ -158,7 +158,7 @@ runs-few longest (run ∷ runs) =
     let own = run-few longest run in
     let rest = runs-few longest runs in
     let sum = length-append (run_outcomes_with (client_outcome longest) run)
-            (flat_map (run_outcomes_with (client_outcome longest)) runs) in
+    (flat_map (run_outcomes_with (client_outcome longest)) runs) in
     let e = sum_by-cons (λ (run : Run). length run.areas) run runs in
     omega arith
 

@@ -78,7 +78,7 @@ past-end dues ticks from each late =
       | inl inside ↦
           let (due, there) = slice_get-inside dues from inside in
           let low : due < ticks = subst (λ n. n < ticks) (get_or_from_slice_get dues from due due there)
-                  (each from due inside) in
+          (each from due inside) in
           let high = late due there in
           absurd (omega arith)
     ]
@@ -98,30 +98,30 @@ all-landed (item ∷ items) a b i frames commands =
           let one : length (offer_of item.due item.kind) ≡ 1 = offers ∙ ap (λ c. if c then 1 else 0) e in
           let some : nat_lt 0 a ≡ true = lt-ltb 0 a (omega arith) in
           rw (e, some) (ap (λ l. record { number = i; item = item } ∷ l)
-              (all-landed items (a - 1) b (suc i) (omega arith) (omega arith)))
+          (all-landed items (a - 1) b (suc i) (omega arith) (omega arith)))
       | inr e ↦
           let one : length (order_of item.due item.kind) ≡ 1 = orders ∙ ap (λ c. if c then 0 else 1) e in
           let some : nat_lt 0 b ≡ true = lt-ltb 0 b (omega arith) in
           rw (e, some) (ap (λ l. record { number = i; item = item } ∷ l)
-              (all-landed items a (b - 1) (suc i) (omega arith) (omega arith)))
+          (all-landed items a (b - 1) (suc i) (omega arith) (omega arith)))
     ]
 
 -- where nothing waits that is due before the last tick
 pub ended-landed : (script : Script) → IsValid script → (frames commands : ℕ) →
     Ahead (dues_of script.items) script.config.ticks frames commands →
     (length (offers_of script.items) ≤ frames) × (length (orders_of script.items) ≤ commands) ×
-        (landed_from frames commands 0 script.items ≡ numbered 0 script.items)
+    (landed_from frames commands 0 script.items ≡ numbered 0 script.items)
 ended-landed script valid frames commands ahead =
     let dues = past-end (frame_dues (dues_of script.items)) script.config.ticks frames
-            (frames-due script.config.ticks script.items valid.items.each)
+    (frames-due script.config.ticks script.items valid.items.each)
     (λ due there. ahead.of_frames frames due (omega arith) there) in
     let others = past-end (command_dues (dues_of script.items)) script.config.ticks commands
-            (commands-due script.config.ticks script.items valid.items.each)
+    (commands-due script.config.ticks script.items valid.items.each)
     (λ due there. ahead.of_commands commands due (omega arith) there) in
     let offers = ap length (frame-dues script.items)
-            ∙ length-map (offers_of script.items) (λ (offer : DueFrame). offer.due) in
+    ∙ length-map (offers_of script.items) (λ (offer : DueFrame). offer.due) in
     let orders = ap length (command-dues script.items)
-            ∙ length-map (orders_of script.items) (λ (order : DueCommand). order.due) in
+    ∙ length-map (orders_of script.items) (λ (order : DueCommand). order.due) in
     let most : length (offers_of script.items) ≤ frames = omega arith in
     let most_orders : length (orders_of script.items) ≤ commands = omega arith in
     (most, most_orders, all-landed script.items frames commands 0 most most_orders)
@@ -133,8 +133,8 @@ module _ (script : Script) (s : Counts) (valid : IsValid script) (walked : IsWal
   pub items-landed : s.ticks ≡ script.config.ticks → landed_items script s ≡ numbered 0 script.items
   items-landed made =
       (ended-landed script valid s.frames s.commands
-          (subst (λ ticks. Ahead (dues_of script.items) ticks s.frames s.commands) made
-          (walked-ahead script s walked))).2
+      (subst (λ ticks. Ahead (dues_of script.items) ticks s.frames s.commands) made
+      (walked-ahead script s walked))).2
 
   pub ticks-made : s.rows ≡ script.config.ticks → s.ticks ≡ script.config.ticks
   ticks-made taken =
@@ -153,14 +153,14 @@ frame-counted script item (Some why) (Remove line) = refl
 
 frames-counted : (script : Script) (items : List Numbered) →
     length (filter (is_accepted_frame script) items) ≡ length
-        (flat_map (λ item. frame_by (refusal_at script item) item.item.kind) items)
+    (flat_map (λ item. frame_by (refusal_at script item) item.item.kind) items)
 frames-counted script [] = refl
 frames-counted script (item ∷ items) =
     let own : List (List ℕ) = frame_by (refusal_at script item) item.item.kind in
     let one = frame-counted script item (refusal_at script item) item.item.kind in
     let rest = frames-counted script items in
     let sum = length-append own (flat_map (λ (item : Numbered). frame_by (refusal_at script item) item.item.kind) items)
-            in
+    in
     elim (cases_Bool (is_accepted_frame script item)) [
       | inl e ↦ let size : length own ≡ 1 = one ∙ ap (λ c. if c then 1 else 0) e in rw e (omega arith)
       | inr e ↦ let size : length own ≡ 0 = one ∙ ap (λ c. if c then 1 else 0) e in rw e (omega arith)
@@ -187,8 +187,8 @@ module _ (script : Script) (s : Counts) (valid : IsValid script) (walked : IsWal
   pub drained-report : report_of script (drained script s) ≡ final_report script
   drained-report =
       let rows : (drained script s).rows ≡ script.config.ticks =
-              drain-ends script s (valid-walks script valid) walked in
+      drain-ends script s (valid-walks script valid) walked in
       ap (λ ticks. report_among script ticks (drained script s).rows (landed_items script (drained script s)))
-          drained-ticks
+      drained-ticks
       ∙ ap (λ n. report_among script script.config.ticks n (landed_items script (drained script s))) rows
       ∙ ap (report_among script script.config.ticks script.config.ticks) drained-landed

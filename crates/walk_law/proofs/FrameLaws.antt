@@ -34,7 +34,7 @@ with-whole a b octets same =
     let other : Segments = segments_of b in
     let more : added 9600 a (whole_row octets) ≡ added 9600 b (whole_row octets) =
     added-whole 9600 a octets ∙ ap₂ (λ first before. next_frames 9600 first before octets) same.first same.octets
-        ∙ sym (added-whole 9600 b octets) in
+    ∙ sym (added-whole 9600 b octets) in
     record {
       frames = grows-whole 9600 a octets (adds 9600 one.last.first one.last.octets octets) ∙ ap₂ ◌++◌ same.frames more
           ∙ sym (grows-whole 9600 b octets (adds 9600 other.last.first other.last.octets octets));
@@ -61,13 +61,13 @@ lost-as row e = ap (λ whole. record { whole = whole; octets = row.octets }) e
 with-row : (receive : Option (List ℕ) → StreamRow) → IsReceived receive →
     (a b : List StreamRow) (whole : Bool) (octets : List ℕ) → SameFrames a b →
     SameFrames (a ++ receive (if whole then Some octets else None) ∷ [])
-        (b ++ record { whole = whole; octets = octets } ∷ [])
+    (b ++ record { whole = whole; octets = octets } ∷ [])
 with-row receive is a b true octets same =
     subst (λ row. SameFrames (a ++ row ∷ []) (b ++ whole_row octets ∷ [])) (sym (is.whole octets))
-        (with-whole a b octets same)
+    (with-whole a b octets same)
 with-row receive is a b false octets same =
     subst (λ row. SameFrames (a ++ row ∷ []) (b ++ lost_row octets ∷ [])) (sym (lost-as (receive None) is.lost))
-        (with-lost a b (receive None).octets octets same)
+    (with-lost a b (receive None).octets octets same)
 
 module _ (script : Script) (s : Counts) (can : CanWalk script) (walked : IsWalked script s)
     (receive : Option (List ℕ) → StreamRow) (is : IsReceived receive) where
@@ -90,9 +90,9 @@ module _ (script : Script) (s : Counts) (can : CanWalk script) (walked : IsWalke
       let row = rows-are script s can walked n (omega arith) in
       subst (λ l. SameFrames l (rows_of scenario session n ++ row_of scenario session n ∷ [])) (sym rows)
       (subst (λ (found : Option (List ℕ)). SameFrames (map read (range_with_len 0 n) ++ receive found ∷ [])
-          (rows_of scenario session n ++ row_of scenario session n ∷ [])) (sym row)
+      (rows_of scenario session n ++ row_of scenario session n ∷ [])) (sym row)
       (with-row receive is (map read (range_with_len 0 n)) (rows_of scenario session n)
-          (is_whole_row scenario session n) (payload_of scenario session n) (same-frames n (omega arith))))
+      (is_whole_row scenario session n) (payload_of scenario session n) (same-frames n (omega arith))))
 
   pub frames-received : (n : ℕ) → n ≤ s.rows → deliver 9600 (map read (range_with_len 0 n)) ≡ delivered_of script n
   frames-received n low = (same-frames n low).frames
@@ -101,9 +101,11 @@ module _ (script : Script) (s : Counts) (can : CanWalk script) (walked : IsWalke
 rows-longer : (scenario : Scenario) (cells : List (Option Told)) (n more : ℕ) → (rows : List StreamRow) ×
     (rows_of scenario cells (more + n) ≡ rows_of scenario cells n ++ rows)
 unfolding rows_of
-rows-longer scenario cells n zero =
-    ([], (let e : zero + n ≡ n = omega arith in ap (rows_of scenario cells) e
-    ∙ sym (append-nil (rows_of scenario cells n))))
+rows-longer scenario cells n zero = (
+  [],
+  (let e : zero + n ≡ n = omega arith in ap (rows_of scenario cells) e
+      ∙ sym (append-nil (rows_of scenario cells n))),
+)
 rows-longer scenario cells n (suc more) =
     let (rows, before) = rows-longer scenario cells n more in
     let e : suc more + n ≡ suc (more + n) = omega arith in (
@@ -120,4 +122,4 @@ frames-grow script n more =
     let e : n + more ≡ more + n = omega arith in
     let all : session_rows script (n + more) ≡ session_rows script n ++ rows = ap (session_rows script) e ∙ longer in
     subst (λ l. deliver 9600 l ≡ delivered_of script n ++ drop (length (delivered_of script n)) (deliver 9600 l))
-        (sym all) (deliver-grows 9600 (session_rows script n) rows)
+    (sym all) (deliver-grows 9600 (session_rows script n) rows)

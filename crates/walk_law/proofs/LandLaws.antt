@@ -157,15 +157,15 @@ ahead-take plan s here =
 ahead-step : (plan : Plan) (s : Counts) (event : Event) → IsAhead plan s → IsAhead plan (step plan s event).counts
 ahead-step plan s Accept here =
     ahead-land plan (slice_get (frame_dues plan.items) s.frames) s (record s { frames = s.frames + 1 }) here (record {
-  of_frames = λ k due low there. here.of_frames k due (omega arith) there;
-  of_commands = here.of_commands;
-})
+      of_frames = λ k due low there. here.of_frames k due (omega arith) there;
+      of_commands = here.of_commands;
+    })
 ahead-step plan s Command here =
     ahead-land plan (slice_get (command_dues plan.items) s.commands) s (record s { commands = s.commands + 1 }) here
     (record {
-  of_frames = here.of_frames;
-  of_commands = λ k due low there. here.of_commands k due (omega arith) there;
-})
+      of_frames = here.of_frames;
+      of_commands = λ k due low there. here.of_commands k due (omega arith) there;
+    })
 ahead-step plan s Tick here = ahead-tick plan s here
 ahead-step plan s (Carry m) here = ahead-carry plan s m (slice_get plan.paths m) (slice_get s.lines m) here
 ahead-step plan s Back here = ahead-back plan s here
@@ -179,7 +179,7 @@ ahead-run plan s (event ∷ events) here = ahead-run plan (step plan s event).co
 pub walked-ahead : (script : Script) (s : Counts) → IsWalked script s → IsAhead (walk_plan script) s
 walked-ahead script s walked =
     subst (IsAhead (walk_plan script)) (sym walked.1)
-        (ahead-run (walk_plan script) (begin (walk_plan script)) walked.0 (record {
+    (ahead-run (walk_plan script) (begin (walk_plan script)) walked.0 (record {
       of_frames = λ k due low there. omega arith;
       of_commands = λ k due low there. omega arith;
     }))
@@ -198,7 +198,7 @@ pub frame-waits : (script : Script) (s : Counts) (k : ℕ) (offer : DueFrame) �
 frame-waits script s k offer walked low there =
     (walked-ahead script s walked).of_frames k offer.due low
     (ap (λ l. slice_get l k) (frame-dues script.items)
-        ∙ slice_get-map (λ (offer : DueFrame). offer.due) (offers_of script.items) k
+    ∙ slice_get-map (λ (offer : DueFrame). offer.due) (offers_of script.items) k
     ∙ ap (option_map (λ (offer : DueFrame). offer.due)) there)
 
 pub command-waits : (script : Script) (s : Counts) (k : ℕ) (order : DueCommand) → IsWalked script s → s.commands ≤ k →
@@ -206,7 +206,7 @@ pub command-waits : (script : Script) (s : Counts) (k : ℕ) (order : DueCommand
 command-waits script s k order walked low there =
     (walked-ahead script s walked).of_commands k order.due low
     (ap (λ l. slice_get l k) (command-dues script.items)
-        ∙ slice_get-map (λ (order : DueCommand). order.due) (orders_of script.items) k
+    ∙ slice_get-map (λ (order : DueCommand). order.due) (orders_of script.items) k
     ∙ ap (option_map (λ (order : DueCommand). order.due)) there)
 
 -- ---- the session of what has landed
@@ -217,7 +217,7 @@ filter-first p zero [] none = refl
 filter-first p (suc a) [] none = refl
 filter-first p zero (x ∷ xs) none =
     filter-first p zero xs (λ k y low there. none (suc k) y (omega arith) there)
-        ∙ sym (filter-skip p x xs (none 0 x (omega arith) refl))
+    ∙ sym (filter-skip p x xs (none 0 x (omega arith) refl))
 filter-first p (suc a) (x ∷ xs) none =
     let rest = filter-first p a xs (λ k y low there. none (suc k) y (omega arith) there) in
     elim (cases_Bool (p x)) [ inl e ↦ rw e (ap (λ l. x ∷ l) rest) | inr e ↦ rw e rest ]
@@ -226,7 +226,7 @@ pub frames-landed : (script : Script) (s : Counts) (t : ℕ) → IsWalked script
     frames_at (landed_scenario script s) t ≡ frames_at (scenario_of script) t
 frames-landed script s t walked low =
     ap (map (λ (offer : DueFrame). offer.frame))
-        (filter-first (comes_at t) s.frames (offers_of script.items) (λ k offer waits there.
+    (filter-first (comes_at t) s.frames (offers_of script.items) (λ k offer waits there.
     let late = frame-waits script s k offer walked waits there in
     ap (λ b. b && nat_le t offer.due) (lt-leb offer.due t (omega arith))))
 
@@ -234,10 +234,10 @@ pub orders-landed : (script : Script) (s : Counts) (j : ℕ) → IsWalked script
     orders_at (landed_scenario script s) j ≡ orders_at (scenario_of script) j
 orders-landed script s j walked low =
     ap (map (λ (order : DueCommand). order.command))
-        (filter-first (lands_at j) s.commands (orders_of script.items) (λ k order waits there.
+    (filter-first (lands_at j) s.commands (orders_of script.items) (λ k order waits there.
     let late = command-waits script s k order walked waits there in
     ap (λ b. nat_lt (16 * j) (order.due + 8) && b) (lt-leb order.due (16 * j + 8) (omega arith))
-        ∙ and_false (nat_lt (16 * j) (order.due + 8))))
+    ∙ and_false (nat_lt (16 * j) (order.due + 8))))
 
 -- ---- the next offer, and the next order
 flat-at : {X Y : Type 0} (f : X → List Y) (xs : List X) (i : ℕ) (x : X) (y : Y) → slice_get xs i ≡ Some x →
@@ -255,7 +255,7 @@ pub offer-at : (items : List Item) (a : ℕ) (item : Numbered) (offer : DueFrame
 offer-at items a item offer at =
     let front : List DueFrame = offers_of (take item.number items) in
     let (rest, e) = flat-at (λ (item : Item). offer_of item.due item.kind) items item.number item.item offer at.there
-            at.is in
+    at.is in
     let size = at.before in (
       ap (λ n. slice_get (offers_of items) n) (sym size) ∙ ap (λ l. slice_get l (length front)) e
           ∙ slice_get-append_seam front offer rest,
@@ -267,7 +267,7 @@ pub order-at : (items : List Item) (b : ℕ) (item : Numbered) (order : DueComma
 order-at items b item order at =
     let front : List DueCommand = orders_of (take item.number items) in
     let (rest, e) = flat-at (λ (item : Item). order_of item.due item.kind) items item.number item.item order at.there
-            at.is in
+    at.is in
     let size = at.before in (
       ap (λ n. slice_get (orders_of items) n) (sym size) ∙ ap (λ l. slice_get l (length front)) e
           ∙ slice_get-append_seam front order rest,

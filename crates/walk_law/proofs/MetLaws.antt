@@ -81,7 +81,7 @@ no_failure ticks = record { few = omega arith; apart = tt; ends = All-nil (EndsB
 plain_network : (windows : List (List Window)) (ring lag ticks : ℕ) → IsWithin 1 128 (length windows) →
     All (HasFailures ticks) windows → IsWithin 1 2048 ring → IsWithin 1 512 lag → IsWithin 1 1000000 ticks →
     FitsRing (plain windows ring lag ticks) → FitsLag (plain windows ring lag ticks) →
-        IsNetwork (plain windows ring lag ticks)
+    IsNetwork (plain windows ring lag ticks)
 unfolding AreApart
 plain_network windows ring lag ticks lines failures some_ring some_lag some_ticks fits_ring fits_lag = record {
   lines = lines;

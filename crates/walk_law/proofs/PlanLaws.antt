@@ -40,7 +40,7 @@ has-lines script can =
 sent-by : (total : ℕ) (sent : ℕ → List Container) (lists : List (List Window)) (delays : List ℕ) (from : ℕ) →
     length delays ≡ length lists →
     ((m : ℕ) (own : List Window) → slice_get lists m ≡ Some own → IsLine own (sent (from + m))) →
-        ((m : ℕ) → length (sent m) ≡ total) →
+    ((m : ℕ) → length (sent m) ≡ total) →
     AreSentBy total lists delays (map sent (range_with_len from (length lists)))
 unfolding AreSentBy
 sent-by total sent [] [] from size line long = tt
@@ -51,7 +51,7 @@ sent-by total sent (windows ∷ lists) (delay ∷ delays) from size line long = 
   long from,
   sent-by total sent lists delays (from + 1) (omega arith)
       (λ m own here. subst (λ k. IsLine own (sent k)) (let e : from + suc m ≡ from + 1 + m = omega arith in e)
-          (line (suc m) own here)) long,
+      (line (suc m) own here)) long,
 )
 
 own-at : (lists : List (List Window)) (m : ℕ) (own : List Window) → slice_get lists m ≡ Some own → (m < length lists) ×
@@ -74,7 +74,7 @@ has-plan script can =
           let e : m ≡ 0 + m = omega arith in
           subst (λ k. IsLine own (sent_on scenario k)) e
           (subst (λ windows. IsLine windows (sent_on scenario m)) same
-              (is-line scenario (session_cells scenario) (has-lines script can) m low)))
+          (is-line scenario (session_cells scenario) (has-lines script can) m low)))
           (λ m. containers-size scenario (session_cells scenario) m scenario.ticks);
       frames = can.frames;
       commands = can.commands;
@@ -95,18 +95,18 @@ path-at sent (windows ∷ lists) (delay ∷ delays) from zero size inside =
 path-at sent (windows ∷ lists) (delay ∷ delays) from (suc m) size inside =
     path-at sent lists delays (from + 1) m (omega arith) (omega arith)
     ∙ (let e : from + 1 + m ≡ from + suc m =
-        omega arith in ap (λ k. Some (path_of (carried (slice_index_or lists m [])) (slice_index_or delays m 0)
-        (sent k))) e)
+    omega arith in ap (λ k. Some (path_of (carried (slice_index_or lists m [])) (slice_index_or delays m 0)
+    (sent k))) e)
 
 pub line-path : (script : Script) → CanWalk script → (line : ℕ) → line < length script.config.windows →
     slice_get (walk_plan script).paths line
     ≡ Some (path_of (carried (slice_index_or script.config.windows line []))
-        (slice_index_or script.config.delays line 0) (sent_on (scenario_of script) line))
+    (slice_index_or script.config.delays line 0) (sent_on (scenario_of script) line))
 line-path script can line inside =
     path-at (sent_on (scenario_of script)) script.config.windows script.config.delays 0 line can.delays inside
     ∙ (let e : 0 + line ≡ line = omega arith in
     ap (λ k. Some (path_of (carried (slice_index_or script.config.windows line []))
-        (slice_index_or script.config.delays line 0) (sent_on (scenario_of script) k))) e)
+    (slice_index_or script.config.delays line 0) (sent_on (scenario_of script) k))) e)
 
 paths-size : (sent : ℕ → List Container) (lists : List (List Window)) (delays : List ℕ) (from : ℕ) →
     length delays ≡ length lists →

@@ -36,13 +36,13 @@ module _ (script : Script) (valid : IsValid script) (none : HasNoFailure script)
       delivered_of script rows ≡ frames_by (place_after script rows) (session_pieces script)
   fine-carried rows low =
       session-hitless (scenario_of script) (session_cells (scenario_of script)) rows script.config.ticks
-          (are_octets script valid) fine low
+      (are_octets script valid) fine low
 
   pub fine-first : (rows : ℕ) → rows ≤ script.config.ticks →
       delivered_of script rows ≡ take (length (delivered_of script rows)) (accepted_frames script)
   fine-first rows low =
       session-prefix (scenario_of script) (session_cells (scenario_of script)) rows script.config.ticks
-          (are_octets script valid) fine low
+      (are_octets script valid) fine low
       ∙ ap (take (length (delivered_of script rows))) (frames-accepted script valid)
 
   pub fine-drained : (s : Counts) → IsWalked script s →
@@ -50,7 +50,7 @@ module _ (script : Script) (valid : IsValid script) (none : HasNoFailure script)
       (session_pieces script)
   fine-drained s walked =
       ap (delivered_of script) (drain-ends script s (valid-walks script valid) walked)
-          ∙ fine-carried script.config.ticks (omega arith)
+      ∙ fine-carried script.config.ticks (omega arith)
 
 -- ---- failures
 pub frames-kept : (script : Script) (rows : ℕ) → IsValid script → rows ≤ script.config.ticks →
@@ -58,7 +58,7 @@ pub frames-kept : (script : Script) (rows : ℕ) → IsValid script → rows ≤
     delivered_of script rows ≡ frames_kept (session_pieces script) (session_rows script rows)
 frames-kept script rows valid low true_starts =
     session-kept (scenario_of script) (session_cells (scenario_of script)) rows script.config.ticks
-        (are_octets script valid) low true_starts
+    (are_octets script valid) low true_starts
 
 pub frames-known : (script : Script) → IsValid script →
     map (λ (extent : Extent). extent.frame) (session_extents script) ++ session_waiting script ≡ accepted_frames script

@@ -42,13 +42,13 @@ line-at f n line own here =
     let low : line < n = omega arith in
     let there : slice_get (map f (range_with_len 0 n)) line ≡ Some (f line) =
     slice_get-map f (range_with_len 0 n) line
-        ∙ ap (option_map f) (range-at 0 n line low ∙ ap Some (let e : 0 + line ≡ line = omega arith in e)) in
+    ∙ ap (option_map f) (range-at 0 n line low ∙ ap Some (let e : 0 + line ≡ line = omega arith in e)) in
     (low, cc)
 
 at-line : (f : ℕ → List Cell) (n line : ℕ) → line < n → slice_get (map f (range_with_len 0 n)) line ≡ Some (f line)
 at-line f n line low =
     slice_get-map f (range_with_len 0 n) line
-        ∙ ap (option_map f) (range-at 0 n line low ∙ ap Some (let e : 0 + line ≡ line = omega arith in e))
+    ∙ ap (option_map f) (range-at 0 n line low ∙ ap Some (let e : 0 + line ≡ line = omega arith in e))
 
 pub all-longer : (script : Script) (lines : List LineCounts) → IsLonger (popped_cells script lines) (all_lines script)
 all-longer script lines =
@@ -62,7 +62,7 @@ all-longer script lines =
             drop y (line_cells script line),
             at-line (line_cells script) n line low
                 ∙ ap Some (sym (take-append-drop y (line_cells script line))
-                    ∙ ap (λ l. l ++ drop y (line_cells script line)) same),
+                ∙ ap (λ l. l ++ drop y (line_cells script line)) same),
           );
     }
 
@@ -74,14 +74,14 @@ module _ (script : Script) (can : CanWalk script) where
       IsSome (verdict (line_cells script line) t)
   line-decides line t inside low =
       let path = is_path (slice_index_or script.config.windows line []) (sent_on (scenario_of script) line)
-              (delay_on script line)
+      (delay_on script line)
       (is-line (scenario_of script) (session_cells (scenario_of script)) (has-lines script can) line inside) in
       let y : ℕ = length (line_cells script line) in
       let all = size line in
       let ended = path.ended in
       let past : t < (path_on script line).decided y = omega arith in
       subst (λ own. IsSome (verdict own t)) (take_all y (line_cells script line) (omega arith))
-          ((popped-decides script line y t low).1 past)
+      ((popped-decides script line y t low).1 past)
 
   pub all-decided : (t : ℕ) → t < script.config.ticks → AreDecidedAt (all_lines script) t
   all-decided t low line own here =
@@ -110,40 +110,40 @@ module _ (script : Script) (can : CanWalk script) where
     each = λ line own here.
         let (inside, same) = line-at (line_cells script) (length script.config.windows) line own here in
         subst (λ own. ComesOfLine (scenario_of script) (session_cells (scenario_of script)) line script.config.ticks
-            own) same (line-comes line);
+        own) same (line-comes line);
   }
 
   pub cell-told : (k : ℕ) → 16 * k + 23 < script.config.ticks →
       told_in (back_cell script k) ≡ return_cell (scenario_of script) (session_cells (scenario_of script)) k
   cell-told k low =
       back-told (scenario_of script) (session_cells (scenario_of script)) script.config.ticks (all_lines script) k
-          (has-lines script can) all-come low (all-decided (16 * k + 23) low)
+      (has-lines script can) all-come low (all-decided (16 * k + 23) low)
 
   pub packet-is : (k : ℕ) → 16 * k + 23 < script.config.ticks →
       said_packet script k ≡ packet_by (scenario_of script) (session_cells (scenario_of script)) k
   packet-is k low =
       packet-told (scenario_of script) (session_cells (scenario_of script)) script.config.ticks (all_lines script) k
-          (has-lines script can) all-come low (all-decided (16 * k + 23) low)
+      (has-lines script can) all-come low (all-decided (16 * k + 23) low)
 
   few-packets : (ticks k : ℕ) → 16 * k + 23 < ticks → k < (ticks - 8) / 16
   few-packets ticks k low = omega arith
 
   pub cells-next : (k : ℕ) → 16 * k + 23 < script.config.ticks →
       cells_before (scenario_of script) (k + 1) ≡ cells_before (scenario_of script) k ++ told_in
-          (back_cell script k) ∷ []
+      (back_cell script k) ∷ []
   cells-next k low =
       let e : k + 1 ≡ suc k = omega arith in
       let fits_lag = can.lag in
       let lag : 0 < script.config.lag = omega arith in
       ap (cells_before (scenario_of script)) e
       ∙ next-cell (scenario_of script) script.config.ticks k (all_lines script) (has-lines script can) lag
-          (few-packets script.config.ticks k low) all-come (all-decided (16 * k + 23) low)
+      (few-packets script.config.ticks k low) all-come (all-decided (16 * k + 23) low)
 
 pub packet-said : (script : Script) (s : Counts) (k : ℕ) → CanWalk script → IsWalked script s → 16 * k + 23 < s.rows →
     return_at (popped_cells script s.lines) k ≡ said_packet script k
 packet-said script s k can walked low =
     sym (returns_stay (popped_cells script s.lines) (all_lines script) k (all-longer script s.lines)
-        (cells-decide script s can walked (16 * k + 23) low))
+    (cells-decide script s can walked (16 * k + 23) low))
 
 -- ---- numbers
 pub not-equal : (a b : ℕ) → (a == b) ≡ false → a ≡ b → ⊥

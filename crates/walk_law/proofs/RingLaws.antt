@@ -36,7 +36,7 @@ first-of_drop : {X : Type 0} (xs : List X) (y : ℕ) (x : X) (rest : List X) →
     slice_get xs y ≡ Some x
 first-of_drop xs y x rest e =
     ap (slice_get xs) (let same : y ≡ y + 0 = omega arith in same) ∙ sym (slice_get-drop xs y 0)
-        ∙ ap (λ l. slice_get l 0) e
+    ∙ ap (λ l. slice_get l 0) e
 
 each-size : (P : LinePath → LineCounts → Type 0) (paths : List LinePath) (lines : List LineCounts) →
     Each P paths lines → length lines ≡ length paths
@@ -74,9 +74,9 @@ module _ (script : Script) (line : ℕ) where
   taken-cells x =
       let m : ℕ = min x script.config.ticks in
       ap (λ l. cells (carried_by (scenario_of script) line) (delay_on script line) script.config.ticks l x)
-          (first-sent m (omega arith))
+      (first-sent m (omega arith))
       ∙ given-whole (scenario_of script) (session_cells (scenario_of script)) line m (delay_on script line) x
-          (omega arith) (omega arith)
+      (omega arith) (omega arith)
 
   made-size : (n : ℕ) → n ≤ script.config.ticks → length (take n (sent_on (scenario_of script) line)) ≡ n
   made-size n low = let e = length-take n (sent_on (scenario_of script) line) in let all = size in omega arith
@@ -84,7 +84,7 @@ module _ (script : Script) (line : ℕ) where
   pub send-size : (n x : ℕ) → n ≤ script.config.ticks → length (send_by script line n x) ≡ n - min x script.config.ticks
   send-size n x low =
       length-drop (min x script.config.ticks) (take n (sent_on (scenario_of script) line))
-          ∙ ap (λ k. k - min x script.config.ticks) (made-size n low)
+      ∙ ap (λ k. k - min x script.config.ticks) (made-size n low)
 
   pub send-made : (n x : ℕ) → n < script.config.ticks → min x script.config.ticks ≤ n →
       send_by script line (n + 1) x ≡ send_by script line n x ++ sent_at script line n ∷ []
@@ -103,7 +103,7 @@ module _ (script : Script) (line : ℕ) where
       let two : suc x ≡ min (x + 1) script.config.ticks = omega arith in
       let there : slice_get (take n (sent_on (scenario_of script) line)) x ≡ Some (sent_at script line x) =
       ap (λ l. slice_get l x) (first-sent n low)
-          ∙ container-at (scenario_of script) (session_cells (scenario_of script)) line n x inside in
+      ∙ container-at (scenario_of script) (session_cells (scenario_of script)) line n x inside in
       ap (λ k. drop k (take n (sent_on (scenario_of script) line))) one
       ∙ drop-next (take n (sent_on (scenario_of script) line)) x (sent_at script line x) there
       ∙ ap (λ k. sent_at script line x ∷ drop k (take n (sent_on (scenario_of script) line))) two
@@ -121,7 +121,7 @@ module _ (script : Script) (line : ℕ) where
   given-cells : (x : ℕ) → length (cells_by script line x) ≡ (path_on script line).given x
   given-cells x =
       ap (λ n. length (cells (carried_by (scenario_of script) line) (delay_on script line) n
-          (sent_on (scenario_of script) line) x)) (sym size)
+      (sent_on (scenario_of script) line) x)) (sym size)
 
   pub receive-size : (x y : ℕ) → length (receive_by script line x y) ≡ (path_on script line).given x - y
   receive-size x y = length-drop y (cells_by script line x) ∙ ap (λ n. n - y) (given-cells x)
@@ -140,17 +140,19 @@ module _ (script : Script) (line : ℕ) where
       let more : y + 1 ≡ suc y = omega arith in
       ap (λ k. drop k (cells_by script line x)) more
       ∙ tail-same cell (drop (suc y) (cells_by script line x)) rest
-          (sym (drop-next (cells_by script line x) y cell there) ∙ e)
+      (sym (drop-next (cells_by script line x) y cell there) ∙ e)
 
   all-cells : (x : ℕ) → x ≤ script.config.ticks + delay_on script line + 1 → (more : List Cell) ×
       (line_cells script line ≡ cells_by script line x ++ more)
   all-cells x low =
       let all = size in
       let (more, e) = cells-part (carried_by (scenario_of script) line) (delay_on script line)
-              (sent_on (scenario_of script) line) x
-              (length (sent_on (scenario_of script) line) + delay_on script line + 1) (omega arith) in
-      (more, e ∙ ap (λ n. cells (carried_by (scenario_of script) line) (delay_on script line) n
-          (sent_on (scenario_of script) line) x ++ more) all)
+      (sent_on (scenario_of script) line) x
+      (length (sent_on (scenario_of script) line) + delay_on script line + 1) (omega arith) in (
+        more,
+        e ∙ ap (λ n. cells (carried_by (scenario_of script) line) (delay_on script line) n
+            (sent_on (scenario_of script) line) x ++ more) all,
+      )
 
   pub popped-next : (x y : ℕ) (cell : Cell) (rest : List Cell) → x ≤ script.config.ticks + delay_on script line + 1 →
       receive_by script line x y ≡ cell ∷ rest →
@@ -162,4 +164,4 @@ module _ (script : Script) (line : ℕ) where
       let next : y + 1 ≡ suc y = omega arith in
       ap (λ k. take k (line_cells script line)) next
       ∙ take-next (line_cells script line) y cell
-          (ap (λ l. slice_get l y) all ∙ slice_get-append (cells_by script line x) more y inside ∙ there)
+      (ap (λ l. slice_get l y) all ∙ slice_get-append (cells_by script line x) more y inside ∙ there)

@@ -51,8 +51,8 @@ said-ends script s k can walked low = ends s.rows s.backs k (fits script s can w
 
 pub table-now : (script : Script) (s : Counts) → CanWalk script → IsWalked script s →
     (source_at (landed_scenario script s) (told_before script s.ticks) (steps_in s.ticks)).table
-        ≡ table_in script s.ticks
+    ≡ table_in script s.ticks
 table-now script s can walked =
     asked_all-table _ (orders_at (landed_scenario script s) (steps_in s.ticks))
-        (after (landed_scenario script s) (told_before script s.ticks) (steps_in s.ticks))
+    (after (landed_scenario script s) (told_before script s.ticks) (steps_in s.ticks))
     ∙ ap (λ (source : Source). source.table) (told-tables script s can walked (steps_in s.ticks) (omega arith))

@@ -75,13 +75,13 @@ open-or (Some told) d t same = let low = same.0 refl in sym (lt-leb d t low)
 
 pub line-open : (script : Script) (lines : List LineCounts) (line t : ℕ) → t < script.config.ticks →
     is_none (verdict (popped_on script lines line) t) ≡ nat_le
-        ((path_on script line).decided (counts_at lines line).popped) t
+    ((path_on script line).decided (counts_at lines line).popped) t
 line-open script lines line t low =
     let scenario : Scenario = scenario_of script in
     let delay : ℕ = slice_index_or script.config.delays line 0 in
     let y : ℕ = (counts_at lines line).popped in
     let size : length (sent_on scenario line) ≡ script.config.ticks =
-            containers-size scenario (session_cells scenario) line scenario.ticks in
+    containers-size scenario (session_cells scenario) line scenario.ticks in
     open-or (verdict (popped_on script lines line) t) ((path_on script line).decided y) t
     (is_decided (carried_by scenario line) (sent_on scenario line) delay y t (omega arith))
 
@@ -91,13 +91,13 @@ pub line-first : (script : Script) (line carries popped : ℕ) →
     popped ≤ (path_on script line).given carries →
     take popped (cells_on (scenario_of script) (path_on script line).delay line)
     ≡ take popped (given (scenario_of script) (session_cells (scenario_of script)) line script.config.ticks
-        (path_on script line).delay carries)
+    (path_on script line).delay carries)
 line-first script line carries popped low fits =
     let scenario : Scenario = scenario_of script in
     let containers : List Container = sent_on scenario line in
     let delay : ℕ = slice_index_or script.config.delays line 0 in
     let size : length containers ≡ script.config.ticks =
-            containers-size scenario (session_cells scenario) line scenario.ticks in
+    containers-size scenario (session_cells scenario) line scenario.ticks in
     first-given (carried_by scenario line) delay containers carries popped (omega arith) fits
     ∙ ap (λ n. take popped (cells (carried_by scenario line) delay n containers carries)) size
 
@@ -116,11 +116,11 @@ module _ (script : Script) (s : Counts) (can : CanWalk script) (walked : IsWalke
 
   pub line-fits : (line : ℕ) → line < length script.config.windows →
       LineFits script.config.ticks script.config.ring s.ticks s.rows
-          (path_of (carried_by scenario line) (delay_of line) (sent_on scenario line)) (counts_at s.lines line)
+      (path_of (carried_by scenario line) (delay_of line) (sent_on scenario line)) (counts_at s.lines line)
   line-fits line inside =
       each-there (LineFits script.config.ticks script.config.ring s.ticks s.rows) (walk_plan script).paths s.lines line
       (path_of (carried_by scenario line) (delay_of line) (sent_on scenario line))
-          (record { carried = 0; popped = 0 }) fits.lines (line-path script can line inside)
+      (record { carried = 0; popped = 0 }) fits.lines (line-path script can line inside)
 
   popped-comes : (line : ℕ) → line < length script.config.windows →
       ComesOfLine scenario session line s.ticks (popped_on script s.lines line)
@@ -137,7 +137,7 @@ module _ (script : Script) (s : Counts) (can : CanWalk script) (walked : IsWalke
       let taken = is.sent in
       let now : given scenario session line s.ticks (delay_of line) x ≡ own =
       given-whole scenario session line s.ticks (delay_of line) x ticks taken
-          ∙ ap (λ n. cells carries (delay_of line) n containers x) (sym size) in
+      ∙ ap (λ n. cells carries (delay_of line) n containers x) (sym size) in
       record {
         delay = delay_of line;
         carries = x;
@@ -155,9 +155,9 @@ module _ (script : Script) (s : Counts) (can : CanWalk script) (walked : IsWalke
       let rows = fits.rows in
       let decides = is.decides in
       let size : length (sent_on scenario line) ≡ script.config.ticks =
-              containers-size scenario session line scenario.ticks in
+      containers-size scenario session line scenario.ticks in
       (is_decided (carried_by scenario line) (sent_on scenario line) (delay_of line) (counts_at s.lines line).popped t
-          (omega arith)).1 (omega arith)
+      (omega arith)).1 (omega arith)
 
   -- ---- all lines
   popped-at : (line : ℕ) (own : List Cell) → slice_get (popped_cells script s.lines) line ≡ Some own →
@@ -170,7 +170,7 @@ module _ (script : Script) (s : Counts) (can : CanWalk script) (walked : IsWalke
       let there : slice_get (popped_cells script s.lines) line ≡ Some (popped_on script s.lines line) =
       slice_get-map (popped_on script s.lines) (range_with_len 0 lines) line
       ∙ ap (option_map (popped_on script s.lines))
-          (range-at 0 lines line low ∙ ap Some (let e : 0 + line ≡ line = omega arith in e)) in
+      (range-at 0 lines line low ∙ ap Some (let e : 0 + line ≡ line = omega arith in e)) in
       (low, cc)
 
   pub cells-come : ComeOfLines scenario session s.ticks (popped_cells script s.lines)
@@ -189,11 +189,11 @@ module _ (script : Script) (s : Counts) (can : CanWalk script) (walked : IsWalke
 
   pub rows-are : (t : ℕ) → t < s.rows →
       row_at script.config.size (popped_cells script s.lines) t ≡
-          (if is_whole_row scenario session t then Some (payload_of scenario session t) else None)
+      (if is_whole_row scenario session t then Some (payload_of scenario session t) else None)
   rows-are t low =
       let rows = fits.rows in
       row-told scenario session s.ticks (popped_cells script s.lines) t (has-lines script can) cells-come (omega arith)
-          (cells-decide t low)
+      (cells-decide t low)
 
   -- ---- the return path
   pub lag : 0 < scenario.lag
@@ -210,7 +210,7 @@ module _ (script : Script) (s : Counts) (can : CanWalk script) (walked : IsWalke
   frames-are t low =
       let used = fits.used in
       frame-same scenario s.backs s.ticks t (few-packets s.rows script.config.ticks s.backs fits.rows fits.backs)
-          (omega arith) low
+      (omega arith) low
 
   few : s.backs ≤ packets scenario
   few = few-packets s.rows script.config.ticks s.backs fits.rows fits.backs
@@ -236,7 +236,7 @@ module _ (script : Script) (s : Counts) (can : CanWalk script) (walked : IsWalke
       ∙ map-range_with_len_more f 0 n n (omega arith)
       ∙ ap (λ l. l ++ f n ∷ []) (told-first n (omega arith))
       ∙ sym (next-cell scenario s.ticks n popped (has-lines script can) lag
-          (few-packets s.rows script.config.ticks (suc n) fits.rows inside) cells-come
+      (few-packets s.rows script.config.ticks (suc n) fits.rows inside) cells-come
       (cells-decide (16 * n + 23) (ends s.rows n inside)))
 
   pub backs-are : told_of scenario (popped_cells script s.lines) s.backs ≡ cells_before scenario s.backs
@@ -252,7 +252,7 @@ module _ (script : Script) (s : Counts) (can : CanWalk script) (walked : IsWalke
         used = omega arith;
         come = subst (λ returns. ComeOfLines scenario returns s.ticks (popped_cells script s.lines)) (sym backs-are)
             (come-same scenario session (cells_before scenario s.backs) s.ticks s.backs (popped_cells script s.lines)
-                (omega arith) (sym agree) cells-come);
+            (omega arith) (sym agree) cells-come);
         decided = λ k low.
             let backs = fits.backs in
             cells-decide (16 * k + 23) (ends s.rows k (omega arith));
@@ -267,10 +267,10 @@ pub steps-walked : (script : Script) (s : Counts) (event : Event) → IsWalked s
 unfolding run
 steps-walked script s event walked =
     Leads-then (walk_plan script) (begin (walk_plan script)) s (step (walk_plan script) s event).counts walked
-        (event ∷ [], refl)
+    (event ∷ [], refl)
 
 pub drains-walked : (script : Script) (s : Counts) (k : ℕ) → IsWalked script s →
     IsWalked script (drain k (walk_plan script) s)
 drains-walked script s k walked =
     Leads-then (walk_plan script) (begin (walk_plan script)) s (drain k (walk_plan script) s) walked
-        (Leads-drain k (walk_plan script) s)
+    (Leads-drain k (walk_plan script) s)

@@ -44,7 +44,7 @@ clear-carried (window ∷ windows) from end n clear low high =
       | inr sooner ↦
           let e : (nat_le window.first n && nat_lt n window.end) ≡ false =
           ap (λ b. nat_le window.first n && b) (grind (arith, (let h : window.end ≤ n = omega arith in h)))
-              ∙ and_false (nat_le window.first n) in
+          ∙ and_false (nat_le window.first n) in
           rw e rest
     ]
 
@@ -63,7 +63,7 @@ sooner-whole carries a from b end low high whole n above below = whole n (omega 
 
 module _ (script : Script) (some : 0 < length script.config.windows) (t : ℕ)
     (clear : (line : ℕ) → line < length script.config.windows →
-        IsClear (slice_index_or script.config.windows line []) (row_from t) (t + 1)) where
+    IsClear (slice_index_or script.config.windows line []) (row_from t) (t + 1)) where
   abbrev scenario : Scenario
   scenario = scenario_of script
 
@@ -73,7 +73,7 @@ module _ (script : Script) (some : 0 < length script.config.windows) (t : ℕ)
         | inl inside ↦ clear line inside
         | inr beyond ↦
             subst (λ windows. IsClear windows (row_from t) (t + 1))
-                (sym (get_or_past script.config.windows line [] beyond)) (λ k d inside. absurd (omega arith))
+            (sym (get_or_past script.config.windows line [] beyond)) (λ k d inside. absurd (omega arith))
       ]
 
   line-whole : (line : ℕ) → AreWhole (carried_by scenario line) (row_from t) (t + 1)
@@ -84,13 +84,15 @@ module _ (script : Script) (some : 0 < length script.config.windows) (t : ℕ)
       let k : ℕ = (t - 24) / 16 in
       (readable-whole (carried_by scenario line) k).1
       (sooner-whole (carried_by scenario line) (row_from t) (16 * k) (t + 1) (16 * k + 24) (omega arith) (omega arith)
-          (line-whole line))
+      (line-whole line))
 
   line-good : (line : ℕ) → 24 ≤ t → is_good (carried_by scenario line) t ≡ true
   line-good line late =
-      (good-whole (carried_by scenario line) t).1
-      (omega arith, sooner-whole (carried_by scenario line) (row_from t) (16 * ((t - 2) / 16)) (t + 1) (t + 1)
-          (omega arith) (omega arith) (line-whole line))
+      (good-whole (carried_by scenario line) t).1 (
+        omega arith,
+        sooner-whole (carried_by scenario line) (row_from t) (16 * ((t - 2) / 16)) (t + 1) (t + 1)
+            (omega arith) (omega arith) (line-whole line),
+      )
 
   pub row-whole : is_whole_row scenario (session_cells scenario) t ≡ true
   row-whole =
@@ -103,7 +105,7 @@ module _ (script : Script) (some : 0 < length script.config.windows) (t : ℕ)
             let each : (line : ℕ) → (is_read scenario line k && is_good (carried_by scenario line) t) ≡ true =
             λ line. ap₂ (λ a b. a && b) (line-read line high) (line-good line high) in
             rw (late, heard) (all-true (λ line. is_read scenario line k && is_good (carried_by scenario line) t)
-                (active (table_of scenario (session_cells scenario) k)) each)
+            (active (table_of scenario (session_cells scenario) k)) each)
       ]
 
 -- ---- the rows before the first that isn't whole
@@ -116,14 +118,14 @@ delivered-before script rows valid low whole =
     let pieces : List Piece = session_pieces script in
     let opens = pieces-open scenario cells script.config.ticks in
     let all : All (IsSentPiece 9600) (idle ∷ idle ∷ opens.0) =
-            subst (All (IsSentPiece 9600)) opens.1
-            (pieces-sent scenario cells script.config.ticks (are_octets script valid)) in
+    subst (All (IsSentPiece 9600)) opens.1
+    (pieces-sent scenario cells script.config.ticks (are_octets script valid)) in
     let sent : All (IsSentPiece 9600) opens.0 = λ k d inside. all (suc (suc k)) d (omega arith) in
     let carry : CarriesStream (rows_of scenario cells rows) (idle ∷ idle ∷ opens.0) =
-            subst (CarriesStream (rows_of scenario cells rows)) opens.1
-            (rows-carry scenario cells rows script.config.ticks low) in
+    subst (CarriesStream (rows_of scenario cells rows)) opens.1
+    (rows-carry scenario cells rows script.config.ticks low) in
     deliver-whole 9600 opens.0 (rows_of scenario cells rows) (omega arith) sent carry
-        (rows-whole scenario cells rows whole)
+    (rows-whole scenario cells rows whole)
     ∙ ap₂ frames_by (rows-length scenario cells rows script.config.ticks low) (sym opens.1)
 
 -- whole rows have one segment, so nothing is confirmed after a break
@@ -134,5 +136,5 @@ whole-starts script rows whole =
     let pieces : List Piece = session_pieces script in
     let only : Segment = record { first = true; base = 0; octets = octets_of_rows (rows_of scenario cells rows) } in
     subst (All (StartsTrue pieces))
-        (sym (only_segment (rows_of scenario cells rows) (rows-whole scenario cells rows whole)))
+    (sym (only_segment (rows_of scenario cells rows) (rows-whole scenario cells rows whole)))
     (All-cons (StartsTrue pieces) only [] (λ later. absurd cc) (All-nil (StartsTrue pieces)))

@@ -43,7 +43,7 @@ unfoldable pub landed_from : ℕ → ℕ → ℕ → List Item → List Numbered
 landed_from a b i [] = []
 landed_from a b i (item ∷ items) =
     if is_client item.kind then with_if (nat_lt 0 a) (record { number = i; item = item })
-        (landed_from (a - 1) b (suc i) items)
+    (landed_from (a - 1) b (suc i) items)
     else with_if (nat_lt 0 b) (record { number = i; item = item }) (landed_from a (b - 1) (suc i) items)
 
 -- those of a walk, in item order
@@ -88,10 +88,10 @@ kind_refusal scenario cells due earlier (Frame octets) =
     option_map frame_fault (frame_refusal octets (stream_met scenario cells due (offers_of earlier)))
 kind_refusal scenario cells due earlier (Add line) =
     option_map command_fault (refusal (length scenario.windows) (add line)
-        (source_met scenario cells due (orders_of earlier)))
+    (source_met scenario cells due (orders_of earlier)))
 kind_refusal scenario cells due earlier (Remove line) =
     option_map command_fault (refusal (length scenario.windows) (remove line)
-        (source_met scenario cells due (orders_of earlier)))
+    (source_met scenario cells due (orders_of earlier)))
 
 -- why an item of a script is
 abbrev pub refusal_at : Script → Numbered → Option Refusal

@@ -17,7 +17,7 @@ refused_texts refusals = flat_map (λ (refused : ℕ × Refusal). refused_text r
 abbrev pub report_among : Script → ℕ → ℕ → List Numbered → List ℕ
 report_among script ticks rows items =
     got_texts (delivered_of script rows) ++ refused_texts (refusals_among script items) ++ total_text
-        (totals_among script ticks rows items)
+    (totals_among script ticks rows items)
 
 -- by the counts of a walk
 abbrev pub report_of : Script → Counts → List ℕ

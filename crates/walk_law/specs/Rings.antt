@@ -38,7 +38,7 @@ taken_by script line carries = take (min carries script.config.ticks) (sent_on (
 abbrev pub cells_by : Script → ℕ → ℕ → List Cell
 cells_by script line carries =
     cells (carried_by (scenario_of script) line) (delay_on script line) script.config.ticks
-        (sent_on (scenario_of script) line) carries
+    (sent_on (scenario_of script) line) carries
 
 -- the containers of some ticks that they don't take
 abbrev pub send_by : Script → ℕ → ℕ → ℕ → List Container

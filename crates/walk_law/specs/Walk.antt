@@ -75,4 +75,4 @@ popped_cells script lines = map (popped_on script lines) (range_with_len 0 (leng
 abbrev pub path_on : Script → ℕ → LinePath
 path_on script line =
     path_of (carried_by (scenario_of script) line) (slice_index_or script.config.delays line 0)
-        (sent_on (scenario_of script) line)
+    (sent_on (scenario_of script) line)

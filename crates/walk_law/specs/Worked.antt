@@ -71,7 +71,7 @@ first_refusals = (0, frame_fault (Length 63)) ∷ (1, command_fault (UnknownLine
 abbrev pub all_refusals : List (ℕ × Refusal)
 all_refusals =
     (0, frame_fault (Length 63)) ∷ (1, command_fault (UnknownLine 1)) ∷ (4, command_fault AlreadyIn) ∷
-        (6, command_fault NotIn) ∷ []
+    (6, command_fault NotIn) ∷ []
 
 abbrev pub first_totals : Totals
 first_totals = record { ticks = 0; taken = 0; frames = 0; commands = 1; refused = 2; got = 0 }
@@ -85,7 +85,7 @@ two_frames = replicate 64 1 ∷ replicate 64 2 ∷ []
 abbrev pub worked_report : List ℕ
 worked_report =
     codes "refused 0 length 63\n" ++ codes "refused 1 unknown\n" ++ codes "refused 4 already in\n" ++ codes
-        "refused 6 not in\n"
+    "refused 6 not in\n"
     ++ codes "total ticks 41 taken 41 frames 2 commands 2 refused 4 got 0\n"
 
 -- ---- a frame that is delivered

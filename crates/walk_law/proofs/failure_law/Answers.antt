@@ -30,4 +30,4 @@ returns-clause-ways c script rows k d inside =
 pub returns-clause-walked : goal.returns-clause-walked
 returns-clause-walked c script s valid walked true_starts =
     let (low, high) = counts-within script s (valid-walks script valid) walked in frames-kept script s.rows valid
-            (omega arith) true_starts
+    (omega arith) true_starts

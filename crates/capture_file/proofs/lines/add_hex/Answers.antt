@@ -26,7 +26,7 @@ loop-at-preserved g c =
           λ start before has.
           subst (HasText g.K.ByteSink.written g.K.ByteSink.faults c.add_piece.new.got start)
           (append_assoc before (encode_lower (take at octets)) (encode_lower (take (end - at) (drop at octets)))
-              ∙ ap (λ l. before ++ l) (sym (digits-then octets at end low)))
+          ∙ ap (λ l. before ++ l) (sym (digits-then octets at end low)))
           (c.add_piece.ensures start (before ++ encode_lower (take at octets))
-              (c.loop-at.invariant.grows start before has));
+          (c.loop-at.invariant.grows start before has));
     }

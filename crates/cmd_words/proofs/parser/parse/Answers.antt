@@ -16,7 +16,7 @@ returns c =
     record {
       read = IfOk-weaker call.result _ _
           (λ matches says. ap words_in ((says (ap is_simple app ∙ is_parser)).0
-              ∙ ap (λ (a : App). matches_of a words) app) ∙ read.told)
+          ∙ ap (λ (a : App). matches_of a words) app) ∙ read.told)
           call.ensures.matches;
       fails = IfErr-weaker call.result _ _ (λ error says. says (ap (λ (a : App). takes a words) app ∙ read.taken))
           call.ensures.passes;

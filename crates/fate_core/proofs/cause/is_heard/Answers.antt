@@ -15,8 +15,8 @@ loop-list-preserved c =
     let i = c.loop-list.list-index in
     let item : whole_in c.list-item.result (16 * c.args.packet) 24 ≡ false =
     ap (λ list. whole_in list (16 * c.args.packet) 24) (sym (c.deref.ensures.value ∙ c.list.view_is))
-        ∙ sym c.are_whole.ensures ∙ c.if-are_whole.false in
+    ∙ sym c.are_whole.ensures ∙ c.if-are_whole.false in
     sym (ap (list_any (λ list. whole_in list (16 * c.args.packet) 24))
-        (drop-next items i c.list-item.result c.loop-list-test.true c.list-item.is)
+    (drop-next items i c.list-item.result c.loop-list-test.true c.list-item.is)
     ∙ ap (λ b. b || list_any (λ list. whole_in list (16 * c.args.packet) 24) (drop (i + 1) items)) item)
     ∙ c.loop-list.invariant

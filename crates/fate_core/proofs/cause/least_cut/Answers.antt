@@ -11,7 +11,7 @@ use Rattle.fate_core.proofs.cause.least_cut.Goals as goal
 step : (passes : ℕ → Bool) (lines : List ℕ) (i : ℕ) → 0 < i → i ≤ length lines →
     least_failing passes (drop (i - 1) lines)
     ≡ (if passes (slice_index_or lines (i - 1) 0) then least_failing passes (drop i lines) else Some
-        (lesser (slice_index_or lines (i - 1) 0) (least_failing passes (drop i lines))))
+    (lesser (slice_index_or lines (i - 1) 0) (least_failing passes (drop i lines))))
 unfolding least_failing
 step passes lines i some within =
     ap (least_failing passes) (drop-or lines (i - 1) 0 (omega arith)
@@ -29,7 +29,7 @@ loop-i-preserved c =
     let more : Option ℕ = least_failing passes (drop c.loop-i.i c.args.lines.now) in
     let whole : passes line ≡ true = sym c.are_whole_on.ensures ∙ c.if-not-are_whole_on.false in
     c.loop-i.invariant ∙ sym (step passes c.args.lines.now c.loop-i.i c.loop-i-test.true c.loop-i.auto.i
-        ∙ ap (λ b. if b then more else Some (lesser line more)) whole)
+    ∙ ap (λ b. if b then more else Some (lesser line more)) whole)
 
 pub loop-i-preserved-then-not-are_whole_on : goal.loop-i-preserved-then-not-are_whole_on
 loop-i-preserved-then-not-are_whole_on c =
@@ -39,7 +39,7 @@ loop-i-preserved-then-not-are_whole_on c =
     let cut : passes line ≡ false = sym c.are_whole_on.ensures ∙ c.if-not-are_whole_on.true in
     ap Some (c.lesser.ensures ∙ ap (lesser line) c.loop-i.invariant)
     ∙ sym (step passes c.args.lines.now c.loop-i.i c.loop-i-test.true c.loop-i.auto.i
-        ∙ ap (λ b. if b then more else Some (lesser line more)) cut)
+    ∙ ap (λ b. if b then more else Some (lesser line more)) cut)
 
 pub returns : goal.returns
 returns c = c.loop-i.invariant ∙ ap

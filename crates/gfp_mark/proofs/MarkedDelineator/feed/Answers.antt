@@ -16,6 +16,9 @@ returns-else-is_hunting-clause-stands_in c longest first octets stands =
           (subst (λ (marked : Marked). receiver.StandsIn marked.receiver longest first octets)
           (sym c.self.view_is) stands.0),
       mark-kept c.self.inside.mark octets c.args.piece.now c.feed.result.0
-          (elim c.else-is_hunting.either [ inl empty ↦ inr (omega (arith, empty.1)) | inr isnt ↦ inl
-          (ap (λ (marked : Marked). is_hunting marked.mark) c.self.view_is ∙ sym c.is_hunting.ensures ∙ isnt) ]) marked,
+          (elim c.else-is_hunting.either [
+            | inl empty ↦ inr (omega (arith, empty.1))
+            | inr isnt ↦ inl
+                (ap (λ (marked : Marked). is_hunting marked.mark) c.self.view_is ∙ sym c.is_hunting.ensures ∙ isnt)
+          ]) marked,
     )

@@ -15,4 +15,4 @@ loop-at-preserved g c = record {
 pub returns-in-Err-clause-err : goal.returns-in-Err-clause-err
 returns-in-Err-clause-err g c =
     AppendsPart-stop _ _ _ _ _ _ c.loop-at.at (omega arith) c.loop-at.invariant.written c.in-Err.ensures.stays
-        c.in-Err.ensures.counted
+    c.in-Err.ensures.counted

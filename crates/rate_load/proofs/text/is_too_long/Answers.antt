@@ -26,6 +26,6 @@ pub returns-then-total-gt-LONGEST : goal.returns-then-total-gt-LONGEST
 returns-then-total-gt-LONGEST c =
     let e = next_total (goal.at.returns-then-total-gt-LONGEST c).After-from in
     let inside : c.loop-k.k + 1 ≤ count_of c.args.load.now =
-            omega (arith, c.loop-k-test.true, c.count_of-k-end.ensures.count) in
+    omega (arith, c.loop-k-test.true, c.count_of-k-end.ensures.count) in
     let long = length-lines_of c.args.load.now (c.loop-k.k + 1) (count_of c.args.load.now) inside in
     (λ t. omega (arith, e, long, c.if-total-gt-LONGEST.true), λ t. refl)

@@ -20,7 +20,7 @@ returns-then-len-count-clause-lines c =
     let size = ap length lines in
     let now = c.loop-sq.active.ok.0 in
     let count : length (active_from 0 n packets) ≡ carrying packets =
-            omega (arith, size, now, c.len.ensures, c.if-len-count.true, c.carrying-count.ensures) in
+    omega (arith, size, now, c.len.ensures, c.if-len-count.true, c.carrying-count.ensures) in
     let below : n ≤ 256 = omega (arith, c.loop-sq-test.true) in
     lines ∙ active_of-found n packets below count
 
@@ -29,7 +29,7 @@ push_lines-requires-clause-room c =
     let packets = c.args.packets.now in
     let n = c.loop-sq.sq in
     let more = ap length (active_from-more n packets)
-            ∙ length-append (active_from 0 n packets) (lines_at n 0 packets) in
+    ∙ length-append (active_from 0 n packets) (lines_at n 0 packets) in
     let fits = active_from-fits (n + 1) 0 packets in
     let all = carrying-fits packets in
     let len = ap length c.loop-sq.invariant.lines in

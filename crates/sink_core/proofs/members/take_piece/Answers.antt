@@ -16,8 +16,8 @@ loop-at-preserved g c =
     let rest = take (length piece - at) (drop at piece) in
     let inv = c.loop-at.invariant in
     let size : length rest ≡ length piece - at =
-            ap length (take_all (length piece - at) (drop at piece) (omega (arith, length-drop at piece)))
-            ∙ length-drop at piece in
+    ap length (take_all (length piece - at) (drop at piece) (omega (arith, length-drop at piece)))
+    ∙ length-drop at piece in
     let next : take (at + n) piece ≡ take at piece ++ take n rest = take-further at n piece in
     record {
       within = omega (arith, size, c.take_some-at.ensures.within, inv.within);
@@ -26,9 +26,9 @@ loop-at-preserved g c =
           (grows-more was then' now (take at piece) (take n rest) inv.grows c.take_some-at.ensures.grows);
       gives = λ start.
           subst (λ l. Gives (λ o. g.F.FrameOut.stands_for o start) was l c.args.out.now c.take_some-at.new.out)
-              (sym next)
+          (sym next)
           (gives-more (λ o. g.F.FrameOut.stands_for o start) was then' (take at piece)
-              (take n rest) c.args.out.now c.loop-at.out c.take_some-at.new.out
+          (take n rest) c.args.out.now c.loop-at.out c.take_some-at.new.out
           inv.grows (inv.gives start) (c.take_some-at.ensures.gives start));
     }
 

@@ -16,10 +16,10 @@ returns-in-Bad c cells stands =
     let inside : line < length cells = (let below = c.requires.lines i c.loop-line-test.true in let size = stands.size in omega (arith, below)) in
     let bad : container_on (slice_get cells line) t ≡ None =
     container_on-told cells line t (told_by c.verdict.result) inside
-        (λ own here. c.verdict.ensures cells own stands here) ∙ ap told_by c.in-Bad.is in
+    (λ own here. c.verdict.ensures cells own stands here) ∙ ap told_by c.in-Bad.is in
     sym (sym (c.loop-line.invariant cells stands)
-        ∙ ap (λ lines. is_some (containers_at cells t lines)) (drop_more active i 0 c.loop-line-test.true)
-        ∙ bad-step cells t line (drop (i + 1) active) bad)
+    ∙ ap (λ lines. is_some (containers_at cells t lines)) (drop_more active i 0 c.loop-line-test.true)
+    ∙ bad-step cells t line (drop (i + 1) active) bad)
 
 pub loop-line-preserved : goal.loop-line-preserved
 loop-line-preserved c cells stands =
@@ -30,7 +30,7 @@ loop-line-preserved c cells stands =
     let inside : line < length cells = (let below = c.requires.lines i c.loop-line-test.true in let size = stands.size in omega (arith, below)) in
     let whole : container_on (slice_get cells line) t ≡ Some c.in-Whole.field-0.now =
     container_on-told cells line t (told_by c.verdict.result) inside
-        (λ own here. c.verdict.ensures cells own stands here) ∙ ap told_by c.in-Whole.is in
+    (λ own here. c.verdict.ensures cells own stands here) ∙ ap told_by c.in-Whole.is in
     sym (ap (λ lines. is_some (containers_at cells t lines)) (drop_more active i 0 c.loop-line-test.true)
-        ∙ whole-step cells t line (drop (i + 1) active) c.in-Whole.field-0.now whole)
+    ∙ whole-step cells t line (drop (i + 1) active) c.in-Whole.field-0.now whole)
     ∙ c.loop-line.invariant cells stands

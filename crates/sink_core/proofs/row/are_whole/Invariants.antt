@@ -7,4 +7,4 @@ use Rattle.sink_core.proofs.row.are_whole.Given as goal
 abbrev pub invariant-loop-line : goal.invariant-loop-line
 invariant-loop-line l = (cells : List (List Cell)) → Stands l.rows cells →
     is_some (containers_at cells l.rows.rows (drop l.line-index l.active)) ≡ is_some
-        (containers_at cells l.rows.rows l.active)
+    (containers_at cells l.rows.rows l.active)

@@ -31,15 +31,15 @@ loop-frame-preserved g c =
     let done = c.loop-frame.invariant.0 in
     let next = c.in-Some.ensures.some in
     let own : Ended = ended_frame script (fates_in script s.rows) c.in-Some.frame next.octets c.loop-frame.ended.frames
-            in (
+    in (
       done ++ own ∷ [],
       frames-next script s c.loop-frame.cursor c.next.new.self c.loop-frame.ended c.write_frame.new.ended done
           c.in-Some.frame next c.loop-frame.invariant.1 c.in-Some.ensures.at c.write_frame.ensures.count,
       λ start before has.
           subst (HasText g.K.ByteSink.written g.K.ByteSink.faults c.write_frame.new.got start)
-              (texts-next done own before)
+          (texts-next done own before)
           (c.write_frame.ensures.text start (before ++ flat_map ended_text done)
-              (c.loop-frame.invariant.2 start before has)),
+          (c.loop-frame.invariant.2 start before has)),
     )
 
 pub returns-clause-text : goal.returns-clause-text
@@ -49,8 +49,8 @@ returns-clause-text g c = λ start before has.
     let done = c.loop-frame.invariant.0 in
     subst (HasText g.K.ByteSink.written g.K.ByteSink.faults c.loop-frame.got start)
     (ap (λ l. before ++ flat_map ended_text l)
-        (frames-past script s c.loop-frame.cursor c.loop-frame.ended done c.loop-frame.invariant.1
-        c.in_default.ensures.none))
+    (frames-past script s c.loop-frame.cursor c.loop-frame.ended done c.loop-frame.invariant.1
+    c.in_default.ensures.none))
     (c.loop-frame.invariant.2 start before has)
 
 pub returns-clause-counted : goal.returns-clause-counted
@@ -59,5 +59,5 @@ returns-clause-counted g c =
     let s = c.args.walk.now.counts in
     let done = c.loop-frame.invariant.0 in
     subst (λ l. Counted l c.loop-frame.ended)
-        (frames-past script s c.loop-frame.cursor c.loop-frame.ended done c.loop-frame.invariant.1
-        c.in_default.ensures.none) c.loop-frame.invariant.1.counted
+    (frames-past script s c.loop-frame.cursor c.loop-frame.ended done c.loop-frame.invariant.1
+    c.in_default.ensures.none) c.loop-frame.invariant.1.counted

@@ -10,4 +10,4 @@ abbrev pub invariant-loop-run : goal.invariant-loop-run
 invariant-loop-run g l = (start : Start) (before : List ℕ) →
     HasText g.K.ByteSink.written g.K.ByteSink.faults l.fn.got start before →
     HasText g.K.ByteSink.written g.K.ByteSink.faults l.got start
-        (before ++ flat_map spoiled_text (take l.run-index l.runs))
+    (before ++ flat_map spoiled_text (take l.run-index l.runs))

@@ -13,4 +13,4 @@ invariant-loop-i g l = (start : Start) (before : List ℕ) →
     HasText g.K.ByteSink.written g.K.ByteSink.faults l.fn.got start before →
     HasText g.K.ByteSink.written g.K.ByteSink.faults l.got start
     (before ++ flat_map (segment_in l.walk.script l.walk.counts.rows)
-        (take l.i (later_segments (session_rows l.walk.script l.walk.counts.rows))))
+    (take l.i (later_segments (session_rows l.walk.script l.walk.counts.rows))))

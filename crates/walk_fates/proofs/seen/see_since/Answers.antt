@@ -28,14 +28,14 @@ returns-then-totals-rows c =
     let script = c.args.walk.now.script in
     let ticks = c.args.walk.now.counts.ticks in
     let on : steps_in ticks ≡ steps_in c.totals-totals.result.ticks =
-            ap steps_in (sym (ap (λ (t : Totals). t.ticks) c.totals-totals.ensures)) in
+    ap steps_in (sym (ap (λ (t : Totals). t.ticks) c.totals-totals.ensures)) in
     let all : c.args.rows ≡ c.args.walk.now.counts.rows = sym c.if-totals-rows.true
-            ∙ ap (λ (t : Totals). t.taken) c.totals-totals.ensures in
+    ∙ ap (λ (t : Totals). t.taken) c.totals-totals.ensures in
     let sees : Sees script ticks c.args.rows c.if-is_step.seen = elim c.if-is_step.branch [
       | then-is_step+in_ok-push w ↦ sees-step script c.args.ticks ticks c.args.rows c.args.seen.now c.if-is_step.seen
           w.push.new.self w.active.result.items c.requires.seen
           (on ∙ w.if-is_step.ensures.yes) (w.active.ensures ∙ ap active w.table.ensures.table) w.in_ok-push.ensures.ok
-              w.seen-is
+          w.seen-is
       | else-is_step w ↦ sees-same script c.args.ticks ticks c.args.rows c.args.seen.now c.if-is_step.seen
           c.requires.seen (on ∙ w.if-is_step.ensures.no) w.seen-is
     ] in
@@ -46,12 +46,12 @@ see_row-requires-clause-seen c =
     let script = c.args.walk.now.script in
     let ticks = c.args.walk.now.counts.ticks in
     let on : steps_in ticks ≡ steps_in c.totals-totals.result.ticks =
-            ap steps_in (sym (ap (λ (t : Totals). t.ticks) c.totals-totals.ensures)) in
+    ap steps_in (sym (ap (λ (t : Totals). t.ticks) c.totals-totals.ensures)) in
     elim c.if-is_step.branch [
       | then-is_step+in_ok-push w ↦ sees-step script c.args.ticks ticks c.args.rows c.args.seen.now c.if-is_step.seen
           w.push.new.self w.active.result.items c.requires.seen
           (on ∙ w.if-is_step.ensures.yes) (w.active.ensures ∙ ap active w.table.ensures.table) w.in_ok-push.ensures.ok
-              w.seen-is
+          w.seen-is
       | else-is_step w ↦ sees-same script c.args.ticks ticks c.args.rows c.args.seen.now c.if-is_step.seen
           c.requires.seen (on ∙ w.if-is_step.ensures.no) w.seen-is
     ]

@@ -20,7 +20,7 @@ returns-then-row-le-FIRST c = λ scenario cells are. sym (place-none scenario ce
 pub returns-then-k-len : goal.returns-then-k-len
 returns-then-k-len c = λ scenario cells are.
     end-place c.self.inside.size c.self.inside.packets.items c.self.inside.end c.self.invariant scenario cells
-        (subst (ArePackets scenario cells) (sym c.self.view_is) are)
+    (subst (ArePackets scenario cells) (sym c.self.view_is) are)
     c.args.row
     (let few = c.requires in
     let all = actives-length c.self.inside.size c.self.inside.packets.items c.self.inside.end c.self.invariant in
@@ -30,10 +30,10 @@ returns-then-k-len c = λ scenario cells are.
 low : (c : goal.After-width) → c.index-packet.result.now.start + c.from.result * c.width.result ≤ 8796093022208
 low c =
     let all = row-low c.self.inside.size c.self.inside.packets.items c.self.inside.end c.self.invariant
-            ((c.args.row - 24) / 16) c.from.result c.index-packet.result.now (there c)
+    ((c.args.row - 24) / 16) c.from.result c.index-packet.result.now (there c)
     (let e = c.from.ensures in omega (arith, e)) in
     let w : c.width.result ≡ c.self.inside.size * length c.index-packet.result.now.lines.items = c.width.ensures
-            ∙ ap (λ p. p.size * length c.index-packet.result.now.lines.items) (sym c.self.view_is) in
+    ∙ ap (λ p. p.size * length c.index-packet.result.now.lines.items) (sym c.self.view_is) in
     subst (λ w. c.index-packet.result.now.start + c.from.result * w ≤ 8796093022208) (sym w) all
 
 pub overflow_mul-result : goal.overflow_mul-result
@@ -45,11 +45,11 @@ overflow_add-result c = let all = low c in omega (arith, all)
 pub returns : goal.returns
 returns c = λ scenario cells are.
     let w : c.width.result ≡ c.self.inside.size * length c.index-packet.result.now.lines.items = c.width.ensures
-            ∙ ap (λ p. p.size * length c.index-packet.result.now.lines.items) (sym c.self.view_is) in
+    ∙ ap (λ p. p.size * length c.index-packet.result.now.lines.items) (sym c.self.view_is) in
     let row = row-place c.self.inside.size c.self.inside.packets.items c.self.inside.end c.self.invariant scenario cells
-            (subst (ArePackets scenario cells) (sym c.self.view_is) are)
+    (subst (ArePackets scenario cells) (sym c.self.view_is) are)
     ((c.args.row - 24) / 16) c.from.result c.index-packet.result.now (there c)
-        (let e = c.from.ensures in omega (arith, e)) in
+    (let e = c.from.ensures in omega (arith, e)) in
     let at : 24 + 16 * ((c.args.row - 24) / 16) + c.from.result ≡ c.args.row =
-            (let e = c.from.ensures in omega (arith, e, c.if-row-le-FIRST.false)) in
+    (let e = c.from.ensures in omega (arith, e, c.if-row-le-FIRST.false)) in
     ap (λ w. c.index-packet.result.now.start + c.from.result * w) w ∙ sym row ∙ ap (place_of scenario cells) at

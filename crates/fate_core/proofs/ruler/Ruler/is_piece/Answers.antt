@@ -9,7 +9,7 @@ pub returns-then-place-self : goal.returns-then-place-self
 returns-then-place-self c = λ stream is.
     sym (piece-by stream c.args.place ∙ ap (λ v. piece_in 0 v.sent v.end c.args.place) (sym is ∙ sym c.self.view_is)
     ∙ piece-late 0 (map side_of (take c.self.inside.begun c.self.inside.frames.items)) c.self.inside.end c.args.place
-        c.self.invariant.order c.if-place-self.true)
+    c.self.invariant.order c.if-place-self.true)
 
 pub returns-then-begun-eq0 : goal.returns-then-begun-eq0
 returns-then-begun-eq0 c = λ stream is.
@@ -17,7 +17,7 @@ returns-then-begun-eq0 c = λ stream is.
     c.is_idle.ensures
     ∙ sym (piece-by stream c.args.place ∙ ap (λ v. piece_in 0 v.sent v.end c.args.place) (sym is)
     ∙ piece-none 0 c.args.self.now.sent c.args.self.now.end c.args.place low
-        (λ k d from within. c.begun_by-begun.ensures.above k d (omega (arith, c.if-begun-eq0.true)) within))
+    (λ k d from within. c.begun_by-begun.ensures.above k d (omega (arith, c.if-begun-eq0.true)) within))
 
 pub returns-in-Some : goal.returns-in-Some
 returns-in-Some c = λ stream is.
@@ -29,7 +29,7 @@ returns-in-Some c = λ stream is.
     c.begins.ensures
     ∙ sym (piece-by stream c.args.place ∙ ap (λ v. piece_in 0 v.sent v.end c.args.place) (sym is)
     ∙ piece-found 0 c.args.self.now.sent c.args.self.now.end c.args.place (i - 1) c.in-Some.sides are low there
-        (c.begun_by-begun.ensures.begun (i - 1) c.in-Some.sides (omega (arith, some)) there)
+    (c.begun_by-begun.ensures.begun (i - 1) c.in-Some.sides (omega (arith, some)) there)
     (λ k d from within. c.begun_by-begun.ensures.above k d (omega (arith, some, from)) within))
 
 get-some : (list : List (ℕ × ℕ)) (k : ℕ) → k < length list → None ≡ slice_get list k → ⊥
@@ -41,4 +41,4 @@ pub returns-in-None : goal.returns-in-None
 returns-in-None c =
     absurd (get-some c.args.self.now.sent (c.begun_by-begun.result - 1)
     (let within = c.begun_by-begun.ensures.within in let isnt = c.if-begun-eq0.false in omega (arith, within, isnt))
-        c.in-None.ensures.sides)
+    c.in-None.ensures.sides)

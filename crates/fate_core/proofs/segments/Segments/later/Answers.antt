@@ -31,21 +31,21 @@ returns-then-i-len c = λ rows stands.
     let i = c.args.i in
     let low : i < length c.self.inside.ended.items = (let n = c.len.ensures in omega (arith, n, c.if-i-len.true)) in
     sym (ap (λ l. slice_get l i) (later-kept c.args.self.now rows stands
-        ∙ ap (λ v. v.ended ++ (if is_told v then v.last ∷ [] else [])) (sym c.self.view_is))
+    ∙ ap (λ v. v.ended ++ (if is_told v then v.last ∷ [] else [])) (sym c.self.view_is))
     ∙ get-front c.self.inside.ended.items _ i low
-        ∙ get-at c.self.inside.ended.items i c.index.result.now low c.index.ensures)
+    ∙ get-at c.self.inside.ended.items i c.index.result.now low c.index.ensures)
 
 pub returns-then-is_told : goal.returns-then-is_told
 returns-then-is_told c = λ rows stands.
     let i = c.args.i in
     let at : i ≡ length c.self.inside.ended.items + 0 =
-            (let n = c.len-else-i-len.ensures in omega (arith, n, c.if-i-len-2.true)) in
+    (let n = c.len-else-i-len.ensures in omega (arith, n, c.if-i-len-2.true)) in
     let told = sym c.is_told.ensures ∙ c.if-is_told.true in
     sym (ap (λ l. slice_get l i) (later-kept c.args.self.now rows stands
-        ∙ ap (λ b. c.args.self.now.ended ++ (if b then c.args.self.now.last ∷ [] else [])) told
+    ∙ ap (λ b. c.args.self.now.ended ++ (if b then c.args.self.now.last ∷ [] else [])) told
     ∙ ap (λ v. v.ended ++ v.last ∷ []) (sym c.self.view_is))
     ∙ ap (slice_get (c.self.inside.ended.items ++ c.self.inside.last ∷ [])) at
-        ∙ get-back c.self.inside.ended.items (c.self.inside.last ∷ []) 0)
+    ∙ get-back c.self.inside.ended.items (c.self.inside.last ∷ []) 0)
 
 pub returns-else-i-len-2 : goal.returns-else-i-len-2
 returns-else-i-len-2 c = λ rows stands.
@@ -57,15 +57,15 @@ returns-else-i-len-2 c = λ rows stands.
           let told : is_told c.args.self.now ≡ false = sym w.is_told.ensures ∙ w.if-is_told.false in
           let few : length (c.args.self.now.ended ++ []) ≤ i = (let sum = length-append c.args.self.now.ended [] in let n = c.len-else-i-len.ensures in omega (arith, sum, ended, n, w.if-i-len-2.true)) in
           sym (ap (λ l. slice_get l i) (all
-              ∙ ap (λ b. c.args.self.now.ended ++ (if b then c.args.self.now.last ∷ [] else [])) told)
-              ∙ get-none (c.args.self.now.ended ++ []) i few))
+          ∙ ap (λ b. c.args.self.now.ended ++ (if b then c.args.self.now.last ∷ [] else [])) told)
+          ∙ get-none (c.args.self.now.ended ++ []) i few))
       | else-i-len-2-via-else-i-len-2 w ↦ (
           let few = most c.args.self.now.ended c.args.self.now.last (is_told c.args.self.now) in
           let n = c.len-else-i-len.ensures in
           let m = c.len.ensures in
           sym (ap (λ l. slice_get l i) all
           ∙ get-none (c.args.self.now.ended ++ (if is_told c.args.self.now then c.args.self.now.last ∷ [] else [])) i
-              (grind (arith, few, ended, n, m, w.if-i-len-2.false, c.if-i-len.false))))
+          (grind (arith, few, ended, n, m, w.if-i-len-2.false, c.if-i-len.false))))
     ]
   where
     most : (ended : List RowSegment) (last : RowSegment) (b : Bool) →

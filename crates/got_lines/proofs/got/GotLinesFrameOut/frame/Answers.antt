@@ -13,7 +13,7 @@ returns-then-self g c start frames has =
       has.0,
       subst (WritesOrWaits now.failed first last now.block) (texts-more frames c.args.frame.now)
           (told-stopped now.failed first last now.block now.block (got_texts frames)
-              (got_text c.args.frame.now) c.if-self.true has.1),
+          (got_text c.args.frame.now) c.if-self.true has.1),
     )
 
 pub returns-in-Ok : goal.returns-in-Ok
@@ -24,6 +24,6 @@ returns-in-Ok g c start frames has =
       has.0,
       subst (WritesOrWaits now.failed first last c.add_got.new.self) (texts-more frames c.args.frame.now)
           (told-more g.K.ByteSink.written g.K.ByteSink.faults now.failed first now.out.now c.add_got.new.out now.block
-              c.add_got.new.self (got_texts frames) (got_text c.args.frame.now)
+          c.add_got.new.self (got_texts frames) (got_text c.args.frame.now)
           c.if-self.false c.in-Ok.ensures.ok has.1),
     )
