@@ -12,7 +12,7 @@ use Rattle.gfp_delineate.specs.declared.areas.AreaStep.TheVariants.{Area}
 use Rattle.gfp_delineate.specs.declared.Step.{Step}
 use Rattle.gfp_delineate.specs.declared.Step.TheVariants.{Frame}
 use Rattle.gfp_delineate.specs.Areas.{AreaEnd, keeping, passing, end_of, ends_told, Progress, Adds}
-use Rattle.gfp_delineate.specs.Receiver.{Receiver, frame_of, outcomes_told, told_outcomes, client_of, Brings}
+use Rattle.gfp_delineate.specs.Receiver.{Receiver, frame_of, outcomes_told, told_outcomes, client_of, area_limit, Brings}
 use Rattle.gfp_delineate.proofs.Frames.{outcomes-held, short-held}
 use Rattle.gfp_delineate.proofs.OutcomeLaws.{outcomes_more-map}
 
@@ -24,7 +24,8 @@ by_length true area = refl
 by_length false area = refl
 
 client_outcome-end : (longest : ℕ) (settled : Bool) (area : List ℕ) →
-    client_outcome longest settled area ≡ client_of (end_of (longest + 4) settled area)
+    client_outcome longest settled area ≡ client_of (end_of (area_limit longest) settled area)
+unfolding area_limit
 client_outcome-end longest true area = by_length (nat_lt (longest + 4) (length area)) area
 client_outcome-end longest false area = refl
 
@@ -32,8 +33,9 @@ client_outcome-end longest false area = refl
 pub Brings-ends : (was : Receiver) (more : List ℕ) (come : List AreaEnd) (told : List Outcome) →
     told ≡ map client_of come → Adds was.progress more come → Brings was more told
 Brings-ends was more come told same adds = λ longest first octets stands.
-    outcomes_more-map (end_of (longest + 4)) (client_outcome longest) client_of (client_outcome-end longest) head head
-    first octets more come (adds (longest + 4) false first octets stands)
+    outcomes_more-map (end_of (area_limit longest)) (client_outcome longest) client_of
+    (client_outcome-end longest) head head
+    first octets more come (adds (area_limit longest) false first octets stands)
     ∙ ap (λ l. outcomes longest first octets ++ l) (sym same)
 
 -- what an answer tells is made of how the area ended
@@ -48,8 +50,9 @@ told-ends progress holds end step area held same is frame least =
 
 -- a frame that is held is no longer than one may be
 pub short-ends : (progress : Progress) (holds : Bool) (end : AreaStep) (step : Step) (longest : ℕ) →
-    (IsTrue holds ↔ (step ≡ Frame)) → progress.longest ≡ longest + 4 → (step ≡ Frame → end ≡ Area) →
+    (IsTrue holds ↔ (step ≡ Frame)) → progress.longest ≡ area_limit longest → (step ≡ Frame → end ≡ Area) →
     (end ≡ Area → length progress.area ≤ progress.longest) →
     IfSome (frame_of (record { progress = progress; holds = holds })) (λ frame. length frame ≤ longest)
+unfolding area_limit
 short-ends progress holds end step longest held limit frame greatest =
     short-held progress holds longest (λ yes. omega (arith, limit, greatest (frame (held.0 yes))))

@@ -50,9 +50,13 @@ client_of (keeping area) = outcome_by (type_fault (take 4 area)) area
 client_of (passing why) = dropping (why_of why)
 
 -- ---- a receiver and a segment
+-- the most octets of an area where a frame has at most a number of octets: a type header stands before it
+unfoldable pub area_limit : ℕ → ℕ
+area_limit longest = longest + 4
+
 -- these octets of a segment have come, which is the first one of its stream or a later one
 abbrev pub StandsIn : Receiver → ℕ → Bool → List ℕ → Type 0
-StandsIn receiver longest first octets = IsAt receiver.progress (longest + 4) false first octets
+StandsIn receiver longest first octets = IsAt receiver.progress (area_limit longest) false first octets
 
 -- these octets of the first segment have come
 abbrev pub Stands : Receiver → ℕ → List ℕ → Type 0

@@ -25,7 +25,7 @@ mod octets;
 mod steps;
 
 pub use crate::areas::{AreaReceiver, AreaStep, AreaWhy};
-pub use crate::octets::word_run;
+pub use crate::octets::{first_four, word_run};
 use gfp_headers::read_type;
 pub use session_model::{TypeFault, Why};
 use std::alloc::{AllocError, Global};
@@ -187,15 +187,6 @@ fn client_step(area: &[u8]) -> Step
         Ok(()) => Step::Frame,
         Err(fault) => Step::Dropped(Why::Header(fault)),
     }
-}
-
-/// The type header in front of an area.
-#[inline]
-fn first_four(area: &[u8]) -> [u8; 4]
-    requires { 4 ≤ length area.now }
-    ensures { result ≡ take 4 area.now }
-{
-    [area[0], area[1], area[2], area[3]]
 }
 
 /// The two ends fit together: of each first part of a stream in which all frames wait from the start, the

@@ -1,13 +1,13 @@
-use Rattle.std.proofs.Common.{◌+◌, ◌∷◌, [], false, sym, subst}
-use Rattle.gfp_delineate.specs.Areas.{IsAt, ends_told}
-use Rattle.gfp_delineate.specs.Receiver.{Receiver, told_outcomes, Brings}
+use Rattle.std.proofs.Common.{◌∷◌, [], false, sym, subst}
+use Rattle.gfp_delineate.specs.Areas.{ends_told}
+use Rattle.gfp_delineate.specs.Receiver.{Receiver, area_limit, StandsIn, told_outcomes, Brings}
 use Rattle.gfp_delineate.proofs.ClientLaws.{Brings-ends, told-ends, short-ends}
 use Rattle.gfp_delineate.proofs.Delineator.byte.Goals as goal
 
 pub returns-clause-stands_in : goal.returns-clause-stands_in
 returns-clause-stands_in c = λ longest first octets stands.
-    c.byte-end.ensures.stands (longest + 4) false first octets
-    (subst (λ (was : Receiver). IsAt was.progress (longest + 4) false first octets) (sym c.self.view_is) stands)
+    c.byte-end.ensures.stands (area_limit longest) false first octets
+    (subst (λ (was : Receiver). StandsIn was longest first octets) (sym c.self.view_is) stands)
 
 pub returns-clause-outcome : goal.returns-clause-outcome
 returns-clause-outcome c =

@@ -1,8 +1,8 @@
-use Rattle.std.proofs.Common.{◌+◌, ℕ, [], false, Option, Some, None, refl, subst}
+use Rattle.std.proofs.Common.{ℕ, [], false, Option, Some, None, refl, subst}
 use Rattle.std.specs.Prelude.{IfSome}
 use Rattle.gfp_delineate.specs.Repeated.{idles_from}
 use Rattle.gfp_delineate.specs.Areas.{Goes, Adds}
-use Rattle.gfp_delineate.specs.Receiver.{Receiver, Advances, Brings}
+use Rattle.gfp_delineate.specs.Receiver.{Receiver, area_limit, Advances, Brings}
 use Rattle.gfp_delineate.proofs.ClientLaws.{Brings-ends}
 use Rattle.gfp_delineate.proofs.Delineator.idle_place.Goals as goal
 
@@ -13,7 +13,7 @@ stays : (receiver : Receiver) (place : Option ℕ) →
     × Brings receiver (idles_from place count) [])
 stays receiver None inner = tt
 stays receiver (Some place) inner = λ count. (
-  λ longest first octets stands. (inner count).0 (longest + 4) false first octets stands,
+  λ longest first octets stands. (inner count).0 (area_limit longest) false first octets stands,
   Brings-ends receiver (idles_from place count) [] [] refl (inner count).1,
 )
 
