@@ -7,7 +7,7 @@ use Rattle.script_read.specs.declared.fault.LineFault.{LineFault}
 use Rattle.script_read.specs.declared.fault.LineFault.TheVariants as wrong
 use Rattle.script_read.specs.declared.fault.ScriptFault.{ScriptFault}
 use Rattle.script_read.specs.declared.fault.ScriptFault.TheVariants.{Line, Slip, Spread, Lag, Memory}
-use Rattle.command_parts.specs.Helps.{line_help, slip_help, spread_help, lag_help}
+use Rattle.command_parts.specs.Helps.{line_help_text, slip_help_text, spread_help_text, lag_help_text}
 use Rattle.command_parts.specs.declared.stop.Refusal.{Refusal}
 use Rattle.command_parts.specs.declared.stop.Refusal.TheVariants as why
 use Rattle.command_parts.specs.declared.stop.Stop.{Stop}
@@ -43,14 +43,14 @@ line_text number kind help =
 
 -- what is wrong with a script, and what is said of how to write it
 abbrev pub fault_text : ScriptFault → List ℕ
-fault_text (Line number fault) = line_text number (kind_of fault) (line_help fault)
+fault_text (Line number fault) = line_text number (kind_of fault) (line_help_text fault)
 fault_text (Slip line window slip) =
-    codes "fault: slip line " ++ decimal line ++ codes " window " ++ decimal window ++ codes "\nhelp: " ++ slip_help slip ++ codes "\n"
+    codes "fault: slip line " ++ decimal line ++ codes " window " ++ decimal window ++ codes "\nhelp: " ++ slip_help_text slip ++ codes "\n"
 fault_text (Spread slow fast slip ring) =
     codes "fault: spread " ++ decimal slow ++ codes " " ++ decimal fast ++ codes " " ++ decimal slip ++ codes " " ++ decimal ring
-    ++ codes "\nhelp: " ++ spread_help slow fast slip ++ codes "\n"
+    ++ codes "\nhelp: " ++ spread_help_text slow fast slip ++ codes "\n"
 fault_text (Lag lag least slow slip) =
-    codes "fault: lag " ++ decimal lag ++ codes " least " ++ decimal least ++ codes "\nhelp: " ++ lag_help slow slip least ++ codes "\n"
+    codes "fault: lag " ++ decimal lag ++ codes " least " ++ decimal least ++ codes "\nhelp: " ++ lag_help_text slow slip least ++ codes "\n"
 fault_text Memory = codes "fault: no memory\n"
 
 -- a line is faulty, or slips, spread or lag don't fit

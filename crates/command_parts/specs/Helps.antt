@@ -1,7 +1,6 @@
 -- What is said of how to write what a script has wrong.
-use Rattle.std.specs.Prelude.{ℕ, ◌+◌, ◌-◌, nat_le, List, ◌++◌, codes, decimal, if◌then◌else◌}
-use Rattle.text_lines.specs.declared.fault.FieldFault.{FieldFault}
-use Rattle.text_lines.specs.declared.fault.FieldFault.TheVariants.{Number, Hex, Range, Size, Name}
+use Rattle.std.specs.Prelude.{ℕ, ◌+◌, ◌-◌, List, ◌++◌, codes, decimal}
+use Rattle.help_text.specs.Helps.{field_text, count_text, missing_text, order_text}
 use Rattle.script_read.specs.declared.keyword.Keyword.{Keyword}
 use Rattle.script_read.specs.declared.keyword.Keyword.TheVariants as word
 use Rattle.script_read.specs.declared.keyword.Part.{Part}
@@ -38,47 +37,36 @@ part_text part.Windows = codes "fail and lost"
 part_text part.Items = codes "frame, add and remove"
 part_text part.Events = codes "event lines"
 
--- ---- words, counted from 1 in their line
-abbrev pub word_text : ℕ → List ℕ
-word_text at = codes "word " ++ decimal at
-
--- the bounds of a number; where no number is within them, the upper one alone
-abbrev pub bounds_text : ℕ → ℕ → List ℕ
-bounds_text least most =
-    if nat_le least most then codes " is from " ++ decimal least ++ codes " to " ++ decimal most
-    else codes " is at most " ++ decimal most
-
-abbrev pub field_help : FieldFault → List ℕ
-field_help (Number at) = word_text at ++ codes " is a number of one to ten digits"
-field_help (Hex at) = word_text at ++ codes " is an even number of hexadecimal digits"
-field_help (Range at least most) = word_text at ++ bounds_text least most
-field_help (Size at least most) = word_text at ++ codes " has " ++ decimal least ++ codes " to " ++ decimal most ++ codes " octets"
-field_help (Name at) = word_text at ++ codes " is vc3 or vc4"
-
 -- ---- lines
-abbrev pub line_help : LineFault → List ℕ
-line_help wrong.First = codes "a line begins with one of container, lines, delays, ring, lag, ticks, fail, lost, frame, add, remove, client, operator, tick, carry, back, take, round, drain"
-line_help (wrong.Count keyword takes follow) =
-    keyword_text keyword ++ codes " takes " ++ decimal takes ++ codes " words, and " ++ decimal follow ++ codes " follow"
-line_help (wrong.Field fault) = field_help fault
-line_help (wrong.Missing keyword) = codes "the line " ++ keyword_text keyword ++ codes " has to stand here"
-line_help (wrong.Part this begun) = part_text this ++ codes " stands before " ++ part_text begun
-line_help (wrong.FullLine line) = codes "line " ++ decimal line ++ codes " has 256 failures already"
-line_help wrong.FullPath = codes "there are 256 lost lines already"
-line_help (wrong.FailureBefore end) = codes "the failure before ends at " ++ decimal end
-line_help (wrong.LossBefore end) = codes "the loss before ends at " ++ decimal end
-line_help (wrong.FrameBefore due) = codes "the frame before is due at " ++ decimal due
-line_help (wrong.CommandBefore due) = codes "the command before is due at " ++ decimal due
+-- the words that a line may begin with
+abbrev pub first_words : List ℕ
+first_words =
+    codes "a line begins with one of container, lines, delays, ring, lag, ticks, fail, lost, frame, add, remove, client, operator, tick, carry, back, take, round, drain"
+
+abbrev pub line_help_text : LineFault → List ℕ
+line_help_text wrong.First = first_words
+line_help_text (wrong.Count keyword takes follow) = count_text (keyword_text keyword) takes follow
+line_help_text (wrong.Field fault) = field_text fault
+line_help_text (wrong.Missing keyword) = missing_text (keyword_text keyword)
+line_help_text (wrong.Part this begun) = order_text (part_text this) (part_text begun)
+line_help_text (wrong.FullLine line) = codes "line " ++ decimal line ++ codes " has 256 failures already"
+line_help_text wrong.FullPath = codes "there are 256 lost lines already"
+line_help_text (wrong.FailureBefore end) = codes "the failure before ends at " ++ decimal end
+line_help_text (wrong.LossBefore end) = codes "the loss before ends at " ++ decimal end
+line_help_text (wrong.FrameBefore due) = codes "the frame before is due at " ++ decimal due
+line_help_text (wrong.CommandBefore due) = codes "the command before is due at " ++ decimal due
 
 -- ---- whole scripts
-abbrev pub slip_help : ℕ → List ℕ
-slip_help slip = codes "a slip of " ++ decimal slip ++ codes " needs a failure of at least " ++ decimal (slip + 1) ++ codes " frames"
+abbrev pub slip_help_text : ℕ → List ℕ
+slip_help_text slip =
+    codes "a slip of " ++ decimal slip ++ codes " needs a failure of at least " ++ decimal (slip + 1) ++ codes " frames"
 
-abbrev pub spread_help : ℕ → ℕ → ℕ → List ℕ
-spread_help slow fast slip =
+abbrev pub spread_help_text : ℕ → ℕ → ℕ → List ℕ
+spread_help_text slow fast slip =
     codes "delays from " ++ decimal fast ++ codes " to " ++ decimal slow ++ codes " and slips of " ++ decimal slip
     ++ codes " need a ring of at least " ++ decimal (slow - fast + slip + 1)
 
-abbrev pub lag_help : ℕ → ℕ → ℕ → List ℕ
-lag_help slow slip least =
-    codes "a delay of " ++ decimal slow ++ codes " and slips of " ++ decimal slip ++ codes " need a lag of at least " ++ decimal least
+abbrev pub lag_help_text : ℕ → ℕ → ℕ → List ℕ
+lag_help_text slow slip least =
+    codes "a delay of " ++ decimal slow ++ codes " and slips of " ++ decimal slip ++ codes " need a lag of at least "
+    ++ decimal least

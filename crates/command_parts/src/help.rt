@@ -1,11 +1,14 @@
-//! What is said of how to write what a script has wrong, put together piece by piece.
-ghost use Rattle.std.specs.Prelude.{◌≡◌, ◌+◌, ◌++◌, ◌≤◌, length, take, decimal};
-ghost use Rattle.report_text.specs.Line.{Extends, HasRoom};
-ghost use Rattle.command_parts.specs.Helps.{keyword_text, part_text, word_text, bounds_text, field_help, line_help, slip_help, spread_help, lag_help};
+//! What is said of how to write what a script has wrong. Each text is put together in a slice with room for it.
+ghost use Rattle.std.specs.Prelude.{◌≡◌, ◌≤◌, length, take};
+ghost use Rattle.command_parts.specs.Helps.{keyword_text, part_text, line_help_text, slip_help_text, spread_help_text, lag_help_text};
+ghost use Rattle.script_read.specs.declared.fault.LineFault.{LineFault};
 
+use help_text::{count_help, field_help, missing_help, number_help, order_help};
 use report_text::LineCursor;
 use script_read::{Keyword, LineFault, Part};
-use text_lines::FieldFault;
+
+/// The words that a line may begin with.
+const FIRST_WORDS: &[u8] = b"a line begins with one of container, lines, delays, ring, lag, ticks, fail, lost, frame, add, remove, client, operator, tick, carry, back, take, round, drain";
 
 /// A keyword as scripts have it.
 fn keyword_word(keyword: Keyword) -> &'static [u8]
@@ -48,173 +51,86 @@ fn part_words(part: Part) -> &'static [u8]
     }
 }
 
-/// Adds which word it is.
-fn add_word(line: &mut LineCursor, at: u64)
-    requires { HasRoom line.old 25 }
-    ensures text { Extends line.old line.new (word_text at) }
-    ensures end { line.new.at ≤ line.old.at + 25 }
+/// Writes a text as it is.
+fn whole_help(text: &[u8], out: &mut [u8]) -> usize
+    requires short { length text.now ≤ 160 }
+    requires room { 160 ≤ length out.old }
+    ensures within { result ≤ 160 }
+    ensures text { take result out.new ≡ text.now }
 {
-    line.text(b"word ");
-    line.decimal(at);
-}
-
-/// Adds the bounds of a number.
-fn add_bounds(line: &mut LineCursor, least: u64, most: u64)
-    requires { HasRoom line.old 60 }
-    ensures text { Extends line.old line.new (bounds_text least most) }
-    ensures end { line.new.at ≤ line.old.at + 60 }
-{
-    if least <= most {
-        line.text(b" is from ");
-        line.decimal(least);
-        line.text(b" to ");
-        line.decimal(most);
-    } else {
-        line.text(b" is at most ");
-        line.decimal(most);
-    }
-}
-
-/// Adds how many octets a word has.
-fn add_size(line: &mut LineCursor, at: u64, least: u64, most: u64)
-    requires { HasRoom line.old 90 }
-    ensures text { Extends line.old line.new (field_help (FieldFault.Size at least most)) }
-    ensures end { line.new.at ≤ line.old.at + 90 }
-{
-    add_word(line, at);
-    line.text(b" has ");
-    line.decimal(least);
-    line.text(b" to ");
-    line.decimal(most);
-    line.text(b" octets");
-}
-
-/// Adds what a word has to be.
-fn add_field(line: &mut LineCursor, fault: FieldFault)
-    requires { HasRoom line.old 90 }
-    ensures text { Extends line.old line.new (field_help fault) }
-    ensures end { line.new.at ≤ line.old.at + 90 }
-{
-    match fault {
-        FieldFault::Number { word } => {
-            add_word(line, word);
-            line.text(b" is a number of one to ten digits");
-        }
-        FieldFault::Hex { word } => {
-            add_word(line, word);
-            line.text(b" is an even number of hexadecimal digits");
-        }
-        FieldFault::Range { word, least, most } => {
-            add_word(line, word);
-            add_bounds(line, least, most);
-        }
-        FieldFault::Size { word, least, most } => add_size(line, word, least, most),
-        FieldFault::Name { word } => {
-            add_word(line, word);
-            line.text(b" is vc3 or vc4");
-        }
-    }
-}
-
-/// Adds how many words a keyword takes.
-fn add_count(line: &mut LineCursor, keyword: Keyword, takes: u64, follow: u64)
-    requires { HasRoom line.old 90 }
-    ensures text { Extends line.old line.new (line_help (LineFault.Count keyword takes follow)) }
-    ensures end { line.new.at ≤ line.old.at + 90 }
-{
-    line.text(keyword_word(keyword));
-    line.text(b" takes ");
-    line.decimal(takes);
-    line.text(b" words, and ");
-    line.decimal(follow);
-    line.text(b" follow");
-}
-
-/// Adds a text and a number.
-fn add_number(line: &mut LineCursor, text: &[u8], n: u32)
-    requires short { length text.now ≤ 40 }
-    requires room { HasRoom line.old 60 }
-    ensures text { Extends line.old line.new (text.now ++ decimal n) }
-    ensures end { line.new.at ≤ line.old.at + 60 }
-{
+    let mut line = LineCursor::new(out);
     line.text(text);
-    line.decimal(n);
+    line.end()
 }
 
-/// Adds what a line has to be.
-fn add_line(line: &mut LineCursor, fault: LineFault)
-    requires { HasRoom line.old 160 }
-    ensures text { Extends line.old line.new (line_help fault) }
-    ensures end { line.new.at ≤ line.old.at + 160 }
+/// Writes that a line of the group has as many failures as it may.
+fn full_help(member: u8, out: &mut [u8]) -> usize
+    requires { 160 ≤ length out.old }
+    ensures within { result ≤ 160 }
+    ensures text { take result out.new ≡ line_help_text (LineFault.FullLine member) }
+{
+    let mut line = LineCursor::new(out);
+    line.text(b"line ");
+    line.decimal(member);
+    line.text(b" has 256 failures already");
+    line.end()
+}
+
+/// Writes how a line has to be that has this fault.
+pub(crate) fn line_help(fault: LineFault, out: &mut [u8]) -> usize
+    requires { 160 ≤ length out.old }
+    ensures within { result ≤ 160 }
+    ensures text { take result out.new ≡ line_help_text fault }
 {
     match fault {
-        LineFault::First => line.text(FIRST_WORDS),
+        LineFault::First => whole_help(FIRST_WORDS, out),
         LineFault::Count {
             keyword,
             takes,
             follow,
-        } => add_count(line, keyword, takes, follow),
-        LineFault::Field(fault) => add_field(line, fault),
-        LineFault::Missing(keyword) => {
-            line.text(b"the line ");
-            line.text(keyword_word(keyword));
-            line.text(b" has to stand here");
-        }
-        LineFault::Part { this, begun } => {
-            line.text(part_words(this));
-            line.text(b" stands before ");
-            line.text(part_words(begun));
-        }
-        LineFault::FullLine { line: m } => {
-            line.text(b"line ");
-            line.decimal(m);
-            line.text(b" has 256 failures already");
-        }
-        LineFault::FullPath => line.text(b"there are 256 lost lines already"),
+        } => count_help(keyword_word(keyword), takes, follow, out),
+        LineFault::Field(fault) => field_help(fault, out),
+        LineFault::Missing(keyword) => missing_help(keyword_word(keyword), out),
+        LineFault::Part { this, begun } => order_help(part_words(this), part_words(begun), out),
+        LineFault::FullLine { line } => full_help(line, out),
+        LineFault::FullPath => whole_help(b"there are 256 lost lines already", out),
         LineFault::FailureBefore { end } => {
-            add_number(line, b"the failure before ends at ", end);
+            number_help(b"the failure before ends at ", u64::from(end), out)
         }
-        LineFault::LossBefore { end } => add_number(line, b"the loss before ends at ", end),
-        LineFault::FrameBefore { due } => add_number(line, b"the frame before is due at ", due),
+        LineFault::LossBefore { end } => {
+            number_help(b"the loss before ends at ", u64::from(end), out)
+        }
+        LineFault::FrameBefore { due } => {
+            number_help(b"the frame before is due at ", u64::from(due), out)
+        }
         LineFault::CommandBefore { due } => {
-            add_number(line, b"the command before is due at ", due);
+            number_help(b"the command before is due at ", u64::from(due), out)
         }
     }
 }
 
-/// The words that a line may begin with.
-const FIRST_WORDS: &[u8] = b"a line begins with one of container, lines, delays, ring, lag, ticks, fail, lost, frame, add, remove, client, operator, tick, carry, back, take, round, drain";
-
-/// Writes what a line has to be.
-pub(crate) fn line_help(fault: LineFault, out: &mut [u8]) -> usize
+/// Writes how long a failure with this slip has to be.
+pub(crate) fn slip_help(slip: u16, out: &mut [u8]) -> usize
     requires { 160 ≤ length out.old }
-    ensures within { result ≤ 160 }
-    ensures line { take result out.new ≡ line_help fault }
+    ensures within { result ≤ 128 }
+    ensures text { take result out.new ≡ slip_help_text slip }
 {
     let mut line = LineCursor::new(out);
-    add_line(&mut line, fault);
-    line.end()
-}
-
-/// Adds how long a failure has to be.
-pub(crate) fn add_slip(line: &mut LineCursor, slip: u16)
-    requires { HasRoom line.old 70 }
-    ensures text { Extends line.old line.new (slip_help slip) }
-    ensures end { line.new.at ≤ line.old.at + 70 }
-{
     line.text(b"a slip of ");
     line.decimal(slip);
     line.text(b" needs a failure of at least ");
     line.decimal(u32::from(slip) + 1);
     line.text(b" frames");
+    line.end()
 }
 
-/// Adds how many cells a ring has to hold.
-pub(crate) fn add_spread(line: &mut LineCursor, slow: u16, fast: u16, slip: u32)
-    requires { HasRoom line.old 110 }
-    ensures text { Extends line.old line.new (spread_help slow fast slip) }
-    ensures end { line.new.at ≤ line.old.at + 110 }
+/// Writes how many cells a ring has to hold.
+pub(crate) fn spread_help(slow: u16, fast: u16, slip: u32, out: &mut [u8]) -> usize
+    requires { 160 ≤ length out.old }
+    ensures within { result ≤ 128 }
+    ensures text { take result out.new ≡ spread_help_text slow fast slip }
 {
+    let mut line = LineCursor::new(out);
     line.text(b"delays from ");
     line.decimal(fast);
     line.text(b" to ");
@@ -223,18 +139,21 @@ pub(crate) fn add_spread(line: &mut LineCursor, slow: u16, fast: u16, slip: u32)
     line.decimal(slip);
     line.text(b" need a ring of at least ");
     line.decimal(u64::from(slow.saturating_sub(fast)) + u64::from(slip) + 1);
+    line.end()
 }
 
-/// Adds how great the lag has to be.
-pub(crate) fn add_lag(line: &mut LineCursor, slow: u16, slip: u32, least: u32)
-    requires { HasRoom line.old 90 }
-    ensures text { Extends line.old line.new (lag_help slow slip least) }
-    ensures end { line.new.at ≤ line.old.at + 90 }
+/// Writes how great the lag has to be.
+pub(crate) fn lag_help(slow: u16, slip: u32, least: u32, out: &mut [u8]) -> usize
+    requires { 160 ≤ length out.old }
+    ensures within { result ≤ 128 }
+    ensures text { take result out.new ≡ lag_help_text slow slip least }
 {
+    let mut line = LineCursor::new(out);
     line.text(b"a delay of ");
     line.decimal(slow);
     line.text(b" and slips of ");
     line.decimal(slip);
     line.text(b" need a lag of at least ");
     line.decimal(least);
+    line.end()
 }

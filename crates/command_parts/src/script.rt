@@ -6,12 +6,10 @@ ghost use Rattle.script_read.specs.declared.fault.ScriptFault.{ScriptFault};
 ghost use Rattle.command_parts.specs.Task.{Answer};
 ghost use Rattle.command_parts.specs.Ends.{lent};
 ghost use Rattle.command_parts.specs.Stops.{StopsReading};
-ghost use Rattle.text_lines.specs.Fields.{field_kind};
-ghost use Rattle.command_parts.specs.Helps.{line_help};
 ghost use Rattle.command_parts.specs.Faults.{kind_text, kind_of, line_text, fault_text, IsRefusedFor};
 ghost use Rattle.command_parts.specs.Scripts.{HasScript, script_answer};
 
-use crate::help::{add_lag, add_slip, add_spread, line_help};
+use crate::help::{lag_help, line_help, slip_help, spread_help};
 use crate::input::read_input;
 use crate::stop::{Fault, Refusal, Stop};
 use outside_io::ByteSource;
@@ -19,7 +17,7 @@ use report_text::LineCursor;
 use script_read::{LineFault, ScriptFault, read_script};
 use session_model::Script;
 use std::alloc::Global;
-use text_lines::{FieldFault, LineKind};
+use text_lines::LineKind;
 
 /// Room for a note.
 const NOTE_ROOM: usize = 256;
@@ -66,13 +64,15 @@ fn slip_note(member: u8, window: u16, slip: u16, out: &mut [u8]) -> usize
     ensures within { result ≤ 256 }
     ensures line { take result out.new ≡ fault_text (ScriptFault.Slip member window slip) }
 {
+    let mut help = [0u8; HELP_ROOM];
+    let help_end = slip_help(slip, &mut help);
     let mut line = LineCursor::new(out);
     line.text(b"fault: slip line ");
     line.decimal(member);
     line.text(b" window ");
     line.decimal(window);
     line.text(b"\nhelp: ");
-    add_slip(&mut line, slip);
+    line.text(&help[..help_end]);
     line.text(b"\n");
     line.end()
 }
@@ -83,6 +83,8 @@ fn spread_note(slow: u16, fast: u16, slip: u32, ring: u16, out: &mut [u8]) -> us
     ensures within { result ≤ 256 }
     ensures line { take result out.new ≡ fault_text (ScriptFault.Spread slow fast slip ring) }
 {
+    let mut help = [0u8; HELP_ROOM];
+    let help_end = spread_help(slow, fast, slip, &mut help);
     let mut line = LineCursor::new(out);
     line.text(b"fault: spread ");
     line.decimal(slow);
@@ -93,7 +95,7 @@ fn spread_note(slow: u16, fast: u16, slip: u32, ring: u16, out: &mut [u8]) -> us
     line.text(b" ");
     line.decimal(ring);
     line.text(b"\nhelp: ");
-    add_spread(&mut line, slow, fast, slip);
+    line.text(&help[..help_end]);
     line.text(b"\n");
     line.end()
 }
@@ -104,13 +106,15 @@ fn lag_note(lag: u16, least: u32, slow: u16, slip: u32, out: &mut [u8]) -> usize
     ensures within { result ≤ 256 }
     ensures line { take result out.new ≡ fault_text (ScriptFault.Lag lag least slow slip) }
 {
+    let mut help = [0u8; HELP_ROOM];
+    let help_end = lag_help(slow, slip, least, &mut help);
     let mut line = LineCursor::new(out);
     line.text(b"fault: lag ");
     line.decimal(lag);
     line.text(b" least ");
     line.decimal(least);
     line.text(b"\nhelp: ");
-    add_lag(&mut line, slow, slip, least);
+    line.text(&help[..help_end]);
     line.text(b"\n");
     line.end()
 }
@@ -126,25 +130,13 @@ pub fn line_fault(number: u64, kind: LineKind, help: &[u8]) -> Fault
     Fault::new(Refusal::Line, &note[..end])
 }
 
-/// The kind of what is wrong with a word.
-fn field_kind(fault: FieldFault) -> LineKind
-    ensures { result ≡ field_kind fault }
-{
-    match fault {
-        FieldFault::Number { .. } => LineKind::Number,
-        FieldFault::Hex { .. } => LineKind::Hex,
-        FieldFault::Range { .. } | FieldFault::Size { .. } => LineKind::Range,
-        FieldFault::Name { .. } => LineKind::Word,
-    }
-}
-
 /// The kind of what is wrong with a line of a script.
 fn kind_of(fault: LineFault) -> LineKind
     ensures { result ≡ kind_of fault }
 {
     match fault {
         LineFault::First | LineFault::Count { .. } => LineKind::Word,
-        LineFault::Field(fault) => field_kind(fault),
+        LineFault::Field(fault) => fault.kind(),
         LineFault::Missing(_) => LineKind::Missing,
         LineFault::FullLine { .. } | LineFault::FullPath => LineKind::Range,
         LineFault::Part { .. }

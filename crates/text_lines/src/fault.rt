@@ -2,6 +2,7 @@
 
 ghost use Rattle.std.specs.Prelude.{◌≡◌};
 ghost use Rattle.text_lines.specs.declared.fault.FieldStop.TheVariants as stop;
+ghost use Rattle.text_lines.specs.Fields.{field_kind};
 
 use std::alloc::{AllocError, AllocFailed};
 use thiserror::Error;
@@ -62,6 +63,20 @@ pub enum FieldFault {
     Name {
         word: u64,
     },
+}
+
+impl FieldFault {
+    /// Its kind.
+    pub fn kind(self) -> LineKind
+        ensures { result ≡ field_kind self }
+    {
+        match self {
+            FieldFault::Number { .. } => LineKind::Number,
+            FieldFault::Hex { .. } => LineKind::Hex,
+            FieldFault::Range { .. } | FieldFault::Size { .. } => LineKind::Range,
+            FieldFault::Name { .. } => LineKind::Word,
+        }
+    }
 }
 
 /// Why a word wasn't read.
