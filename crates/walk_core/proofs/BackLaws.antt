@@ -23,7 +23,8 @@ use Rattle.group_source.specs.Inbox.{is_lost_in}
 use Rattle.walk_core.specs.declared.moved.StepNote.{StepNote}
 use Rattle.walk_core.specs.declared.moved.Moved.TheVariants.{Yes, Stalled}
 use Rattle.walk_core.specs.Moved.{answer_by, moved_of, counts_after}
-use Rattle.walk_core.specs.Parts.{Parts, Landing, counts_of, HasBack, IsWalk}
+use Rattle.group_source.specs.Landed.{Landed}
+use Rattle.walk_core.specs.Parts.{Parts, counts_of, HasBack, IsWalk}
 use Rattle.walk_core.proofs.EventLaws.{walk-fits, walked-next}
 
 pub ring-size : (script : Script) (s : Counts) → length (return_ring script s) ≡ in_return s
@@ -61,17 +62,18 @@ come-is script k = by-lost (is_lost (scenario_of script) k)
     by-lost false = refl
 
 pub back-has : (script : Script) (s : Counts) (back : Return) → IsValid script → IsWalked script s → HasBack script s back → (back.ring ≡ [] → ⊥) → back.backs ≡ s.backs →
-    and_moved script.config.lost back ≡ record { ring = return_ring script (record s { backs = s.backs + 1 }); inbox = inbox script (record s { backs = s.backs + 1 }); room = script.config.lag + 1; backs = s.backs + 1 }
+    and_moved back ≡ record { ring = return_ring script (record s { backs = s.backs + 1 }); lost = script.config.lost; inbox = inbox script (record s { backs = s.backs + 1 }); room = script.config.lag + 1; backs = s.backs + 1 }
 back-has script s back valid walked has some same =
     let more = some-returned script s back has some in
     let fits = walk-fits script s valid walked in
     let next : Counts = record s { backs = s.backs + 1 } in
-    ap (moved_by script.config.lost back) (has.ring ∙ return_laws.ring-goes script s more)
-    ∙ ap (λ (cells : List BackCell). record { ring = return_ring script next; inbox = cells; room = back.room; backs = back.backs + 1 })
+    ap (moved_by back) (has.ring ∙ return_laws.ring-goes script s more)
+    ∙ ap (λ l. record { ring = return_ring script next; lost = l; inbox = back.inbox ++ come (is_lost_in l back.backs) (said_packet script s.backs) ∷ []; room = back.room; backs = back.backs + 1 }) has.lost
+    ∙ ap (λ (cells : List BackCell). record { ring = return_ring script next; lost = script.config.lost; inbox = cells; room = back.room; backs = back.backs + 1 })
     (ap (λ k. back.inbox ++ come (is_lost_in script.config.lost k) (said_packet script s.backs) ∷ []) same
     ∙ ap (λ cell. back.inbox ++ cell ∷ []) (come-is script s.backs) ∙ ap (λ cells. cells ++ back_cell script s.backs ∷ []) has.inbox ∙ sym (return_laws.inbox-comes script s fits.used))
-    ∙ ap (λ room. record { ring = return_ring script next; inbox = inbox script next; room = room; backs = back.backs + 1 }) has.room
-    ∙ ap (λ k. record { ring = return_ring script next; inbox = inbox script next; room = script.config.lag + 1; backs = k + 1 }) same
+    ∙ ap (λ room. record { ring = return_ring script next; lost = script.config.lost; inbox = inbox script next; room = room; backs = back.backs + 1 }) has.room
+    ∙ ap (λ k. record { ring = return_ring script next; lost = script.config.lost; inbox = inbox script next; room = script.config.lag + 1; backs = k + 1 }) same
 
 -- ---- of a walk
 pub back-stays : (script : Script) (s : Counts) (back : Return) → HasBack script s back → back.ring ≡ [] → (s ≡ counts_after script s Back) × (Stalled BackEmpty ≡ moved_of script s Back)
@@ -84,7 +86,7 @@ back-moved script s back has some =
     let e = back-moves script s back has some in
     (sym (ap (λ (x : Step). x.counts) e), ap (λ (x : Step). answer_by x.cause None) (sym e))
 
-module _ (script : Script) (parts : Parts) (landing : Landing) (got : ℕ) (last : Option StepNote) (is : IsWalk script parts landing got last) where
+module _ (script : Script) (parts : Parts) (landing : Landed) (got : ℕ) (last : Option StepNote) (is : IsWalk script parts landing got last) where
   pub inbox-room : length parts.back.inbox < parts.back.room
   inbox-room =
       let s : Counts = counts_of parts landing in
@@ -103,11 +105,11 @@ module _ (script : Script) (parts : Parts) (landing : Landing) (got : ℕ) (last
       let ticks = is.valid.network.ticks.1 in
       omega (arith, backs, rows, ticks)
 
-  module _ (some : parts.back.ring ≡ [] → ⊥) (back : Return) (moves : back ≡ and_moved script.config.lost parts.back) where
+  module _ (some : parts.back.ring ≡ [] → ⊥) (back : Return) (moves : back ≡ and_moved parts.back) where
     next : Counts
     next = record (counts_of parts landing) { backs = parts.back.backs + 1 }
 
-    back-is : back ≡ record { ring = return_ring script (record (counts_of parts landing) { backs = parts.back.backs + 1 }); inbox = inbox script (record (counts_of parts landing) { backs = parts.back.backs + 1 }); room = script.config.lag + 1; backs = parts.back.backs + 1 }
+    back-is : back ≡ record { ring = return_ring script (record (counts_of parts landing) { backs = parts.back.backs + 1 }); lost = script.config.lost; inbox = inbox script (record (counts_of parts landing) { backs = parts.back.backs + 1 }); room = script.config.lag + 1; backs = parts.back.backs + 1 }
     back-is = moves ∙ back-has script (counts_of parts landing) parts.back is.valid is.walked is.back some refl
 
     pub back-counts : counts_of (record parts { back = back }) landing ≡ counts_after script (counts_of parts landing) Back
@@ -116,13 +118,14 @@ module _ (script : Script) (parts : Parts) (landing : Landing) (got : ℕ) (last
     pub back-kept : IsWalk script (record parts { back = back }) landing got last
     back-kept = subst (λ (b : Return). IsWalk script (record parts { back = b }) landing got last) (sym back-is) (record {
       valid = is.valid;
+      total = is.total;
       walked = walked-next script (counts_of parts landing) _ Back is.walked (back-moved script (counts_of parts landing) parts.back is.back some).0;
       source = record { made = is.source.made; lines = is.source.lines; lag = is.source.lag; size = is.source.size };
       sent = is.sent;
       lines = is.lines;
       sink = record { gathers = is.sink.gathers; taken = is.sink.taken; passed = is.sink.passed; lines = is.sink.lines; all = is.sink.all; size = is.sink.size };
-      back = record { ring = refl; inbox = refl; room = refl };
-      landed = record { frame = is.landed.frame; command = is.landed.command; refusals = is.landed.refusals; room = is.landed.room; frames = is.landed.frames; commands = is.landed.commands; refused = is.landed.refused };
+      back = record { ring = refl; lost = refl; inbox = refl; room = refl };
+      landed = record { items = is.landed.items; refusals = is.landed.refusals; frames = is.landed.frames; commands = is.landed.commands };
       counted = is.counted;
       noted = is.noted;
     })

@@ -44,17 +44,6 @@ land-moves ticks None s next e = absurd cc
 land-moves ticks (Some due) s next e =
     elim (cases_Bool (nat_lt ticks due)) [ inl late ↦ absurd (let f : Some (NotDue due) ≡ None = rw late at e in cc) | inr now ↦ rw now refl ]
 
--- an item that lands is there, and is due
-pub item-there : (ticks : ℕ) (items : List Item) (i : ℕ) → stall_by ticks (slice_get items i) ≡ None → (item : Item) × (slice_get items i ≡ Some item) × (item.due ≤ ticks)
-item-there ticks items i none = by-found (slice_get items i) none
-  where
-    by-found : (found : Option Item) → stall_by ticks found ≡ None → (item : Item) × (found ≡ Some item) × (item.due ≤ ticks)
-    by-found None e = absurd cc
-    by-found (Some item) e = elim (cases_Bool (nat_lt ticks item.due)) [
-      | inl late ↦ absurd (let f : Some (NotDue item.due) ≡ None = rw late at e in cc)
-      | inr now ↦ (item, refl, grind (arith, now))
-    ]
-
 -- ---- what the item is
 pub record IsOffer (due : ℕ) (kind : ItemKind) (offer : DueFrame) : Type 0 where
   pub is : offer_of due kind ≡ offer ∷ []

@@ -32,12 +32,14 @@ use Rattle.walk_law.specs.Delivered.{delivered_of}
 use Rattle.walk_law.specs.Step.{last_packet}
 use Rattle.walk_law.proofs.PlanLaws.{has-paths, valid-walks}
 use Rattle.walk_law.proofs.WalkLaws.{begins-walked}
-use Rattle.group_source.specs.Place.{is_frame, is_command, place_of}
-use Rattle.walk_parts.specs.Return.{Return}
+use Rattle.session_model.specs.declared.packet.Packet.{Packet}
+use Rattle.group_source.specs.Item.{bare_items}
+use Rattle.group_source.specs.Landed.{Landed, none_landed}
+use Rattle.walk_parts.specs.Return.{Return, path_of}
 use Rattle.walk_parts.specs.Ringed.{Ringed, ring_of, Has}
 use Rattle.walk_core.specs.declared.opening.Opened.{Opened}
 use Rattle.walk_core.specs.Opened.{IsOpened, AreOpened, IsNew}
-use Rattle.walk_core.specs.Parts.{frame_in, HasSource, HasSent, HasLines, HasBack, counts_of, line_counts, calls_on, note_of, IsWalk}
+use Rattle.walk_core.specs.Parts.{parts_of, frame_in, HasSource, HasSent, HasLines, HasBack, counts_of, line_counts, calls_on, note_of, IsWalk}
 
 -- ---- the lines
 get-last : {X : Type 0} (xs : List X) (x : X) (m : ℕ) (y : X) → slice_get (xs ++ x ∷ []) m ≡ Some y → (slice_get xs m ≡ Some y) ⊎ ((m ≡ length xs) × (y ≡ x))
@@ -161,11 +163,9 @@ refused-none script items none = ap (flat_map (λ item. refused_by item.number (
 abbrev counts_from : ℕ → List LineCounts → ℕ → ℕ → Counts
 counts_from ticks lines rows backs = record { ticks = ticks; frames = 0; commands = 0; lines = lines; rows = rows; backs = backs }
 
-module _ (script : Script) (all : Opened) (is : IsNew script.config all) (valid : IsValid script)
-    (refusals : List (ℕ × Refusal)) (room frame command : ℕ) (none : refusals ≡ []) (wide : length script.items ≤ room)
-    (frame_at : frame ≡ 0 + place_of is_frame 0 (drop 0 script.items)) (command_at : command ≡ 0 + place_of is_command 0 (drop 0 script.items)) where
+module _ (script : Script) (all : Opened) (is : IsNew script all) (valid : IsValid script) where
   abbrev source : Terminal
-  source = all.ends.source
+  source = all.ends.source.core
 
   abbrev sent : List (Vec (Box Container))
   sent = all.paths.sent.items
@@ -180,21 +180,26 @@ module _ (script : Script) (all : Opened) (is : IsNew script.config all) (valid 
   sink = all.ends.sink
 
   abbrev back : Return
-  back = all.returns.back
+  back = path_of all.returns.ring all.ends.source.inbox
+
+  back-is : path_of all.returns.ring all.ends.source.inbox ≡ record { ring = []; lost = script.config.lost; inbox = []; room = script.config.lag + 1; backs = 0 }
+  back-is = ap (λ (ring : List Packet). path_of ring all.ends.source.inbox) is.ring ∙ ap (path_of []) is.source.inbox
 
   paths-size : length (walk_plan script).paths ≡ script.config.lines
   paths-size = has-paths script (valid-walks script valid) ∙ valid.network.windows_each
 
   begin-counts : counts_from source.ticks (map line_counts lines) sink.taken back.backs ≡ begin (walk_plan script)
   begin-counts =
-      ap (λ n. counts_from n (map line_counts lines) sink.taken back.backs) is.source.ticks
+      ap (λ n. counts_from n (map line_counts lines) sink.taken back.backs) is.source.core.ticks
       ∙ ap (λ ls. counts_from 0 ls sink.taken back.backs) (opened-counts script.config script.config.lines lines is.lines ∙ ap (λ k. replicate k no_counts) (sym paths-size))
       ∙ ap (λ n. counts_from 0 (replicate (length (walk_plan script).paths) no_counts) n back.backs) is.sink.taken
-      ∙ ap (λ (b : Return). counts_from 0 (replicate (length (walk_plan script).paths) no_counts) 0 b.backs) is.back
+      ∙ ap (λ (b : Return). counts_from 0 (replicate (length (walk_plan script).paths) no_counts) 0 b.backs) back-is
 
-  pub new-counts : counts_of (record { source = all.ends.source; sent = map frame_in all.paths.sent.items; lines = all.paths.lines.items; rows = all.returns.rows; sink = all.ends.sink; back = all.returns.back })
-      (record { refusals = refusals; room = room; frame = frame; command = command; frames = 0; commands = 0; refused_frames = 0; refused_commands = 0 }) ≡ begin (walk_plan script)
-  new-counts = begin-counts
+  pub new-counts : counts_of (parts_of all.ends.source (map frame_in all.paths.sent.items) all.paths.lines.items all.returns.rows all.ends.sink all.returns.ring)
+      all.ends.source.landed ≡ begin (walk_plan script)
+  new-counts =
+      ap (counts_of (parts_of all.ends.source (map frame_in all.paths.sent.items) all.paths.lines.items all.returns.rows all.ends.sink all.returns.ring)) is.source.landed
+      ∙ begin-counts
 
   cells-are : popped_cells script (map line_counts lines) ≡ replicate script.config.lines []
   cells-are =
@@ -206,20 +211,21 @@ module _ (script : Script) (all : Opened) (is : IsNew script.config all) (valid 
       length-map (range_with_len 0 (length script.config.windows)) (popped_on script (map line_counts lines)) ∙ length-range_with_len 0 (length script.config.windows)
       ∙ valid.network.windows_each
 
-  pub new-walk : IsWalk script (record { source = all.ends.source; sent = map frame_in all.paths.sent.items; lines = all.paths.lines.items; rows = all.returns.rows; sink = all.ends.sink; back = all.returns.back })
-      (record { refusals = refusals; room = room; frame = frame; command = command; frames = 0; commands = 0; refused_frames = 0; refused_commands = 0 }) 0 None
-  new-walk = record {
+  none-walk : IsWalk script (parts_of all.ends.source (map frame_in all.paths.sent.items) all.paths.lines.items all.returns.rows all.ends.sink all.returns.ring)
+      (none_landed (bare_items script.items)) 0 None
+  none-walk = record {
     valid = valid;
+    total = is.source.total;
     walked = subst (IsWalked script) (sym begin-counts) (begins-walked script);
     source = subst (λ s. HasSource script s source) (sym begin-counts) (record {
       made = subst (HasMade source (landed_scenario script (begin (walk_plan script)))) (sym (none-told script))
-          (is.source.stands (landed_scenario script (begin (walk_plan script)))
+          (is.source.core.made (landed_scenario script (begin (walk_plan script)))
           (record { of_lines = valid.network.windows_each; of_lag = refl; of_size = refl; no_offers = take-none (offers_of script.items); no_orders = take-none (orders_of script.items) }));
-      lines = is.source.lines;
-      lag = is.source.lag;
-      size = is.source.size;
+      lines = is.source.core.lines;
+      lag = is.source.core.lag;
+      size = is.source.core.size;
     });
-    sent = subst (λ n. HasSent script n (map line_counts lines) (map frame_in sent)) (sym is.source.ticks) (sent-opened script (map line_counts lines) sent is.sent.places is.sent.lines);
+    sent = subst (λ n. HasSent script n (map line_counts lines) (map frame_in sent)) (sym is.source.core.ticks) (sent-opened script (map line_counts lines) sent is.sent.places is.sent.lines);
     lines = opened-lines script lines is.lines;
     sink = record {
       gathers = subst (Gathers rows) (sym cells-are) is.rows.gathers;
@@ -229,23 +235,27 @@ module _ (script : Script) (all : Opened) (is : IsNew script.config all) (valid 
       all = is.sink.lines;
       size = is.sink.size;
     };
-    back = subst (λ s. HasBack script s back) (sym begin-counts) (subst (HasBack script (begin (walk_plan script))) (sym is.back) (record {
+    back = subst (λ s. HasBack script s back) (sym begin-counts) (subst (HasBack script (begin (walk_plan script))) (sym back-is) (record {
+      lost = refl;
       ring = sym (range-none (said_packet script) 0 (in_return (begin (walk_plan script))) (let e : in_return (begin (walk_plan script)) ≡ 0 = refl in e));
       inbox = sym (range-none (back_cell script) (used_in script.config.lag 0) (in_inbox (walk_plan script) (begin (walk_plan script))) (let e : 0 - used_in script.config.lag 0 ≡ 0 = omega arith in e));
       room = refl;
     }));
     landed = record {
-      frame = frame_at ∙ ap (λ xs. 0 + place_of is_frame 0 xs) (drop-none script.items) ∙ (let e : 0 + place_of is_frame 0 script.items ≡ place_of is_frame 0 script.items = omega arith in e);
-      command = command_at ∙ ap (λ xs. 0 + place_of is_command 0 xs) (drop-none script.items) ∙ (let e : 0 + place_of is_command 0 script.items ≡ place_of is_command 0 script.items = omega arith in e);
-      refusals = none ∙ sym (refused-none script (landed_from 0 0 0 script.items) (none-landed script.items 0));
-      room = wide;
+      items = refl;
+      refusals = sym (refused-none script (landed_from 0 0 0 script.items) (none-landed script.items 0));
       frames = sym (ap (λ xs. length (filter (is_accepted_frame script) xs) + 0) (none-landed script.items 0));
       commands = sym (ap (λ xs. length (filter (is_accepted_command script) xs) + 0) (none-landed script.items 0));
-      refused = ap length (refused-none script (landed_from 0 0 0 script.items) (none-landed script.items 0));
     };
     counted = sym (ap (λ n. min (length (delivered_of script n)) 18446744073709551615) is.sink.taken ∙ ap (λ xs. min (length xs) 18446744073709551615) (none-delivered script));
-    noted = subst (λ n. None ≡ note_of script (last_packet n)) (sym is.source.ticks) refl;
+    noted = subst (λ n. None ≡ note_of script (last_packet n)) (sym is.source.core.ticks) refl;
   }
+
+  pub new-walk : IsWalk script (parts_of all.ends.source (map frame_in all.paths.sent.items) all.paths.lines.items all.returns.rows all.ends.sink all.returns.ring)
+      all.ends.source.landed 0 None
+  new-walk =
+      subst (λ (l : Landed). IsWalk script (parts_of all.ends.source (map frame_in all.paths.sent.items) all.paths.lines.items all.returns.rows all.ends.sink all.returns.ring) l 0 None)
+      (sym is.source.landed) none-walk
 
 -- a line that was opened with the numbers of its place
 pub opened-at : (config : Config) (m : ℕ) (line : Ringed) (delay : ℕ) (windows : List Window) (total : ℕ) → delay ≡ slice_index_or config.delays m 0 → windows ≡ slice_index_or config.windows m [] →

@@ -1,5 +1,5 @@
 -- The first line whose send ring is full, and a tick of a walk.
-use Rattle.std.proofs.Common.{◌≡◌, ℕ, zero, suc, ◌+◌, ◌-◌, ◌*◌, ◌/◌, ◌%◌, ◌==◌, ◌&&◌, ◌<◌, ◌≤◌, min, nat_le, true, false, if◌then◌else◌, List, [], ◌∷◌, length, drop, map, slice_get, slice_set, slice_index_or, Option, Some, None, refl, sym, ◌∙◌, ap, subst, arith, inl, inr}
+use Rattle.std.proofs.Common.{◌≡◌, ℕ, zero, suc, ◌+◌, ◌-◌, ◌*◌, ◌/◌, ◌%◌, ◌==◌, ◌&&◌, ◌<◌, ◌≤◌, min, nat_le, true, false, if◌then◌else◌, List, [], ◌∷◌, length, drop, map, slice_get, slice_set, slice_index_or, Option, Some, None, refl, sym, ◌∙◌, ap, subst, arith, inl, inr, Bool, option_map}
 use Rattle.std.specs.Option.{is_some}
 use Rattle.std.specs.List.{range_with_len}
 use Rattle.std.specs.Global.{Vec, Box}
@@ -33,12 +33,24 @@ use Rattle.walk_law.proofs.WalkLaws.{line-fits}
 use Rattle.walk_law.proofs.SourceLaws.{told-frames}
 use Rattle.walk_law.proofs.StepLaws.{last-next, used-now, said-ends, table-now}
 use Rattle.walk_law.proofs.ReturnLaws as return_laws
-use Rattle.walk_parts.specs.Return.{Return}
+use Rattle.session_model.specs.declared.packet.Packet.{Packet}
+use Rattle.session_model.specs.Counts.{dues_of}
+use Rattle.session_model.specs.declared.walk.StallCause.TheVariants.{TxFull}
+use Rattle.std.proofs.lemmas.Bool.{eq-eqb}
+use Rattle.group_source.specs.declared.source.EarlyCause.{EarlyCause}
+use Rattle.group_source.specs.declared.source.EarlyCause.TheVariants.{Done as Early_done, Held as Early_held}
+use Rattle.group_source.specs.Inbox.{Inbox, rest_for}
+use Rattle.group_source.specs.Source.{missing_by}
+use Rattle.group_source.proofs.BareLaws.{bare-dues}
+use Rattle.group_source.proofs.SourceLaws.{missing-some}
+use Rattle.walk_parts.specs.Return.{Return, path_of}
+use Rattle.walk_core.specs.Landing.{early_stall}
 use Rattle.walk_parts.specs.Ringed.{Ringed}
 use Rattle.walk_core.specs.declared.moved.StepNote.{StepNote}
 use Rattle.walk_core.specs.declared.moved.Moved.TheVariants.{Yes, Stalled}
 use Rattle.walk_core.specs.Moved.{answer_by, moved_of, counts_after}
-use Rattle.walk_core.specs.Parts.{Parts, Landing, frame_in, HasSource, HasSent, HasBack, counts_of, line_counts, note_of, IsWalk}
+use Rattle.group_source.specs.Landed.{Landed}
+use Rattle.walk_core.specs.Parts.{Parts, frame_in, HasSource, HasSent, HasBack, counts_of, line_counts, note_of, IsWalk}
 use Rattle.walk_core.proofs.EventLaws.{walk-fits, walked-next}
 use Rattle.walk_core.proofs.CarryLaws.{map-set, frame-at}
 
@@ -121,12 +133,56 @@ tick-goes plan s e =
           (omega (arith, low), rw left (held-goes (held s.ticks s.frames s.commands 0 plan.items) plan s f))
     ]
 
+-- each test of a tick that is made
+full-none : (found : Option ℕ) (plan : Plan) (s : Counts) → None ≡ (tick_full found plan s).cause → found ≡ None
+full-none (Some line) plan s e = absurd cc
+full-none None plan s e = refl
+
+held-none : (found : Option ℕ) (plan : Plan) (s : Counts) → None ≡ (tick_held found plan s).cause → (found ≡ None) × (full plan.ticks s.ticks 0 s.lines ≡ None)
+held-none (Some item) plan s e = absurd cc
+held-none None plan s e = (refl, full-none (full plan.ticks s.ticks 0 s.lines) plan s e)
+
+record IsFree (plan : Plan) (s : Counts) : Type 0 where
+  left : nat_le plan.ticks s.ticks ≡ false
+  no_item : held s.ticks s.frames s.commands 0 plan.items ≡ None
+  slots : full plan.ticks s.ticks 0 s.lines ≡ None
+
+tick-free : (plan : Plan) (s : Counts) → None ≡ (tick plan s).cause → IsFree plan s
+tick-free plan s e =
+    elim (cases_Bool (nat_le plan.ticks s.ticks)) [
+      | inl done ↦ absurd (let f : None ≡ Some Done = rw done at e in cc)
+      | inr left ↦
+          let f : None ≡ (tick_held (held s.ticks s.frames s.commands 0 plan.items) plan s).cause = rw left at e in
+          let (item, slots) = held-none (held s.ticks s.frames s.commands 0 plan.items) plan s f in
+          record { left = left; no_item = item; slots = slots }
+    ]
+
+-- a return cell that isn't missing
+not-missing : (plan : Plan) (s : Counts) (cells : List BackCell) → length cells ≡ in_inbox plan s → missing_by (needed_at plan.lag s.ticks) cells ≡ None → is_missing plan s ≡ false
+not-missing plan s cells size none =
+    elim (cases_Bool (is_missing plan s)) [
+      | inr there ↦ there
+      | inl misses ↦
+          let at : s.ticks % 16 ≡ 8 = grind (arith, misses) in
+          let since : 16 * plan.lag + 8 ≤ s.ticks = grind (arith, misses) in
+          let empty : in_inbox plan s ≤ 0 = grind (arith, misses) in
+          let place : s.ticks % 16 == 8 ≡ true = eq-eqb (s.ticks % 16) 8 at in
+          let late : nat_le plan.lag (s.ticks / 16) ≡ true = le-yes plan.lag (s.ticks / 16) (omega (arith, at, since)) in
+          let need : needed_at plan.lag s.ticks ≡ Some (s.ticks / 16 - plan.lag) = rw (place, late) refl in
+          absurd (missing-none (s.ticks / 16 - plan.lag) cells (let h = empty in let e = size in omega arith) (ap (λ n. missing_by n cells) (sym need) ∙ none))
+    ]
+  where
+    missing-none : (packet : ℕ) (cells : List BackCell) → length cells ≡ 0 → missing_by (Some packet) cells ≡ None → ⊥
+    missing-none packet [] size none = let e : Some packet ≡ None = none in absurd cc
+    missing-none packet (cell ∷ cells) size none = absurd (omega arith)
+
 -- ---- the return cell of a tick
 -- the tick takes this cell, or none, and leaves this of the return path
 record IsTaken (script : Script) (s : Counts) (back : Return) (cell : Option BackCell) (path : Return) : Type 0 where
   told : told_before script (s.ticks + 1) ≡ with_cell (told_before script s.ticks) cell
   inbox : path.inbox ≡ inbox script (record s { ticks = s.ticks + 1 })
   ring : path.ring ≡ back.ring
+  lost : path.lost ≡ back.lost
   room : path.room ≡ back.room
   backs : path.backs ≡ back.backs
   noted : s.ticks % 16 ≡ 8 → cell ≡ cell_taken script (s.ticks / 16)
@@ -160,6 +216,7 @@ taken-some script s back path cell can walked rows has there place late first le
       told = ap (cells_before (scenario_of script)) more ∙ return_laws.cells-next script can used (omega (arith, ends, rows)) ∙ sym (ap (with_cell (told_before script s.ticks)) is);
       inbox = ap (λ (p : Return). p.inbox) left ∙ ap (drop 1) box;
       ring = ap (λ (p : Return). p.ring) left;
+      lost = ap (λ (p : Return). p.lost) left;
       room = ap (λ (p : Return). p.room) left;
       backs = ap (λ (p : Return). p.backs) left;
       noted = λ place_. is ∙ rw late (ap (λ k. Some (back_cell script k)) (used-now lag s.ticks at since));
@@ -172,6 +229,7 @@ taken-none script s back path cell has same need noted is left = record {
   told = ap (cells_before (scenario_of script)) same ∙ sym (ap (with_cell (told_before script s.ticks)) is);
   inbox = ap (λ (p : Return). p.inbox) left ∙ has.inbox ∙ ap (λ u. map (back_cell script) (range_with_len u (s.backs - u))) (sym same);
   ring = ap (λ (p : Return). p.ring) left;
+  lost = ap (λ (p : Return). p.lost) left;
   room = ap (λ (p : Return). p.room) left;
   backs = ap (λ (p : Return). p.backs) left;
   noted = λ place. is ∙ noted place;
@@ -240,13 +298,19 @@ note-next script ticks cell last note before noted is =
           now ∙ before ∙ sym (ap (note_of script) next)
     ]
 
+-- the return path once the source has taken what it needs
+pub path-left : (needs : Bool) (ring : List Packet) (inbox next : Inbox) → next ≡ record inbox { cells = rest_for needs inbox.cells } →
+    path_of ring next ≡ (if needs then record (path_of ring inbox) { inbox = drop 1 inbox.cells } else path_of ring inbox)
+path-left true ring inbox next e = ap (path_of ring) e
+path-left false ring inbox next e = ap (path_of ring) e
+
 -- ---- of a walk
 carried-at : (lines : List Ringed) (k : ℕ) (d : Ringed) → k < length lines → (counts_at (map line_counts lines) k).carried ≡ (slice_index_or lines k d).carried
 carried-at [] k d low = absurd (omega arith)
 carried-at (x ∷ xs) zero d low = refl
 carried-at (x ∷ xs) (suc k) d low = carried-at xs k d (omega arith)
 
-module _ (script : Script) (parts : Parts) (landing : Landing) (got : ℕ) (last : Option StepNote) (is : IsWalk script parts landing got last) where
+module _ (script : Script) (parts : Parts) (landing : Landed) (got : ℕ) (last : Option StepNote) (is : IsWalk script parts landing got last) where
   pub lines-made : (lines : List Ringed) → lines ≡ parts.lines → (k : ℕ) (d : Ringed) → k < length lines → min (slice_index_or lines k d).carried script.config.ticks ≤ parts.source.ticks
   lines-made lines same k d low =
       let size = ap length same ∙ is.lines.size in
@@ -266,6 +330,56 @@ module _ (script : Script) (parts : Parts) (landing : Landing) (got : ℕ) (last
       sym (missing-here (walk_plan script) (counts_of parts landing) packet low none_held none_full (ap (λ lag. needed_at lag parts.source.ticks) (sym is.source.lag) ∙ need)
       (sym size ∙ sym (ap length is.back.inbox) ∙ ap length none))
 
+  inbox-size : length parts.back.inbox ≡ in_inbox (walk_plan script) (counts_of parts landing)
+  inbox-size =
+      ap length is.back.inbox
+      ∙ length-map (range_with_len (used_in script.config.lag parts.source.ticks) (in_inbox (walk_plan script) (counts_of parts landing))) (back_cell script)
+      ∙ length-range_with_len (used_in script.config.lag parts.source.ticks) (in_inbox (walk_plan script) (counts_of parts landing))
+
+  bare-held : held parts.source.ticks landing.frames landing.commands 0 (dues_of landing.items) ≡ held parts.source.ticks landing.frames landing.commands 0 (walk_plan script).items
+  bare-held = ap (held parts.source.ticks landing.frames landing.commands 0) (ap dues_of is.landed.items ∙ bare-dues script.items)
+
+  -- why no frame is made, by what the source says
+  pub early-cause : (cause : EarlyCause) → (if nat_le parts.total parts.source.ticks then Some Early_done else option_map Early_held (held parts.source.ticks landing.frames landing.commands 0 (dues_of landing.items))) ≡ Some cause →
+      Some (early_stall cause) ≡ (step (walk_plan script) (counts_of parts landing) Tick).cause
+  early-cause cause e =
+      by-total (nat_le script.config.ticks parts.source.ticks) refl (held parts.source.ticks landing.frames landing.commands 0 (walk_plan script).items) refl
+      (sym (ap (λ n. if nat_le n parts.source.ticks then Some Early_done else option_map Early_held (held parts.source.ticks landing.frames landing.commands 0 (dues_of landing.items))) is.total
+      ∙ ap (λ (h : Option ℕ). if nat_le script.config.ticks parts.source.ticks then Some Early_done else option_map Early_held h) bare-held) ∙ e)
+    where
+      by-total : (done : Bool) → nat_le script.config.ticks parts.source.ticks ≡ done → (found : Option ℕ) → held parts.source.ticks landing.frames landing.commands 0 (walk_plan script).items ≡ found →
+          (if done then Some Early_done else option_map Early_held found) ≡ Some cause → Some (early_stall cause) ≡ (step (walk_plan script) (counts_of parts landing) Tick).cause
+      by-total true past found is_found e = rw past (let same : Early_done ≡ cause = cc in ap (λ c. Some (early_stall c)) (sym same))
+      by-total false left None is_found e = absurd cc
+      by-total false left (Some item) is_found e = rw (left, is_found) (let same : Early_held item ≡ cause = cc in ap (λ c. Some (early_stall c)) (sym same))
+
+  module _ (free : (if nat_le parts.total parts.source.ticks then Some Early_done else option_map Early_held (held parts.source.ticks landing.frames landing.commands 0 (dues_of landing.items))) ≡ None) where
+    left-none : (nat_le script.config.ticks parts.source.ticks ≡ false) × (held parts.source.ticks landing.frames landing.commands 0 (walk_plan script).items ≡ None)
+    left-none =
+        by-none (nat_le script.config.ticks parts.source.ticks) (held parts.source.ticks landing.frames landing.commands 0 (walk_plan script).items)
+        (sym (ap (λ n. if nat_le n parts.source.ticks then Some Early_done else option_map Early_held (held parts.source.ticks landing.frames landing.commands 0 (dues_of landing.items))) is.total
+        ∙ ap (λ (h : Option ℕ). if nat_le script.config.ticks parts.source.ticks then Some Early_done else option_map Early_held h) bare-held) ∙ free)
+      where
+        by-none : (done : Bool) (found : Option ℕ) → ◌≡◌ {A = Option EarlyCause} (if done then Some Early_done else option_map Early_held found) None → (done ≡ false) × (found ≡ None)
+        by-none true found e = absurd cc
+        by-none false None e = (refl, refl)
+        by-none false (Some item) e = absurd cc
+
+    pub full-cause : (line : ℕ) → full script.config.ticks parts.source.ticks 0 (map line_counts parts.lines) ≡ Some line → Some (TxFull line) ≡ (step (walk_plan script) (counts_of parts landing) Tick).cause
+    full-cause line found = rw (left-none.0, left-none.1, found) refl
+
+    pub missing-stalls : (packet : ℕ) → full script.config.ticks parts.source.ticks 0 (map line_counts parts.lines) ≡ None → missing_by (needed parts.source) parts.back.inbox ≡ Some packet →
+        Some (BackMissing packet) ≡ (step (walk_plan script) (counts_of parts landing) Tick).cause
+    missing-stalls packet slots misses =
+        let (need, none) = missing-some (needed parts.source) parts.back.inbox packet misses in
+        missing-cause packet (leb-false script.config.ticks parts.source.ticks left-none.0) left-none.1 slots need none
+
+    pub no-cause : full script.config.ticks parts.source.ticks 0 (map line_counts parts.lines) ≡ None → missing_by (needed parts.source) parts.back.inbox ≡ None →
+        None ≡ (step (walk_plan script) (counts_of parts landing) Tick).cause
+    no-cause slots there =
+        let has = not-missing (walk_plan script) (counts_of parts landing) parts.back.inbox inbox-size (ap (λ lag. missing_by (needed_at lag parts.source.ticks) parts.back.inbox) (sym is.source.lag) ∙ there) in
+        rw (left-none.0, left-none.1, slots, has) refl
+
   pub tick-stays : (cause : StallCause) → Some cause ≡ (step (walk_plan script) (counts_of parts landing) Tick).cause →
       (counts_of parts landing ≡ counts_after script (counts_of parts landing) Tick) × (Stalled cause ≡ moved_of script (counts_of parts landing) Tick)
   tick-stays cause e =
@@ -281,6 +395,22 @@ module _ (script : Script) (parts : Parts) (landing : Landing) (got : ℕ) (last
 
     pub ticks-few : parts.source.ticks < 4294967295
     ticks-few = let low = goes.0 in let most = is.valid.network.ticks.1 in omega (arith, low, most)
+
+    free : IsFree (walk_plan script) (counts_of parts landing)
+    free = tick-free (walk_plan script) (counts_of parts landing) e
+
+    -- the source has no cause either
+    pub early-free : (if nat_le parts.total parts.source.ticks then Some Early_done else option_map Early_held (held parts.source.ticks landing.frames landing.commands 0 (dues_of landing.items))) ≡ None
+    early-free =
+        ap (λ n. if nat_le n parts.source.ticks then Some Early_done else option_map Early_held (held parts.source.ticks landing.frames landing.commands 0 (dues_of landing.items))) is.total
+        ∙ rw (free.left) (ap (option_map Early_held) (bare-held ∙ free.no_item))
+
+    pub missing-free : missing_by (needed parts.source) parts.back.inbox ≡ None
+    missing-free = by-found (missing_by (needed parts.source) parts.back.inbox) refl
+      where
+        by-found : (found : Option ℕ) → missing_by (needed parts.source) parts.back.inbox ≡ found → found ≡ None
+        by-found None same = refl
+        by-found (Some packet) same = absurd (let f : None ≡ Some (BackMissing packet) = e ∙ sym (missing-stalls early-free packet free.slots same) in cc)
 
     pub tick-moved : Yes ≡ moved_of script (counts_of parts landing) Tick
     tick-moved = ap (λ o. answer_by o None) e
@@ -328,6 +458,7 @@ module _ (script : Script) (parts : Parts) (landing : Landing) (got : ℕ) (last
         pub tick-kept : IsWalk script (record parts { source = source; sent = slice_set parts.sent (parts.source.ticks % 32) frame; back = path }) landing got note
         tick-kept = record {
           valid = is.valid;
+          total = is.total;
           walked = subst (IsWalked script) (sym counts-are) walked-after;
           source = subst (λ s. HasSource script s source) (sym counts-are) (record {
             made = subst (HasMade source (landed_scenario script (counts_of parts landing))) (sym is_taken.told)
@@ -340,8 +471,8 @@ module _ (script : Script) (parts : Parts) (landing : Landing) (got : ℕ) (last
               (sent-more script parts.source.ticks (map line_counts parts.lines) parts.sent frame is.sent frame-is (ap length frame-is ∙ frame-long script parts.source.ticks ∙ is.valid.network.windows_each));
           lines = is.lines;
           sink = record { gathers = is.sink.gathers; taken = is.sink.taken; passed = is.sink.passed; lines = is.sink.lines; all = is.sink.all; size = is.sink.size };
-          back = subst (λ s. HasBack script s path) (sym counts-are) (record { ring = is_taken.ring ∙ is.back.ring; inbox = is_taken.inbox; room = is_taken.room ∙ is.back.room });
-          landed = record { frame = is.landed.frame; command = is.landed.command; refusals = is.landed.refusals; room = is.landed.room; frames = is.landed.frames; commands = is.landed.commands; refused = is.landed.refused };
+          back = subst (λ s. HasBack script s path) (sym counts-are) (record { ring = is_taken.ring ∙ is.back.ring; lost = is_taken.lost ∙ is.back.lost; inbox = is_taken.inbox; room = is_taken.room ∙ is.back.room });
+          landed = record { items = is.landed.items; refusals = is.landed.refusals; frames = is.landed.frames; commands = is.landed.commands };
           counted = is.counted;
           noted = subst (λ n. note ≡ note_of script (last_packet n)) (sym ticks) (note-next script parts.source.ticks cell last note is.noted is_taken.noted noted);
         }
@@ -357,17 +488,18 @@ module _ (script : Script) (parts : Parts) (landing : Landing) (got : ℕ) (last
           tick-kept_at = subst (λ sent. IsWalk script (record parts { source = source; sent = sent; back = path }) landing got note) rows-are tick-kept
 
 -- ---- the send rings before a frame is put into them
-pub sent-placed : (script : Script) (parts : Parts) (landing : Landing) (got : ℕ) (last : Option StepNote) (sent : List (List Container)) → IsWalk script parts landing got last →
+pub sent-placed : (script : Script) (parts : Parts) (landing : Landed) (got : ℕ) (last : Option StepNote) (sent : List (List Container)) → IsWalk script parts landing got last →
     HasSent script parts.source.ticks (map line_counts parts.lines) sent → IsWalk script (record parts { sent = sent }) landing got last
 sent-placed script parts landing got last sent is has = record {
   valid = is.valid;
+  total = is.total;
   walked = is.walked;
   source = record { made = is.source.made; lines = is.source.lines; lag = is.source.lag; size = is.source.size };
   sent = has;
   lines = is.lines;
   sink = record { gathers = is.sink.gathers; taken = is.sink.taken; passed = is.sink.passed; lines = is.sink.lines; all = is.sink.all; size = is.sink.size };
-  back = record { ring = is.back.ring; inbox = is.back.inbox; room = is.back.room };
-  landed = record { frame = is.landed.frame; command = is.landed.command; refusals = is.landed.refusals; room = is.landed.room; frames = is.landed.frames; commands = is.landed.commands; refused = is.landed.refused };
+  back = record { ring = is.back.ring; lost = is.back.lost; inbox = is.back.inbox; room = is.back.room };
+  landed = record { items = is.landed.items; refusals = is.landed.refusals; frames = is.landed.frames; commands = is.landed.commands };
   counted = is.counted;
   noted = is.noted;
 }
@@ -382,6 +514,6 @@ sent-read script ticks now lines own was after same_ticks same_lines keeps has =
     (keeps (subst (λ ls. HasSent script now (map line_counts ls) was) (sym same_lines) (subst (λ n. HasSent script n (map line_counts lines) was) (sym same_ticks) has))))
 
 -- ---- the table
-pub table-after : (script : Script) (parts : Parts) (landing : Landing) (got : ℕ) (last : Option StepNote) → IsWalk script parts landing got last → parts.source.table.source.table ≡ table_in script parts.source.ticks
+pub table-after : (script : Script) (parts : Parts) (landing : Landed) (got : ℕ) (last : Option StepNote) → IsWalk script parts landing got last → parts.source.table.source.table ≡ table_in script parts.source.ticks
 table-after script parts landing got last is =
     ap (λ (table : Course). table.source.table) is.source.made.table ∙ table-now script (counts_of parts landing) (valid-walks script is.valid) is.walked

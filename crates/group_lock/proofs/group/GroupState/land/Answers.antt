@@ -47,7 +47,7 @@ returns-in-None c =
       rings = record { ticks = e.ticks; inbox = ap (λ (i : Inbox). i.cells) e.rest.inbox; tx = refl; back = refl };
       made = e.made;
     })
-    (c.push.ensures.entries ∙ ap (λ n. g.journal.entries ++ entry_of c.args.number n kind ∷ []) (c.ticks.ensures ∙ ap (λ (t : Terminal). t.ticks) c.core.ensures ∙ e.ticks))
+    (c.push.ensures.entries ∙ ap (λ n. g.journal.entries ++ entry_of c.args.number n kind ∷ []) (c.ticks.ensures ∙ e.ticks))
     c.push.ensures.slots c.push.ensures.bytes
 
 pub returns-in-Some : goal.returns-in-Some
@@ -95,7 +95,7 @@ invariant_of-self-in-None c =
     let late = next-due g.source.landed (is_client kind) c.args.number g.source.core.ticks c.requires.next g.keeps.ahead in
     record {
       keeps = rested g.source c.land.new.self c.push.new.self g.tx.items g.back _ e.rest (keeps-accepted _ _ c.land.new.self.core c.land.new.self.landed c.push.new.self c.args.number kind g.keeps l.items (omega arith) (omega arith)
-          (c.push.ensures.entries ∙ ap (λ n. g.journal.entries ++ entry_of c.args.number n kind ∷ []) (c.ticks.ensures ∙ ap (λ (t : Terminal). t.ticks) c.core.ensures ∙ e.ticks)) e.ticks e.kind e.made
+          (c.push.ensures.entries ∙ ap (λ n. g.journal.entries ++ entry_of c.args.number n kind ∷ []) (c.ticks.ensures ∙ e.ticks)) e.ticks e.kind e.made
           (sym (refused-is g kind) ∙ sym e.met ∙ c.in-None.is) (omega arith)
           (landed-behind g (is_client kind) c.args.number _ _ c.requires.next due g.keeps.behind
           l.frames l.commands)

@@ -5,7 +5,6 @@ use Rattle.std.proofs.lemmas.Bool.{eqb-true}
 use Rattle.std.proofs.Common.{eq-eqb}
 use Rattle.group_lock.specs.declared.answer.SubmitFault.TheVariants.{NotNext, Early, JournalFull}
 use Rattle.group_source.specs.Item.{kind_of}
-use Rattle.source_core.specs.Terminal.{Terminal}
 use Rattle.group_source.specs.Landed.{Landed, next_number, due_at}
 use Rattle.group_lock.proofs.GroupLaws.{submits-none, asked-next, asked-early, asked-full, room-found}
 use Rattle.group_lock.proofs.group.GroupState.submit.Goals as goal
@@ -46,7 +45,7 @@ returns-then-now-due c =
     let kind = kind_of c.args.item in
     let next = sym (c.next-next.ensures ∙ ap (λ (l : Landed). next_number l c.is_frame.result) c.landing.ensures ∙ ap (next_number g.source.landed) c.is_frame.ensures) ∙ is-some c.next-next.result c.args.number (not-false _ (sym c.if-ne.false ∙ c.ne.ensures)) in
     let low = c.if-now-due.true in
-    let now = c.ticks-now.ensures ∙ ap (λ (t : Terminal). t.ticks) c.core.ensures in
+    let now = c.ticks-now.ensures in
     let due = c.due.ensures ∙ ap (λ (l : Landed). due_at l.items c.args.number) c.landing-2.ensures in
     submits-none g c.args.number kind (Early c.ticks-now.result) refl (ap (λ n. Some (Early n)) now ∙ asked-early g c.args.number kind next (omega arith))
 
@@ -56,7 +55,7 @@ returns-then-not-finds_room c =
     let kind = kind_of c.args.item in
     let next = sym (c.next-next.ensures ∙ ap (λ (l : Landed). next_number l c.is_frame.result) c.landing.ensures ∙ ap (next_number g.source.landed) c.is_frame.ensures) ∙ is-some c.next-next.result c.args.number (not-false _ (sym c.if-ne.false ∙ c.ne.ensures)) in
     let low = c.if-now-due.false in
-    let now = c.ticks-now.ensures ∙ ap (λ (t : Terminal). t.ticks) c.core.ensures in
+    let now = c.ticks-now.ensures in
     let due = c.due.ensures ∙ ap (λ (l : Landed). due_at l.items c.args.number) c.landing-2.ensures in
     submits-none g c.args.number kind (JournalFull c.slots-entries.result c.bytes-bytes.result) refl
     (ap (λ n. Some (JournalFull n c.bytes-bytes.result)) c.slots-entries.ensures ∙ ap (λ n. Some (JournalFull g.journal.slots n)) c.bytes-bytes.ensures
@@ -70,7 +69,7 @@ land-requires-clause-next c =
 pub land-requires-clause-due : goal.land-requires-clause-due
 land-requires-clause-due c =
     let low = c.if-now-due.false in
-    let now = c.ticks-now.ensures ∙ ap (λ (t : Terminal). t.ticks) c.core.ensures in
+    let now = c.ticks-now.ensures in
     let due = c.due.ensures ∙ ap (λ (l : Landed). due_at l.items c.args.number) c.landing-2.ensures in
     omega arith
 
