@@ -14,6 +14,7 @@ mod source;
 pub use boxes::blank_boxes;
 pub use inbox::Inbox;
 pub use item::{ItemRef, handed};
+pub use items::{held_item, next_command, next_frame};
 pub use landing::Landing;
 pub use laws::source_law;
 pub use source::{EarlyCause, GroupSource};

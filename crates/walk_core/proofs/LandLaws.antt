@@ -1,28 +1,18 @@
 -- An item lands.
-use Rattle.std.proofs.Common.{◌≡◌, ℕ, zero, suc, ◌+◌, ◌≤◌, nat_lt, Bool, true, List, [], ◌∷◌, ◌++◌, length, take, slice_get, if◌then◌else◌, Option, Some, None, option_map, inl, inr, refl, sym, ◌∙◌, ap, arith}
+use Rattle.std.proofs.Common.{◌≡◌, ℕ, ◌+◌, nat_lt, slice_get, Option, Some, None, option_map, inl, inr, refl, sym, ◌∙◌, ap, arith}
 use Rattle.std.proofs.lemmas.Bool.{cases_Bool}
 use Rattle.session_model.specs.declared.script.Item.{Item}
-use Rattle.session_model.specs.declared.script.ItemKind.{ItemKind}
-use Rattle.session_model.specs.declared.script.ItemKind.TheVariants.{Frame, Add, Remove}
 use Rattle.session_model.specs.declared.script.Script.{Script}
 use Rattle.session_model.specs.declared.walk.Event.{Event}
 use Rattle.session_model.specs.declared.walk.Event.TheVariants.{Accept, Command}
 use Rattle.session_model.specs.declared.walk.StallCause.{StallCause}
 use Rattle.session_model.specs.declared.walk.StallCause.TheVariants.{NotDue}
-use Rattle.session_model.specs.Scenario.{Scenario, DueCommand, DueFrame, order_of, offer_of, orders_of, offers_of}
 use Rattle.session_model.specs.Counts.{Counts, Step, land_due, step}
-use Rattle.session_model.specs.declared.table.Command.TheVariants.{Add as add, Remove as remove}
-use Rattle.session_model.specs.Source.{refusal}
-use Rattle.session_model.specs.Client.{refusal_while}
-use Rattle.report_text.specs.declared.report.Refusal.TheVariants.{Frame as frame_fault, Command as command_fault}
-use Rattle.source_core.specs.Terminal.{Terminal}
-use Rattle.source_core.specs.Given.{with_frame, with_command}
 use Rattle.walk_law.specs.Walk.{walk_plan}
 use Rattle.group_source.specs.Place.{is_frame, is_command, place_of}
 use Rattle.group_source.proofs.PlaceLaws.{due_found, frame-due, command-due}
 use Rattle.report_text.specs.declared.report.Refusal.{Refusal}
 use Rattle.walk_law.specs.Landed.{refusal_at}
-use Rattle.group_source.specs.Lands.{met_by, with_kind}
 use Rattle.walk_core.specs.Landing.{stall_by}
 use Rattle.walk_core.specs.declared.moved.Moved.{Moved}
 use Rattle.walk_core.specs.declared.moved.Moved.TheVariants.{Stalled}
@@ -43,29 +33,6 @@ land-moves : (ticks : ℕ) (due : Option ℕ) (s next : Counts) → (land_due ti
 land-moves ticks None s next e = absurd cc
 land-moves ticks (Some due) s next e =
     elim (cases_Bool (nat_lt ticks due)) [ inl late ↦ absurd (let f : Some (NotDue due) ≡ None = rw late at e in cc) | inr now ↦ rw now refl ]
-
--- ---- what the item is
-pub record IsOffer (due : ℕ) (kind : ItemKind) (offer : DueFrame) : Type 0 where
-  pub is : offer_of due kind ≡ offer ∷ []
-  pub time : offer.due ≡ due
-  pub met : (core : Terminal) → met_by core kind ≡ option_map frame_fault (refusal_while core.queue.waiting offer.frame)
-  pub told : (scenario : Scenario) (ticks : ℕ) → with_kind scenario ticks kind ≡ with_frame scenario ticks offer.frame
-
-pub offer-here : (due : ℕ) (kind : ItemKind) → is_frame kind ≡ true → (offer : DueFrame) × IsOffer due kind offer
-offer-here due (Frame octets) e = (record { due = due; frame = octets }, record { is = refl; time = refl; met = λ core. refl; told = λ scenario ticks. refl })
-offer-here due (Add line) e = absurd cc
-offer-here due (Remove line) e = absurd cc
-
-pub record IsOrder (due : ℕ) (kind : ItemKind) (order : DueCommand) : Type 0 where
-  pub is : order_of due kind ≡ order ∷ []
-  pub time : order.due ≡ due
-  pub met : (core : Terminal) → met_by core kind ≡ option_map command_fault (refusal core.lines order.command core.table.source)
-  pub told : (scenario : Scenario) (ticks : ℕ) → with_kind scenario ticks kind ≡ with_command scenario ticks order.command
-
-pub order-here : (due : ℕ) (kind : ItemKind) → is_command kind ≡ true → (order : DueCommand) × IsOrder due kind order
-order-here due (Frame octets) e = absurd cc
-order-here due (Add line) e = (record { due = due; command = add line }, record { is = refl; time = refl; met = λ core. refl; told = λ scenario ticks. refl })
-order-here due (Remove line) e = (record { due = due; command = remove line }, record { is = refl; time = refl; met = λ core. refl; told = λ scenario ticks. refl })
 
 -- ---- an event lands the next item of its kind, which is at place i, or stalls
 pub record IsNext (script : Script) (s next : Counts) (event : Event) (i : ℕ) : Type 0 where

@@ -1,66 +1,61 @@
 -- What an item that lands leaves of a walk.
-use Rattle.std.proofs.Common.{◌≡◌, ℕ, zero, suc, ◌+◌, ◌<◌, ◌≤◌, ◌&&◌, not, nat_lt, Bool, true, false, if◌then◌else◌, List, [], ◌∷◌, ◌++◌, length, take, map, slice_get, Option, Some, None, option_map, inl, inr, refl, sym, ◌∙◌, ap, subst, arith}
+use Rattle.std.proofs.Common.{◌≡◌, ℕ, zero, suc, ◌+◌, ◌<◌, ◌≤◌, ◌&&◌, not, nat_lt, Bool, true, false, if◌then◌else◌}
+use Rattle.std.proofs.Common.{List, [], ◌∷◌, length, map, slice_get, Option, Some, None, option_map}
+use Rattle.std.proofs.Common.{inl, inr, refl, sym, ◌∙◌, ap, subst, arith}
 use Rattle.std.specs.Option.{is_some}
 use Rattle.std.proofs.lemmas.Bool.{cases_Bool, ltb-false, lt-ltb, le-ltb}
-use Rattle.std.proofs.lemmas.List.{length-map}
-use Rattle.std.proofs.lemmas.Option.{slice_get_within, get_or_from_slice_get, slice_get-map}
-use Rattle.std.proofs.Math.Seq.{take-suc}
 use Rattle.session_model.specs.declared.script.Item.{Item}
 use Rattle.session_model.specs.declared.script.ItemKind.{ItemKind}
+use Rattle.session_model.specs.declared.script.ItemKind.TheVariants.{Frame, Add, Remove}
 use Rattle.session_model.specs.declared.script.Script.{Script}
-use Rattle.session_model.specs.Scenario.{Scenario, DueCommand, DueFrame, orders_of, offers_of, scenario_of}
+use Rattle.session_model.specs.declared.table.Command.{Command}
+use Rattle.session_model.specs.declared.table.Command.TheVariants.{Add as add, Remove as remove}
+use Rattle.session_model.specs.declared.packet.Packet.{Packet}
+use Rattle.session_model.specs.declared.walk.StallCause.{StallCause}
+use Rattle.session_model.specs.declared.walk.StallCause.TheVariants.{NotDue, Done as Stall_done}
+use Rattle.session_model.specs.declared.walk.Event.{Event}
+use Rattle.session_model.specs.Scenario.{Scenario, DueCommand, DueFrame, order_of}
 use Rattle.session_model.specs.Source.{Source, refusal}
 use Rattle.session_model.specs.Client.{refusal_while}
-use Rattle.session_model.specs.Journal.{with_items}
-use Rattle.session_model.specs.Counts.{Counts}
+use Rattle.session_model.specs.Counts.{Counts, step}
 use Rattle.session_model.specs.Course.{Course}
-use Rattle.walk_law.specs.Step.{last_packet}
+use Rattle.session_model.specs.Table.{Told}
 use Rattle.report_text.specs.declared.report.Refusal.{Refusal}
 use Rattle.report_text.specs.declared.report.Refusal.TheVariants.{Frame as frame_fault, Command as command_fault}
 use Rattle.report_text.specs.declared.report.Totals.{Totals}
+use Rattle.vc_cell.specs.declared.Container.{Container}
+use Rattle.realign_core.specs.Gather.{Gather}
 use Rattle.source_core.specs.Terminal.{Terminal, SameKind}
 use Rattle.source_core.specs.Given.{Stands as HasMade}
-use Rattle.walk_law.specs.Walk.{IsWalked}
-use Rattle.walk_law.specs.Landed.{Numbered, landed_from, landed_items, landed_scenario, told_before, IsOfferAt, IsOrderAt, is_client, with_if, refusal_at, refused_by, refusals_of, IsPlaced, totals_of, with_frame_told, with_command_told}
+use Rattle.sink_core.specs.Core.{Core}
+use Rattle.walk_law.specs.Step.{last_packet}
+use Rattle.walk_law.specs.Walk.{walk_plan, IsWalked}
+use Rattle.walk_law.specs.Landed.{Numbered, landed_scenario, told_before, is_client, refusal_at, refused_by, refusals_of}
+use Rattle.walk_law.specs.Landed.{IsPlaced, totals_of, with_frame_told, with_command_told}
 use Rattle.walk_law.proofs.PlanLaws.{valid-walks}
 use Rattle.walk_law.proofs.LandLaws.{frame-waits, command-waits, offer-at, order-at}
 use Rattle.walk_law.proofs.SourceLaws.{meets-stream, meets-source}
 use Rattle.walk_law.proofs.ReportLaws.{frame-placed, command-placed, frame-totals, command-totals}
-use Rattle.group_source.specs.Place.{is_frame, is_command, place_of}
-use Rattle.walk_core.specs.declared.moved.StepNote.{StepNote}
+use Rattle.group_source.specs.Inbox.{Inbox}
+use Rattle.group_source.specs.Landed.{Landed, next_number, next_place, there_at, due_at, HasPassed}
 use Rattle.group_source.specs.Lands.{met_by, with_kind}
-use Rattle.session_model.specs.declared.packet.Packet.{Packet}
-use Rattle.vc_cell.specs.declared.Container.{Container}
-use Rattle.realign_core.specs.Gather.{Gather}
-use Rattle.sink_core.specs.Core.{Core}
+use Rattle.group_source.specs.Place.{is_frame, is_command}
+use Rattle.group_source.specs.Source.{Source as Source_side, SameRest}
+use Rattle.group_source.proofs.PlaceLaws.{place-found}
+use Rattle.group_source.proofs.LandingLaws.{item-there, client-frame, operator-command, placed-same}
+use Rattle.group_source.proofs.LandsLaws.{place_by, numbered, counts_by, next_by, next-counts, next-place, bare-size}
+use Rattle.group_source.proofs.LandsLaws.{bare-due, next-there, offer-here, order-here, Leaves, leaves}
 use Rattle.walk_parts.specs.Ringed.{Ringed}
 use Rattle.walk_parts.specs.Return.{path_of}
-use Rattle.group_source.specs.Item.{bare}
-use Rattle.group_source.specs.Inbox.{Inbox}
-use Rattle.group_source.specs.Source.{Source as Source_side, SameRest}
-use Rattle.group_source.proofs.BareLaws.{bare-place, frame-blind, command-blind}
-use Rattle.group_source.proofs.LandingLaws.{number-there, item-there as group_item-there, client-frame, operator-command, placed-same}
-use Rattle.walk_core.specs.Landing.{stall_by, landing_of}
-use Rattle.group_source.specs.Landed.{Landed, next_place, next_number, landed_of, there_at, due_in, due_at, HasPassed}
-use Rattle.walk_core.specs.Parts.{Parts, parts_of, counts_of, note_of, HasSource, HasSent, HasBack, HasLanded, line_counts, IsWalk}
-use Rattle.session_model.specs.declared.walk.Event.{Event}
-use Rattle.session_model.specs.declared.walk.StallCause.{StallCause}
-use Rattle.session_model.specs.declared.walk.StallCause.TheVariants.{NotDue, Done as Stall_done}
-use Rattle.session_model.specs.Table.{Told}
-use Rattle.session_model.specs.Counts.{step}
-use Rattle.walk_law.specs.Walk.{walk_plan}
+use Rattle.walk_core.specs.declared.moved.StepNote.{StepNote}
 use Rattle.walk_core.specs.declared.moved.Moved.{Moved}
 use Rattle.walk_core.specs.declared.moved.Moved.TheVariants.{Stalled}
+use Rattle.walk_core.specs.Landing.{stall_by, landing_of}
 use Rattle.walk_core.specs.Moved.{moved_of, counts_after}
+use Rattle.walk_core.specs.Parts.{Parts, parts_of, counts_of, note_of, HasSource, HasSent, HasBack, HasLanded}
+use Rattle.walk_core.specs.Parts.{line_counts, IsWalk}
 use Rattle.walk_core.proofs.EventLaws.{walked-next}
-use Rattle.group_source.proofs.PlaceLaws.{place-found, offers-size, orders-size}
-use Rattle.walk_core.proofs.LandLaws.{offer-here, order-here, IsNext, frame-next, command-next, answer_of, next-cause, next-stays, next-moves}
-
-take-next : {X : Type 0} (xs : List X) (n : ℕ) (x : X) → slice_get xs n ≡ Some x → take (n + 1) xs ≡ take n xs ++ x ∷ []
-take-next xs n x there =
-    ap (λ k. take k xs) (let e : n + 1 ≡ suc n = omega arith in e)
-    ∙ take-suc xs n x (slice_get_within xs n x there)
-    ∙ ap (λ y. take n xs ++ y ∷ []) (get_or_from_slice_get xs n x x there)
+use Rattle.walk_core.proofs.LandLaws.{IsNext, frame-next, command-next, answer_of, next-cause, next-stays, next-moves}
 
 -- ---- an item that lands, in numbers
 pub record Lands (script : Script) (s next : Counts) (source : Terminal) (i : ℕ) (item : Item)
@@ -72,157 +67,113 @@ pub record Lands (script : Script) (s next : Counts) (source : Terminal) (i : �
   pub totals : totals_of script next ≡ tell (refusal_at script (record { number = i; item = item }))
       (totals_of script s)
 
--- which items a frame, or a command, is among, and what it does to the totals
-abbrev pub kind_by : Bool → ItemKind → Bool
-kind_by true = is_frame
-kind_by false = is_command
-
+-- what one more of a kind does to the totals
 abbrev pub tell_by : Bool → Option Refusal → Totals → Totals
 tell_by true = with_frame_told
 tell_by false = with_command_told
-
--- the place of the next one, and the counts once it has landed
-abbrev pub place_by : Bool → Landed → List Item → ℕ
-place_by client landing items = place_of (kind_by client) (landed_of landing client) items
-
-abbrev pub next_by : Bool → Parts → Landed → Counts
-next_by true parts landing = record (counts_of parts landing) { frames = landing.frames + 1 }
-next_by false parts landing = record (counts_of parts landing) { commands = landing.commands + 1 }
-
-abbrev pub next_now : Parts → Landed → Counts
-next_now parts now = record (counts_of parts now) { frames = now.frames; commands = now.commands }
-
-same-next : (client : Bool) (parts : Parts) (landing now : Landed) (refused : Bool) → HasPassed landing now client refused → next_by client parts landing ≡ next_now parts now
-same-next true parts landing now refused passed =
-    ap (λ n. record (counts_of parts landing) { frames = n }) (sym passed.frames)
-    ∙ ap (λ n. record (counts_of parts landing) { frames = now.frames; commands = n }) (let e = passed.commands in let f : landing.commands ≡ now.commands = omega arith in f)
-same-next false parts landing now refused passed =
-    ap (λ n. record (counts_of parts landing) { commands = n }) (sym passed.commands)
-    ∙ ap (λ n. record (counts_of parts landing) { frames = n; commands = now.commands }) (let e = passed.frames in let f : landing.frames ≡ now.frames = omega arith in f)
 
 module _ (script : Script) (parts : Parts) (landing : Landed) (got : ℕ) (last : Option StepNote)
     (is : IsWalk script parts landing got last) where
   abbrev s : Counts
   s = counts_of parts landing
 
-  frame-lands : (item : Item) → slice_get script.items (place_by true landing script.items) ≡ Some item →
-      item.due ≤ parts.source.ticks →
-      Lands script (counts_of parts landing) (next_by true parts landing) parts.source
-      (place_by true landing script.items) item with_frame_told
-  frame-lands item there due =
+  frame-lands : (due : ℕ) (octets : List ℕ) →
+      slice_get script.items (place_by true landing script.items) ≡ Some (record { due = due; kind = Frame octets }) →
+      due ≤ parts.source.ticks →
+      Lands script (counts_of parts landing) (next_by true (counts_of parts landing) landing) parts.source
+      (place_by true landing script.items) (record { due = due; kind = Frame octets }) with_frame_told
+  frame-lands due octets there soon =
       let place : ℕ = place_by true landing script.items in
-      let found = place-found is_frame script.items landing.frames item there in
-      let (offer, that) = offer-here item.due item.kind found.0 in
-      let numbered : Numbered = record { number = place; item = item } in
-      let here : IsOfferAt script.items landing.frames numbered offer =
-      record {
-        there = there;
-        is = that.is;
-        before = offers-size (take place script.items) ∙ found.1;
-      } in
-      let same = that.time in
-      let soon : offer.due ≤ parts.source.ticks = omega (arith, same, due) in
-      let (next, earlier) = offer-at script.items landing.frames numbered offer here in
+      let offer : DueFrame = record { due = due; frame = octets } in
+      let one : Numbered = numbered place due (Frame octets) in
+      let here = offer-here script.items landing.frames place due octets refl there in
+      let next = (offer-at script.items landing.frames one offer here).0 in
       let late = frame-waits script s landing.frames offer is.walked (omega arith) next in
-      let now : offer.due ≡ parts.source.ticks = omega (arith, soon, late) in
-      let landed : slice_get (offers_of script.items) landing.frames ≡ Some
-      (record { due = parts.source.ticks; frame = offer.frame }) =
-      next ∙ ap (λ t. Some (record { due = t; frame = offer.frame })) now in
+      let now : due ≡ parts.source.ticks = omega (arith, soon, late) in
       record {
-        met = that.met parts.source ∙ ap (λ (waiting : List (List ℕ)). option_map frame_fault
-            (refusal_while waiting offer.frame)) is.source.made.stream.waits
-            ∙ sym (meets-stream script s (valid-walks script is.valid) is.walked numbered offer here soon);
-        told = that.told (landed_scenario script s) parts.source.ticks
-            ∙ ap (λ (offers : List DueFrame). with_items (scenario_of script)
-            (take landing.commands (orders_of script.items)) offers)
-            (sym (take-next (offers_of script.items) landing.frames
-            (record { due = parts.source.ticks; frame = offer.frame }) landed));
-        placed = frame-placed script s numbered offer here;
-        totals = frame-totals script s numbered offer here;
+        met = ap (λ (waiting : List (List ℕ)). option_map frame_fault (refusal_while waiting octets))
+            is.source.made.stream.waits
+            ∙ sym (meets-stream script s (valid-walks script is.valid) is.walked one offer here soon);
+        told = ap (λ t. with_kind (landed_scenario script s) t (Frame octets)) (sym now)
+            ∙ (leaves script s landing place due (Frame octets) refl there).scenario;
+        placed = frame-placed script s one offer here;
+        totals = frame-totals script s one offer here;
       }
 
-  command-lands : (item : Item) → slice_get script.items (place_by false landing script.items) ≡ Some item →
-      item.due ≤ parts.source.ticks →
-      Lands script (counts_of parts landing) (next_by false parts landing) parts.source
-      (place_by false landing script.items) item with_command_told
-  command-lands item there due =
+  command-lands : (due : ℕ) (kind : ItemKind) (command : Command) →
+      order_of due kind ≡ record { due = due; command = command } ∷ [] →
+      met_by parts.source kind
+      ≡ option_map command_fault (refusal parts.source.lines command parts.source.table.source) →
+      slice_get script.items (place_by false landing script.items) ≡ Some (record { due = due; kind = kind }) →
+      Leaves script (counts_of parts landing) (next_by false (counts_of parts landing) landing)
+      (numbered (place_by false landing script.items) due kind) →
+      due ≤ parts.source.ticks →
+      Lands script (counts_of parts landing) (next_by false (counts_of parts landing) landing) parts.source
+      (place_by false landing script.items) (record { due = due; kind = kind }) with_command_told
+  command-lands due kind command is_order met there with_it soon =
       let place : ℕ = place_by false landing script.items in
-      let found = place-found is_command script.items landing.commands item there in
-      let (order, that) = order-here item.due item.kind found.0 in
-      let numbered : Numbered = record { number = place; item = item } in
-      let here : IsOrderAt script.items landing.commands numbered order =
-      record {
-        there = there;
-        is = that.is;
-        before = orders-size (take place script.items) ∙ found.1;
-      } in
-      let same = that.time in
-      let soon : order.due ≤ parts.source.ticks = omega (arith, same, due) in
-      let (next, earlier) = order-at script.items landing.commands numbered order here in
+      let order : DueCommand = record { due = due; command = command } in
+      let one : Numbered = numbered place due kind in
+      let here = order-here script.items landing.commands place due kind order refl is_order there in
+      let next = (order-at script.items landing.commands one order here).0 in
       let late = command-waits script s landing.commands order is.walked (omega arith) next in
-      let now : order.due ≡ parts.source.ticks = omega (arith, soon, late) in
-      let landed : slice_get (orders_of script.items) landing.commands ≡ Some
-      (record { due = parts.source.ticks; command = order.command }) =
-      next ∙ ap (λ t. Some (record { due = t; command = order.command })) now in
+      let now : due ≡ parts.source.ticks = omega (arith, soon, late) in
       record {
-        met = that.met parts.source
-            ∙ ap (λ lines. option_map command_fault (refusal lines order.command parts.source.table.source))
+        met = met
+            ∙ ap (λ lines. option_map command_fault (refusal lines command parts.source.table.source))
             is.source.made.lines
             ∙ ap (λ (source : Source). option_map command_fault
-            (refusal (length script.config.windows) order.command source))
+            (refusal (length script.config.windows) command source))
             (ap (λ (c : Course). c.source) is.source.made.table)
-            ∙ sym (meets-source script s (valid-walks script is.valid) is.walked numbered order here soon);
-        told = that.told (landed_scenario script s) parts.source.ticks
-            ∙ ap (λ (orders : List DueCommand). with_items (scenario_of script) orders
-            (take landing.frames (offers_of script.items)))
-            (sym (take-next (orders_of script.items) landing.commands
-            (record { due = parts.source.ticks; command = order.command }) landed));
-        placed = command-placed script s numbered order here;
-        totals = command-totals script s numbered order here;
+            ∙ sym (meets-source script s (valid-walks script is.valid) is.walked one order here soon);
+        told = ap (λ t. with_kind (landed_scenario script s) t kind) (sym now) ∙ with_it.scenario;
+        placed = command-placed script s one order here;
+        totals = command-totals script s one order here;
       }
 
-  lands-by : (client : Bool) (item : Item) → slice_get script.items (place_by client landing script.items) ≡ Some item →
-      item.due ≤ parts.source.ticks →
-      Lands script (counts_of parts landing) (next_by client parts landing) parts.source
-      (place_by client landing script.items) item (tell_by client)
-  lands-by true item there due = frame-lands item there due
-  lands-by false item there due = command-lands item there due
+  lands-by : (client : Bool) (due : ℕ) (kind : ItemKind) →
+      slice_get script.items (place_by client landing script.items) ≡ Some (record { due = due; kind = kind }) →
+      due ≤ parts.source.ticks →
+      Lands script (counts_of parts landing) (next_by client (counts_of parts landing) landing) parts.source
+      (place_by client landing script.items) (record { due = due; kind = kind }) (tell_by client)
+  lands-by true due (Frame octets) there soon = frame-lands due octets there soon
+  lands-by true due (Add line) there soon =
+      let other : false ≡ true =
+      (place-found is_frame script.items landing.frames (record { due = due; kind = Add line }) there).0 in
+      absurd cc
+  lands-by true due (Remove line) there soon =
+      let other : false ≡ true =
+      (place-found is_frame script.items landing.frames (record { due = due; kind = Remove line }) there).0 in
+      absurd cc
+  lands-by false due (Frame octets) there soon =
+      let other : false ≡ true =
+      (place-found is_command script.items landing.commands (record { due = due; kind = Frame octets }) there).0 in
+      absurd cc
+  lands-by false due (Add line) there soon =
+      command-lands due (Add line) (add line) refl refl there
+      (leaves script s landing (place_by false landing script.items) due (Add line) refl there) soon
+  lands-by false due (Remove line) there soon =
+      command-lands due (Remove line) (remove line) refl refl there
+      (leaves script s landing (place_by false landing script.items) due (Remove line) refl there) soon
 
   -- what lands next is the script's
-  next-by : (client : Bool) → IsNext script (counts_of parts landing) (next_by client parts landing)
+  next-by : (client : Bool) → IsNext script (counts_of parts landing) (next_by client (counts_of parts landing) landing)
       (landing_of client) (place_by client landing script.items)
   next-by true = frame-next script (counts_of parts landing) (place_by true landing script.items) refl
   next-by false = command-next script (counts_of parts landing) (place_by false landing script.items) refl
 
-  place-is : (client : Bool) → next_place landing client ≡ place_by client landing script.items
-  place-is true = ap (place_of is_frame landing.frames) is.landed.items ∙ bare-place is_frame frame-blind landing.frames script.items
-  place-is false =
-      ap (place_of is_command landing.commands) is.landed.items ∙ bare-place is_command command-blind landing.commands script.items
-
-  many : length landing.items ≡ length script.items
-  many = ap length is.landed.items ∙ length-map script.items bare
-
-  bare-there : (number : ℕ) (item : Item) → slice_get script.items number ≡ Some item → due_at landing.items number ≡ item.due
-  bare-there number item here =
-      ap due_in (ap (λ (items : List Item). slice_get items number) is.landed.items ∙ slice_get-map bare script.items number
-      ∙ ap (option_map bare) here)
-
   -- ---- the walk after it, where its source was given the item, and what has landed is so many
-  land-kept : (kind : ItemKind) (source : Terminal) (landed : Landing) →
-      HasLanded script (record (counts_of parts landing) { frames = landed.frames; commands = landed.commands })
-      landed →
-      IsWalked script (record (counts_of parts landing) { frames = landed.frames; commands = landed.commands }) →
+  land-kept : (kind : ItemKind) (source : Terminal) (landed : Landed) →
+      HasLanded script (counts_by (counts_of parts landing) landed) landed →
+      IsWalked script (counts_by (counts_of parts landing) landed) →
       with_kind (landed_scenario script (counts_of parts landing)) parts.source.ticks kind
-      ≡ landed_scenario script (record (counts_of parts landing) {
-        frames = landed.frames;
-        commands = landed.commands;
-      }) →
+      ≡ landed_scenario script (counts_by (counts_of parts landing) landed) →
       HasMade source (with_kind (landed_scenario script (counts_of parts landing)) parts.source.ticks kind)
       (told_before script parts.source.ticks) →
       source.ticks ≡ parts.source.ticks → SameKind source parts.source →
       IsWalk script (record parts { source = source }) landed got last
   land-kept kind source landed has walked told made ticks same =
-      let next : Counts = record (counts_of parts landing) { frames = landed.frames; commands = landed.commands } in
+      let next : Counts = counts_by (counts_of parts landing) landed in
       let e : next ≡ counts_of (record parts { source = source }) landed = ap (λ t. record next { ticks = t })
       (sym ticks) in
       record {
@@ -270,16 +221,18 @@ told-command (Some why) was now frames commands a b c d told f g e h = rw told (
 
 has-landed : (client : Bool) (script : Script) (parts : Parts) (landing now : Landed) (why : Option Refusal) →
     HasLanded script (counts_of parts landing) landing → HasPassed landing now client (is_some why) →
-    now.refusals ≡ refusals_of script (next_by client parts landing) →
-    totals_of script (next_by client parts landing) ≡ tell_by client why (totals_of script (counts_of parts landing)) →
-    HasLanded script (next_by client parts landing) now
+    now.refusals ≡ refusals_of script (next_by client (counts_of parts landing) landing) →
+    totals_of script (next_by client (counts_of parts landing) landing) ≡ tell_by client why (totals_of script (counts_of parts landing)) →
+    HasLanded script (next_by client (counts_of parts landing) landing) now
 has-landed true script parts landing now why has passed same told =
-    let t = told-frame why (totals_of script (counts_of parts landing)) (totals_of script (next_by true parts landing)) landing.frames
+    let was : Counts = counts_of parts landing in
+    let t = told-frame why (totals_of script was) (totals_of script (next_by true was landing)) landing.frames
     landing.commands landing.refused_frames landing.refused_commands now.refused_frames now.refused_commands told has.frames
     has.commands passed.refused_frames passed.refused_commands in
     record { items = passed.items ∙ has.items; refusals = same; frames = t.0; commands = t.1 }
 has-landed false script parts landing now why has passed same told =
-    let t = told-command why (totals_of script (counts_of parts landing)) (totals_of script (next_by false parts landing)) landing.frames
+    let was : Counts = counts_of parts landing in
+    let t = told-command why (totals_of script was) (totals_of script (next_by false was landing)) landing.frames
     landing.commands landing.refused_frames landing.refused_commands now.refused_frames now.refused_commands told has.frames
     has.commands passed.refused_frames passed.refused_commands in
     record { items = passed.items ∙ has.items; refusals = same; frames = t.0; commands = t.1 }
@@ -314,31 +267,28 @@ module _ (script : Script) (parts : Parts) (landing : Landed) (got : ℕ) (last 
     (is : IsWalk script parts landing got last) (client : Bool) where
   cause-is : (step (walk_plan script) (counts_of parts landing) (landing_of client)).cause
       ≡ stall_by parts.source.ticks (slice_get script.items (place_by client landing script.items))
-  cause-is = next-cause script (counts_of parts landing) (next_by client parts landing) (landing_of client)
+  cause-is = next-cause script (counts_of parts landing) (next_by client (counts_of parts landing) landing) (landing_of client)
       (place_by client landing script.items) (next-by script parts landing got last is client)
 
   pub land-none : next_number landing client ≡ None →
       (step (walk_plan script) (counts_of parts landing) (landing_of client)).cause ≡ Some Stall_done
   land-none none =
       let past = next-none (next_place landing client) landing.items none in
-      let place = place-is script parts landing got last is client in
-      let size = many script parts landing got last is in
+      let place = next-place script.items landing is.landed.items client in
+      let size = bare-size script.items landing is.landed.items in
       cause-is ∙ ap (stall_by parts.source.ticks) (none-there script.items (place_by client landing script.items) (omega arith))
 
   pub number-in : (number : ℕ) → next_number landing client ≡ Some number →
       (number ≡ place_by client landing script.items) × (number < length script.items)
-  number-in number e =
-      let (at, there) = number-there landing client number e in
-      let size = many script parts landing got last is in
-      (at ∙ place-is script parts landing got last is client, omega arith)
+  number-in number e = next-there script.items landing is.landed.items client number e
 
   found-at : (number : ℕ) → next_number landing client ≡ Some number →
       (item : Item) × (slice_get script.items (place_by client landing script.items) ≡ Some item)
       × (due_at landing.items number ≡ item.due)
   found-at number e =
       let (at, low) = number-in number e in
-      let (item, here) = group_item-there script.items number low in
-      (item, ap (slice_get script.items) (sym at) ∙ here, bare-there script parts landing got last is number item here)
+      let (item, here) = item-there script.items number low in
+      (item, ap (slice_get script.items) (sym at) ∙ here, bare-due script.items landing is.landed.items number item here)
 
   pub land-early : (number ticks due : ℕ) → next_number landing client ≡ Some number → ticks ≡ parts.source.ticks →
       due ≡ due_at landing.items number → ticks < due →
@@ -361,7 +311,7 @@ module _ (script : Script) (parts : Parts) (landing : Landed) (got : ℕ) (last 
       (step (walk_plan script) (counts_of parts landing) (landing_of client)).cause ≡ Some cause →
       (counts_of parts landing ≡ counts_after script (counts_of parts landing) (landing_of client))
       × (Stalled cause ≡ moved_of script (counts_of parts landing) (landing_of client))
-  land-stays cause e = next-stays script (counts_of parts landing) (next_by client parts landing) (landing_of client)
+  land-stays cause e = next-stays script (counts_of parts landing) (next_by client (counts_of parts landing) landing) (landing_of client)
       (place_by client landing script.items) (next-by script parts landing got last is client) cause e
 
   -- the item is of the kind that lands
@@ -385,12 +335,12 @@ module _ (script : Script) (parts : Parts) (landing : Landed) (got : ℕ) (last 
       Done script (counts_of parts landing) (landing_of client) (record parts { source = source }) now got last (answer_of why)
   land-ends number ticks due kind why source now e when late low handed met given passed put =
       let before : Counts = counts_of parts landing in
-      let next : Counts = next_by client parts landing in
+      let next : Counts = next_by client (counts_of parts landing) landing in
       let place : ℕ = place_by client landing script.items in
       let (at, inside) = number-in number e in
       let (item, here, is_due) = found-at number e in
       let same_kind : kind ≡ item.kind = handed item (ap (slice_get script.items) at ∙ here) in
-      let lands = lands-by script parts landing got last is client item here (omega arith) in
+      let lands = lands-by script parts landing got last is client item.due item.kind here (omega arith) in
       let same_why : refusal_at script (record { number = place; item = item }) ≡ why =
       sym lands.met ∙ sym (met ∙ ap (met_by parts.source) same_kind) in
       let placed : IsPlaced place (refused_by place why) landing.refusals (refusals_of script next) =
@@ -402,11 +352,11 @@ module _ (script : Script) (parts : Parts) (landing : Landed) (got : ℕ) (last 
       let refusals = placed-same place (refused_by place why) landing.refusals now.refusals (refusals_of script next) own placed in
       let has = has-landed client script parts landing now why is.landed passed refusals
       (lands.totals ∙ ap (λ found. tell_by client found (totals_of script before)) same_why) in
-      let counts = same-next client parts landing now (is_some why) passed in
+      let counts = next-counts client before landing now.frames now.commands passed.frames passed.commands in
       let moves = next-moves script before next (landing_of client) place (next-by script parts landing got last is client) item here
       (land-due number ticks due e when late low) in
       let ends : counts_of (record parts { source = source }) now ≡ next =
-      ap (λ t. record (next_now parts now) { ticks = t }) given.ticks ∙ sym counts in
+      ap (λ t. record (counts_of parts now) { ticks = t }) given.ticks ∙ sym counts in
       record {
         kept = land-kept script parts landing got last is kind source now
             (subst (λ (c : Counts). HasLanded script c now) counts has)
