@@ -1,5 +1,6 @@
 -- An item lands.
-use Rattle.std.proofs.Common.{◌≡◌, ℕ, ◌+◌, nat_lt, slice_get, Option, Some, None, option_map, inl, inr, refl, sym, ◌∙◌, ap, arith}
+use Rattle.std.proofs.Common.{◌≡◌, ℕ, ◌+◌, nat_lt, slice_get, Option, Some, None, option_map, inl, inr, refl, sym, ◌∙◌}
+use Rattle.std.proofs.Common.{ap, arith}
 use Rattle.std.proofs.lemmas.Bool.{cases_Bool}
 use Rattle.session_model.specs.declared.script.Item.{Item}
 use Rattle.session_model.specs.declared.script.Script.{Script}
@@ -20,34 +21,44 @@ use Rattle.walk_core.specs.Moved.{answer_by, refusal_of_item, refusal_in_event, 
 use Rattle.walk_core.proofs.EventLaws.{stalled-moved}
 
 -- ---- why the next item doesn't land
-stall-cause : (ticks : ℕ) (found : Option Item) (s next : Counts) → (land_due ticks (option_map (λ (item : Item). item.due) found) s next).cause ≡ stall_by ticks found
+stall-cause : (ticks : ℕ) (found : Option Item) (s next : Counts) →
+    (land_due ticks (option_map (λ (item : Item). item.due) found) s next).cause ≡ stall_by ticks found
 stall-cause ticks None s next = refl
-stall-cause ticks (Some item) s next = elim (cases_Bool (nat_lt ticks item.due)) [ inl e ↦ rw e refl | inr e ↦ rw e refl ]
+stall-cause ticks (Some item) s next = elim (cases_Bool (nat_lt ticks item.due))
+    [ inl e ↦ rw e refl | inr e ↦ rw e refl ]
 
-land-stays : (ticks : ℕ) (due : Option ℕ) (s next : Counts) (cause : StallCause) → (land_due ticks due s next).cause ≡ Some cause → (land_due ticks due s next).counts ≡ s
+land-stays : (ticks : ℕ) (due : Option ℕ) (s next : Counts) (cause : StallCause) →
+    (land_due ticks due s next).cause ≡ Some cause → (land_due ticks due s next).counts ≡ s
 land-stays ticks None s next cause e = refl
 land-stays ticks (Some due) s next cause e =
-    elim (cases_Bool (nat_lt ticks due)) [ inl late ↦ rw late refl | inr now ↦ absurd (let f : None ≡ Some cause = rw now at e in cc) ]
+    elim (cases_Bool (nat_lt ticks due))
+        [ inl late ↦ rw late refl | inr now ↦ absurd (let f : None ≡ Some cause = rw now at e in cc) ]
 
-land-moves : (ticks : ℕ) (due : Option ℕ) (s next : Counts) → (land_due ticks due s next).cause ≡ None → (land_due ticks due s next).counts ≡ next
+land-moves : (ticks : ℕ) (due : Option ℕ) (s next : Counts) → (land_due ticks due s next).cause ≡ None →
+    (land_due ticks due s next).counts ≡ next
 land-moves ticks None s next e = absurd cc
 land-moves ticks (Some due) s next e =
-    elim (cases_Bool (nat_lt ticks due)) [ inl late ↦ absurd (let f : Some (NotDue due) ≡ None = rw late at e in cc) | inr now ↦ rw now refl ]
+    elim (cases_Bool (nat_lt ticks due))
+        [ inl late ↦ absurd (let f : Some (NotDue due) ≡ None = rw late at e in cc) | inr now ↦ rw now refl ]
 
 -- ---- an event lands the next item of its kind, which is at place i, or stalls
 pub record IsNext (script : Script) (s next : Counts) (event : Event) (i : ℕ) : Type 0 where
   pub steps : step (walk_plan script) s event ≡ land_due s.ticks (due_found script.items i) s next
   pub why : refusal_in_event script s event ≡ refusal_of_item script i (slice_get script.items i)
 
-pub frame-next : (script : Script) (s : Counts) (i : ℕ) → i ≡ place_of is_frame s.frames script.items → IsNext script s (record s { frames = s.frames + 1 }) Accept i
+pub frame-next : (script : Script) (s : Counts) (i : ℕ) → i ≡ place_of is_frame s.frames script.items →
+    IsNext script s (record s { frames = s.frames + 1 }) Accept i
 frame-next script s i at = record {
-  steps = ap (λ due. land_due s.ticks due s (record s { frames = s.frames + 1 })) (frame-due script.items s.frames ∙ ap (due_found script.items) (sym at));
+  steps = ap (λ due. land_due s.ticks due s (record s { frames = s.frames + 1 }))
+      (frame-due script.items s.frames ∙ ap (due_found script.items) (sym at));
   why = ap (λ n. refusal_of_item script n (slice_get script.items n)) (sym at);
 }
 
-pub command-next : (script : Script) (s : Counts) (i : ℕ) → i ≡ place_of is_command s.commands script.items → IsNext script s (record s { commands = s.commands + 1 }) Command i
+pub command-next : (script : Script) (s : Counts) (i : ℕ) → i ≡ place_of is_command s.commands script.items →
+    IsNext script s (record s { commands = s.commands + 1 }) Command i
 command-next script s i at = record {
-  steps = ap (λ due. land_due s.ticks due s (record s { commands = s.commands + 1 })) (command-due script.items s.commands ∙ ap (due_found script.items) (sym at));
+  steps = ap (λ due. land_due s.ticks due s (record s { commands = s.commands + 1 }))
+      (command-due script.items s.commands ∙ ap (due_found script.items) (sym at));
   why = ap (λ n. refusal_of_item script n (slice_get script.items n)) (sym at);
 }
 
@@ -62,14 +73,19 @@ module _ (script : Script) (s next : Counts) (event : Event) (i : ℕ) (is : IsN
   pub next-stays : (cause : StallCause) → (step (walk_plan script) s event).cause ≡ Some cause →
       (s ≡ counts_after script s event) × (Stalled cause ≡ moved_of script s event)
   next-stays cause e = (
-    sym (ap (λ (done : Step). done.counts) is.steps ∙ land-stays s.ticks (due_found script.items i) s next cause (sym (ap (λ (done : Step). done.cause) is.steps) ∙ e)),
+    sym (ap (λ (done : Step). done.counts) is.steps
+        ∙ land-stays s.ticks (due_found script.items i) s next cause
+        (sym (ap (λ (done : Step). done.cause) is.steps) ∙ e)),
     stalled-moved cause (step (walk_plan script) s event).cause (refusal_in_event script s event) e,
   )
 
-  pub next-moves : (item : Item) → slice_get script.items i ≡ Some item → (step (walk_plan script) s event).cause ≡ None →
-      (next ≡ counts_after script s event) × (answer_of (refusal_at script (record { number = i; item = item })) ≡ moved_of script s event)
+  pub next-moves : (item : Item) → slice_get script.items i ≡ Some item →
+      (step (walk_plan script) s event).cause ≡ None →
+      (next ≡ counts_after script s event) ×
+      (answer_of (refusal_at script (record { number = i; item = item })) ≡ moved_of script s event)
   next-moves item there e = (
-    sym (ap (λ (done : Step). done.counts) is.steps ∙ land-moves s.ticks (due_found script.items i) s next (sym (ap (λ (done : Step). done.cause) is.steps) ∙ e)),
+    sym (ap (λ (done : Step). done.counts) is.steps
+        ∙ land-moves s.ticks (due_found script.items i) s next (sym (ap (λ (done : Step). done.cause) is.steps) ∙ e)),
     ap (λ found. answer_of (refusal_of_item script i found)) (sym there) ∙ ap answer_of (sym is.why)
         ∙ ap (λ cause. answer_by cause (refusal_in_event script s event)) (sym e),
   )

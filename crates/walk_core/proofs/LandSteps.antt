@@ -30,7 +30,8 @@ use Rattle.source_core.specs.Given.{Stands as HasMade}
 use Rattle.sink_core.specs.Core.{Core}
 use Rattle.walk_law.specs.Step.{last_packet}
 use Rattle.walk_law.specs.Walk.{walk_plan, IsWalked}
-use Rattle.walk_law.specs.Landed.{Numbered, landed_scenario, told_before, is_client, refusal_at, refused_by, refusals_of}
+use Rattle.walk_law.specs.Landed.{Numbered, landed_scenario, told_before, is_client, refusal_at, refused_by}
+use Rattle.walk_law.specs.Landed.{refusals_of}
 use Rattle.walk_law.specs.Landed.{IsPlaced, totals_of, with_frame_told, with_command_told}
 use Rattle.walk_law.proofs.PlanLaws.{valid-walks}
 use Rattle.walk_law.proofs.LandLaws.{frame-waits, command-waits, offer-at, order-at}
@@ -212,17 +213,20 @@ told-frame : (why : Option Refusal) (was now : Totals) (frames commands a b c d 
 told-frame None was now frames commands a b c d told f g e h = rw told (omega (arith, f, e), omega (arith, g, h))
 told-frame (Some why) was now frames commands a b c d told f g e h = rw told (omega (arith, f, e), omega (arith, g, h))
 
-told-command : (why : Option Refusal) (was now : Totals) (frames commands a b c d : ℕ) → now ≡ with_command_told why was →
+told-command : (why : Option Refusal) (was now : Totals) (frames commands a b c d : ℕ) →
+    now ≡ with_command_told why was →
     frames ≡ was.frames + a → commands ≡ was.commands + b →
     c ≡ a + (if is_some why && false then 1 else 0) → d ≡ b + (if is_some why && not false then 1 else 0) →
     (frames ≡ now.frames + c) × (commands + 1 ≡ now.commands + d)
 told-command None was now frames commands a b c d told f g e h = rw told (omega (arith, f, e), omega (arith, g, h))
-told-command (Some why) was now frames commands a b c d told f g e h = rw told (omega (arith, f, e), omega (arith, g, h))
+told-command (Some why) was now frames commands a b c d told f g e h = rw told
+    (omega (arith, f, e), omega (arith, g, h))
 
 has-landed : (client : Bool) (script : Script) (parts : Parts) (landing now : Landed) (why : Option Refusal) →
     HasLanded script (counts_of parts landing) landing → HasPassed landing now client (is_some why) →
     now.refusals ≡ refusals_of script (next_by client (counts_of parts landing) landing) →
-    totals_of script (next_by client (counts_of parts landing) landing) ≡ tell_by client why (totals_of script (counts_of parts landing)) →
+    totals_of script (next_by client (counts_of parts landing) landing)
+    ≡ tell_by client why (totals_of script (counts_of parts landing)) →
     HasLanded script (next_by client (counts_of parts landing) landing) now
 has-landed true script parts landing now why has passed same told =
     let was : Counts = counts_of parts landing in
@@ -267,7 +271,8 @@ module _ (script : Script) (parts : Parts) (landing : Landed) (got : ℕ) (last 
     (is : IsWalk script parts landing got last) (client : Bool) where
   cause-is : (step (walk_plan script) (counts_of parts landing) (landing_of client)).cause
       ≡ stall_by parts.source.ticks (slice_get script.items (place_by client landing script.items))
-  cause-is = next-cause script (counts_of parts landing) (next_by client (counts_of parts landing) landing) (landing_of client)
+  cause-is = next-cause script (counts_of parts landing) (next_by client (counts_of parts landing) landing)
+      (landing_of client)
       (place_by client landing script.items) (next-by script parts landing got last is client)
 
   pub land-none : next_number landing client ≡ None →
@@ -276,7 +281,8 @@ module _ (script : Script) (parts : Parts) (landing : Landed) (got : ℕ) (last 
       let past = next-none (next_place landing client) landing.items none in
       let place = next-place script.items landing is.landed.items client in
       let size = bare-size script.items landing is.landed.items in
-      cause-is ∙ ap (stall_by parts.source.ticks) (none-there script.items (place_by client landing script.items) (omega arith))
+      cause-is ∙ ap (stall_by parts.source.ticks)
+      (none-there script.items (place_by client landing script.items) (omega arith))
 
   pub number-in : (number : ℕ) → next_number landing client ≡ Some number →
       (number ≡ place_by client landing script.items) × (number < length script.items)
@@ -288,7 +294,8 @@ module _ (script : Script) (parts : Parts) (landing : Landed) (got : ℕ) (last 
   found-at number e =
       let (at, low) = number-in number e in
       let (item, here) = item-there script.items number low in
-      (item, ap (slice_get script.items) (sym at) ∙ here, bare-due script.items landing is.landed.items number item here)
+      (item, ap (slice_get script.items) (sym at)
+      ∙ here, bare-due script.items landing is.landed.items number item here)
 
   pub land-early : (number ticks due : ℕ) → next_number landing client ≡ Some number → ticks ≡ parts.source.ticks →
       due ≡ due_at landing.items number → ticks < due →
@@ -311,7 +318,8 @@ module _ (script : Script) (parts : Parts) (landing : Landed) (got : ℕ) (last 
       (step (walk_plan script) (counts_of parts landing) (landing_of client)).cause ≡ Some cause →
       (counts_of parts landing ≡ counts_after script (counts_of parts landing) (landing_of client))
       × (Stalled cause ≡ moved_of script (counts_of parts landing) (landing_of client))
-  land-stays cause e = next-stays script (counts_of parts landing) (next_by client (counts_of parts landing) landing) (landing_of client)
+  land-stays cause e = next-stays script (counts_of parts landing) (next_by client (counts_of parts landing) landing)
+      (landing_of client)
       (place_by client landing script.items) (next-by script parts landing got last is client) cause e
 
   -- the item is of the kind that lands
@@ -322,17 +330,21 @@ module _ (script : Script) (parts : Parts) (landing : Landed) (got : ℕ) (last 
       let (item, here, due) = found-at number e in
       ap is_client (handed item (ap (slice_get script.items) at ∙ here)) ∙ by-kind client item here
     where
-      by-kind : (client : Bool) (item : Item) → slice_get script.items (place_by client landing script.items) ≡ Some item →
+      by-kind : (client : Bool) (item : Item) →
+          slice_get script.items (place_by client landing script.items) ≡ Some item →
           is_client item.kind ≡ client
       by-kind true item here = client-frame item.kind (place-found is_frame script.items landing.frames item here).0
-      by-kind false item here = operator-command item.kind (place-found is_command script.items landing.commands item here).0
+      by-kind false item here = operator-command item.kind
+          (place-found is_command script.items landing.commands item here).0
 
   pub land-ends : (number ticks due : ℕ) (kind : ItemKind) (why : Option Refusal) (source : Terminal) (now : Landed) →
-      next_number landing client ≡ Some number → ticks ≡ parts.source.ticks → due ≡ due_at landing.items number → due ≤ ticks →
+      next_number landing client ≡ Some number → ticks ≡ parts.source.ticks → due ≡ due_at landing.items number →
+      due ≤ ticks →
       ((item : Item) → slice_get script.items number ≡ Some item → kind ≡ item.kind) →
       why ≡ met_by parts.source kind → IsGiven source parts.source kind → HasPassed landing now client (is_some why) →
       IsPlaced number (refused_by number why) landing.refusals now.refusals →
-      Done script (counts_of parts landing) (landing_of client) (record parts { source = source }) now got last (answer_of why)
+      Done script (counts_of parts landing) (landing_of client) (record parts { source = source }) now got last
+      (answer_of why)
   land-ends number ticks due kind why source now e when late low handed met given passed put =
       let before : Counts = counts_of parts landing in
       let next : Counts = next_by client (counts_of parts landing) landing in
@@ -345,15 +357,18 @@ module _ (script : Script) (parts : Parts) (landing : Landed) (got : ℕ) (last 
       sym lands.met ∙ sym (met ∙ ap (met_by parts.source) same_kind) in
       let placed : IsPlaced place (refused_by place why) landing.refusals (refusals_of script next) =
       subst (λ was. IsPlaced place (refused_by place why) was (refusals_of script next)) (sym is.landed.refusals)
-      (subst (λ found. IsPlaced place (refused_by place found) (refusals_of script before) (refusals_of script next)) same_why
+      (subst (λ found. IsPlaced place (refused_by place found) (refusals_of script before)
+      (refusals_of script next)) same_why
       lands.placed) in
       let own : IsPlaced place (refused_by place why) landing.refusals now.refusals =
       subst (λ n. IsPlaced n (refused_by n why) landing.refusals now.refusals) at put in
-      let refusals = placed-same place (refused_by place why) landing.refusals now.refusals (refusals_of script next) own placed in
+      let refusals = placed-same place (refused_by place why) landing.refusals now.refusals
+      (refusals_of script next) own placed in
       let has = has-landed client script parts landing now why is.landed passed refusals
       (lands.totals ∙ ap (λ found. tell_by client found (totals_of script before)) same_why) in
       let counts = next-counts client before landing now.frames now.commands passed.frames passed.commands in
-      let moves = next-moves script before next (landing_of client) place (next-by script parts landing got last is client) item here
+      let moves = next-moves script before next (landing_of client) place
+      (next-by script parts landing got last is client) item here
       (land-due number ticks due e when late low) in
       let ends : counts_of (record parts { source = source }) now ≡ next =
       ap (λ t. record (counts_of parts now) { ticks = t }) given.ticks ∙ sym counts in
@@ -370,11 +385,14 @@ module _ (script : Script) (parts : Parts) (landing : Landed) (got : ℕ) (last 
       }
 
 -- the rest of the source side is as it was
-pub rest-kept : (script : Script) (was now : Source_side) (sent : List (List Container)) (lines : List Ringed) (rows : Gather) (sink : Core)
+pub rest-kept : (script : Script) (was now : Source_side) (sent : List (List Container)) (lines : List Ringed)
+    (rows : Gather) (sink : Core)
     (ring : List Packet) (landing : Landed) (got : ℕ) (last : Option StepNote) → SameRest was now →
     IsWalk script (record (parts_of was sent lines rows sink ring) { source = now.core }) landing got last →
     IsWalk script (parts_of now sent lines rows sink ring) landing got last
 rest-kept script was now sent lines rows sink ring landing got last same is =
-    subst (λ n. IsWalk script (record (parts_of now sent lines rows sink ring) { total = n }) landing got last) (sym same.total)
-    (subst (λ (i : Inbox). IsWalk script (record (parts_of was sent lines rows sink ring) { source = now.core; back = path_of ring i })
+    subst (λ n. IsWalk script (record (parts_of now sent lines rows sink ring) { total = n }) landing got last)
+    (sym same.total)
+    (subst (λ (i : Inbox). IsWalk script
+        (record (parts_of was sent lines rows sink ring) { source = now.core; back = path_of ring i })
     landing got last) (sym same.inbox) is)

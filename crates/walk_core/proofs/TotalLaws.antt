@@ -11,12 +11,15 @@ use Rattle.walk_core.specs.Parts.{Parts, counts_of, IsWalk}
 use Rattle.walk_core.proofs.EventLaws.{walk-fits}
 
 abbrev totals_with : ℕ → ℕ → ℕ → ℕ → ℕ → ℕ → Totals
-totals_with ticks taken frames commands refused got = record { ticks = ticks; taken = taken; frames = frames; commands = commands; refused = refused; got = got }
+totals_with ticks taken frames commands refused got = record
+    { ticks = ticks; taken = taken; frames = frames; commands = commands; refused = refused; got = got }
 
-module _ (script : Script) (parts : Parts) (landing : Landed) (got : ℕ) (last : Option StepNote) (is : IsWalk script parts landing got last) where
+module _ (script : Script) (parts : Parts) (landing : Landed) (got : ℕ) (last : Option StepNote)
+    (is : IsWalk script parts landing got last) where
   all-counted : got ≡ length (delivered_of script parts.sink.taken)
   all-counted =
-      let most = delivered-few script parts.sink.taken is.valid (walk-fits script (counts_of parts landing) is.valid is.walked).rows in
+      let most = delivered-few script parts.sink.taken is.valid
+      (walk-fits script (counts_of parts landing) is.valid is.walked).rows in
       let counted = is.counted in
       omega (arith, most, counted)
 

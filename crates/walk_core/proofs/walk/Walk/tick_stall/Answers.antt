@@ -24,24 +24,32 @@ returns-in-Some c =
 pub returns-in-Some-first_full : goal.returns-in-Some-first_full
 returns-in-Some-first_full c =
     let f = c.self.inside in
-    let filled = c.first_full.ensures ∙ ap (λ n. full f.script.config.ticks n 0 (map line_counts c.deref.result.now)) c.ticks.ensures
+    let filled = c.first_full.ensures
+    ∙ ap (λ n. full f.script.config.ticks n 0 (map line_counts c.deref.result.now)) c.ticks.ensures
     ∙ ap (λ lines. full f.script.config.ticks f.source.core.ticks 0 (map line_counts lines)) c.deref.ensures.value in
-    subst (λ (w : Walked). Some (TxFull c.in-Some-first_full.line) ≡ (step (walk_plan w.script) w.counts Tick).cause) c.self.view_is
-    (full-cause _ _ _ _ _ c.self.invariant (sym c.early_cause.ensures ∙ c.in_default.is) c.in-Some-first_full.line (sym filled ∙ c.in-Some-first_full.is))
+    subst (λ (w : Walked). Some (TxFull c.in-Some-first_full.line)
+        ≡ (step (walk_plan w.script) w.counts Tick).cause) c.self.view_is
+    (full-cause _ _ _ _ _ c.self.invariant (sym c.early_cause.ensures ∙ c.in_default.is) c.in-Some-first_full.line
+    (sym filled ∙ c.in-Some-first_full.is))
 
 pub returns-in-Some-missing : goal.returns-in-Some-missing
 returns-in-Some-missing c =
     let f = c.self.inside in
-    let filled = c.first_full.ensures ∙ ap (λ n. full f.script.config.ticks n 0 (map line_counts c.deref.result.now)) c.ticks.ensures
+    let filled = c.first_full.ensures
+    ∙ ap (λ n. full f.script.config.ticks n 0 (map line_counts c.deref.result.now)) c.ticks.ensures
     ∙ ap (λ lines. full f.script.config.ticks f.source.core.ticks 0 (map line_counts lines)) c.deref.ensures.value in
-    subst (λ (w : Walked). Some (BackMissing c.in-Some-missing.packet) ≡ (step (walk_plan w.script) w.counts Tick).cause) c.self.view_is
-    (missing-stalls _ _ _ _ _ c.self.invariant (sym c.early_cause.ensures ∙ c.in_default.is) c.in-Some-missing.packet (sym filled ∙ c.in_default-first_full.is)
+    subst (λ (w : Walked). Some (BackMissing c.in-Some-missing.packet)
+        ≡ (step (walk_plan w.script) w.counts Tick).cause) c.self.view_is
+    (missing-stalls _ _ _ _ _ c.self.invariant (sym c.early_cause.ensures ∙ c.in_default.is) c.in-Some-missing.packet
+    (sym filled ∙ c.in_default-first_full.is)
     (sym c.missing.ensures ∙ c.in-Some-missing.is))
 
 pub returns-in-None : goal.returns-in-None
 returns-in-None c =
     let f = c.self.inside in
-    let filled = c.first_full.ensures ∙ ap (λ n. full f.script.config.ticks n 0 (map line_counts c.deref.result.now)) c.ticks.ensures
+    let filled = c.first_full.ensures
+    ∙ ap (λ n. full f.script.config.ticks n 0 (map line_counts c.deref.result.now)) c.ticks.ensures
     ∙ ap (λ lines. full f.script.config.ticks f.source.core.ticks 0 (map line_counts lines)) c.deref.ensures.value in
     subst (λ (w : Walked). None ≡ (step (walk_plan w.script) w.counts Tick).cause) c.self.view_is
-    (no-cause _ _ _ _ _ c.self.invariant (sym c.early_cause.ensures ∙ c.in_default.is) (sym filled ∙ c.in_default-first_full.is) (sym c.missing.ensures ∙ c.in-None.is))
+    (no-cause _ _ _ _ _ c.self.invariant (sym c.early_cause.ensures ∙ c.in_default.is)
+    (sym filled ∙ c.in_default-first_full.is) (sym c.missing.ensures ∙ c.in-None.is))
