@@ -1,5 +1,5 @@
 -- An item that lands: which item of its script it is, why it is refused, and what has landed with it.
-use Rattle.std.proofs.Common.{◌≡◌, ℕ, suc, ◌+◌, ◌<◌, ◌≤◌, Bool, true, false, if◌then◌else◌, List, [], ◌∷◌, ◌++◌}
+use Rattle.std.proofs.Common.{◌≡◌, ℕ, suc, ◌+◌, ◌<◌, ◌≤◌, Bool, true, false, if◌then◌else◌, List, [], ◌∷◌}
 use Rattle.std.proofs.Common.{map, filter, fold, take, drop, length, slice_get, get_or, All, Option, Some, option_map}
 use Rattle.std.proofs.Common.{refl, sym, ◌∙◌, ap, subst, arith}
 use Rattle.std.proofs.lemmas.List.{length-map, length-drop, get_or-drop}
@@ -11,7 +11,7 @@ use Rattle.session_model.specs.declared.script.ItemKind.TheVariants.{Frame, Add,
 use Rattle.session_model.specs.declared.script.Script.{Script}
 use Rattle.session_model.specs.declared.table.Command.{Command}
 use Rattle.session_model.specs.declared.table.Command.TheVariants.{Add as add, Remove as remove}
-use Rattle.session_model.specs.Scenario.{DueCommand, DueFrame, order_of, offer_of, orders_of, offers_of}
+use Rattle.session_model.specs.Scenario.{DueCommand, DueFrame, order_of, orders_of, offers_of}
 use Rattle.session_model.specs.Scenario.{scenario_of, steps_in, lands_at, comes_at}
 use Rattle.session_model.specs.Source.{Source, asked_all, refusal}
 use Rattle.session_model.specs.Client.{Stream, stream_before, frame_refusal, refusal_while, offered}

@@ -72,8 +72,9 @@ impl ReturnRing {
             ≡ and_moved (path_of self.old source.old.inbox) }
         ensures rest { source.new ≡ record source.old { inbox = source.new.inbox } }
     {
-        if let Some(packet) = self.packets.pop_front() {
-            source.put(BackCell::Packet(packet.nibbles()));
-        }
+        let Some(packet) = self.packets.pop_front() else {
+            return;
+        };
+        source.put(BackCell::Packet(packet.nibbles()));
     }
 }
