@@ -396,3 +396,43 @@ rest-kept script was now sent lines rows sink ring landing got last same is =
     (subst (λ (i : Inbox). IsWalk script
         (record (parts_of was sent lines rows sink ring) { source = now.core; back = path_of ring i })
     landing got last) (sym same.inbox) is)
+
+-- and so are the counts
+rest-counts : (was now : Source_side) (sent : List (List Container)) (lines : List Ringed) (rows : Gather) (sink : Core)
+    (ring : List Packet) (landing : Landed) → SameRest was now →
+    counts_of (parts_of now sent lines rows sink ring) landing
+    ≡ counts_of (record (parts_of was sent lines rows sink ring) { source = now.core }) landing
+rest-counts was now sent lines rows sink ring landing same =
+    ap (λ (i : Inbox). counts_of
+    (record (parts_of was sent lines rows sink ring) { source = now.core; back = path_of ring i }) landing) same.inbox
+
+-- ---- a source side that has landed an item more
+pub record HasTaken (was now : Source_side) (number : ℕ) (kind : ItemKind) (why : Option Refusal) : Type 0 where
+  pub met : why ≡ met_by was.core kind
+  pub given : IsGiven now.core was.core kind
+  pub passed : HasPassed was.landed now.landed (is_client kind) (is_some why)
+  pub placed : IsPlaced number (refused_by number why) was.landed.refusals now.landed.refusals
+  pub rest : SameRest was now
+
+pub land-taken : (script : Script) (was now : Source_side) (sent : List (List Container)) (lines : List Ringed)
+    (rows : Gather) (sink : Core) (ring : List Packet) (got : ℕ) (last : Option StepNote) →
+    IsWalk script (parts_of was sent lines rows sink ring) was.landed got last → (client : Bool)
+    (number ticks due : ℕ) (kind : ItemKind) (why : Option Refusal) →
+    next_number was.landed client ≡ Some number → ticks ≡ was.core.ticks →
+    due ≡ due_at was.landed.items number → due ≤ ticks →
+    ((item : Item) → slice_get script.items number ≡ Some item → kind ≡ item.kind) →
+    HasTaken was now number kind why →
+    Done script (counts_of (parts_of was sent lines rows sink ring) was.landed) (landing_of client)
+    (parts_of now sent lines rows sink ring) now.landed got last (answer_of why)
+land-taken script was now sent lines rows sink ring got last is client number ticks due kind why next e late low handed
+    has =
+    let parts : Parts = parts_of was sent lines rows sink ring in
+    let same = land-kind script parts was.landed got last is client number kind next handed in
+    let done = land-ends script parts was.landed got last is client number ticks due kind why now.core now.landed
+    next e late low handed has.met has.given
+    (subst (λ b. HasPassed was.landed now.landed b (is_some why)) same has.passed) has.placed in
+    record {
+      kept = rest-kept script was now sent lines rows sink ring now.landed got last has.rest done.kept;
+      counts = rest-counts was now sent lines rows sink ring now.landed has.rest ∙ done.counts;
+      moved = done.moved;
+    }

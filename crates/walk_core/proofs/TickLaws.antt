@@ -501,7 +501,7 @@ module _ (script : Script) (parts : Parts) (landing : Landed) (got : ℕ) (last 
         by-found : (found : Option ℕ) → missing_by (needed parts.source) parts.back.inbox ≡ found → found ≡ None
         by-found None same = refl
         by-found (Some packet) same = absurd
-        (let f : None ≡ Some (BackMissing packet) = e ∙ sym (missing-stalls early-free packet free.slots same) in cc)
+            (let f : None ≡ Some (BackMissing packet) = e ∙ sym (missing-stalls early-free packet free.slots same) in cc)
 
     pub tick-moved : Yes ≡ moved_of script (counts_of parts landing) Tick
     tick-moved = ap (λ o. answer_by o None) e

@@ -10,7 +10,7 @@ ghost use Rattle.session_model.specs.Source.{source_at};
 ghost use Rattle.progress_law.specs.Progress.{HasLine};
 ghost use Rattle.walk_law.specs.Landed.{landed_scenario, told_before, refusals_of, totals_of, IsPlaced};
 ghost use Rattle.walk_law.specs.Step.{last_packet, table_in};
-ghost use Rattle.walk_core.specs.Moved.{counts_after, moved_of, delivered_since, GivesRows};
+ghost use Rattle.walk_core.specs.Moved.{answer_by, counts_after, moved_of, delivered_since, GivesRows};
 ghost use Rattle.std.specs.Global.{Vec, Box};
 ghost use Rattle.vc_cell.specs.Held.{held};
 ghost use Rattle.vc_cell.specs.declared.Container.{Container};
@@ -326,10 +326,7 @@ impl Walk {
         if self.source.ticks() < due {
             return Moved::Stalled(StallCause::NotDue { due });
         }
-        match self.source.land(number, item_at(&self.script, number)) {
-            None => Moved::Yes,
-            Some(why) => Moved::Refused(why),
-        }
+        landed(self.source.land(number, item_at(&self.script, number)))
     }
 
     /// Takes the next row, where the lines decide it.
@@ -470,6 +467,16 @@ fn item_at(script: &Script, number: u32) -> ItemRef<'_>
         kind_of result ≡ item.kind }
 {
     handed(&script.items.0[number as usize].kind)
+}
+
+/// What an item answers that lands, and is refused or not.
+fn landed(why: Option<Refusal>) -> Moved
+    ensures { result ≡ answer_by None why }
+{
+    match why {
+        None => Moved::Yes,
+        Some(why) => Moved::Refused(why),
+    }
 }
 
 /// Why no frame is made, before the send rings are looked at.
