@@ -149,14 +149,14 @@ tick-goes plan s e =
     ]
 
 -- each test of a tick that is made
-full-none : (found : Option ℕ) (plan : Plan) (s : Counts) → None ≡ (tick_full found plan s).cause → found ≡ None
-full-none (Some line) plan s e = absurd cc
-full-none None plan s e = refl
+slots-none : (found : Option ℕ) (plan : Plan) (s : Counts) → None ≡ (tick_full found plan s).cause → found ≡ None
+slots-none (Some line) plan s e = absurd cc
+slots-none None plan s e = refl
 
 held-none : (found : Option ℕ) (plan : Plan) (s : Counts) → None ≡ (tick_held found plan s).cause →
     (found ≡ None) × (full plan.ticks s.ticks 0 s.lines ≡ None)
 held-none (Some item) plan s e = absurd cc
-held-none None plan s e = (refl, full-none (full plan.ticks s.ticks 0 s.lines) plan s e)
+held-none None plan s e = (refl, slots-none (full plan.ticks s.ticks 0 s.lines) plan s e)
 
 record IsFree (plan : Plan) (s : Counts) : Type 0 where
   left : nat_le plan.ticks s.ticks ≡ false

@@ -1,6 +1,6 @@
 -- A tick is made.
-use Rattle.std.proofs.Common.{◌≡◌, ◌/◌, ◌%◌, ◌==◌, if◌then◌else◌, List, length, Some, None, refl, sym, ◌∙◌, ap, subst}
-use Rattle.std.proofs.Common.{arith}
+use Rattle.std.proofs.Common.{◌≡◌, ℕ, [], ◌/◌, ◌%◌, ◌==◌, if◌then◌else◌, List, length, Some, None, refl, sym, ◌∙◌, ap, subst}
+use Rattle.std.proofs.Common.{arith, Option}
 use Rattle.std.specs.Option.{is_some}
 use Rattle.session_model.specs.declared.packet.Packet.{Packet}
 use Rattle.session_model.specs.declared.script.Script.{Script}
@@ -99,7 +99,7 @@ returns-clause-counts c =
     let noted = c.next_note-self-inside.ensures
     ∙ ap (λ n. if n % 16 == 8 then Some
     (record { packet = n / 16; back = c.make-back.result }) else f.last) c.ticks-ticks.ensures in
-    ap (λ (l : Landed). counts_of (parts_of c.make-back.new.self _ _ _ _ f.ring) l) m.rest.landed
+    ap (λ (l : Landed). counts_of (parts_of c.make-back.new.self [] f.lines.items f.rows f.sink f.ring) l) m.rest.landed
     ∙ tick-counts _ _ _ _ _ c.self.invariant e c.make-back.result
     (path_of f.ring c.make-back.new.self.inbox) m.cell left
     c.make-back.new.self.core m.made m.ticks m.kind (held c.make-back.new.frame.items) m.frame

@@ -4,6 +4,7 @@ use Rattle.session_model.specs.declared.walk.Event.TheVariants.{Tick}
 use Rattle.session_model.specs.declared.walk.StallCause.TheVariants.{TxFull, BackMissing}
 use Rattle.session_model.specs.Counts.{step, full}
 use Rattle.walk_law.specs.Walk.{walk_plan}
+use Rattle.walk_core.specs.Landing.{early_stall}
 use Rattle.walk_core.specs.Moved.{Walked}
 use Rattle.walk_core.specs.Parts.{line_counts}
 use Rattle.walk_core.proofs.TickLaws.{lines-made, early-cause, full-cause, missing-stalls, no-cause}
@@ -18,7 +19,7 @@ first_full-requires-clause-made c k d low =
 pub returns-in-Some : goal.returns-in-Some
 returns-in-Some c =
     ap Some c.stall_early.ensures
-    ∙ subst (λ (w : Walked). Some _ ≡ (step (walk_plan w.script) w.counts Tick).cause) c.self.view_is
+    ∙ subst (λ (w : Walked). Some (early_stall c.in-Some.cause) ≡ (step (walk_plan w.script) w.counts Tick).cause) c.self.view_is
     (early-cause _ _ _ _ _ c.self.invariant c.in-Some.cause (sym c.early_cause.ensures ∙ c.in-Some.is))
 
 pub returns-in-Some-first_full : goal.returns-in-Some-first_full
