@@ -12,7 +12,8 @@ use Rattle.gfp_delineate.specs.declared.areas.AreaStep.TheVariants.{Area}
 use Rattle.gfp_delineate.specs.declared.Step.{Step}
 use Rattle.gfp_delineate.specs.declared.Step.TheVariants.{Frame}
 use Rattle.gfp_delineate.specs.Areas.{AreaEnd, keeping, passing, end_of, ends_told, Progress, Adds}
-use Rattle.gfp_delineate.specs.Receiver.{Receiver, frame_of, outcomes_told, told_outcomes, client_of, area_limit, Brings}
+use Rattle.gfp_delineate.specs.Receiver.{Receiver, frame_of, outcomes_told, told_outcomes, client_of, area_limit}
+use Rattle.gfp_delineate.specs.Receiver.{Brings}
 use Rattle.gfp_delineate.proofs.Frames.{outcomes-held, short-held}
 use Rattle.gfp_delineate.proofs.OutcomeLaws.{outcomes_more-map}
 

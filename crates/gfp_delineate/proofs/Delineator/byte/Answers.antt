@@ -16,8 +16,8 @@ returns-clause-outcome c =
     (Brings-ends (record { progress = c.self.inside.receiver; holds = c.self.inside.holds }) (c.args.octet ∷ [])
     (ends_told c.byte-end.new.self.area c.byte-end.result) (told_outcomes now c.step_of-step.result)
     (told-ends c.byte-end.new.self c.is_frame-self-inside.result c.byte-end.result c.step_of-step.result
-    c.area.result.now c.is_frame-self-inside.ensures c.area.ensures c.step_of-step.ensures.outcome c.step_of-step.ensures.frame
-    c.byte-end.ensures.least) c.byte-end.ensures.outcome)
+    c.area.result.now c.is_frame-self-inside.ensures c.area.ensures c.step_of-step.ensures.outcome
+    c.step_of-step.ensures.frame c.byte-end.ensures.least) c.byte-end.ensures.outcome)
 
 pub returns-clause-short : goal.returns-clause-short
 returns-clause-short c = λ longest first octets stands.
