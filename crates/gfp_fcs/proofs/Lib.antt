@@ -1,0 +1,3 @@
+pub mod TypeLaws
+pub mod FixLaws
+pub mod StreamLaws
