@@ -1,3 +1,1 @@
-pub mod TypeLaws
-pub mod FixLaws
 pub mod StreamLaws

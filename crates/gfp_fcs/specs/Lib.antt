@@ -1,2 +1,1 @@
-pub mod Fix
 pub mod Encoder

@@ -5,12 +5,9 @@ ghost use Rattle.fcs_model.specs.Fcs.{fcs_area};
 ghost use Rattle.flip_law.specs.Flipped.{fcs_stream};
 ghost use Rattle.gfp_fcs.specs.Encoder.{Stands};
 
-use gfp_headers::core_bytes;
+use gfp_headers::{core_bytes, type_bytes_fcs};
 use gfp_scramble::Scrambler;
 use std::marker::Model;
-
-/// The type header of a client frame with an FCS.
-const TYPE_HEADER: [u8; 4] = [0x10, 0x01, 0x13, 0x52];
 
 /// Writes frames with an FCS as they are on the stream, whose areas are scrambled as one list. The idles before the first frame are the
 /// caller's.
@@ -68,7 +65,7 @@ fn put_area(f: &[u8], area: &mut [u8])
     ensures { area.new ≡ fcs_area f.now }
 {
     let (head, behind) = area.split_at_mut(4);
-    head.copy_from_slice(&TYPE_HEADER);
+    head.copy_from_slice(&type_bytes_fcs());
     let (octets, check) = behind.split_at_mut(f.len());
     octets.copy_from_slice(f);
     check.copy_from_slice(&crc32::fcs(f));

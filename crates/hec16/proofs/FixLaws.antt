@@ -1,58 +1,27 @@
--- Headers with one bit turned over.
-use Rattle.std.proofs.Common.{◌≡◌, ◌≢◌, ◌⊎◌, ℕ, zero, suc, ◌+◌, ◌-◌, ◌*◌, ◌/◌, ◌%◌, ◌^◌, ◌<◌, ◌≤◌, ◌==◌, ◌&&◌, Bool, true, false, List, [], ◌∷◌, ◌++◌, length, take, drop, replicate, bit_xor, inl, inr, refl, sym, ◌∙◌, ap, ap₂, subst, arith, le_of_eq, mod-eq_of_lt, length-append}
-use Rattle.std.proofs.lemmas.Bool.Decides.{nat_tests}
-use Rattle.std.proofs.lemmas.List.{length-replicate, take_at, drop_at}
+-- Headers of a word and its check with one bit turned over.
+use Rattle.std.proofs.Common.{◌≡◌, ◌⊎◌, ℕ, ◌+◌, ◌-◌, ◌*◌, ◌/◌, ◌%◌, ◌^◌, ◌<◌, ◌==◌, Bool, true, false, List, ◌∷◌, ◌++◌}
+use Rattle.std.proofs.Common.{length, take, drop, replicate, bit_xor, inl, inr, refl, sym, ◌∙◌, ap, ap₂, arith, le_of_eq}
+use Rattle.std.proofs.Common.{mod-eq_of_lt}
+use Rattle.std.proofs.lemmas.List.{take_at, drop_at}
 use Rattle.remainder.specs.Bits.{bits, number, number_behind, xors}
+use Rattle.remainder.specs.Count.{count}
 use Rattle.remainder.proofs.BitLaws.{length-bits, bits-add, bits_low, bits-mod, bits-xor, number-bits, bits-number}
-use Rattle.remainder.proofs.XorLaws.{length_xors, xors_comm, xors-self, xors-zeros, xors-zeros_right, xors_twice, xors_zero}
+use Rattle.remainder.proofs.XorLaws.{length_xors, xors_comm, xors-self, xors-zeros_right, xors_twice}
 use Rattle.remainder.specs.Remainder.{remainder}
-use Rattle.hec16.specs.Hec.{crc16, hec_bits, hec_of}
-use Rattle.hec16.proofs.HecLaws.{length-hec_bits, bits-hec_of, hec_of-from_bits}
-use Rattle.fcs_model.specs.Flips.{count}
-use Rattle.fcs_model.specs.Near.{bit_at, IsFixed}
-use Rattle.flip_law.proofs.CountLaws.{OneAt, count-append, count-zeros, count-true, count_none, count_one, none_or_one}
-use Rattle.gfp_fcs.specs.Fix.{IsSound}
+use Rattle.remainder.proofs.CountLaws.{OneAt, count-zeros, count_none, count_one, none_or_one}
+use Rattle.hec16.specs.Hec.{crc16, hec_bits}
+use Rattle.hec16.specs.Fixed.{bit_at, IsFixed, IsSound}
+use Rattle.hec16.proofs.HecLaws.{bits-hec_of, hec_of-from_bits}
+use Rattle.hec16.proofs.WordLaws.{all_below, all_below_at, nat_eq_tells, length-bit_at, count-bit_at, with_check, length-with_check}
 
 -- ---- one bit of 32, as a number
-all_below : ℕ → (ℕ → Bool) → Bool
-all_below zero f = true
-all_below (suc n) f = f n && all_below n f
-
-both : (a b : Bool) → (a && b) ≡ true → (a ≡ true) × (b ≡ true)
-both true b e = (refl, e)
-both false b e = absurd cc
-
-last_or_before : (n k : ℕ) → k < suc n → (k ≡ n) ⊎ (k < n)
-last_or_before n k h = grind arith
-
-all_below_at : (n : ℕ) (f : ℕ → Bool) (k : ℕ) → all_below n f ≡ true → k < n → f k ≡ true
-all_below_at zero f k e h = absurd (omega arith)
-all_below_at (suc n) f k e h =
-    let t = both (f n) (all_below n f) e in
-    elim (last_or_before n k h) [
-      | inl same ↦ subst (λ m. f m ≡ true) (sym same) t.0
-      | inr before ↦ all_below_at n f k t.1 before
-    ]
-
 computed : all_below 32 (λ k. number (bit_at k) == 2 ^ (31 - k)) ≡ true
-unfolding number_behind
+unfolding number_behind all_below
 computed = refl
-
-equal : (a b : ℕ) → (a == b) ≡ true → a ≡ b
-equal a b h = grind (arith, nat_tests)
-
-length-bit_at : (k : ℕ) → k < 32 → length (bit_at k) ≡ 32
-length-bit_at k h =
-    omega (
-      arith,
-      length-append (replicate k false) (true ∷ replicate (31 - k) false),
-      length-replicate k false,
-      length-replicate (31 - k) false,
-    )
 
 bits-bit : (k : ℕ) → k < 32 → bits 32 (2 ^ (31 - k)) ≡ bit_at k
 bits-bit k h =
-    ap (bits 32) (sym (equal (number (bit_at k)) (2 ^ (31 - k)) (all_below_at 32 (λ k. number (bit_at k) == 2 ^ (31 - k)) k computed h)))
+    ap (bits 32) (sym (nat_eq_tells (number (bit_at k)) (2 ^ (31 - k)) (all_below_at 32 (λ k. number (bit_at k) == 2 ^ (31 - k)) k computed h)))
     ∙ ap (λ n. bits n (number (bit_at k))) (sym (length-bit_at k h)) ∙ bits-number (bit_at k)
 
 bits-place : (place : ℕ) → place < 32 → bits 32 (2 ^ place) ≡ bit_at (31 - place)
@@ -60,20 +29,7 @@ bits-place place h =
     ap (λ n. bits 32 (2 ^ n)) (let e : place ≡ 31 - (31 - place) = omega (arith, h) in e)
     ∙ bits-bit (31 - place) (omega (arith, h))
 
-count-bit : (k : ℕ) → k < 32 → count (bit_at k) ≡ 1
-count-bit k h =
-    count-append (replicate k false) (true ∷ replicate (31 - k) false)
-    ∙ ap₂ (λ a b. a + b) (count-zeros k) (count-true (replicate (31 - k) false) ∙ ap suc (count-zeros (31 - k)))
-
 -- ---- headers
--- a word with its check behind it
-with_check : ℕ → List Bool
-with_check word = bits 16 word ++ hec_bits word
-
-length-with_check : (word : ℕ) → length (with_check word) ≡ 32
-unfolding with_check
-length-with_check word = omega (arith, length-append (bits 16 word) (hec_bits word), length-bits 16 word, length-hec_bits word)
-
 -- a sound header has the bits of its word and of the check
 sound-bits : (header : ℕ) → IsSound header → with_check (header / 2 ^ 16) ≡ bits 32 header
 unfolding with_check
@@ -95,8 +51,7 @@ bits-sound header word small e =
     sym (drop_at (bits 16 word) (hec_bits word) 16 (length-bits 16 word)) ∙ ap (drop 16) all
     ∙ drop_at (bits 16 (header / 2 ^ 16)) (bits 16 header) 16 (length-bits 16 (header / 2 ^ 16)) in
     let is : header / 2 ^ 16 % 2 ^ 16 ≡ word =
-    sym (number-bits 16 (header / 2 ^ 16)) ∙ ap number (sym upper) ∙ number-bits 16 word ∙ mod-eq_of_lt small in
-    (
+    sym (number-bits 16 (header / 2 ^ 16)) ∙ ap number (sym upper) ∙ number-bits 16 word ∙ mod-eq_of_lt small in (
       hec_of-from_bits (header / 2 ^ 16) (header % 2 ^ 16) (omega arith)
           (bits-mod 16 header ∙ sym lower ∙ ap (remainder crc16) upper),
       is,
@@ -147,7 +102,7 @@ module _ (word check : ℕ) (w : word < 2 ^ 16) (c : check < 2 ^ 16) where
       ∙ xors_twice given bit (le_of_eq (long ∙ sym length-given)) in
       record {
         fits = omega (arith, small);
-        few = (let e = ap count one ∙ count-bit (31 - place) (omega (arith, h)) in omega (arith, e));
+        few = (let e = ap count one ∙ count-bit_at (31 - place) in omega (arith, e));
       }
 
   -- a word that is fixed so is that of the header, or of one with one bit turned over
