@@ -1,5 +1,5 @@
 -- What is written is the next piece of the stream.
-use Rattle.std.proofs.Common.{◌≡◌, ℕ, ◌+◌, List, [], ◌∷◌, ◌++◌, length, map, take, sym, ◌∙◌, ap, subst}
+use Rattle.std.proofs.Common.{◌≡◌, ℕ, ◌+◌, List, ◌++◌, length, map, sym, ◌∙◌, ap, subst}
 use Rattle.session_model.specs.Core.{core_header}
 use Rattle.session_model.proofs.CoreLaws.{length-core_header}
 use Rattle.session_model.specs.Piece.{joined}
