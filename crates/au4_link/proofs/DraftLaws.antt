@@ -3,8 +3,8 @@ use Rattle.std.proofs.Common.{◌≡◌, ℕ, ◌+◌, ◌-◌, ◌<◌, ◌≤�
 use Rattle.std.specs.Prelude.{None, Some, Ok, Err, nat_lt}
 use Rattle.std.proofs.lemmas.Bool.Decides.{nat_tests}
 use Rattle.std.proofs.lemmas.List.{length-replicate, replicate-append-replicate, append_assoc}
-use Rattle.text_lines.specs.declared.fault.LineKind.{LineKind}
-use Rattle.text_lines.specs.declared.fault.LineKind.TheVariants.{Missing}
+use Rattle.au4_link.specs.declared.fault.LineFault.{LineFault}
+use Rattle.au4_link.specs.declared.fault.LineFault.TheVariants.{Missing}
 use Rattle.text_lines.specs.Words.{words}
 use Rattle.text_lines.specs.Language.{said_from, said_by}
 use Rattle.text_lines.proofs.LanguageLaws.{line_faulty, line_sound, end_missing, end_sound}
@@ -15,7 +15,7 @@ use Rattle.au4_link.specs.declared.draft.Draft.{Draft}
 use Rattle.au4_link.specs.declared.draft.Link.{Link}
 use Rattle.au4_link.specs.declared.draft.Statement.{Statement}
 use Rattle.au4_link.specs.declared.draft.Statement.TheVariants as says
-use Rattle.au4_link.specs.Lines.{words_fault, words_said, after, at_first, missing_line, link_lines}
+use Rattle.au4_link.specs.Lines.{awaited, words_fault, words_said, after, at_first, missing_line, link_lines}
 use Rattle.au4_link.specs.Link.{link_in, link_of_draft, link_of, IsLink}
 use Rattle.au4_link.specs.Drafts.{IsDraft, Fits}
 use Rattle.au4_link.proofs.AcceptLaws.{act-accepted, accepted-keeps, accepted-none}
@@ -29,19 +29,20 @@ line_said n d new all l ls said first none says is =
     line_sound link_lines n d new all l ls first none (is ∙ ap (λ (r : Statement). after d r) says)
 
 -- a line that has one
-pub line_told : (text : List ℕ) (n : ℕ) (d : Draft) (all : List (List ℕ)) (l : List ℕ) (ls : List (List ℕ)) (kind : LineKind)
-    → said_by link_lines text ≡ said_from link_lines n d all → all ≡ l ∷ ls → words_fault d (words l) ≡ Some kind
-    → link_of text ≡ Err (n, kind)
-line_told text n d all l ls kind same first fails =
-    ap link_of_draft (same ∙ line_faulty link_lines n d all l ls kind first fails)
+pub line_told : (text : List ℕ) (n : ℕ) (d : Draft) (all : List (List ℕ)) (l : List ℕ) (ls : List (List ℕ)) (fault : LineFault)
+    → said_by link_lines text ≡ said_from link_lines n d all → all ≡ l ∷ ls → words_fault d (words l) ≡ Some fault
+    → link_of text ≡ Err (n, fault)
+line_told text n d all l ls fault same first fails =
+    ap link_of_draft (same ∙ line_faulty link_lines n d all l ls fault first fails)
 
 -- ---- after the last line
 pub short_told : (text : List ℕ) (n : ℕ) (d : Draft) (all : List (List ℕ))
-    → said_by link_lines text ≡ said_from link_lines n d all → all ≡ [] → d.next < 2 → link_of text ≡ Err (n, Missing)
+    → said_by link_lines text ≡ said_from link_lines n d all → all ≡ [] → d.next < 2
+    → link_of text ≡ Err (n, Missing (awaited d.next))
 short_told text n d all same none less =
     let yes : nat_lt d.next 2 ≡ true = grind (arith, nat_tests, less) in
-    let misses : missing_line d ≡ Some Missing = rw yes refl in
-    ap link_of_draft (same ∙ end_missing link_lines n d all Missing none misses)
+    let misses : missing_line d ≡ Some (Missing (awaited d.next)) = rw yes refl in
+    ap link_of_draft (same ∙ end_missing link_lines n d all (Missing (awaited d.next)) none misses)
 
 pub whole_said : (text : List ℕ) (n : ℕ) (d : Draft) (all : List (List ℕ))
     → said_by link_lines text ≡ said_from link_lines n d all → all ≡ [] → 2 ≤ d.next → said_by link_lines text ≡ Ok d

@@ -1,4 +1,5 @@
 pub mod Lines
+pub mod Helps
 pub mod Link
 pub mod Vcs
 pub mod Text

@@ -1,9 +1,7 @@
 -- The lines of a link's text: what each may say after those before it, which fault it has first, and what it adds to them. This language is
 -- this project's own.
-use Rattle.std.specs.Prelude.{ℕ, ◌+◌, ◌-◌, ◌==◌, ◌&&◌, nat_lt, not, Bool, false, List, [], ◌∷◌, ◌++◌, length, replicate, Option, Some, None, drop, codes, bytes_eq, if◌then◌else◌}
+use Rattle.std.specs.Prelude.{ℕ, ◌+◌, ◌-◌, ◌==◌, ◌&&◌, nat_lt, not, Bool, false, List, [], ◌∷◌, ◌++◌, length, replicate, Option, Some, None, drop, option_map, codes, bytes_eq, if◌then◌else◌}
 use Rattle.std.specs.Option.{option_or}
-use Rattle.text_lines.specs.declared.fault.LineKind.{LineKind}
-use Rattle.text_lines.specs.declared.fault.LineKind.TheVariants.{Word, Order, Missing}
 use Rattle.text_lines.specs.Words.{word_at, is_skipped, number_at}
 use Rattle.text_lines.specs.Fields.{Field, within, where_true, fields_fault}
 use Rattle.text_lines.specs.Language.{Language}
@@ -11,6 +9,8 @@ use Rattle.au4_pointer.specs.declared.Action.{Action}
 use Rattle.au4_pointer.specs.declared.Action.TheVariants.{Keep, Up, Down, New}
 use Rattle.au4_link.specs.declared.keyword.Keyword.{Keyword}
 use Rattle.au4_link.specs.declared.keyword.Keyword.TheVariants as word
+use Rattle.au4_link.specs.declared.fault.LineFault.{LineFault}
+use Rattle.au4_link.specs.declared.fault.LineFault.TheVariants as wrong
 use Rattle.au4_link.specs.declared.draft.Statement.{Statement}
 use Rattle.au4_link.specs.declared.draft.Statement.TheVariants as says
 use Rattle.au4_link.specs.declared.draft.Draft.{Draft}
@@ -34,11 +34,15 @@ place word.Up = 2
 place word.Down = 2
 place word.New = 2
 
--- before place 2 each line has its place; from there on none comes back to an earlier part
-abbrev pub place_fault : ℕ → ℕ → Option LineKind
-place_fault next at =
-    option_or (where_true (nat_lt next 2 && not (at == next)) Missing)
-    (where_true (nat_lt at next) Order)
+-- the line that has to stand at a place before that of actions
+abbrev pub awaited : ℕ → Keyword
+awaited next = if next == 0 then word.Start else word.Frames
+
+-- before place 2 each line has its place; from there on none comes back to an earlier part. The line before is that of `before`
+abbrev pub place_fault : ℕ → Keyword → Keyword → Option LineFault
+place_fault next k before =
+    option_or (where_true (nat_lt next 2 && not (place k == next)) (wrong.Missing (awaited next)))
+    (where_true (nat_lt (place k) next) (wrong.Order k before))
 
 -- ---- the other words
 -- what the words after a keyword have to be: a frame is one of the link's, and no move stands in frame 0
@@ -63,19 +67,23 @@ is_early d word.Down ws = nat_lt (number_at 0 ws) (least_next d.actions)
 is_early d word.New ws = nat_lt (number_at 0 ws) (least_next d.actions)
 
 -- ---- the first fault of a line
--- of the words after a first word that may stand there
-abbrev pub rest_fault : Draft → Keyword → List (List ℕ) → Option LineKind
-rest_fault d k ws =
-    option_or (where_true (not (length ws == length (fields d k))) Word)
-    (option_or (fields_fault (fields d k) 0 ws)
-    (where_true (is_early d k ws) Order))
+-- the last frame that was named
+abbrev pub last_frame : Draft → ℕ
+last_frame d = length d.actions - 1
 
-abbrev pub known_fault : Draft → List (List ℕ) → Option Keyword → Option LineKind
-known_fault d ws None = Some Word
-known_fault d ws (Some k) = option_or (place_fault d.next (place k)) (rest_fault d k ws)
+-- of the words after a first word that may stand there, of which the first is word 2 of its line
+abbrev pub rest_fault : Draft → Keyword → List (List ℕ) → Option LineFault
+rest_fault d k ws =
+    option_or (where_true (not (length ws == length (fields d k))) (wrong.Count k (length (fields d k)) (length ws)))
+    (option_or (option_map wrong.Field (fields_fault (fields d k) 2 0 ws))
+    (where_true (is_early d k ws) (wrong.Early (last_frame d))))
+
+abbrev pub known_fault : Draft → List (List ℕ) → Option Keyword → Option LineFault
+known_fault d ws None = Some wrong.First
+known_fault d ws (Some k) = option_or (place_fault d.next k d.last) (rest_fault d k ws)
 
 -- of the words of a line
-abbrev pub words_fault : Draft → List (List ℕ) → Option LineKind
+abbrev pub words_fault : Draft → List (List ℕ) → Option LineFault
 words_fault d ws = if is_skipped ws then None else known_fault d (drop 1 ws) (keyword_of (word_at 0 ws))
 
 -- ---- what a line without a fault says
@@ -94,22 +102,29 @@ abbrev pub words_said : List (List ℕ) → Statement
 words_said ws = if is_skipped ws then says.Nothing else known_said (drop 1 ws) (keyword_of (word_at 0 ws))
 
 -- ---- what it adds to what the lines before it say
+-- the keyword of an action; no line says Keep
+abbrev pub word_of : Action → Keyword
+word_of Keep = word.Frames
+word_of Up = word.Up
+word_of Down = word.Down
+word_of (New p) = word.New
+
 abbrev pub after : Draft → Statement → Draft
 after d says.Nothing = d
-after d (says.Start value) = record d { next = 1; start = value }
-after d (says.Frames count) = record d { next = 2; frames = count }
+after d (says.Start value) = record d { next = 1; last = word.Start; start = value }
+after d (says.Frames count) = record d { next = 2; last = word.Frames; frames = count }
 after d (says.Act frame a) =
-    record d { actions = d.actions ++ replicate (frame - length d.actions) Keep ++ a ∷ [] }
+    record d { last = word_of a; actions = d.actions ++ replicate (frame - length d.actions) Keep ++ a ∷ [] }
 
--- before the first line
+-- before the first line; the line before is of no account there
 abbrev pub at_first : Draft
-at_first = record { next = 0; start = 0; frames = 0; actions = [] }
+at_first = record { next = 0; last = word.Start; start = 0; frames = 0; actions = [] }
 
 -- ---- the lines one after another
 -- a line that has to be there isn't
-abbrev pub missing_line : Draft → Option LineKind
-missing_line d = where_true (nat_lt d.next 2) Missing
+abbrev pub missing_line : Draft → Option LineFault
+missing_line d = where_true (nat_lt d.next 2) (wrong.Missing (awaited d.next))
 
-abbrev pub link_lines : Language Draft LineKind
+abbrev pub link_lines : Language Draft LineFault
 link_lines =
     record { first = at_first; fault = words_fault; after = λ d ws. after d (words_said ws); missing = missing_line }

@@ -1,6 +1,6 @@
 -- The link that a text says, or its first fault.
 use Rattle.std.specs.Prelude.{◌≡◌, ⊤, ◌≤◌, ℕ, ◌-◌, List, ◌++◌, length, replicate, Result, Ok, Err}
-use Rattle.text_lines.specs.declared.fault.LineKind.{LineKind}
+use Rattle.au4_link.specs.declared.fault.LineFault.{LineFault}
 use Rattle.text_lines.specs.Language.{said_by}
 use Rattle.au4_pointer.specs.declared.Action.TheVariants.{Keep}
 use Rattle.au4_pointer.specs.Sent.{AreAccepted}
@@ -14,17 +14,17 @@ use Rattle.au4_link.specs.Lines.{link_lines}
 abbrev pub link_in : Draft → Link
 link_in d = record { start = d.start; actions = d.actions ++ replicate (d.frames - length d.actions) Keep }
 
-abbrev pub link_of_draft : Result Draft (ℕ × LineKind) → Result Link (ℕ × LineKind)
+abbrev pub link_of_draft : Result Draft (ℕ × LineFault) → Result Link (ℕ × LineFault)
 link_of_draft (Ok d) = Ok (link_in d)
 link_of_draft (Err at) = Err at
 
 -- a link, or the number of the first faulty line, counted from 1, and what is wrong with it
-abbrev pub link_of : List ℕ → Result Link (ℕ × LineKind)
+abbrev pub link_of : List ℕ → Result Link (ℕ × LineFault)
 link_of text = link_of_draft (said_by link_lines text)
 
 -- a text has this fault; none wants for memory
 abbrev pub IsLinkFault : List ℕ → LinkFault → Type 0
-IsLinkFault text (fault.Line number kind) = link_of text ≡ Err (number, kind)
+IsLinkFault text (fault.Line number wrong) = link_of text ≡ Err (number, wrong)
 IsLinkFault text fault.Memory = ⊤
 
 -- its start is a value, it has 1 to 100,000 frames, and a source refuses none of its actions

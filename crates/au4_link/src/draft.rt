@@ -1,5 +1,6 @@
 //! What a line of a link's text says, and what its lines so far say.
 
+use crate::keyword::Keyword;
 use au4_pointer::Action;
 use std::marker::Model;
 
@@ -43,6 +44,8 @@ pub(crate) enum Statement {
 pub(crate) struct Draft {
     /// The place in the order of a text from which the next line may stand.
     pub next: u8,
+    /// The keyword of the last line.
+    pub last: Keyword,
     /// The value at which the first part begins.
     pub start: u16,
     /// The number of frames.

@@ -1,13 +1,14 @@
 //! The words that may begin a line, and the place of each in the order of a text.
 ghost use Rattle.std.specs.Prelude.{◌≡◌, IfErr, OnOk, None, Some};
-ghost use Rattle.au4_link.specs.Lines.{keyword_of, place, place_fault};
+ghost use Rattle.au4_link.specs.Lines.{keyword_of, place, awaited, place_fault, word_of};
 ghost use Rattle.au4_link.specs.Drafts.{IsPlaced};
 
-use text_lines::LineKind;
+use crate::fault::LineFault;
+use au4_pointer::Action;
 
 /// The words that may begin a line, in the order of a text.
 #[derive(Clone, Copy, Debug, PartialEq, Eq)]
-pub(crate) enum Keyword {
+pub enum Keyword {
     /// The value at which the first part begins.
     Start,
     /// The number of frames.
@@ -52,17 +53,40 @@ impl Keyword {
     }
 }
 
-/// Tests whether a line of the place `at` may stand where `next` is the next place.
-pub(crate) fn check_place(next: u8, at: u8) -> Result<(), LineKind>
-    ensures ok { OnOk result (place_fault next at ≡ None) }
-    ensures err { IfErr result (λ kind. place_fault next at ≡ Some kind) }
-    ensures stands { OnOk result (IsPlaced next at) }
+/// The keyword of the line that has to stand at a place before that of actions.
+pub(crate) fn awaited_at(next: u8) -> Keyword
+    ensures { result ≡ awaited next }
 {
+    if next == 0 { Keyword::Start } else { Keyword::Frames }
+}
+
+/// The keyword of the line that says an action.
+pub(crate) fn keyword_of_action(a: Action) -> Keyword
+    ensures { result ≡ word_of a }
+{
+    match a {
+        Action::Keep => Keyword::Frames,
+        Action::Up => Keyword::Up,
+        Action::Down => Keyword::Down,
+        Action::New(_) => Keyword::New,
+    }
+}
+
+/// Tests whether a line may stand where `next` is the next place, after the line of `before`.
+pub(crate) fn check_place(next: u8, keyword: Keyword, before: Keyword) -> Result<(), LineFault>
+    ensures ok { OnOk result (place_fault next keyword before ≡ None) }
+    ensures err { IfErr result (λ fault. place_fault next keyword before ≡ Some fault) }
+    ensures stands { OnOk result (IsPlaced next (place keyword)) }
+{
+    let at = keyword.place();
     if next < 2 && at != next {
-        return Err(LineKind::Missing);
+        return Err(LineFault::Missing(awaited_at(next)));
     }
     if at < next {
-        return Err(LineKind::Order);
+        return Err(LineFault::Order {
+            this: keyword,
+            before,
+        });
     }
     Ok(())
 }

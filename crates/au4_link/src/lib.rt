@@ -6,13 +6,15 @@
 
 ghost use Rattle.std.specs.Prelude.{◌≡◌, ◌↔◌, ℕ, List, Err};
 ghost use Rattle.std.specs.Str.Lines.{lines};
-ghost use Rattle.text_lines.specs.declared.fault.LineKind.{LineKind};
+ghost use Rattle.au4_link.specs.declared.fault.LineFault.{LineFault};
 ghost use Rattle.text_lines.specs.FirstFault.{IsFirstFault};
 ghost use Rattle.au4_link.specs.Lines.{at_first, link_lines};
 ghost use Rattle.au4_link.specs.Link.{link_of};
 
 mod draft;
+mod fault;
 mod feed;
+mod help;
 mod keyword;
 mod lines;
 mod read;
@@ -20,13 +22,16 @@ mod run;
 mod statement;
 
 pub use draft::{ActionList, Link};
+pub use fault::LineFault;
+pub use help::link_help;
+pub use keyword::Keyword;
 pub use read::{LinkFault, read_link};
 pub use run::write_link;
 
 /// A text has the fault of a line exactly where that line is faulty after lines none of which is, or where no line is faulty and one that has
 /// to be there isn't.
 pub fn fault_law()
-    ensures { (text : List ℕ) (number : ℕ) (kind : LineKind) →
-        (link_of text ≡ Err (number, kind))
-        ↔ IsFirstFault link_lines 1 at_first (lines text) number kind }
+    ensures { (text : List ℕ) (number : ℕ) (fault : LineFault) →
+        (link_of text ≡ Err (number, fault))
+        ↔ IsFirstFault link_lines 1 at_first (lines text) number fault }
 {}

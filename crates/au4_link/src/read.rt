@@ -8,16 +8,18 @@ ghost use Rattle.au4_link.specs.Link.{link_in, link_of, IsLink, IsLinkFault};
 ghost use Rattle.au4_link.specs.Drafts.{IsDraft, Fits};
 
 use crate::draft::{ActionList, Draft, Link, Statement};
+use crate::fault::LineFault;
+use crate::keyword::{Keyword, awaited_at, keyword_of_action};
 use crate::statement::read_line;
 use au4_pointer::Action;
 use std::alloc::{AllocError, Global};
-use text_lines::{LineKind, next_line};
+use text_lines::next_line;
 
 /// Why a text gives no link.
 #[derive(Clone, Copy, Debug, PartialEq, Eq)]
 pub enum LinkFault {
     /// Line `number` is the first faulty one, counted from 1.
-    Line { number: u64, kind: LineKind },
+    Line { number: u64, fault: LineFault },
     /// Memory is short.
     Memory,
 }
@@ -28,6 +30,7 @@ fn no_lines(alloc: Global) -> Draft
 {
     Draft {
         next: 0,
+        last: Keyword::Start,
         start: 0,
         frames: 0,
         actions: ActionList(Vec::new(alloc)),
@@ -67,12 +70,17 @@ fn add(draft: &mut Draft, said: Statement) -> Result<(), AllocError>
         Statement::Start(value) => {
             draft.start = value;
             draft.next = 1;
+            draft.last = Keyword::Start;
         }
         Statement::Frames(count) => {
             draft.frames = count;
             draft.next = 2;
+            draft.last = Keyword::Frames;
         }
-        Statement::Act(frame, a) => add_action(&mut draft.actions, frame, a)?,
+        Statement::Act(frame, a) => {
+            add_action(&mut draft.actions, frame, a)?;
+            draft.last = keyword_of_action(a);
+        }
     }
     Ok(())
 }
@@ -91,7 +99,7 @@ fn read_draft(alloc: Global, text: &[u8]) -> Result<Draft, LinkFault>
         rest = later;
         let said = match read_line(&draft, line) {
             Ok(said) => said,
-            Err(kind) => return Err(LinkFault::Line { number, kind }),
+            Err(fault) => return Err(LinkFault::Line { number, fault }),
         };
         match add(&mut draft, said) {
             Ok(()) => number += 1,
@@ -101,7 +109,7 @@ fn read_draft(alloc: Global, text: &[u8]) -> Result<Draft, LinkFault>
     if draft.next < 2 {
         return Err(LinkFault::Line {
             number,
-            kind: LineKind::Missing,
+            fault: LineFault::Missing(awaited_at(draft.next)),
         });
     }
     Ok(draft)
@@ -114,6 +122,7 @@ fn finished(draft: Draft) -> Result<Link, AllocError>
 {
     let Draft {
         next: _,
+        last: _,
         start,
         frames,
         mut actions,

@@ -35,12 +35,12 @@ pub refused-script : {S : Type 0} (source : Lent S) (writes : Script → Answer)
     → StopsReading source (script_answer writes) stop
 refused-script source writes text (Line n k) stop read (inl e) for lack = absurd cc
 refused-script source writes text (Line n k) stop read (inr says) for lack = refused-for source writes text (Line n k) stop read says (for (λ e. absurd cc))
-refused-script source writes text (Slip l w) stop read (inl e) for lack = absurd cc
-refused-script source writes text (Slip l w) stop read (inr says) for lack = refused-for source writes text (Slip l w) stop read says (for (λ e. absurd cc))
+refused-script source writes text (Slip l w x) stop read (inl e) for lack = absurd cc
+refused-script source writes text (Slip l w x) stop read (inr says) for lack = refused-for source writes text (Slip l w x) stop read says (for (λ e. absurd cc))
 refused-script source writes text (Spread a b c d) stop read (inl e) for lack = absurd cc
 refused-script source writes text (Spread a b c d) stop read (inr says) for lack = refused-for source writes text (Spread a b c d) stop read says (for (λ e. absurd cc))
-refused-script source writes text (Lag a b) stop read (inl e) for lack = absurd cc
-refused-script source writes text (Lag a b) stop read (inr says) for lack = refused-for source writes text (Lag a b) stop read says (for (λ e. absurd cc))
+refused-script source writes text (Lag a b x y) stop read (inl e) for lack = absurd cc
+refused-script source writes text (Lag a b x y) stop read (inr says) for lack = refused-for source writes text (Lag a b x y) stop read says (for (λ e. absurd cc))
 refused-script source writes text fault.Memory stop read either for lack = short-stop source (script_answer writes) stop read.quiet (lack refl)
 
 -- ---- a script is answered

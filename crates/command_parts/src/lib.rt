@@ -3,6 +3,7 @@
 //! ends is `Ends`. Which command is run, and how, is the programs' own. Begin with `Stop`, `read_whole_script` and `tell`.
 #![tactic(auto)]
 
+mod help;
 mod input;
 mod laws;
 mod report;

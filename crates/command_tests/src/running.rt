@@ -15,8 +15,8 @@ fn refused_rows() -> &'static str {
     run 2 3; => 2;;usage: vcat_run run WORKERS|\n\
     walk; => 2;;usage: vcat_run run WORKERS|\n\
     --help; => 2;;usage: vcat_run run WORKERS|\n\
-    run 2;lines 1|ring 1| => 5;;fault: line 2: missing|\n\
-    run 2;lines 1|delays 0|ring 1|lag 1|ticks 20|fail 0 10 20 10| => 6;;fault: slip line 0 window 0|"
+    run 2;lines 1|ring 1| => 5;;fault: line 2: missing|help: the line delays has to stand here|\n\
+    run 2;lines 1|delays 0|ring 1|lag 1|ticks 20|fail 0 10 20 10| => 6;;fault: slip line 0 window 0|help: a slip of 10 needs a failure of at least 11 frames|"
 }
 
 /// Two lines, of which one leaves between two frames, and a command that is refused.
@@ -30,9 +30,9 @@ fn read_rows() -> &'static str {
     "\
     run 2;lines 3|delays 0 0 0|ring 1|lag 1|ticks 700|add 0 0|add 0 1|add 0 2|remove 600 1| => \
     13 TIMES 3;;fault: read failed| THEN 0+;total ticks 700 taken 700 frames 0 commands 4 refused 0 got 0|;\n\
-    run 2; => 3;;fault: read failed| THEN 5;;fault: line 1: missing|\n\
-    run 2;x| => 2 TIMES 3;;fault: read failed| THEN 5;;fault: line 1: word|\n\
-    run 2;lines 2|delays 0 63|ring 63|lag 5|ticks 1| => 7 TIMES 3;;fault: read failed| THEN 6;;fault: spread 63 0 0 63|\n\
+    run 2; => 3;;fault: read failed| THEN 5;;fault: line 1: missing|help: the line lines has to stand here|\n\
+    run 2;x| => 2 TIMES 3;;fault: read failed| THEN 5;;fault: line 1: word|help: a line begins with one of container, lines, delays, ring, lag, ticks, fail, lost, frame, add, remove, client, operator, tick, carry, back, take, round, drain|\n\
+    run 2;lines 2|delays 0 63|ring 63|lag 5|ticks 1| => 7 TIMES 3;;fault: read failed| THEN 6;;fault: spread 63 0 0 63|help: delays from 0 to 63 and slips of 0 need a ring of at least 64|\n\
     run; => 2;;usage: vcat_run run WORKERS|"
 }
 

@@ -24,16 +24,16 @@ fn answer_rows() -> &'static str {
 /// Scripts that are faulty, or don't fit their rings.
 fn faulty_rows() -> &'static str {
     "\
-    walk;lines 1|ring 1| => 5;;fault: line 2: missing|\n\
-    walk; => 5;;fault: line 1: missing|\n\
-    walk;lines 129| => 5;;fault: line 1: range|\n\
-    trace;container vc2| => 5;;fault: line 1: word|\n\
-    walk;lines 1|delays 0|ring 1|lag 1|ticks 1|frame 0 abc| => 5;;fault: line 6: hex|\n\
-    walk;lines 1|delays 0|ring 1|lag 1|ticks 9|add 5 0|add 4 0|x| => 5;;fault: line 7: order|\n\
-    walk;lines 1|delays 00000000000| => 5;;fault: line 2: number|\n\
-    walk;lines 2|delays 0 63|ring 63|lag 5|ticks 1| => 6;;fault: spread 63 0 0 63|\n\
-    walk;lines 2|delays 0 63|ring 64|lag 4|ticks 1| => 6;;fault: lag 4 least 5|\n\
-    trace;lines 1|delays 0|ring 1|lag 1|ticks 20|fail 0 10 20 10| => 6;;fault: slip line 0 window 0|"
+    walk;lines 1|ring 1| => 5;;fault: line 2: missing|help: the line delays has to stand here|\n\
+    walk; => 5;;fault: line 1: missing|help: the line lines has to stand here|\n\
+    walk;lines 129| => 5;;fault: line 1: range|help: word 2 is from 1 to 128|\n\
+    trace;container vc2| => 5;;fault: line 1: word|help: word 2 is vc3 or vc4|\n\
+    walk;lines 1|delays 0|ring 1|lag 1|ticks 1|frame 0 abc| => 5;;fault: line 6: hex|help: word 3 is an even number of hexadecimal digits|\n\
+    walk;lines 1|delays 0|ring 1|lag 1|ticks 9|add 5 0|add 4 0|x| => 5;;fault: line 7: order|help: the command before is due at 5|\n\
+    walk;lines 1|delays 00000000000| => 5;;fault: line 2: number|help: word 2 is a number of one to ten digits|\n\
+    walk;lines 2|delays 0 63|ring 63|lag 5|ticks 1| => 6;;fault: spread 63 0 0 63|help: delays from 0 to 63 and slips of 0 need a ring of at least 64|\n\
+    walk;lines 2|delays 0 63|ring 64|lag 4|ticks 1| => 6;;fault: lag 4 least 5|help: a delay of 63 and slips of 0 need a lag of at least 5|\n\
+    trace;lines 1|delays 0|ring 1|lag 1|ticks 20|fail 0 10 20 10| => 6;;fault: slip line 0 window 0|help: a slip of 10 needs a failure of at least 11 frames|"
 }
 
 /// Words that are no command.
@@ -135,11 +135,11 @@ fn packet_rows() -> &'static str {
     frames;frame 0 020304050607080900| => 5;;fault: head: magic|\n\
     frames;|\r\r|45678901234567890123 => 5;;fault: head: pcapng|\n\
     decode;# none|| 00 \r|0aF0 => 0;end octets 3 packets 0|;\n\
-    decode;0001020 => 5;;fault: line 1: hex|\n\
-    decode;00||#|0g|0| => 5;;fault: line 4: hex|\n\
-    decode;00 01| => 5;;fault: line 1: hex|\n\
-    decode;00|00\r => 5;;fault: line 2: hex|\n\
-    decode;\t| => 5;;fault: line 1: hex|"
+    decode;0001020 => 5;;fault: line 1: hex|help: a line is an even number of hexadecimal digits|\n\
+    decode;00||#|0g|0| => 5;;fault: line 4: hex|help: a line is an even number of hexadecimal digits|\n\
+    decode;00 01| => 5;;fault: line 1: hex|help: a line is an even number of hexadecimal digits|\n\
+    decode;00|00\r => 5;;fault: line 2: hex|help: a line is an even number of hexadecimal digits|\n\
+    decode;\t| => 5;;fault: line 1: hex|help: a line is an even number of hexadecimal digits|"
 }
 
 /// What is answered where the first call of `out` fails, the second, and so on, and last without a fault. Short lines go out together.
@@ -172,9 +172,9 @@ fn read_rows() -> &'static str {
     trace;lines 1|delays 0|ring 1|lag 1|ticks 41|add 0 0| => 8 TIMES 3;;fault: read failed| THEN 0+;total ticks 41 taken 41 frames 0 commands 1 refused 0 got 0|;packet 0 chg 1 act 0 back none add:0|packet 1 chg 1 act 1 back 7f/1 eos:0|packet 2 chg 1 act 1 back ff/1 eos:0|\n\
     decode;000102030405060708090a1b0c0d0e0f001112130405060708090a1b0c0d0e0f0021321304151647 => 13 TIMES 3;;fault: read failed| THEN 0;at 8 add sq 0 gid 1 act 0 chg 1 mst 00 ack 0|at 24 eos sq 0 gid 1 act 1 chg 1 mst 00 ack 0|end octets 40 packets 2|;\n\
     decode;0001|0203| => 3 TIMES 3;;fault: read failed| THEN 0;end octets 4 packets 0|;\n\
-    walk; => 3;;fault: read failed| THEN 5;;fault: line 1: missing|\n\
-    walk;x| => 2 TIMES 3;;fault: read failed| THEN 5;;fault: line 1: word|\n\
-    walk;lines 2|delays 0 63|ring 63|lag 5|ticks 1| => 7 TIMES 3;;fault: read failed| THEN 6;;fault: spread 63 0 0 63|\n\
+    walk; => 3;;fault: read failed| THEN 5;;fault: line 1: missing|help: the line lines has to stand here|\n\
+    walk;x| => 2 TIMES 3;;fault: read failed| THEN 5;;fault: line 1: word|help: a line begins with one of container, lines, delays, ring, lag, ticks, fail, lost, frame, add, remove, client, operator, tick, carry, back, take, round, drain|\n\
+    walk;lines 2|delays 0 63|ring 63|lag 5|ticks 1| => 7 TIMES 3;;fault: read failed| THEN 6;;fault: spread 63 0 0 63|help: delays from 0 to 63 and slips of 0 need a ring of at least 64|\n\
     make 1 1 1; => 0+;made lines 1 ticks 1|total ticks 1 taken 1 frames 1 commands 1 refused 0 got 0|octets 0 sum 0|;\n\
     stream 64 1 0 1 1; => 0;frame 0 02000000000202000000000188b5d659cce65af39af629bafbf27c20ba0c1a1fd4356b8dde623db024a051a09f121cc58e5aca6adc1dffe48ab8cd1682076840|;\n\
     make 1 1; => 2;;usage: vcat_walk walk, trace, fates, capture, frames, decode, au4, make NUMBER LINES TICKS, or stream OCTETS MBITS FIRST END NUMBER|"

@@ -35,7 +35,7 @@ impl Counts {
             }
             Err(ScriptFault::Memory) => return Err(AllocError),
             Err(fault) => {
-                if let ScriptFault::Line { number: _, kind: _ } = fault {
+                if let ScriptFault::Line { number: _, fault: _ } = fault {
                     self.lines = self.lines.wrapping_add(1);
                 } else {
                     self.limits = self.limits.wrapping_add(1);

@@ -3,19 +3,19 @@ use Rattle.std.proofs.Common.{◌≡◌, ℕ, ◌+◌, ◌<◌, ◌≤◌, List,
 use Rattle.std.specs.Prelude.{None, Some, Err, nat_lt}
 use Rattle.std.proofs.lemmas.Bool.{cases_lt}
 use Rattle.std.proofs.lemmas.Bool.Decides.{nat_tests}
-use Rattle.text_lines.specs.declared.fault.LineKind.{LineKind}
-use Rattle.text_lines.specs.declared.fault.LineKind.TheVariants.{Missing}
-use Rattle.text_lines.specs.declared.fault.LineStop.{LineStop}
-use Rattle.text_lines.specs.declared.fault.LineStop.TheVariants as stop
+use Rattle.script_read.specs.declared.fault.LineFault.{LineFault}
+use Rattle.script_read.specs.declared.fault.LineFault.TheVariants.{Missing}
+use Rattle.script_read.specs.declared.fault.LineStop.{LineStop}
+use Rattle.script_read.specs.declared.fault.LineStop.TheVariants as stop
 use Rattle.text_lines.specs.Words.{words}
-use Rattle.text_lines.specs.Fields.{IsStop}
+use Rattle.script_read.specs.Lifted.{IsStop}
 use Rattle.text_lines.specs.Language.{said_from, said_by}
 use Rattle.text_lines.proofs.LanguageLaws.{line_faulty, line_sound}
 use Rattle.script_read.specs.declared.fault.ScriptFault.{ScriptFault}
 use Rattle.script_read.specs.declared.fault.ScriptFault.TheVariants as fault
 use Rattle.script_read.specs.declared.draft.Draft.{Draft}
 use Rattle.script_read.specs.declared.draft.Statement.{Statement}
-use Rattle.script_read.specs.Statements.{words_fault, words_said, after}
+use Rattle.script_read.specs.Statements.{awaited, words_fault, words_said, after}
 use Rattle.script_read.specs.Drafts.{fault_at}
 use Rattle.script_read.specs.Script.{missing_line, script_lines, script_of_draft, script_of}
 
@@ -27,7 +27,7 @@ line_said n d new all l ls said first none says is =
     line_sound script_lines n d new all l ls first none (is ∙ ap (λ (r : Statement). after d r) says)
 
 -- the text whose line has this fault first
-pub line_told : (text : List ℕ) (n : ℕ) (kind : LineKind) → said_by script_lines text ≡ Err (n, kind)
+pub line_told : (text : List ℕ) (n : ℕ) (kind : LineFault) → said_by script_lines text ≡ Err (n, kind)
     → script_of text ≡ Err (fault.Line n kind)
 line_told text n kind is = ap script_of_draft is
 
@@ -48,7 +48,7 @@ below n less = grind (arith, nat_tests)
 not_below : (n : ℕ) → 6 ≤ n → nat_lt n 6 ≡ false
 not_below n least = grind (arith, nat_tests)
 
-pub config_missing : (d : Draft) → d.next < 6 → missing_line d ≡ Some Missing
+pub config_missing : (d : Draft) → d.next < 6 → missing_line d ≡ Some (Missing (awaited d.next))
 config_missing d less = rw (below d.next less) refl
 
 pub config_whole : (d : Draft) → 6 ≤ d.next → missing_line d ≡ None
@@ -57,6 +57,6 @@ config_whole d least = rw (not_below d.next least) refl
 pub whole_config : (d : Draft) → missing_line d ≡ None → 6 ≤ d.next
 whole_config d none =
     elim (cases_lt d.next 6) [
-      | inl less ↦ absurd (let bad : Some Missing ≡ None = sym (config_missing d less) ∙ none in cc)
+      | inl less ↦ absurd (let bad : Some (Missing (awaited d.next)) ≡ None = sym (config_missing d less) ∙ none in cc)
       | inr least ↦ least
     ]

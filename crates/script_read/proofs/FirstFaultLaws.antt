@@ -3,7 +3,7 @@ use Rattle.std.proofs.Common.{◌≡◌, ◌↔◌, ℕ, ◌+◌, ◌-◌, nat_l
 use Rattle.std.specs.Prelude.{Option, None, Some, Result, Ok, Err}
 use Rattle.std.specs.Str.Lines.{lines}
 use Rattle.std.proofs.lemmas.Bool.{cases_Bool}
-use Rattle.text_lines.specs.declared.fault.LineKind.{LineKind}
+use Rattle.script_read.specs.declared.fault.LineFault.{LineFault}
 use Rattle.text_lines.specs.Language.{said_by}
 use Rattle.text_lines.specs.FirstFault.{IsFirstFault}
 use Rattle.text_lines.proofs.FirstFaultLaws.{first_fault, all_said}
@@ -22,9 +22,9 @@ use Rattle.script_read.proofs.DraftLaws.{line_told, config_whole, whole_config}
 is_line : Option ScriptFault → Bool
 is_line None = false
 is_line (Some (fault.Line n kind)) = true
-is_line (Some (fault.Slip m i)) = false
+is_line (Some (fault.Slip m i slip)) = false
 is_line (Some (fault.Spread slow fast slip ring)) = false
-is_line (Some (fault.Lag lag least)) = false
+is_line (Some (fault.Lag lag least slow slip)) = false
 is_line (Some fault.Memory) = false
 
 neither : (f later : Option ScriptFault) → is_line f ≡ false → is_line later ≡ false
@@ -62,12 +62,12 @@ config_line c =
     neither (slip_fault 0 c.windows) (fault_or (spread_fault c) (lag_fault c)) (slips_line 0 c.windows)
     (neither (spread_fault c) (lag_fault c) (spread_line c) (lag_line c))
 
-no_line : (c : Config) (m : ℕ) (kind : LineKind) → config_fault c ≡ Some (fault.Line m kind) → ⊥
+no_line : (c : Config) (m : ℕ) (kind : LineFault) → config_fault c ≡ Some (fault.Line m kind) → ⊥
 unfolding is_line
 no_line c m kind e = (let bad : true ≡ false = sym (ap is_line e) ∙ config_line c in cc)
 
 -- ---- the text
-abbrev told : ℕ → LineKind → Result Draft (ℕ × LineKind)
+abbrev told : ℕ → LineFault → Result Draft (ℕ × LineFault)
 told n kind = Err (n, kind)
 
 abbrev refused : ScriptFault → Result Script ScriptFault
@@ -76,21 +76,21 @@ refused f = Err f
 abbrev read : Script → Result Script ScriptFault
 read script = Ok script
 
-tested_line : (d : Draft) (m : ℕ) (kind : LineKind) (f : Option ScriptFault) → config_fault d.config ≡ f
+tested_line : (d : Draft) (m : ℕ) (kind : LineFault) (f : Option ScriptFault) → config_fault d.config ≡ f
     → script_unless f (script_in d) ≡ refused (fault.Line m kind) → ⊥
 tested_line d m kind None is e = cc
 tested_line d m kind (Some f) is e =
     no_line d.config m kind (is ∙ ap Some (let same : f ≡ fault.Line m kind = cc in same))
 
-line_of : (r : Result Draft (ℕ × LineKind)) (m : ℕ) (kind : LineKind)
+line_of : (r : Result Draft (ℕ × LineFault)) (m : ℕ) (kind : LineFault)
     → script_of_draft r ≡ refused (fault.Line m kind) → r ≡ told m kind
 line_of (Err at) m kind e =
     let number : at.0 ≡ m = cc in
     let same : at.1 ≡ kind = cc in
-    ap₂ (λ (n : ℕ) (k : LineKind). told n k) number same
+    ap₂ (λ (n : ℕ) (k : LineFault). told n k) number same
 line_of (Ok d) m kind e = absurd (tested_line d m kind (config_fault d.config) refl e)
 
-pub told_line : (text : List ℕ) (m : ℕ) (kind : LineKind)
+pub told_line : (text : List ℕ) (m : ℕ) (kind : LineFault)
     → (script_of text ≡ refused (fault.Line m kind)) ↔ IsFirstFault script_lines 1 at_first (lines text) m kind
 told_line text m kind = (
   λ e. (first_fault script_lines text m kind).0 (line_of (said_by script_lines text) m kind e),
@@ -107,7 +107,7 @@ passed_tests : (d : Draft) (script : Script) (f : Option ScriptFault) → config
 passed_tests d script None is e = record { passes = is; is = (let same : script ≡ script_in d = cc in same) }
 passed_tests d script (Some f) is e = absurd cc
 
-script_from : (text : List ℕ) (script : Script) (r : Result Draft (ℕ × LineKind)) → said_by script_lines text ≡ r
+script_from : (text : List ℕ) (script : Script) (r : Result Draft (ℕ × LineFault)) → said_by script_lines text ≡ r
     → script_of_draft r ≡ read script
     → IsScriptOf (lines text) script
 script_from text script (Err at) is e = absurd cc

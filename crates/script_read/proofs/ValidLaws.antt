@@ -24,18 +24,18 @@ none_later (Some f) later is = absurd cc
 
 -- ---- slips
 slips : (m i : ℕ) (w : Window) (ws : List Window) → nat_le (w.end - w.first) w.slip ≡ true → windows_fault m i (w ∷ ws) ≡ None
-    → Some (fault.Slip m i) ≡ None
-slips m i w ws far none = ap (λ (b : Bool). if b then Some (fault.Slip m i) else windows_fault m (i + 1) ws) (sym far) ∙ none
+    → Some (fault.Slip m i w.slip) ≡ None
+slips m i w ws far none = ap (λ (b : Bool). if b then Some (fault.Slip m i w.slip) else windows_fault m (i + 1) ws) (sym far) ∙ none
 
 goes_on : (m i : ℕ) (w : Window) (ws : List Window) → nat_le (w.end - w.first) w.slip ≡ false → windows_fault m i (w ∷ ws) ≡ None
     → windows_fault m (i + 1) ws ≡ None
-goes_on m i w ws near none = ap (λ (b : Bool). if b then Some (fault.Slip m i) else windows_fault m (i + 1) ws) (sym near) ∙ none
+goes_on m i w ws near none = ap (λ (b : Bool). if b then Some (fault.Slip m i w.slip) else windows_fault m (i + 1) ws) (sym near) ∙ none
 
 no_slip : (m i : ℕ) (w : Window) (ws : List Window) → windows_fault m i (w ∷ ws) ≡ None
     → (w.slip < w.end - w.first) × (windows_fault m (i + 1) ws ≡ None)
 no_slip m i w ws none =
     elim (cases_Bool (nat_le (w.end - w.first) w.slip)) [
-      | inl far ↦ absurd (let bad : Some (fault.Slip m i) ≡ None = slips m i w ws far none in cc)
+      | inl far ↦ absurd (let bad : Some (fault.Slip m i w.slip) ≡ None = slips m i w ws far none in cc)
       | inr near ↦ ((let less : w.slip < w.end - w.first = grind (arith, nat_tests, near) in less), goes_on m i w ws near none)
     ]
 
@@ -67,8 +67,8 @@ wide_fails : (c : Config) → nat_le (greatest c.delays - least c.delays + great
 wide_fails c wide none =
     ap (λ (b : Bool). if b then None else Some (fault.Spread (greatest c.delays) (least c.delays) (greatest_slip c.windows) c.ring)) (sym wide) ∙ none
 
-short_fails : (c : Config) → nat_le (least_lag c) c.lag ≡ false → lag_fault c ≡ None → Some (fault.Lag c.lag (least_lag c)) ≡ None
-short_fails c short none = ap (λ (b : Bool). if b then None else Some (fault.Lag c.lag (least_lag c))) (sym short) ∙ none
+short_fails : (c : Config) → nat_le (least_lag c) c.lag ≡ false → lag_fault c ≡ None → Some (fault.Lag c.lag (least_lag c) (greatest c.delays) (greatest_slip c.windows)) ≡ None
+short_fails c short none = ap (λ (b : Bool). if b then None else Some (fault.Lag c.lag (least_lag c) (greatest c.delays) (greatest_slip c.windows))) (sym short) ∙ none
 
 ring_fits : (c : Config) → spread_fault c ≡ None → FitsRing c
 ring_fits c none =
@@ -81,7 +81,7 @@ lag_fits : (c : Config) → lag_fault c ≡ None → FitsLag c
 lag_fits c none =
     elim (cases_Bool (nat_le (least_lag c) c.lag)) [
       | inl fits ↦ (let less : least_lag c ≤ c.lag = grind (arith, nat_tests, fits) in omega (arith, less))
-      | inr short ↦ absurd (let bad : Some (fault.Lag c.lag (least_lag c)) ≡ None = short_fails c short none in cc)
+      | inr short ↦ absurd (let bad : Some (fault.Lag c.lag (least_lag c) (greatest c.delays) (greatest_slip c.windows)) ≡ None = short_fails c short none in cc)
     ]
 
 -- ---- the script

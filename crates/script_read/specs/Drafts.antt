@@ -1,37 +1,55 @@
 -- What a draft meets, and what a line may say that stands after those of a draft.
-use Rattle.std.specs.Prelude.{◌≡◌, ◌⊎◌, ⊤, ℕ, ◌==◌, ◌<◌, ◌≤◌, not, List, [], ◌∷◌, length, replicate, Option, All}
+use Rattle.std.specs.Prelude.{◌≡◌, ◌⊎◌, ⊤, ℕ, ◌-◌, ◌==◌, ◌<◌, ◌≤◌, not, nat_lt, List, [], ◌∷◌, length, replicate, Option, option_map, All}
 use Rattle.std.specs.Option.{option_or}
 use Rattle.session_model.specs.declared.window.Window.{Window}
 use Rattle.session_model.specs.declared.script.Config.{Config}
 use Rattle.session_model.specs.declared.script.ItemKind.{ItemKind}
 use Rattle.session_model.specs.declared.script.ItemKind.TheVariants as item
 use Rattle.session_model.specs.Counts.{dues_of, frame_dues, command_dues}
-use Rattle.text_lines.specs.declared.fault.LineKind.{LineKind}
-use Rattle.text_lines.specs.declared.fault.LineKind.TheVariants.{Word}
+use Rattle.script_read.specs.declared.fault.LineFault.{LineFault}
+use Rattle.script_read.specs.declared.fault.LineFault.TheVariants as wrong
 use Rattle.script_read.specs.declared.fault.ScriptFault.{ScriptFault}
 use Rattle.script_read.specs.declared.fault.ScriptFault.TheVariants as fault
-use Rattle.text_lines.specs.declared.fault.LineStop.{LineStop}
-use Rattle.text_lines.specs.declared.fault.LineStop.TheVariants as stop
+use Rattle.script_read.specs.declared.fault.LineStop.{LineStop}
+use Rattle.script_read.specs.declared.fault.LineStop.TheVariants as stop
+use Rattle.script_read.specs.declared.keyword.Keyword.{Keyword}
+use Rattle.script_read.specs.declared.keyword.Keyword.TheVariants as word
 use Rattle.script_read.specs.declared.draft.Statement.{Statement}
 use Rattle.script_read.specs.declared.draft.Statement.TheVariants as says
 use Rattle.script_read.specs.declared.draft.Draft.{Draft}
-use Rattle.text_lines.specs.Words.{word_at}
-use Rattle.text_lines.specs.Fields.{where_true, within, name_fault, fields_fault}
+use Rattle.text_lines.specs.Words.{word_at, number_at}
+use Rattle.text_lines.specs.Fields.{where_true, within, number_fault, name_fault, fields_fault}
 use Rattle.script_read.specs.Statements.{container_names, windows_of, last_end, last_lost}
 use Rattle.session_model.specs.Valid.{IsWithin, HasLosses, IsSize, IsItem, AreItems, IsEvent}
 
 -- ---- faults
 -- the fault of line n, which wasn't read
 abbrev pub fault_at : ℕ → LineStop → ScriptFault
-fault_at n (stop.Fault kind) = fault.Line n kind
+fault_at n (stop.Fault f) = fault.Line n f
 fault_at n stop.Memory = fault.Memory
 
--- the fault of the words of a container, and of a number of delays
-abbrev pub container_fault : List (List ℕ) → Option LineKind
-container_fault ws = option_or (where_true (not (length ws == 1)) Word) (name_fault container_names (word_at 0 ws))
+-- a keyword takes so many words
+abbrev pub count_fault : Keyword → ℕ → List (List ℕ) → Option LineFault
+count_fault k n ws = where_true (not (length ws == n)) (wrong.Count k n (length ws))
 
-abbrev pub delays_fault : ℕ → List (List ℕ) → Option LineKind
-delays_fault n ws = option_or (where_true (not (length ws == n)) Word) (fields_fault (replicate n (within 0 2047)) 0 ws)
+-- the fault of the words of a container, of a number of delays, of one number, and of a command
+abbrev pub container_fault : List (List ℕ) → Option LineFault
+container_fault ws =
+    option_or (count_fault word.Container 1 ws) (option_map wrong.Field (name_fault 2 container_names (word_at 0 ws)))
+
+abbrev pub delays_fault : ℕ → List (List ℕ) → Option LineFault
+delays_fault n ws =
+    option_or (count_fault word.Delays n ws) (option_map wrong.Field (fields_fault (replicate n (within 0 2047)) 2 0 ws))
+
+abbrev pub one_fault : Keyword → ℕ → ℕ → List (List ℕ) → Option LineFault
+one_fault k least most ws =
+    option_or (count_fault k 1 ws) (option_map wrong.Field (number_fault 2 least most (word_at 0 ws)))
+
+abbrev pub command_fault : Draft → Keyword → List (List ℕ) → Option LineFault
+command_fault d k ws =
+    option_or (count_fault k 2 ws)
+    (option_or (option_map wrong.Field (fields_fault (within 0 (d.config.ticks - 1) ∷ within 0 255 ∷ []) 2 0 ws))
+    (where_true (nat_lt (number_at 0 ws) d.command_due) (wrong.CommandBefore d.command_due)))
 
 -- a keyword's place may stand next
 abbrev pub IsPlaced : ℕ → ℕ → Type 0

@@ -1,3 +1,4 @@
 pub mod Statements
 pub mod Script
 pub mod Drafts
+pub mod Lifted

@@ -1,7 +1,7 @@
 -- The script that a text says, or its first fault.
 use Rattle.std.specs.Prelude.{◌≡◌, ◌≤◌, ℕ, ◌+◌, ◌-◌, ◌/◌, nat_le, nat_lt, List, [], ◌∷◌, Option, Some, None, Result, Ok, Err, if◌then◌else◌}
-use Rattle.text_lines.specs.declared.fault.LineKind.{LineKind}
-use Rattle.text_lines.specs.declared.fault.LineKind.TheVariants.{Missing}
+use Rattle.script_read.specs.declared.fault.LineFault.{LineFault}
+use Rattle.script_read.specs.declared.fault.LineFault.TheVariants.{Missing}
 use Rattle.text_lines.specs.Fields.{where_true}
 use Rattle.text_lines.specs.Language.{Language, said_by}
 use Rattle.text_lines.specs.FirstFault.{AreSound}
@@ -12,7 +12,7 @@ use Rattle.session_model.specs.Plan.{greatest, least, greatest_slip}
 use Rattle.script_read.specs.declared.fault.ScriptFault.{ScriptFault}
 use Rattle.script_read.specs.declared.fault.ScriptFault.TheVariants as fault
 use Rattle.script_read.specs.declared.draft.Draft.{Draft}
-use Rattle.script_read.specs.Statements.{words_fault, words_said, after, at_first}
+use Rattle.script_read.specs.Statements.{awaited, words_fault, words_said, after, at_first}
 
 -- ---- the tests of a script all of whose lines are right
 abbrev pub fault_or : Option ScriptFault → Option ScriptFault → Option ScriptFault
@@ -23,7 +23,7 @@ fault_or None later = later
 abbrev pub windows_fault : ℕ → ℕ → List Window → Option ScriptFault
 windows_fault m i [] = None
 windows_fault m i (window ∷ windows) =
-    if nat_le (window.end - window.first) window.slip then Some (fault.Slip m i) else windows_fault m (i + 1) windows
+    if nat_le (window.end - window.first) window.slip then Some (fault.Slip m i window.slip) else windows_fault m (i + 1) windows
 
 -- and that of the lines, numbered from m
 abbrev pub slip_fault : ℕ → List (List Window) → Option ScriptFault
@@ -41,18 +41,19 @@ abbrev pub least_lag : Config → ℕ
 least_lag c = (16 + greatest c.delays + greatest_slip c.windows + 15) / 16
 
 abbrev pub lag_fault : Config → Option ScriptFault
-lag_fault c = if nat_le (least_lag c) c.lag then None else Some (fault.Lag c.lag (least_lag c))
+lag_fault c = if nat_le (least_lag c) c.lag then None else
+    Some (fault.Lag c.lag (least_lag c) (greatest c.delays) (greatest_slip c.windows))
 
 abbrev pub config_fault : Config → Option ScriptFault
 config_fault c = fault_or (slip_fault 0 c.windows) (fault_or (spread_fault c) (lag_fault c))
 
 -- ---- the lines
 -- a line of the configuration isn't there at the end
-abbrev pub missing_line : Draft → Option LineKind
-missing_line d = where_true (nat_lt d.next 6) Missing
+abbrev pub missing_line : Draft → Option LineFault
+missing_line d = where_true (nat_lt d.next 6) (Missing (awaited d.next))
 
 -- the lines of scripts, one after another
-abbrev pub script_lines : Language Draft LineKind
+abbrev pub script_lines : Language Draft LineFault
 script_lines =
     record { first = at_first; fault = words_fault; after = λ d ws. after d (words_said ws); missing = missing_line }
 
@@ -64,7 +65,7 @@ abbrev pub script_unless : Option ScriptFault → Script → Result Script Scrip
 script_unless None script = Ok script
 script_unless (Some f) script = Err f
 
-abbrev pub script_of_draft : Result Draft (ℕ × LineKind) → Result Script ScriptFault
+abbrev pub script_of_draft : Result Draft (ℕ × LineFault) → Result Script ScriptFault
 script_of_draft (Err at) = Err (fault.Line at.0 at.1)
 script_of_draft (Ok d) = script_unless (config_fault d.config) (script_in d)
 

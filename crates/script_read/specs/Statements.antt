@@ -1,8 +1,8 @@
 -- The lines of a script: what each may say after those before it, which fault it has first, and what it adds to them.
-use Rattle.std.specs.Prelude.{unwrap_or, ℕ, ◌-◌, ◌==◌, ◌&&◌, ◌||◌, nat_le, nat_lt, not, Bool, false, List, [], ◌∷◌, ◌++◌, length, map, replicate, Option, Some, None, slice_index_or, slice_set, drop, codes, bytes_eq, if◌then◌else◌}
+use Rattle.std.specs.Prelude.{unwrap_or, ℕ, ◌-◌, ◌==◌, ◌&&◌, ◌||◌, nat_le, nat_lt, not, Bool, false, List, [], ◌∷◌, ◌++◌, length, map, replicate, Option, Some, None, option_map, slice_index_or, slice_set, drop, codes, bytes_eq, if◌then◌else◌}
 use Rattle.std.specs.Option.{option_or}
-use Rattle.text_lines.specs.declared.fault.LineKind.{LineKind}
-use Rattle.text_lines.specs.declared.fault.LineKind.TheVariants.{Word, Range, Order, Missing}
+use Rattle.script_read.specs.declared.fault.LineFault.{LineFault}
+use Rattle.script_read.specs.declared.fault.LineFault.TheVariants as wrong
 use Rattle.text_lines.specs.Words.{word_at, is_skipped, number_of, number_at, octets_of}
 use Rattle.text_lines.specs.Fields.{Field, within, any, above, digits, one_of, where_true, fields_fault}
 use Rattle.session_model.specs.declared.window.Window.{Window}
@@ -12,6 +12,8 @@ use Rattle.session_model.specs.declared.script.ItemKind.TheVariants as item
 use Rattle.session_model.specs.declared.script.EventLine.TheVariants as event
 use Rattle.script_read.specs.declared.keyword.Keyword.{Keyword}
 use Rattle.script_read.specs.declared.keyword.Keyword.TheVariants as word
+use Rattle.script_read.specs.declared.keyword.Part.{Part}
+use Rattle.script_read.specs.declared.keyword.Part.TheVariants as part
 use Rattle.script_read.specs.declared.draft.Statement.{Statement}
 use Rattle.script_read.specs.declared.draft.Statement.TheVariants as says
 use Rattle.script_read.specs.declared.draft.Draft.{Draft}
@@ -74,12 +76,29 @@ place word.Take = 8
 place word.Round = 8
 place word.Drain = 8
 
+-- the line of the configuration that has to stand at a place; that of the container need not
+abbrev pub awaited : ℕ → Keyword
+awaited next =
+    if nat_le next 1 then word.Lines
+    else if next == 2 then word.Delays
+    else if next == 3 then word.Ring
+    else if next == 4 then word.Lag
+    else word.Ticks
+
+-- the part of a place
+abbrev pub part_of : ℕ → Part
+part_of at =
+    if nat_le at 5 then part.Configuration
+    else if at == 6 then part.Windows
+    else if at == 7 then part.Items
+    else part.Events
+
 -- before place 6 each line has its place, and that of the container may be passed over; from there on no line comes back to an
 -- earlier part
-abbrev pub place_fault : ℕ → ℕ → Option LineKind
+abbrev pub place_fault : ℕ → ℕ → Option LineFault
 place_fault next at =
-    option_or (where_true (nat_lt next 6 && not (at == next || (next == 0 && at == 1))) Missing)
-    (where_true (nat_lt at next) Order)
+    option_or (where_true (nat_lt next 6 && not (at == next || (next == 0 && at == 1))) (wrong.Missing (awaited next)))
+    (where_true (nat_lt at next) (wrong.Part (part_of at) (part_of next)))
 
 -- ---- the other words
 -- the names of containers
@@ -140,20 +159,32 @@ is_early d word.Remove ws = nat_lt (number_at 0 ws) d.command_due
 is_early d k ws = false
 
 -- ---- the first fault of a line
--- of the words after a first word that may stand there
-abbrev pub rest_fault : Draft → Keyword → List (List ℕ) → Option LineKind
-rest_fault d k ws =
-    option_or (where_true (not (length ws == length (fields d k))) Word)
-    (option_or (fields_fault (fields d k) 0 ws)
-    (option_or (where_true (is_full d k ws) Range)
-    (where_true (is_early d k ws) Order)))
+-- that of a line, or a return path, which is full, by its keyword
+abbrev pub full_fault : Keyword → List (List ℕ) → LineFault
+full_fault word.Fail ws = wrong.FullLine (number_at 0 ws)
+full_fault k ws = wrong.FullPath
 
-abbrev pub known_fault : Draft → List (List ℕ) → Option Keyword → Option LineKind
-known_fault d ws None = Some Word
+-- and of what is early
+abbrev pub early_fault : Draft → Keyword → List (List ℕ) → LineFault
+early_fault d word.Fail ws = wrong.FailureBefore (last_end (windows_of d (number_at 0 ws)))
+early_fault d word.Lost ws = wrong.LossBefore (last_lost d.config.lost)
+early_fault d word.Frame ws = wrong.FrameBefore d.frame_due
+early_fault d k ws = wrong.CommandBefore d.command_due
+
+-- of the words after a first word that may stand there, of which the first is word 2 of its line
+abbrev pub rest_fault : Draft → Keyword → List (List ℕ) → Option LineFault
+rest_fault d k ws =
+    option_or (where_true (not (length ws == length (fields d k))) (wrong.Count k (length (fields d k)) (length ws)))
+    (option_or (option_map wrong.Field (fields_fault (fields d k) 2 0 ws))
+    (option_or (where_true (is_full d k ws) (full_fault k ws))
+    (where_true (is_early d k ws) (early_fault d k ws))))
+
+abbrev pub known_fault : Draft → List (List ℕ) → Option Keyword → Option LineFault
+known_fault d ws None = Some wrong.First
 known_fault d ws (Some k) = option_or (place_fault d.next (place k)) (rest_fault d k ws)
 
 -- of the words of a line
-abbrev pub words_fault : Draft → List (List ℕ) → Option LineKind
+abbrev pub words_fault : Draft → List (List ℕ) → Option LineFault
 words_fault d ws = if is_skipped ws then None else known_fault d (drop 1 ws) (keyword_of (word_at 0 ws))
 
 -- ---- what a line without a fault says

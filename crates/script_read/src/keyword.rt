@@ -1,13 +1,13 @@
 //! The words that may begin a line, and the place of each in the order of a script.
 ghost use Rattle.std.specs.Prelude.{◌≡◌, IfErr, OnOk, None, Some};
-ghost use Rattle.script_read.specs.Statements.{keyword_of, item_keyword, event_keyword, place, place_fault};
+ghost use Rattle.script_read.specs.Statements.{keyword_of, item_keyword, event_keyword, place, awaited, part_of, place_fault};
 ghost use Rattle.script_read.specs.Drafts.{IsPlaced};
 
-use text_lines::LineKind;
+use crate::fault::LineFault;
 
 /// The words that may begin a line, in the order of a script.
 #[derive(Clone, Copy, Debug, PartialEq, Eq)]
-pub(crate) enum Keyword {
+pub enum Keyword {
     /// The container of the group.
     Container,
     /// The number of lines.
@@ -139,17 +139,65 @@ impl Keyword {
     }
 }
 
+/// The parts of a script, in their order.
+#[derive(Clone, Copy, Debug, PartialEq, Eq)]
+pub enum Part {
+    /// The configuration.
+    Configuration,
+    /// Failures of lines, and losses of the return path.
+    Windows,
+    /// Frames and commands.
+    Items,
+    /// Event lines.
+    Events,
+}
+
+/// The line of the configuration that has to stand where `next` is the next place.
+pub(crate) fn awaited(next: u8) -> Keyword
+    ensures { result ≡ awaited next }
+{
+    if next <= 1 {
+        Keyword::Lines
+    } else if next == 2 {
+        Keyword::Delays
+    } else if next == 3 {
+        Keyword::Ring
+    } else if next == 4 {
+        Keyword::Lag
+    } else {
+        Keyword::Ticks
+    }
+}
+
+/// The part of a place.
+fn part_of(at: u8) -> Part
+    ensures { result ≡ part_of at }
+{
+    if at <= 5 {
+        Part::Configuration
+    } else if at == 6 {
+        Part::Windows
+    } else if at == 7 {
+        Part::Items
+    } else {
+        Part::Events
+    }
+}
+
 /// Tests whether a line of the place `at` may stand where `next` is the next place.
-pub(crate) fn check_place(next: u8, at: u8) -> Result<(), LineKind>
+pub(crate) fn check_place(next: u8, at: u8) -> Result<(), LineFault>
     ensures ok { OnOk result (place_fault next at ≡ None) }
-    ensures err { IfErr result (λ kind. place_fault next at ≡ Some kind) }
+    ensures err { IfErr result (λ fault. place_fault next at ≡ Some fault) }
     ensures stands { OnOk result (IsPlaced next at) }
 {
     if next < 6 && at != next && !(next == 0 && at == 1) {
-        return Err(LineKind::Missing);
+        return Err(LineFault::Missing(awaited(next)));
     }
     if at < next {
-        return Err(LineKind::Order);
+        return Err(LineFault::Part {
+            this: part_of(at),
+            begun: part_of(next),
+        });
     }
     Ok(())
 }

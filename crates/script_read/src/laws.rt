@@ -3,8 +3,8 @@ ghost use Rattle.std.specs.Prelude.{◌≡◌, ◌↔◌, ◌≤◌, ℕ, List, 
 ghost use Rattle.std.specs.Str.Lines.{lines};
 ghost use Rattle.session_model.specs.declared.script.Script.{Script};
 ghost use Rattle.session_model.specs.Valid.{IsValid};
-ghost use Rattle.text_lines.specs.declared.fault.LineKind.{LineKind};
 ghost use Rattle.text_lines.specs.FirstFault.{IsFirstFault};
+ghost use Rattle.script_read.specs.declared.fault.LineFault.{LineFault};
 ghost use Rattle.script_read.specs.declared.fault.ScriptFault.TheVariants.{Line};
 ghost use Rattle.script_read.specs.Statements.{at_first};
 ghost use Rattle.script_read.specs.Script.{script_of, script_lines, IsScriptOf};
@@ -14,9 +14,9 @@ ghost use Rattle.session_model.specs.Limits.{longest_input};
 /// configuration isn't whole at the end. It is a script exactly where no line is faulty, the configuration is whole, and slips,
 /// spread and lag have no fault.
 pub fn fault_law()
-    ensures line { (text : List ℕ) (number : ℕ) (kind : LineKind) →
-        (script_of text ≡ Err (Line number kind))
-        ↔ IsFirstFault script_lines 1 at_first (lines text) number kind }
+    ensures line { (text : List ℕ) (number : ℕ) (fault : LineFault) →
+        (script_of text ≡ Err (Line number fault))
+        ↔ IsFirstFault script_lines 1 at_first (lines text) number fault }
     ensures script { (text : List ℕ) (script : Script) →
         (script_of text ≡ Ok script) ↔ IsScriptOf (lines text) script }
 {}

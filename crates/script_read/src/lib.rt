@@ -4,6 +4,7 @@
 //! Begin with `read_script`.
 #![tactic(auto)]
 
+mod count;
 mod draft;
 mod fault;
 mod growth;
@@ -15,6 +16,7 @@ mod network;
 mod script;
 mod statement;
 
-pub use fault::ScriptFault;
+pub use fault::{LineFault, ScriptFault};
+pub use keyword::{Keyword, Part};
 pub use laws::{fault_law, valid_law};
 pub use script::read_script;

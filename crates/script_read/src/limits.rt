@@ -18,7 +18,11 @@ fn fault_of_windows(m: u8, list: &WindowList) -> Option<ScriptFault>
     let mut i = 0u16;
     for window in &list.0 {
         if window.end.saturating_sub(window.first) <= u32::from(window.slip) {
-            return Some(ScriptFault::Slip { line: m, window: i });
+            return Some(ScriptFault::Slip {
+                line: m,
+                window: i,
+                slip: window.slip,
+            });
         }
         i += 1;
     }
@@ -102,7 +106,12 @@ pub(crate) fn fault_of_config(config: &Config) -> Option<ScriptFault>
     let lag = config.lag;
     let least = ((16 + u64::from(slow) + u64::from(slip) + 15) / 16) as u32;
     if u32::from(lag) < least {
-        return Some(ScriptFault::Lag { lag, least });
+        return Some(ScriptFault::Lag {
+            lag,
+            least,
+            slow,
+            slip,
+        });
     }
     None
 }

@@ -7,20 +7,21 @@ ghost use Rattle.session_model.specs.Valid.{IsValid};
 ghost use Rattle.session_model.specs.Limits.{longest_input};
 
 use crate::draft::Draft;
-use crate::fault::ScriptFault;
+use crate::fault::{LineFault, LineStop, ScriptFault};
 use crate::growth::{add, no_lines};
+use crate::keyword::awaited;
 use crate::limits::fault_of_config;
 use crate::statement::read_line;
 use session_model::Script;
 use std::alloc::Global;
-use text_lines::{LineKind, LineStop, next_line};
+use text_lines::next_line;
 
 // The fault of a line that wasn't read.
 fn fault_of(number: u32, stop: LineStop) -> ScriptFault
     ensures { result ≡ fault_at number stop }
 {
     match stop {
-        LineStop::Fault(kind) => ScriptFault::Line { number, kind },
+        LineStop::Fault(fault) => ScriptFault::Line { number, fault },
         LineStop::Memory => ScriptFault::Memory,
     }
 }
@@ -51,7 +52,7 @@ fn read_draft(alloc: Global, text: &[u8]) -> Result<Draft, ScriptFault>
     if draft.next < 6 {
         return Err(ScriptFault::Line {
             number,
-            kind: LineKind::Missing,
+            fault: LineFault::Missing(awaited(draft.next)),
         });
     }
     Ok(draft)

@@ -1,28 +1,48 @@
 //! A line of a script: which one it is, and what it says.
 ghost use Rattle.std.specs.Prelude.{◌≡◌, ◌≤◌, IfOk, IfErr, None, Some};
 ghost use Rattle.text_lines.specs.Words.{words, number_at};
-ghost use Rattle.text_lines.specs.Fields.{one_fault, IsStop};
+ghost use Rattle.script_read.specs.Lifted.{IsStop};
 ghost use Rattle.script_read.specs.Statements.{place, rest_fault, words_fault, words_said, said};
 ghost use Rattle.script_read.specs.declared.draft.Statement.TheVariants as says;
-ghost use Rattle.script_read.specs.Drafts.{IsDraft, IsPlaced, Fits};
+ghost use Rattle.script_read.specs.Drafts.{IsDraft, IsPlaced, Fits, one_fault};
 ghost use Rattle.session_model.specs.Valid.{IsCount};
 
+use crate::count::count_fault;
 use crate::draft::{Draft, Statement};
+use crate::fault::{LineFault, LineStop};
 use crate::items::{read_carry, read_due_line, read_frame};
 use crate::keyword::{Keyword, check_place};
 use crate::network::{read_container, read_delays, read_fail, read_lost};
 use session_model::{EventLine, Item, ItemKind};
 use std::alloc::Global;
-use text_lines::{LineKind, LineStop, first_word, next_word, one_number};
+use text_lines::{first_word, next_word, number_within, one_word};
+
+// The only word behind a keyword, a number from `least` to `most`.
+fn one_number(keyword: Keyword, rest: &[u8], least: u64, most: u64) -> Result<u64, LineFault>
+    ensures ok { IfOk result (λ n. (one_fault keyword least most (words rest.now) ≡ None)
+        × (n ≡ number_at 0 (words rest.now))) }
+    ensures fits { IfOk result (λ n. (least ≤ n) × (n ≤ most)) }
+    ensures err { IfErr result (λ fault.
+        one_fault keyword least most (words rest.now) ≡ Some fault) }
+{
+    let Some(word) = one_word(rest) else {
+        return Err(count_fault(keyword, 1, rest));
+    };
+    match number_within(word, 2, least, most) {
+        Ok(n) => Ok(n),
+        Err(fault) => Err(LineFault::Field(fault)),
+    }
+}
 
 // The count of an event line.
-fn read_count(rest: &[u8]) -> Result<u32, LineStop>
-    ensures ok { IfOk result (λ n.
-        (one_fault 1 1000000 (words rest.now) ≡ None) × (n ≡ number_at 0 (words rest.now))) }
+fn read_count(keyword: Keyword, rest: &[u8]) -> Result<u32, LineStop>
+    ensures ok { IfOk result (λ n. (one_fault keyword 1 1000000 (words rest.now) ≡ None)
+        × (n ≡ number_at 0 (words rest.now))) }
     ensures fits { IfOk result IsCount }
-    ensures err { IfErr result (λ stop. IsStop stop (one_fault 1 1000000 (words rest.now))) }
+    ensures err { IfErr result (λ stop.
+        IsStop stop (one_fault keyword 1 1000000 (words rest.now))) }
 {
-    Ok(one_number(rest, 1, 1_000_000)? as u32)
+    Ok(one_number(keyword, rest, 1, 1_000_000)? as u32)
 }
 
 // What the words after the keyword of an event line say.
@@ -37,19 +57,19 @@ fn read_event(draft: &Draft, keyword: Keyword, rest: &[u8]) -> Result<EventLine,
         IsStop stop (rest_fault draft.now keyword (words rest.now))) }
 {
     match keyword {
-        Keyword::Client => Ok(EventLine::Client(read_count(rest)?)),
-        Keyword::Operator => Ok(EventLine::Operator(read_count(rest)?)),
-        Keyword::Tick => Ok(EventLine::Tick(read_count(rest)?)),
+        Keyword::Client => Ok(EventLine::Client(read_count(Keyword::Client, rest)?)),
+        Keyword::Operator => Ok(EventLine::Operator(read_count(Keyword::Operator, rest)?)),
+        Keyword::Tick => Ok(EventLine::Tick(read_count(Keyword::Tick, rest)?)),
         Keyword::Carry => {
             let (m, count) = read_carry(draft, rest)?;
             Ok(EventLine::Carry(m, count))
         }
-        Keyword::Back => Ok(EventLine::Back(read_count(rest)?)),
-        Keyword::Take => Ok(EventLine::Take(read_count(rest)?)),
-        Keyword::Round => Ok(EventLine::Round(read_count(rest)?)),
+        Keyword::Back => Ok(EventLine::Back(read_count(Keyword::Back, rest)?)),
+        Keyword::Take => Ok(EventLine::Take(read_count(Keyword::Take, rest)?)),
+        Keyword::Round => Ok(EventLine::Round(read_count(Keyword::Round, rest)?)),
         Keyword::Drain => match next_word(rest) {
             None => Ok(EventLine::Drain),
-            Some(_) => Err(LineStop::Fault(LineKind::Word)),
+            Some(_) => Err(LineStop::Fault(count_fault(Keyword::Drain, 0, rest))),
         },
         _ => unreachable!(),
     }
@@ -69,14 +89,14 @@ fn read_item(alloc: Global, draft: &Draft, keyword: Keyword, rest: &[u8]) -> Res
     match keyword {
         Keyword::Frame => read_frame(alloc, draft, rest),
         Keyword::Add => {
-            let (due, line) = read_due_line(draft, rest)?;
+            let (due, line) = read_due_line(draft, Keyword::Add, rest)?;
             Ok(Item {
                 due,
                 kind: ItemKind::Add(line),
             })
         }
         Keyword::Remove => {
-            let (due, line) = read_due_line(draft, rest)?;
+            let (due, line) = read_due_line(draft, Keyword::Remove, rest)?;
             Ok(Item {
                 due,
                 kind: ItemKind::Remove(line),
@@ -104,11 +124,11 @@ fn read_setting(
 {
     match keyword {
         Keyword::Container => Ok(Statement::Container(read_container(rest)?)),
-        Keyword::Lines => Ok(Statement::Lines(one_number(rest, 1, 128)? as u8)),
+        Keyword::Lines => Ok(Statement::Lines(one_number(Keyword::Lines, rest, 1, 128)? as u8)),
         Keyword::Delays => Ok(Statement::Delays(read_delays(alloc, rest, draft.config.lines)?)),
-        Keyword::Ring => Ok(Statement::Ring(one_number(rest, 1, 2048)? as u16)),
-        Keyword::Lag => Ok(Statement::Lag(one_number(rest, 1, 512)? as u16)),
-        Keyword::Ticks => Ok(Statement::Ticks(one_number(rest, 1, 1_000_000)? as u32)),
+        Keyword::Ring => Ok(Statement::Ring(one_number(Keyword::Ring, rest, 1, 2048)? as u16)),
+        Keyword::Lag => Ok(Statement::Lag(one_number(Keyword::Lag, rest, 1, 512)? as u16)),
+        Keyword::Ticks => Ok(Statement::Ticks(one_number(Keyword::Ticks, rest, 1, 1_000_000)? as u32)),
         Keyword::Fail => {
             let (m, window) = read_fail(draft, rest)?;
             Ok(Statement::Fail(m, window))
@@ -171,10 +191,10 @@ pub(crate) fn read_line(alloc: Global, draft: &Draft, line: &[u8]) -> Result<Sta
         return Ok(Statement::Nothing);
     };
     let Some(keyword) = Keyword::of(word) else {
-        return Err(LineStop::Fault(LineKind::Word));
+        return Err(LineStop::Fault(LineFault::First));
     };
     match check_place(draft.next, keyword.place()) {
         Ok(()) => read_rest(alloc, draft, keyword, rest),
-        Err(kind) => Err(LineStop::Fault(kind)),
+        Err(fault) => Err(LineStop::Fault(fault)),
     }
 }

@@ -2,10 +2,9 @@
 ghost use Rattle.std.specs.Prelude.{IfOk};
 ghost use Rattle.session_model.specs.Valid.{IsValid};
 
-use script_read::{ScriptFault, read_script};
+use script_read::{LineFault, ScriptFault, read_script};
 use session_model::{EventLine, Item, ItemKind, Script, Window, WindowList};
 use std::alloc::Global;
-use text_lines::LineKind;
 
 /// Appends octets, if memory is there.
 fn say(text: &mut Vec<u8>, octets: &[u8]) {
@@ -68,15 +67,33 @@ fn is_fault(
     }
 }
 
+/// What is wrong with a window that begins before the end of 255 others.
+fn late_fault(of_return_path: bool) -> LineFault {
+    if of_return_path {
+        LineFault::LossBefore { end: 255 }
+    } else {
+        LineFault::FailureBefore { end: 255 }
+    }
+}
+
+/// What is wrong with a window after 256 others.
+fn full_fault(of_return_path: bool) -> LineFault {
+    if of_return_path {
+        LineFault::FullPath
+    } else {
+        LineFault::FullLine { line: 0 }
+    }
+}
+
 /// Whether a line of the group, or the return path, may have 256 windows.
 fn is_limit(alloc: Global, of_return_path: bool) -> bool {
     let late = ScriptFault::Line {
         number: 261,
-        kind: LineKind::Order,
+        fault: late_fault(of_return_path),
     };
     let many = ScriptFault::Line {
         number: 262,
-        kind: LineKind::Range,
+        fault: full_fault(of_return_path),
     };
     is_fault(alloc, of_return_path, 255, true, Some(late))
         && is_fault(alloc, of_return_path, 256, false, None)

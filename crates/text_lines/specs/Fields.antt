@@ -5,19 +5,29 @@ use Rattle.std.specs.List.{list_any}
 use Rattle.hex.specs.Hex.{decode_of}
 use Rattle.hex.specs.declared.error.FromHexError.{FromHexError}
 use Rattle.text_lines.specs.declared.fault.LineKind.{LineKind}
-use Rattle.text_lines.specs.declared.fault.LineKind.TheVariants.{Word, Number, Hex, Range}
-use Rattle.text_lines.specs.declared.fault.LineStop.{LineStop}
-use Rattle.text_lines.specs.declared.fault.LineStop.TheVariants as stop
-use Rattle.text_lines.specs.Words.{word_at, is_number, number_of}
+use Rattle.text_lines.specs.declared.fault.LineKind.TheVariants as kind
+use Rattle.text_lines.specs.declared.fault.FieldFault.{FieldFault}
+use Rattle.text_lines.specs.declared.fault.FieldFault.TheVariants.{Number, Hex, Range, Size, Name}
+use Rattle.text_lines.specs.declared.fault.FieldStop.{FieldStop}
+use Rattle.text_lines.specs.declared.fault.FieldStop.TheVariants as stop
+use Rattle.text_lines.specs.Words.{is_number, number_of}
 
 -- a fault where a test finds one
-abbrev pub where_true : Bool → LineKind → Option LineKind
-where_true found kind = if found then Some kind else None
+abbrev pub where_true : {K : Type 0} → Bool → K → Option K
+where_true found fault = if found then Some fault else None
 
--- a line that wasn't read has this fault, unless memory was short
-abbrev pub IsStop : LineStop → Option LineKind → Type 0
-IsStop (stop.Fault kind) found = found ≡ Some kind
-IsStop stop.Memory found = ⊤
+-- a word that wasn't read has this fault, unless memory was short
+abbrev pub IsFieldStop : FieldStop → Option FieldFault → Type 0
+IsFieldStop (stop.Fault fault) found = found ≡ Some fault
+IsFieldStop stop.Memory found = ⊤
+
+-- the kind of a fault
+abbrev pub field_kind : FieldFault → LineKind
+field_kind (Number word) = kind.Number
+field_kind (Hex word) = kind.Hex
+field_kind (Range word least most) = kind.Range
+field_kind (Size word least most) = kind.Range
+field_kind (Name word) = kind.Word
 
 -- what a word has to be: a number within two bounds; any number; a number above that of the word before it, up to a
 -- bound; the hexadecimal digits of a number of octets within two bounds; one of some names
@@ -28,33 +38,30 @@ pub data Field : Type 0 where
   digits : ℕ → ℕ → Field
   one_of : List (List ℕ) → Field
 
-abbrev pub number_fault : ℕ → ℕ → List ℕ → Option LineKind
-number_fault least most w =
-    option_or (where_true (not (is_number w)) Number)
-    (where_true (not (nat_le least (number_of w) && nat_le (number_of w) most)) Range)
+-- each of the word at a place of its line, counted from 1
+abbrev pub number_fault : ℕ → ℕ → ℕ → List ℕ → Option FieldFault
+number_fault at least most w =
+    option_or (where_true (not (is_number w)) (Number at))
+    (where_true (not (nat_le least (number_of w) && nat_le (number_of w) most)) (Range at least most))
 
-abbrev pub octets_fault : ℕ → ℕ → Result (List ℕ) FromHexError → Option LineKind
-octets_fault least most (Err e) = Some Hex
-octets_fault least most (Ok octets) =
-    where_true (not (nat_le least (length octets) && nat_le (length octets) most)) Range
+abbrev pub octets_fault : ℕ → ℕ → ℕ → Result (List ℕ) FromHexError → Option FieldFault
+octets_fault at least most (Err e) = Some (Hex at)
+octets_fault at least most (Ok octets) =
+    where_true (not (nat_le least (length octets) && nat_le (length octets) most)) (Size at least most)
 
-abbrev pub name_fault : List (List ℕ) → List ℕ → Option LineKind
-name_fault names w = where_true (not (list_any (λ name. bytes_eq w name) names)) Word
+abbrev pub name_fault : ℕ → List (List ℕ) → List ℕ → Option FieldFault
+name_fault at names w = where_true (not (list_any (λ name. bytes_eq w name) names)) (Name at)
 
 -- the fault of a word, where the number before it is this one
-abbrev pub field_fault : Field → ℕ → List ℕ → Option LineKind
-field_fault (within least most) before w = number_fault least most w
-field_fault any before w = number_fault 0 9999999999 w
-field_fault (above most) before w = number_fault (before + 1) most w
-field_fault (digits least most) before w = octets_fault least most (decode_of w)
-field_fault (one_of names) before w = name_fault names w
+abbrev pub field_fault : Field → ℕ → ℕ → List ℕ → Option FieldFault
+field_fault (within least most) at before w = number_fault at least most w
+field_fault any at before w = number_fault at 0 9999999999 w
+field_fault (above most) at before w = number_fault at (before + 1) most w
+field_fault (digits least most) at before w = octets_fault at least most (decode_of w)
+field_fault (one_of names) at before w = name_fault at names w
 
--- word by word from the left
-abbrev pub fields_fault : List Field → ℕ → List (List ℕ) → Option LineKind
-fields_fault [] before ws = None
-fields_fault (f ∷ fs) before [] = None
-fields_fault (f ∷ fs) before (w ∷ ws) = option_or (field_fault f before w) (fields_fault fs (number_of w) ws)
-
--- of the only word of a line, which has to be a number
-abbrev pub one_fault : ℕ → ℕ → List (List ℕ) → Option LineKind
-one_fault least most ws = option_or (where_true (not (length ws == 1)) Word) (number_fault least most (word_at 0 ws))
+-- word by word from the left, of which the first has this place
+abbrev pub fields_fault : List Field → ℕ → ℕ → List (List ℕ) → Option FieldFault
+fields_fault [] at before ws = None
+fields_fault (f ∷ fs) at before [] = None
+fields_fault (f ∷ fs) at before (w ∷ ws) = option_or (field_fault f at before w) (fields_fault fs (at + 1) (number_of w) ws)

@@ -1,11 +1,10 @@
 //! What words of a line say: numbers, and the octets of hexadecimal digits.
 ghost use Rattle.std.specs.Prelude.{◌≡◌, ◌≤◌, ◌<◌, length, All, IfSome, IfNone, IfOk, IfErr, true, false, None, Some};
 ghost use Rattle.hex.specs.Hex.{decode_of};
-ghost use Rattle.text_lines.specs.Words.{words, is_number, number_of, number_at, octets_of};
-ghost use Rattle.text_lines.specs.Fields.{number_fault, octets_fault, one_fault, IsStop};
+ghost use Rattle.text_lines.specs.Words.{is_number, number_of, octets_of};
+ghost use Rattle.text_lines.specs.Fields.{number_fault, octets_fault, IsFieldStop};
 
-use crate::fault::{LineKind, LineStop};
-use crate::words::one_word;
+use crate::fault::{FieldFault, FieldStop};
 use hex_text::decode_into;
 use std::alloc::Global;
 
@@ -28,57 +27,53 @@ fn read_number(word: &[u8]) -> Option<u64>
     Some(n)
 }
 
-/// The value of a number from `least` to `most`.
-pub fn number_within(word: &[u8], least: u64, most: u64) -> Result<u64, LineKind>
+/// The value of a number from `least` to `most`, which is word `at` of its line.
+pub fn number_within(word: &[u8], at: u64, least: u64, most: u64) -> Result<u64, FieldFault>
     ensures ok { IfOk result (λ n.
-        (number_fault least most word.now ≡ None) × (n ≡ number_of word.now)) }
+        (number_fault at least most word.now ≡ None) × (n ≡ number_of word.now)) }
     ensures fits { IfOk result (λ n. (least ≤ n) × (n ≤ most)) }
-    ensures err { IfErr result (λ kind. number_fault least most word.now ≡ Some kind) }
+    ensures err { IfErr result (λ fault. number_fault at least most word.now ≡ Some fault) }
 {
     let Some(n) = read_number(word) else {
-        return Err(LineKind::Number);
+        return Err(FieldFault::Number { word: at });
     };
     if n < least || most < n {
-        return Err(LineKind::Range);
+        return Err(FieldFault::Range {
+            word: at,
+            least,
+            most,
+        });
     }
     Ok(n)
 }
 
-/// The only word of a line, a number from `least` to `most`.
-pub fn one_number(line: &[u8], least: u64, most: u64) -> Result<u64, LineKind>
-    ensures ok { IfOk result (λ n.
-        (one_fault least most (words line.now) ≡ None) × (n ≡ number_at 0 (words line.now))) }
-    ensures fits { IfOk result (λ n. (least ≤ n) × (n ≤ most)) }
-    ensures err { IfErr result (λ kind. one_fault least most (words line.now) ≡ Some kind) }
-{
-    let Some(word) = one_word(line) else {
-        return Err(LineKind::Word);
-    };
-    number_within(word, least, most)
-}
-
-/// The octets that hexadecimal digits of either case say, from `least` to `most` of them.
+/// The octets that hexadecimal digits of either case say, from `least` to `most` of them. They are word `at` of their line.
 pub fn octets_within(
     alloc: Global,
     digits: &[u8],
+    at: u64,
     least: usize,
     most: usize,
-) -> Result<Vec<u8>, LineStop>
+) -> Result<Vec<u8>, FieldStop>
     ensures ok { IfOk result (λ octets.
-        (octets_fault least most (decode_of digits.now) ≡ None)
+        (octets_fault at least most (decode_of digits.now) ≡ None)
         × (octets.items ≡ octets_of digits.now)) }
     ensures fits { IfOk result (λ octets.
         (least ≤ length octets.items) × (length octets.items ≤ most)) }
     ensures octets { IfOk result (λ octets. All (λ octet. octet < 256) octets.items) }
     ensures err { IfErr result (λ stop.
-        IsStop stop (octets_fault least most (decode_of digits.now))) }
+        IsFieldStop stop (octets_fault at least most (decode_of digits.now))) }
 {
     let mut octets = Vec::with_capacity(alloc, digits.len() / 2)?;
     if decode_into(digits, &mut octets).is_err() {
-        return Err(LineStop::Fault(LineKind::Hex));
+        return Err(FieldStop::Fault(FieldFault::Hex { word: at }));
     }
     if octets.len() < least || most < octets.len() {
-        return Err(LineStop::Fault(LineKind::Range));
+        return Err(FieldStop::Fault(FieldFault::Size {
+            word: at,
+            least: least as u64,
+            most: most as u64,
+        }));
     }
     Ok(octets)
 }

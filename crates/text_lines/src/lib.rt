@@ -9,7 +9,7 @@ mod fields;
 mod lines;
 mod words;
 
-pub use fault::{LineKind, LineStop};
-pub use fields::{number_within, octets_within, one_number};
+pub use fault::{FieldFault, FieldStop, LineKind};
+pub use fields::{number_within, octets_within};
 pub use lines::next_line;
 pub use words::{count_words, first_word, four_words, next_word, one_word, three_words, two_words};

@@ -13,10 +13,14 @@ use Rattle.walk_command.specs.Walk.{is_word}
 abbrev pub decode_words : List (List ℕ) → Option WalkCommand
 decode_words words = if is_word (codes "decode") words then Some Decode else None
 
+-- how a line is written
+abbrev pub decode_help : List ℕ
+decode_help = codes "a line is an even number of hexadecimal digits"
+
 -- of the octets that lines of hexadecimal digits say, or of the number of the first line that has none
 abbrev pub decoded : Result (List ℕ) ℕ → Answer
 decoded (Ok octets) = writes (decoded_text octets)
-decoded (Err number) = refuses Line (line_text number Hex)
+decoded (Err number) = refuses Line (line_text number Hex decode_help)
 
 abbrev pub decode_answer : List ℕ → Answer
 decode_answer text = decoded (hex_text_of text)

@@ -2,14 +2,19 @@
 ghost use Rattle.std.specs.Prelude.{◌≡◌, None, map, string_bytes};
 ghost use Rattle.command_parts.specs.Task.{reads};
 ghost use Rattle.command_parts.specs.Ends.{Ends, lent};
+ghost use Rattle.command_parts.specs.Faults.{line_text};
+ghost use Rattle.au4_link.specs.Helps.{kind_of, help_of};
 ghost use Rattle.walk_command.specs.Au4.{au4_words, au4_answer};
 
 use crate::command::WalkCommand;
 use crate::end::{WalkEnd, cut, done, stopped};
-use au4_link::{LinkFault, read_link, write_link};
-use command_parts::{Stop, line_fault, read_input};
+use au4_link::{LineFault, LinkFault, link_help, read_link, write_link};
+use command_parts::{Fault, Refusal, Stop, line_fault, read_input};
 use outside_io::{ByteSink, ByteSource, Failed};
 use std::alloc::Global;
+
+/// Room for what is said of how to write a line.
+const HELP_ROOM: usize = 128;
 
 /// The words `au4`.
 pub fn words(words: &[String]) -> Option<WalkCommand>
@@ -19,6 +24,16 @@ pub fn words(words: &[String]) -> Option<WalkCommand>
         [word] if word.as_str() == "au4" => Some(WalkCommand::Au4),
         _ => None,
     }
+}
+
+/// A line of the input is faulty.
+fn faulty(number: u64, fault: LineFault) -> Fault
+    ensures why { result.why ≡ Refusal.Line }
+    ensures note { result.note.items ≡ line_text number (kind_of fault) (help_of fault) }
+{
+    let mut help = [0u8; HELP_ROOM];
+    let end = link_help(fault, &mut help);
+    line_fault(number, fault.kind(), &help[..end])
 }
 
 /// Reads what the pointers of a link do, and writes what comes of numbered VC-4s on it.
@@ -40,8 +55,8 @@ pub fn au4<S: ByteSource, K: ByteSink, E: ByteSink>(
     let link = match read_link(alloc, text.as_slice()) {
         Ok(link) => link,
         Err(LinkFault::Memory) => return stopped(Stop::Memory, notes),
-        Err(LinkFault::Line { number, kind }) => {
-            return stopped(Stop::Refused(line_fault(number, kind)), notes);
+        Err(LinkFault::Line { number, fault }) => {
+            return stopped(Stop::Refused(faulty(number, fault)), notes);
         }
     };
     match write_link(&link, out) {

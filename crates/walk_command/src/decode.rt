@@ -17,6 +17,9 @@ use std::alloc::Global;
 use text_lines::LineKind;
 use trace_core::{FOUND_ROOM, H4Decoder, end_line, found_line};
 
+/// How a line is written.
+const HELP: &[u8] = b"a line is an even number of hexadecimal digits";
+
 /// The words `decode`.
 pub fn words(words: &[String]) -> Option<WalkCommand>
     ensures { result ≡ decode_words (map string_bytes words.now) }
@@ -96,7 +99,10 @@ pub fn decode<S: ByteSource, K: ByteSink, E: ByteSink>(
         Ok(octets) => octets,
         Err(HexLinesFault::Memory) => return stopped(Stop::Memory, notes),
         Err(HexLinesFault::Line { number }) => {
-            return stopped(Stop::Refused(line_fault(number, LineKind::Hex)), notes);
+            return stopped(
+                Stop::Refused(line_fault(number, LineKind::Hex, HELP)),
+                notes,
+            );
         }
     };
     match write_packets(octets.as_slice(), out) {

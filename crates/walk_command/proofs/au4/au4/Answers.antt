@@ -6,6 +6,7 @@ use Rattle.command_parts.specs.Task.{writes, reads}
 use Rattle.command_parts.specs.Ends.{lent}
 use Rattle.command_parts.specs.Faults.{line_text}
 use Rattle.command_parts.proofs.StopLaws.{ends-stopped, ends-done, ends-cut, refused-line}
+use Rattle.au4_link.specs.Helps.{kind_of, help_of}
 use Rattle.au4_link.specs.Text.{link_text}
 use Rattle.walk_command.specs.Au4.{carried, au4_answer}
 use Rattle.walk_command.proofs.au4.au4.Goals as goal
@@ -20,9 +21,9 @@ pub returns-in-Err-Line-clause-ends : goal.returns-in-Err-Line-clause-ends
 returns-in-Err-Line-clause-ends g c =
     ends-stopped (lent g.S.ByteSource.left g.S.ByteSource.faults c.args.script.now c.read_input.new.source) (lent g.K.ByteSink.written g.K.ByteSink.faults c.args.out.now c.args.out.now)
     (lent g.E.ByteSink.written g.E.ByteSink.faults c.args.notes.now c.stopped-in-Err-Line.new.notes)
-    au4_answer (Refused c.line_fault.result) c.stopped-in-Err-Line.result.status
-    (refused-line (lent g.S.ByteSource.left g.S.ByteSource.faults c.args.script.now c.read_input.new.source) au4_answer c.in-Ok.text.items c.line_fault.result Line
-    (line_text c.in-Err-Line.number c.in-Err-Line.kind) c.in-Ok.ensures.read c.line_fault.ensures.why c.line_fault.ensures.note
+    au4_answer (Refused c.faulty.result) c.stopped-in-Err-Line.result.status
+    (refused-line (lent g.S.ByteSource.left g.S.ByteSource.faults c.args.script.now c.read_input.new.source) au4_answer c.in-Ok.text.items c.faulty.result Line
+    (line_text c.in-Err-Line.number (kind_of c.in-Err-Line.fault) (help_of c.in-Err-Line.fault)) c.in-Ok.ensures.read c.faulty.ensures.why c.faulty.ensures.note
     (ap au4_answer (sym c.as_slice.ensures.value) ∙ ap carried (rw c.in-Err-Line.field-0-is at c.in-Err-Line.ensures.fault)))
     c.stopped-in-Err-Line.ensures.status refl c.stopped-in-Err-Line.ensures.told
 

@@ -8,7 +8,7 @@ use Rattle.command_parts.specs.Task.{writes, reads}
 use Rattle.command_parts.specs.Ends.{lent}
 use Rattle.command_parts.specs.Faults.{line_text}
 use Rattle.command_parts.proofs.StopLaws.{ends-stopped, ends-done, ends-cut, refused-line}
-use Rattle.walk_command.specs.Decode.{decoded, decode_answer}
+use Rattle.walk_command.specs.Decode.{decoded, decode_help, decode_answer}
 use Rattle.walk_command.proofs.decode.decode.Goals as goal
 
 pub returns-in-Err-clause-ends : goal.returns-in-Err-clause-ends
@@ -23,7 +23,7 @@ returns-in-Err-Line-clause-ends g c =
     (lent g.E.ByteSink.written g.E.ByteSink.faults c.args.notes.now c.stopped-in-Err-Line.new.notes)
     decode_answer (Refused c.line_fault.result) c.stopped-in-Err-Line.result.status
     (refused-line (lent g.S.ByteSource.left g.S.ByteSource.faults c.args.script.now c.read_input.new.source) decode_answer c.in-Ok.text.items c.line_fault.result Line
-    (line_text c.in-Err-Line.number Hex) c.in-Ok.ensures.read c.line_fault.ensures.why c.line_fault.ensures.note
+    (line_text c.in-Err-Line.number Hex decode_help) c.in-Ok.ensures.read c.line_fault.ensures.why c.line_fault.ensures.note
     (ap decode_answer (sym c.as_slice.ensures.value) ∙ ap decoded (c.read_octets.ensures.line c.in-Err-Line.number (search rules))))
     c.stopped-in-Err-Line.ensures.status refl c.stopped-in-Err-Line.ensures.told
 

@@ -1,0 +1,37 @@
+-- What is said of how to write a line, in any language of lines. These texts are this project's own.
+use Rattle.std.specs.Prelude.{ℕ, nat_le, List, ◌++◌, codes, decimal, if◌then◌else◌}
+use Rattle.text_lines.specs.declared.fault.FieldFault.{FieldFault}
+use Rattle.text_lines.specs.declared.fault.FieldFault.TheVariants.{Number, Hex, Range, Size, Name}
+
+-- ---- of one word of a line; its place is counted from 1
+abbrev pub word_text : ℕ → List ℕ → List ℕ
+word_text at rest = codes "word " ++ decimal at ++ rest
+
+-- the bounds of a number; where no number is within them, the upper one alone
+abbrev pub bounds_text : ℕ → ℕ → List ℕ
+bounds_text least most =
+    if nat_le least most then codes " is from " ++ decimal least ++ codes " to " ++ decimal most
+    else codes " is at most " ++ decimal most
+
+-- what a word has to be; the only names that a word chooses from are those of containers
+abbrev pub field_text : FieldFault → List ℕ
+field_text (Number at) = word_text at (codes " is a number of one to ten digits")
+field_text (Hex at) = word_text at (codes " is an even number of hexadecimal digits")
+field_text (Range at least most) = word_text at (bounds_text least most)
+field_text (Size at least most) =
+    word_text at (codes " has " ++ decimal least ++ codes " to " ++ decimal most ++ codes " octets")
+field_text (Name at) = word_text at (codes " is vc3 or vc4")
+
+-- ---- of a line
+-- the line that this word begins takes so many words behind it, and so many are there
+abbrev pub count_text : List ℕ → ℕ → ℕ → List ℕ
+count_text first takes follow =
+    first ++ codes " takes " ++ decimal takes ++ codes " words, and " ++ decimal follow ++ codes " follow"
+
+-- the line that this word begins isn't where it has to be
+abbrev pub missing_text : List ℕ → List ℕ
+missing_text first = codes "the line " ++ first ++ codes " has to stand here"
+
+-- this line, or part of a text, comes behind that one and has to come before it
+abbrev pub order_text : List ℕ → List ℕ → List ℕ
+order_text this that = this ++ codes " stands before " ++ that
