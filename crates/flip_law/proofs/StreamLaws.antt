@@ -25,7 +25,8 @@ use Rattle.flip_law.specs.Flipped.{fcs_stream, IsFrame, fcs_delivered, area_size
 use Rattle.remainder.proofs.CountLaws.{count-zeros, none_or_one}
 use Rattle.flip_law.proofs.FlippedLaws.{length-flipped, octet_bits-flipped, flipped-none, flipped-append}
 use Rattle.flip_law.proofs.PlaceLaws.{length-flips_of, turned-flipped}
-use Rattle.flip_law.specs.Places.{Flip, LiesIn, turned, flips_of}
+use Rattle.fcs_model.specs.declared.Flip.{Flip}
+use Rattle.flip_law.specs.Places.{LiesIn, turned, flips_of}
 use Rattle.std.specs.List.{fold}
 use Rattle.flip_law.proofs.NearLaws.{near-flipped}
 use Rattle.flip_law.proofs.WindowLaws.{descrambled-xors, left_in-area_none, left_in-area_one}

@@ -1,0 +1,4 @@
+pub mod Lines
+pub mod Helps
+pub mod Noise
+pub mod Drafts
