@@ -2,3 +2,5 @@ pub mod Lines
 pub mod Helps
 pub mod Noise
 pub mod Drafts
+pub mod Text
+pub mod Run
