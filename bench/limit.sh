@@ -59,7 +59,8 @@ fill() {
 both comments 0 "" "total ticks 20000 taken 20000 frames 0 commands 1 refused 0 got 0"
 
 head -c $most /dev/zero | tr '\0' '\n' > "$work/text"
-both "ends of lines" 5 "fault: line 67108865: missing" ""
+both "ends of lines" 5 "fault: line 67108865: missing
+help: the line lines has to stand here" ""
 
 awk -v frames=3480 -v octets=9600 -v every=5 -v ticks=20000 -f bench/frames.awk > "$work/text"
 fill

@@ -1,7 +1,9 @@
 -- Once the queue is empty and all posts have ended, the alarms that were got, and then those that the posts kept,
 -- are for each line posted through one post alone those posted, and there is room for them. Posts are anything with
 -- a number, what was put and what is kept.
-use Rattle.std.proofs.Common.{◌≡◌, ◌≢◌, ◌⊎◌, inl, inr, ℕ, zero, suc, ◌+◌, ◌*◌, ◌==◌, ◌≤◌, if◌then◌else◌, List, [], ◌∷◌, ◌++◌, length, map, slice_get, Some, refl, sym, ap, ap₂, ◌∙◌, subst, arith, length-append, suc-mul}
+use Rattle.std.proofs.Common.{◌≡◌, ◌≢◌, ◌⊎◌, inl, inr, ℕ, zero, suc, ◌+◌, ◌*◌, ◌==◌, ◌≤◌, if◌then◌else◌, List, [], ◌∷◌}
+use Rattle.std.proofs.Common.{◌++◌, length, map, slice_get, Some, refl, sym, ap, ap₂, ◌∙◌, subst, arith, length-append}
+use Rattle.std.proofs.Common.{suc-mul}
 use Rattle.std.proofs.lemmas.List.{append-nil, nil_from_length}
 use native.Mathlib.Decide.{dec_le, ℕ_discrete}
 use Rattle.member_ring.specs.declared.alarm.Alarm.{Alarm}
@@ -10,7 +12,8 @@ use Rattle.alarm_log.specs.declared.tagged.Tagged.{Tagged}
 use Rattle.alarm_log.specs.declared.rule.Known.{Known}
 use Rattle.alarm_log.specs.Alarms.{through, alarms_of, of_line, in_row}
 use Rattle.alarm_log.specs.Views.{IsNew, AreApart, AreBelow, AreHeard}
-use Rattle.alarm_log.proofs.ListLaws.{test-true, test-false, through-own, through-other, line-append, without, without-same, without-rest, parts-length, through-none, room-less}
+use Rattle.alarm_log.proofs.ListLaws.{test-true, test-false, through-own, through-other, line-append, without}
+use Rattle.alarm_log.proofs.ListLaws.{without-same, without-rest, parts-length, through-none, room-less}
 
 -- ---- the alarms of a line
 line-own : (m : ℕ) (a : Alarm) (l : List Alarm) → a.line ≡ m → of_line m (a ∷ l) ≡ a ∷ of_line m l

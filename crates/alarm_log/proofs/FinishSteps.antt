@@ -6,7 +6,8 @@ use Rattle.alarm_log.specs.declared.rule.Known.{Known}
 use Rattle.alarm_log.specs.declared.rule.View.{View}
 use Rattle.alarm_log.specs.declared.rule.View.TheVariants.{Log}
 use Rattle.alarm_log.specs.Alarms.{through}
-use Rattle.alarm_log.specs.Views.{heard_of, got_of, made_of, known_of, with_known, AreApart, AreBelow, AreHeard, IsHeard}
+use Rattle.alarm_log.specs.Views.{heard_of, got_of, made_of, known_of, with_known, AreApart, AreBelow, AreHeard}
+use Rattle.alarm_log.specs.Views.{IsHeard}
 use Rattle.alarm_log.specs.Posts.{number_of, put_by, kept_by, known_by}
 use Rattle.alarm_log.proofs.JoinSteps.{joined, heard-all}
 use Rattle.alarm_log.proofs.FinishLaws.{NotAmong, all-there}

@@ -1,11 +1,13 @@
 -- What the log's pass knows after posts were joined, and lists of which one moved.
-use Rattle.std.proofs.Common.{◌≡◌, ◌⊎◌, inl, inr, ℕ, zero, suc, ◌≤◌, List, [], ◌∷◌, ◌++◌, length, map, slice_get, Some, refl, sym, ap, ◌∙◌, subst, append_assoc}
+use Rattle.std.proofs.Common.{◌≡◌, ◌⊎◌, inl, inr, ℕ, zero, suc, ◌≤◌, List, [], ◌∷◌, ◌++◌, length, map, slice_get, Some}
+use Rattle.std.proofs.Common.{refl, sym, ap, ◌∙◌, subst, append_assoc}
 use Rattle.std.proofs.lemmas.List.{append-nil}
 use Rattle.alarm_log.specs.declared.rule.Known.{Known}
 use Rattle.alarm_log.specs.declared.rule.View.{View}
 use Rattle.alarm_log.specs.declared.rule.View.TheVariants.{Setting, Log, Post, Spent}
 use Rattle.alarm_log.specs.Alarms.{through}
-use Rattle.alarm_log.specs.Views.{heard_of, got_of, made_of, most_of, known_of, with_known, AreApart, AreBelow, AreHeard, IsHeard}
+use Rattle.alarm_log.specs.Views.{heard_of, got_of, made_of, most_of, known_of, with_known, AreApart, AreBelow}
+use Rattle.alarm_log.specs.Views.{AreHeard, IsHeard}
 
 pub with-none : (v : View) → with_known v [] ≡ v
 with-none (Log h) = ap (λ l. Log (record h { known = l })) (append-nil h.known)

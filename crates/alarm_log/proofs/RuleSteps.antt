@@ -1,5 +1,6 @@
 -- Each step keeps the rule of the queue.
-use Rattle.std.proofs.Common.{◌≡◌, ◌≢◌, ◌⊎◌, inl, inr, ℕ, zero, suc, ◌+◌, ◌*◌, ◌<◌, ◌≤◌, List, [], ◌∷◌, ◌++◌, length, set, refl, sym, ap, ap₂, ◌∙◌, subst, arith, append_assoc, length-append}
+use Rattle.std.proofs.Common.{◌≡◌, ◌≢◌, ◌⊎◌, inl, inr, ℕ, zero, suc, ◌+◌, ◌*◌, ◌<◌, ◌≤◌, List, [], ◌∷◌, ◌++◌, length}
+use Rattle.std.proofs.Common.{set, refl, sym, ap, ap₂, ◌∙◌, subst, arith, append_assoc, length-append}
 use Rattle.std.proofs.lemmas.List.{append-nil, nil_from_length}
 use mathlib.Core.Option.{Option, some, none, some-injective, some-ne-none}
 use native.Mathlib.Decide.{dec_le, ℕ_discrete}
@@ -13,9 +14,11 @@ use Rattle.alarm_log.specs.declared.rule.Heard.{Heard}
 use Rattle.alarm_log.specs.declared.rule.View.{View}
 use Rattle.alarm_log.specs.declared.rule.View.TheVariants.{Setting, Log, Post, Spent}
 use Rattle.alarm_log.specs.Alarms.{through}
-use Rattle.alarm_log.specs.Views.{nothing_heard, listening, and_made, new_post, and_put, and_got, and_known, got_of, made_of, most_of, IsNew, AreApart, AreBelow, AreHeard, IsHeard, IsHeld}
+use Rattle.alarm_log.specs.Views.{nothing_heard, listening, and_made, new_post, and_put, and_got, and_known, got_of}
+use Rattle.alarm_log.specs.Views.{made_of, most_of, IsNew, AreApart, AreBelow, AreHeard, IsHeard, IsHeld}
 use Rattle.alarm_log.specs.Rule.{AreKnown, Fits, Delivers, Sets, Holds}
-use Rattle.alarm_log.proofs.ListLaws.{at_key, at_key-same, at_key-other, through-own, through-other, through-append, room-through, room-less}
+use Rattle.alarm_log.proofs.ListLaws.{at_key, at_key-same, at_key-other, through-own, through-other, through-append}
+use Rattle.alarm_log.proofs.ListLaws.{room-through, room-less}
 
 -- ---- places in a list of views
 at_end : (l : List View) (a b : View) (j : ℕ) → get_elem? (l ++ a ∷ []) j ≡ some b

@@ -60,7 +60,8 @@ impl AlarmList {
 }
 
 impl AlarmLog {
-    ghost use Rattle.std.specs.Prelude.{◌≡◌, ◌+◌, ◌<◌, ◌≤◌, ◌↔◌, ◌++◌, List, length, true, false, ℕ, slice_get, Some, vec_len};
+    ghost use Rattle.std.specs.Prelude.{◌≡◌, ◌+◌, ◌<◌, ◌≤◌, ◌↔◌, ◌++◌, List, length, true, false, ℕ, slice_get, Some};
+    ghost use Rattle.std.specs.Prelude.{vec_len};
     ghost use Rattle.alarm_log.specs.declared.post.AlarmPost.{AlarmPost};
     ghost use Rattle.alarm_log.specs.Alarms.{of_line};
     ghost use Rattle.alarm_log.specs.Posts.{posted_by};
@@ -85,8 +86,8 @@ impl AlarmLog {
         Turn::Taken
     }
 
-    /// Moves what is left in the queue to the list, and then what each post keeps. The alarms of a line that came through
-    /// one post alone are those posted, in order. It takes no memory.
+    /// Moves what is left in the queue to the list, and then what each post keeps. The alarms of a line that
+    /// came through one post alone are those posted, in order. It takes no memory.
     pub fn finish<R: Wait>(self, rt: &R, posts: Vec<AlarmPost>) -> AlarmList
         requires one_log { (i : ℕ) (post : AlarmPost) →
             slice_get posts.items i ≡ Some post → IsPostOf self post }

@@ -1,8 +1,8 @@
 -- What a draft meets, and what a line may say that stands after those of a draft, as private clauses say it.
-use Rattle.std.specs.Prelude.{◌≡◌, ⊤, ℕ, ◌-◌, ◌==◌, ◌<◌, ◌≤◌, nat_lt, not, List, [], length, Option, option_map}
+use Rattle.std.specs.Prelude.{◌≡◌, ⊤, ℕ, ◌-◌, ◌==◌, ◌<◌, ◌≤◌, nat_lt, not, List, [], ◌∷◌, length, Option, option_map}
 use Rattle.std.specs.Option.{option_or}
 use Rattle.text_lines.specs.Words.{word_at, number_at}
-use Rattle.text_lines.specs.Fields.{where_true, number_fault}
+use Rattle.text_lines.specs.Fields.{within, where_true, number_fault, fields_fault}
 use Rattle.au4_pointer.specs.declared.Action.{Action}
 use Rattle.au4_pointer.specs.declared.Action.TheVariants.{Keep, Up, Down, New}
 use Rattle.au4_pointer.specs.Sent.{AreAccepted}
@@ -22,8 +22,9 @@ one_fault k least most ws =
 
 abbrev pub move_fault : Draft → Keyword → List (List ℕ) → Option LineFault
 move_fault d k ws =
-    option_or (one_fault k 1 (d.frames - 1) ws)
-    (where_true (nat_lt (number_at 0 ws) (least_next d.actions)) (wrong.Early (last_frame d)))
+    option_or (where_true (not (length ws == 1)) (wrong.Count k 1 (length ws)))
+    (option_or (option_map wrong.Field (fields_fault (within 1 (d.frames - 1) ∷ []) 2 0 ws))
+    (where_true (nat_lt (number_at 0 ws) (least_next d.actions)) (wrong.Early (last_frame d))))
 
 -- a keyword's place may stand next
 abbrev pub IsPlaced : ℕ → ℕ → Type 0

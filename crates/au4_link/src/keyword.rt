@@ -57,7 +57,11 @@ impl Keyword {
 pub(crate) fn awaited_at(next: u8) -> Keyword
     ensures { result ≡ awaited next }
 {
-    if next == 0 { Keyword::Start } else { Keyword::Frames }
+    if next == 0 {
+        Keyword::Start
+    } else {
+        Keyword::Frames
+    }
 }
 
 /// The keyword of the line that says an action.

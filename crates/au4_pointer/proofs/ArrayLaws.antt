@@ -1,6 +1,8 @@
 -- Parts of arrays that are written.
-use Rattle.std.proofs.Common.{◌≡◌, ℕ, ◌+◌, ◌-◌, ◌≤◌, [], ◌∷◌, ◌++◌, List, length, take, drop, replicate, set, refl, ap, sym, ◌∙◌, arith, length-append}
-use Rattle.std.proofs.lemmas.List.{take_rest, append-nil, drop_all, drop_at, take-append-drop, length-take-le, length-set, length-drop}
+use Rattle.std.proofs.Common.{◌≡◌, ℕ, ◌+◌, ◌-◌, ◌≤◌, [], ◌∷◌, ◌++◌, List, length, take, drop, replicate, set, refl, ap}
+use Rattle.std.proofs.Common.{sym, ◌∙◌, arith, length-append}
+use Rattle.std.proofs.lemmas.List.{take_rest, append-nil, drop_all, drop_at, take-append-drop, length-take-le}
+use Rattle.std.proofs.lemmas.List.{length-set, length-drop}
 use Rattle.std.proofs.lemmas.Slice.{take-put_mid_below}
 use borrow.Rule.Slice.PartMut.{mid_of, put_mid}
 use Rattle.au4_pointer.proofs.ListLaws.{take-written}

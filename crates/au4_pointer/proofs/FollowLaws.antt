@@ -1,5 +1,6 @@
 -- A sink follows what a source sends.
-use Rattle.std.proofs.Common.{◌≡◌, ℕ, ◌+◌, ◌-◌, ◌*◌, ◌/◌, ◌≤◌, List, [], ◌∷◌, ◌++◌, length, take, drop, Some, None, Ok, refl, sym, ◌∙◌, ap, ap₂, subst, arith, append_assoc}
+use Rattle.std.proofs.Common.{◌≡◌, ℕ, ◌+◌, ◌-◌, ◌*◌, ◌/◌, ◌≤◌, List, [], ◌∷◌, ◌++◌, length, take, drop, Some, None, Ok}
+use Rattle.std.proofs.Common.{refl, sym, ◌∙◌, ap, ap₂, subst, arith, append_assoc}
 use Rattle.std.specs.List.{flat_map, fold}
 use Rattle.std.specs.Result.{result_err}
 use Rattle.std.proofs.Math.Seq.{take-add}
@@ -10,7 +11,8 @@ use Rattle.au4_pointer.specs.declared.Action.{Action}
 use Rattle.au4_pointer.specs.declared.Action.TheVariants.{Keep, Up, Down, New}
 use Rattle.au4_pointer.specs.declared.AuFrame.{AuFrame}
 use Rattle.au4_pointer.specs.Word.{next_value, word_of, reading, fault_after}
-use Rattle.au4_pointer.specs.Part.{AreVcs, Part, begun, next_part, first_part, part_after, ended, parts_from, flow, ending, whole}
+use Rattle.au4_pointer.specs.Part.{AreVcs, Part, begun, next_part, first_part, part_after, ended, parts_from, flow}
+use Rattle.au4_pointer.specs.Part.{ending, whole}
 use Rattle.au4_pointer.specs.Source.{IsValid, framed, last_octets, frame_in}
 use Rattle.au4_pointer.specs.Sink.{data_of, vcs_in, Reception, given_by, value_behind, told, receive, nothing, given}
 use Rattle.au4_pointer.specs.Sent.{sent_from, sent, AreAccepted, AreTaken}

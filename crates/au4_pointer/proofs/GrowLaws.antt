@@ -1,5 +1,6 @@
 -- One frame more changes nothing of what was given before.
-use Rattle.std.proofs.Common.{◌≡◌, ℕ, ◌-◌, ◌*◌, ◌/◌, ◌<◌, List, [], ◌∷◌, ◌++◌, length, drop, Option, Result, Ok, Err, refl, sym, ◌∙◌, ap, arith}
+use Rattle.std.proofs.Common.{◌≡◌, ℕ, ◌-◌, ◌*◌, ◌/◌, ◌<◌, List, [], ◌∷◌, ◌++◌, length, drop, Option, Result, Ok, Err}
+use Rattle.std.proofs.Common.{refl, sym, ◌∙◌, ap, arith}
 use Rattle.std.specs.List.{concat}
 use Rattle.std.proofs.lemmas.List.{append-nil, drop_all}
 use Rattle.outside_io.specs.Start.{Start}
@@ -7,7 +8,8 @@ use Rattle.au4_pointer.specs.declared.Action.{Action}
 use Rattle.au4_pointer.specs.declared.AuFrame.{AuFrame}
 use Rattle.au4_pointer.specs.declared.sink.PointerWordFault.{PointerWordFault}
 use Rattle.au4_pointer.specs.Word.{reading}
-use Rattle.au4_pointer.specs.Sink.{pieces, given_by, told, receive, nothing, reception, given, added, data_of, Sink, Holds, Stands, Gives, due}
+use Rattle.au4_pointer.specs.Sink.{pieces, given_by, told, receive, nothing, reception, given, added, data_of, Sink}
+use Rattle.au4_pointer.specs.Sink.{Holds, Stands, Gives, due}
 use Rattle.std.proofs.lemmas.List.Sums.{fold-append}
 use Rattle.au4_pointer.proofs.PieceLaws.{vcs-split, whole-pieces, few-left, all-pieces}
 use Rattle.au4_pointer.proofs.TakeSteps.{takes}

@@ -1,5 +1,6 @@
 -- What one frame does to what a sink has taken.
-use Rattle.std.proofs.Common.{◌≡◌, ℕ, ◌*◌, ◌<◌, List, [], ◌∷◌, ◌++◌, length, drop, Ok, refl, sym, ◌∙◌, ap, ap₂, subst, arith, append_assoc, length-append}
+use Rattle.std.proofs.Common.{◌≡◌, ℕ, ◌*◌, ◌<◌, List, [], ◌∷◌, ◌++◌, length, drop, Ok, refl, sym, ◌∙◌, ap, ap₂, subst}
+use Rattle.std.proofs.Common.{arith, append_assoc, length-append}
 use Rattle.std.specs.List.{concat}
 use Rattle.std.proofs.lemmas.List.{drop_all, drop_at}
 use Rattle.std.proofs.lemmas.List.Folds.{concat-append}
@@ -10,7 +11,8 @@ use Rattle.au4_pointer.specs.declared.Action.{Action}
 use Rattle.au4_pointer.specs.declared.Action.TheVariants.{Keep, Up, Down, New}
 use Rattle.au4_pointer.specs.declared.AuFrame.{AuFrame}
 use Rattle.au4_pointer.specs.Word.{reading}
-use Rattle.au4_pointer.specs.Sink.{vcs_in, Reception, given_by, value_behind, told, receive, nothing, reception, given, added, data_of, Sink, Holds, Stands, Gives, due}
+use Rattle.au4_pointer.specs.Sink.{vcs_in, Reception, given_by, value_behind, told, receive, nothing, reception, given}
+use Rattle.au4_pointer.specs.Sink.{added, data_of, Sink, Holds, Stands, Gives, due}
 use Rattle.au4_pointer.proofs.ListLaws.{drop-both}
 use Rattle.au4_pointer.proofs.PieceLaws.{are-vcs, vcs-split}
 

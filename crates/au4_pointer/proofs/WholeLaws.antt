@@ -1,8 +1,10 @@
 -- The VC-4s that are whole in a part are those that end in it.
-use Rattle.std.proofs.Common.{◌≡◌, ℕ, zero, suc, ◌+◌, ◌-◌, ◌*◌, ◌/◌, ◌<◌, ◌≤◌, List, [], ◌∷◌, ◌++◌, length, take, drop, replicate, sym, ◌∙◌, ap, ap₂, arith}
+use Rattle.std.proofs.Common.{◌≡◌, ℕ, zero, suc, ◌+◌, ◌-◌, ◌*◌, ◌/◌, ◌<◌, ◌≤◌, List, [], ◌∷◌, ◌++◌, length, take, drop}
+use Rattle.std.proofs.Common.{replicate, sym, ◌∙◌, ap, ap₂, arith}
 use Rattle.std.specs.List.{concat, fold}
 use Rattle.std.proofs.Math.Seq.{take-nil, take-append-add}
-use Rattle.std.proofs.lemmas.List.{length-replicate, length-drop, length-take, length-take-le, drop_at, take-append-drop}
+use Rattle.std.proofs.lemmas.List.{length-replicate, length-drop, length-take, length-take-le, drop_at}
+use Rattle.std.proofs.lemmas.List.{take-append-drop}
 use Rattle.std.proofs.lemmas.List.Folds.{concat-append}
 use Rattle.std.proofs.lemmas.List.Elements.{All-drop, All-take}
 use Rattle.au4_pointer.specs.declared.Action.{Action}

@@ -1,5 +1,6 @@
 -- The word of a frame says what the frame's action is.
-use Rattle.std.proofs.Common.{◌≡◌, ◌≢◌, ℕ, ◌+◌, ◌/◌, ◌%◌, ◌^◌, ◌<◌, ◌≤◌, Bool, true, false, ◌==◌, nat_le, if◌then◌else◌, bit_xor, Some, None, Result, Ok, Err, List, refl, sym, ◌∙◌, ap, arith}
+use Rattle.std.proofs.Common.{◌≡◌, ◌≢◌, ℕ, ◌+◌, ◌/◌, ◌%◌, ◌^◌, ◌<◌, ◌≤◌, Bool, true, false, ◌==◌, nat_le, if◌then◌else◌}
+use Rattle.std.proofs.Common.{bit_xor, Some, None, Result, Ok, Err, List, refl, sym, ◌∙◌, ap, arith}
 use Rattle.std.proofs.lemmas.Bool.Decides.{nat_tests}
 use Rattle.std.proofs.lemmas.Nat.{xor_lt}
 use Rattle.std.proofs.lemmas.Nat.Bits.{bit_at_xor}

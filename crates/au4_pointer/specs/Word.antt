@@ -1,5 +1,6 @@
 -- G.707, AU-4 pointers: the words of pointers.
-use Rattle.std.specs.Prelude.{ℕ, ◌+◌, ◌-◌, ◌/◌, ◌%◌, ◌==◌, nat_le, if◌then◌else◌, bit_xor, List, [], ◌∷◌, Option, Some, None, Result, Ok, Err}
+use Rattle.std.specs.Prelude.{ℕ, ◌+◌, ◌-◌, ◌/◌, ◌%◌, ◌==◌, nat_le, if◌then◌else◌, bit_xor, List, [], ◌∷◌, Option, Some}
+use Rattle.std.specs.Prelude.{None, Result, Ok, Err}
 use Rattle.std.specs.List.{fold}
 use Rattle.au4_pointer.specs.declared.Action.{Action}
 use Rattle.au4_pointer.specs.declared.Action.TheVariants.{Keep, Up, Down, New}

@@ -4,7 +4,8 @@
 //! both in one call. No call takes memory. Groups of lines and text are not here.
 #![tactic(auto)]
 
-ghost use Rattle.std.specs.Prelude.{◌≡◌, ◌≢◌, ℕ, ◌+◌, ◌-◌, ◌*◌, ◌%◌, ◌<◌, ◌≤◌, ◌↔◌, List, [], ◌∷◌, ◌++◌, length, replicate};
+ghost use Rattle.std.specs.Prelude.{◌≡◌, ◌≢◌, ℕ, ◌+◌, ◌-◌, ◌*◌, ◌%◌, ◌<◌, ◌≤◌, ◌↔◌, List, [], ◌∷◌, ◌++◌, length};
+ghost use Rattle.std.specs.Prelude.{replicate};
 ghost use Rattle.au4_pointer.specs.Word.{word_of, next_value, value_after, new_wait};
 ghost use Rattle.au4_pointer.specs.Part.{Part, AreVcs, begins, ends, begun, part_after, whole};
 ghost use Rattle.au4_pointer.specs.Sink.{given, added};

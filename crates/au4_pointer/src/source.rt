@@ -1,6 +1,7 @@
 //! The source of frames.
 
-ghost use Rattle.std.specs.Prelude.{◌≡◌, ℕ, ◌+◌, ◌-◌, ◌*◌, ◌<◌, ◌≤◌, List, [], ◌∷◌, ◌++◌, length, take, drop, replicate, OnOk, OnErr, IfNone};
+ghost use Rattle.std.specs.Prelude.{◌≡◌, ℕ, ◌+◌, ◌-◌, ◌*◌, ◌<◌, ◌≤◌, List, [], ◌∷◌, ◌++◌, length, take, drop};
+ghost use Rattle.std.specs.Prelude.{replicate, OnOk, OnErr, IfNone};
 ghost use Rattle.std.specs.Result.{result_err};
 ghost use Rattle.outside_io.specs.Start.{Start};
 ghost use Rattle.au4_pointer.specs.Word.{word_of, next_value, next_wait, move_wait, too_soon, fault_after};

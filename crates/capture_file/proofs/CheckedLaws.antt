@@ -15,7 +15,8 @@ pub record HasRead (form : Form) (body rest : List ℕ) (clock : Clock) (before 
   pub unit : clock.unit ≡ form.unit
   pub stands : Stands clock before
 
-pub read-begun : (form : Form) (body : List ℕ) (clock : Clock) → clock.unit ≡ form.unit → Stands clock [] → HasRead form body body clock []
+pub read-begun : (form : Form) (body : List ℕ) (clock : Clock) → clock.unit ≡ form.unit → Stands clock [] →
+    HasRead form body body clock []
 read-begun form body clock unit stands = record { cut = has-begun form.order body; unit = unit; stands = stands }
 
 -- and they are sound
@@ -26,7 +27,8 @@ pub record HasChecked (form : Form) (body rest : List ℕ) (clock : Clock) (numb
   pub few : 16 * number + length rest ≤ length body
   pub sound : AreSound form before
 
-pub read-more : (form : Form) (body rest behind octets : List ℕ) (old new : Clock) (head : RecordHead) (before : List Record) → HasRead form body rest old before
+pub read-more : (form : Form) (body rest behind octets : List ℕ) (old new : Clock) (head : RecordHead)
+    (before : List Record) → HasRead form body rest old before
     → first_record form.order rest ≡ Some (record { head = head; octets = octets }, behind) → new.unit ≡ old.unit
     → ((b : List Record) (r : Record) → Stands old b → r.head ≡ head → Stands new (b ++ r ∷ []))
     → HasRead form body behind new (before ++ record { head = head; octets = octets } ∷ [])
@@ -36,7 +38,8 @@ read-more form body rest behind octets old new head before read is unit stands =
   stands = stands before (record { head = head; octets = octets }) read.stands refl;
 }
 
-pub due-is : (form : Form) (body rest : List ℕ) (clock : Clock) (before : List Record) → HasRead form body rest clock before → clock.due ≡ due_of form.unit before
+pub due-is : (form : Form) (body rest : List ℕ) (clock : Clock) (before : List Record) →
+    HasRead form body rest clock before → clock.due ≡ due_of form.unit before
 due-is form body rest clock before read = read.stands.due ∙ ap (λ unit. due_of unit before) read.unit
 
 pub no-octets : (octets : List ℕ) → length octets ≡ 0 → octets ≡ []

@@ -1,6 +1,9 @@
--- The form of a capture, the classic one of pcap: a head of 24 octets, which says how the numbers and times behind it are to be read, and
+-- The form of a capture, the classic one of pcap: a head of 24 octets, which says how the numbers and times behind it
+-- are to be read, and
 -- then records, each a head of 16 octets and so many octets as that says.
-use Rattle.std.specs.Prelude.{ℕ, zero, suc, ◌+◌, ◌*◌, ◌/◌, ◌%◌, ◌==◌, ◌&&◌, Bool, true, false, not, nat_lt, nat_le, List, [], ◌∷◌, length, take, drop, slice_index, Option, Some, None, Result, Ok, Err, if◌then◌else◌}
+use Rattle.std.specs.Prelude.{ℕ, zero, suc, ◌+◌, ◌*◌, ◌/◌, ◌%◌, ◌==◌, ◌&&◌, Bool, true, false, not, nat_lt, nat_le}
+use Rattle.std.specs.Prelude.{List, [], ◌∷◌, length, take, drop, slice_index, Option, Some, None, Result, Ok, Err}
+use Rattle.std.specs.Prelude.{if◌then◌else◌}
 use Rattle.std.specs.Int.{w16, w32, from_le_bytes, from_be_bytes}
 use Rattle.capture_file.specs.declared.form.ByteOrder.{ByteOrder}
 use Rattle.capture_file.specs.declared.form.ByteOrder.TheVariants.{LeastFirst, MostFirst}
@@ -19,7 +22,8 @@ two_at place octets = slice_index octets place ∷ slice_index octets (place + 1
 
 abbrev pub four_at : ℕ → List ℕ → List ℕ
 four_at place octets =
-    slice_index octets place ∷ slice_index octets (place + 1) ∷ slice_index octets (place + 2) ∷ slice_index octets (place + 3) ∷ []
+    slice_index octets place ∷ slice_index octets (place + 1) ∷ slice_index octets (place + 2) ∷ slice_index octets
+    (place + 3) ∷ []
 
 abbrev pub short_at : ByteOrder → ℕ → List ℕ → ℕ
 short_at LeastFirst place octets = from_le_bytes w16 (two_at place octets)
@@ -29,7 +33,8 @@ abbrev pub number_at : ByteOrder → ℕ → List ℕ → ℕ
 number_at LeastFirst place octets = from_le_bytes w32 (four_at place octets)
 number_at MostFirst place octets = from_be_bytes w32 (four_at place octets)
 
--- ---- the head: four octets for order and unit, the version, twelve octets that say nothing here, and what the frames are
+-- ---- the head: four octets for order and unit, the version, twelve octets that say nothing here, and what the frames
+-- are
 -- the first four octets, the most significant one first
 abbrev pub magic_of : List ℕ → ℕ
 magic_of octets = number_at MostFirst 0 octets
@@ -46,7 +51,8 @@ kind_of magic =
 abbrev pub is_version : ByteOrder → List ℕ → Bool
 is_version order octets = short_at order 4 octets == 2 && short_at order 6 octets == 4
 
--- of the last number its lower 16 bits say what the frames are, 1 for Ethernet; its upper four bits the length of their FCS in units of
+-- of the last number its lower 16 bits say what the frames are, 1 for Ethernet; its upper four bits the length of their
+-- FCS in units of
 -- 16 bits, where bit 26 says that they do
 abbrev pub link_of : ℕ → ℕ
 link_of field = field % 65536
@@ -91,7 +97,10 @@ pub record Record : Type 0 where
 abbrev pub first_record : ByteOrder → List ℕ → Option (Record × List ℕ)
 first_record order octets =
     if nat_le (16 + number_at order 8 octets) (length octets) then
-    Some (record { head = head_of order octets; octets = take (number_at order 8 octets) (drop 16 octets) }, drop (16 + number_at order 8 octets) octets)
+    Some (
+      record { head = head_of order octets; octets = take (number_at order 8 octets) (drop 16 octets) },
+      drop (16 + number_at order 8 octets) octets,
+    )
     else None
 
 -- the whole records that octets begin with, one behind the other, and what lies behind the last one

@@ -20,16 +20,26 @@ HasCapture written faults out start frames = HasText written faults out.got star
 abbrev pub at_row : ℕ → List (List ℕ) → List RowFrame
 at_row row frames = map (λ (frame : List ℕ). record { row = row; frame = frame }) frames
 
--- ---- the frames of one row. Before its first one there is more than a sink tells: the start names the row, what the sink told before
+-- ---- the frames of one row. Before its first one there is more than a sink tells: the start names the row, what the
+-- sink told before
 -- the capture, and what was written of this since
 abbrev pub row_start : Start → ℕ → List ℕ → Start
-row_start start row before = record { octets = row ∷ length start.octets ∷ start.octets ++ before; faults = start.faults; name = start.name }
+row_start start row before = record {
+  octets = row ∷ length start.octets ∷ start.octets ++ before;
+  faults =
+      start.faults;
+  name = start.name;
+}
 
 abbrev pub row_in : Start → ℕ
 row_in start = slice_index start.octets 0
 
 abbrev pub first_in : Start → Start
-first_in start = record { octets = take (slice_index start.octets 1) (drop 2 start.octets); faults = start.faults; name = start.name }
+first_in start = record {
+  octets = take (slice_index start.octets 1) (drop 2 start.octets);
+  faults = start.faults;
+  name = start.name;
+}
 
 abbrev pub before_in : Start → List ℕ
 before_in start = drop (slice_index start.octets 1) (drop 2 start.octets)
@@ -37,4 +47,5 @@ before_in start = drop (slice_index start.octets 1) (drop 2 start.octets)
 -- the records of these frames were written behind it, or wait
 abbrev pub AddsRow : {K : Type 0} → (K → Option (List ℕ)) → (K → ℕ) → CaptureOut K → Start → List (List ℕ) → Type 0
 AddsRow written faults out start frames =
-    (out.row ≡ row_in start) × HasText written faults out.got (first_in start) (before_in start ++ records_octets (at_row out.row frames))
+    (out.row ≡ row_in start) × HasText written faults out.got (first_in start)
+    (before_in start ++ records_octets (at_row out.row frames))

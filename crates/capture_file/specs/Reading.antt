@@ -1,5 +1,6 @@
 -- What a capture says: frames of a client, each with the tick in which it is due; or the first that is wrong.
-use Rattle.std.specs.Prelude.{ℕ, ◌+◌, ◌-◌, ◌*◌, ◌/◌, ◌==◌, Bool, true, false, not, nat_lt, max, List, [], ◌∷◌, ◌++◌, length, map, replicate, drop, Option, Some, None, Result, Ok, Err, if◌then◌else◌}
+use Rattle.std.specs.Prelude.{ℕ, ◌+◌, ◌-◌, ◌*◌, ◌/◌, ◌==◌, Bool, true, false, not, nat_lt, max, List, [], ◌∷◌, ◌++◌}
+use Rattle.std.specs.Prelude.{length, map, replicate, drop, Option, Some, None, Result, Ok, Err, if◌then◌else◌}
 use Rattle.crc32.specs.Crc32.{least_first, fcs_in}
 use Rattle.capture_file.specs.declared.form.TimeUnit.{TimeUnit}
 use Rattle.capture_file.specs.declared.form.TimeUnit.TheVariants.{Microseconds, Nanoseconds}
@@ -28,7 +29,8 @@ ticks_between first time = (time - first) / 125000
 -- those from the first of some records to each of them
 abbrev pub ticks_in : TimeUnit → List Record → List ℕ
 ticks_in unit [] = []
-ticks_in unit (first ∷ records) = map (λ (r : Record). ticks_between (time_of unit first.head) (time_of unit r.head)) (first ∷ records)
+ticks_in unit (first ∷ records) =
+    map (λ (r : Record). ticks_between (time_of unit first.head) (time_of unit r.head)) (first ∷ records)
 
 unfoldable pub greatest : List ℕ → ℕ
 greatest [] = 0
@@ -76,7 +78,8 @@ faults_behind form before (r ∷ rs) =
 unfoldable pub frames_behind : Form → List Record → List Record → List DueFrame
 frames_behind form before [] = []
 frames_behind form before (r ∷ rs) =
-    record { due = due_of form.unit (before ++ r ∷ []); frame = client_frame form.has_fcs r.octets } ∷ frames_behind form (before ++ r ∷ []) rs
+    record { due = due_of form.unit (before ++ r ∷ []); frame = client_frame form.has_fcs r.octets } ∷ frames_behind
+    form (before ++ r ∷ []) rs
 
 -- the first of some that is there, with its place
 abbrev pub one_on : {T : Type 0} → Option (ℕ × T) → Option (ℕ × T)
@@ -101,7 +104,8 @@ said_with form records (o ∷ rest) None = Err (fault.Record (length records) wr
 -- by the octets behind the head
 abbrev pub body_said : Form → List ℕ → Result (List DueFrame) CaptureFault
 body_said form body =
-    said_with form (records_of form.order body) (rest_of form.order body) (first_there (faults_behind form [] (records_of form.order body)))
+    said_with form (records_of form.order body) (rest_of form.order body)
+    (first_there (faults_behind form [] (records_of form.order body)))
 
 abbrev pub frames_of : Form → List ℕ → List DueFrame
 frames_of form body = frames_behind form [] (records_of form.order body)

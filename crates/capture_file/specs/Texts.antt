@@ -1,4 +1,5 @@
--- What is written of a capture: the lines of its frames, as a script has them, or a note on its first fault. These texts are this
+-- What is written of a capture: the lines of its frames, as a script has them, or a note on its first fault. These
+-- texts are this
 -- project's own.
 use Rattle.std.specs.Prelude.{ℕ, List, ◌++◌, codes, decimal}
 use Rattle.std.specs.List.{flat_map}
@@ -38,4 +39,5 @@ record_fault_text wrong.Late = codes "late"
 
 abbrev pub fault_text : CaptureFault → List ℕ
 fault_text (Head fault) = codes "fault: head: " ++ head_fault_text fault ++ codes "\n"
-fault_text (Record number fault) = codes "fault: record " ++ decimal number ++ codes ": " ++ record_fault_text fault ++ codes "\n"
+fault_text (Record number fault) =
+    codes "fault: record " ++ decimal number ++ codes ": " ++ record_fault_text fault ++ codes "\n"

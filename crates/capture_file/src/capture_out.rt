@@ -29,8 +29,8 @@ fn add_head<K: ByteSink>(row: u32, octets: u32, got: &mut GotLines<K>)
     got.line(&octets.to_le_bytes());
 }
 
-/// Writes a record of each frame that it is given, with the time of the row that is being taken. After a write that failed it writes
-/// nothing more.
+/// Writes a record of each frame that it is given, with the time of the row that is being taken. After a
+/// write that failed it writes nothing more.
 pub struct CaptureOut<'a, K> {
     got: GotLines<'a, K>,
     row: u32,

@@ -1,6 +1,7 @@
 //! The head of a capture.
 ghost use Rattle.std.specs.Prelude.{◌≡◌, ◌≤◌, ◌+◌, length};
-ghost use Rattle.capture_file.specs.Form.{short_at, number_at, kind_of, is_version, fcs_length, form_with, form_by, form_of};
+ghost use Rattle.capture_file.specs.Form.{short_at, number_at, kind_of, is_version, fcs_length, form_with, form_by};
+ghost use Rattle.capture_file.specs.Form.{form_of};
 
 use crate::form::{ByteOrder, Form, HeadFault, TimeUnit};
 

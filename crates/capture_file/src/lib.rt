@@ -1,6 +1,7 @@
-//! Captures of the classic form (pcap) as lists of octets: a head, and then records of frames with their times. One is read in place, whole
-//! or up to its first fault; what it says is written as the `frame` lines of a script; and the head and the record heads of one are made.
-//! Captures of the newer form (pcapng) are refused, and no check of a frame is tested. Begin with `read_capture`.
+//! Captures of the classic form (pcap) as lists of octets: a head, and then records of frames with their
+//! times. One is read in place, whole or up to its first fault; what it says is written as the `frame` lines
+//! of a script; and the head and the record heads of one are made. Captures of the newer form (pcapng) are
+//! refused, and no check of a frame is tested. Begin with `read_capture`.
 #![tactic(auto)]
 
 ghost use Rattle.std.specs.Prelude.{◌≡◌, List, [], ◌∷◌, ◌++◌, Ok, Err};
@@ -26,15 +27,15 @@ pub use lines::write_frames;
 pub use note::fault_note;
 pub use record::{NextRecord, next_record};
 
-/// A capture that is written of frames whose rows don't fall is read as the frames in it: each is due as many ticks after the first one as
-/// its row comes after the row of that.
+/// A capture that is written of frames whose rows don't fall is read as the frames in it: each is due as many
+/// ticks after the first one as its row comes after the row of that.
 pub fn written_law()
     ensures { (frames : List RowFrame) → AreRising 0 frames →
         capture_said (ethernet_capture frames) ≡ Ok (due_frames frames) }
 {}
 
-/// Worked: two frames of two octets with an FCS, nanoseconds, the most significant octet first; the second one is 250,000 nanoseconds later. An
-/// octet more is the start of a record that is cut.
+/// Worked: two frames of two octets with an FCS, nanoseconds, the most significant octet first; the second
+/// one is 250,000 nanoseconds later. An octet more is the start of a record that is cut.
 pub fn worked_law()
     ensures said { capture_said two_frames ≡ Ok (record { due = 0; frame = 0xaa ∷ 0xbb ∷ [] }
         ∷ record { due = 2; frame = 0xcc ∷ 0xdd ∷ [] } ∷ []) }

@@ -1,5 +1,6 @@
 -- Numbers that are too large before their last digit.
-use Rattle.std.proofs.Common.{◌≡◌, ℕ, ◌+◌, ◌-◌, ◌*◌, ◌<◌, ◌≤◌, List, [], ◌∷◌, length, slice_index_or, drop, sym, arith, refl, Bool, true, false, nat_le, ◌&&◌, if◌then◌else◌, ap}
+use Rattle.std.proofs.Common.{◌≡◌, ℕ, ◌+◌, ◌-◌, ◌*◌, ◌<◌, ◌≤◌, List, [], ◌∷◌, length, slice_index_or, drop, sym, arith}
+use Rattle.std.proofs.Common.{refl, Bool, true, false, nat_le, ◌&&◌, if◌then◌else◌, ap}
 use Rattle.std.specs.Prelude.{Some, None}
 use Rattle.std.proofs.lemmas.List.{at_drop_more}
 use Rattle.std.proofs.lemmas.Bool.Decides.{nat_tests}
@@ -26,4 +27,5 @@ too_large least most n next i d w value within is less =
     let grown = grows (10 * n + (slice_index_or w i d - 48)) (drop (i + 1) w) in
     let large : most < number_of w = omega (arith, value, step, grown, is, less) in
     ap (λ (b : Bool). if b then Some (number_of w) else None)
-    (sym (no_and (is_number w) (nat_le least (number_of w)) (nat_le (number_of w) most) (above most (number_of w) large)))
+    (sym (no_and (is_number w) (nat_le least (number_of w)) (nat_le (number_of w) most)
+    (above most (number_of w) large)))

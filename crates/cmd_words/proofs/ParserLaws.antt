@@ -1,5 +1,6 @@
 -- The parser takes plain words, and its matches say them.
-use Rattle.std.proofs.Common.{◌≡◌, ◌==◌, ◌&&◌, ◌≤◌, ◌<◌, ◌∙◌, ℕ, List, [], ◌∷◌, Bool, true, false, not, refl, sym, arith, length, nat_le}
+use Rattle.std.proofs.Common.{◌≡◌, ◌==◌, ◌&&◌, ◌≤◌, ◌<◌, ◌∙◌, ℕ, List, [], ◌∷◌, Bool, true, false, not, refl, sym}
+use Rattle.std.proofs.Common.{arith, length, nat_le}
 use Rattle.std.proofs.lemmas.Bool.{and_parts, false≢true, leb-true, not-true}
 use Rattle.std.proofs.lemmas.Bool.Decides.{nat_tests}
 use Rattle.std.specs.List.{list_all}
@@ -26,21 +27,27 @@ two : (a b : ℕ) (u v : Text) → (a == 45) ≡ false → (b == 45) ≡ false �
 unfolding clap_on_literals
 two a b u v g h = record { taken = simp (g, h) refl; told = simp (g, h) refl }
 
-three : (a b c : ℕ) (u v w : Text) → (a == 45) ≡ false → (b == 45) ≡ false → (c == 45) ≡ false → Reads ((a ∷ u) ∷ (b ∷ v) ∷ (c ∷ w) ∷ [])
+three : (a b c : ℕ) (u v w : Text) → (a == 45) ≡ false → (b == 45) ≡ false → (c == 45) ≡ false →
+    Reads ((a ∷ u) ∷ (b ∷ v) ∷ (c ∷ w) ∷ [])
 unfolding clap_on_literals
 three a b c u v w g h i = record { taken = simp (g, h, i) refl; told = simp (g, h, i) refl }
 
-four : (a b c d : ℕ) (u v w x : Text) → (a == 45) ≡ false → (b == 45) ≡ false → (c == 45) ≡ false → (d == 45) ≡ false → Reads ((a ∷ u) ∷ (b ∷ v) ∷ (c ∷ w) ∷ (d ∷ x) ∷ [])
+four : (a b c d : ℕ) (u v w x : Text) → (a == 45) ≡ false → (b == 45) ≡ false → (c == 45) ≡ false → (d == 45) ≡ false →
+    Reads ((a ∷ u) ∷ (b ∷ v) ∷ (c ∷ w) ∷ (d ∷ x) ∷ [])
 unfolding clap_on_literals
 four a b c d u v w x g h i j = record { taken = simp (g, h, i, j) refl; told = simp (g, h, i, j) refl }
 
-five : (a b c d e : ℕ) (u v w x y : Text) → (a == 45) ≡ false → (b == 45) ≡ false → (c == 45) ≡ false → (d == 45) ≡ false → (e == 45) ≡ false → Reads ((a ∷ u) ∷ (b ∷ v) ∷ (c ∷ w) ∷ (d ∷ x) ∷ (e ∷ y) ∷ [])
+five : (a b c d e : ℕ) (u v w x y : Text) → (a == 45) ≡ false → (b == 45) ≡ false → (c == 45) ≡ false →
+    (d == 45) ≡ false → (e == 45) ≡ false → Reads ((a ∷ u) ∷ (b ∷ v) ∷ (c ∷ w) ∷ (d ∷ x) ∷ (e ∷ y) ∷ [])
 unfolding clap_on_literals
 five a b c d e u v w x y g h i j k = record { taken = simp (g, h, i, j, k) refl; told = simp (g, h, i, j, k) refl }
 
-six : (a b c d e f : ℕ) (u v w x y z : Text) → (a == 45) ≡ false → (b == 45) ≡ false → (c == 45) ≡ false → (d == 45) ≡ false → (e == 45) ≡ false → (f == 45) ≡ false → Reads ((a ∷ u) ∷ (b ∷ v) ∷ (c ∷ w) ∷ (d ∷ x) ∷ (e ∷ y) ∷ (f ∷ z) ∷ [])
+six : (a b c d e f : ℕ) (u v w x y z : Text) → (a == 45) ≡ false → (b == 45) ≡ false → (c == 45) ≡ false →
+    (d == 45) ≡ false → (e == 45) ≡ false → (f == 45) ≡ false →
+    Reads ((a ∷ u) ∷ (b ∷ v) ∷ (c ∷ w) ∷ (d ∷ x) ∷ (e ∷ y) ∷ (f ∷ z) ∷ [])
 unfolding clap_on_literals
-six a b c d e f u v w x y z g h i j k l = record { taken = simp (g, h) (simp (i, j) (simp (k, l) refl)); told = simp (g, h, i, j, k, l) refl }
+six a b c d e f u v w x y z g h i j k l =
+    record { taken = simp (g, h) (simp (i, j) (simp (k, l) refl)); told = simp (g, h, i, j, k, l) refl }
 
 -- ---- plain words
 record Begins (word : Text) : Type 0 where
@@ -64,7 +71,8 @@ above : (most n : ℕ) → most < n → nat_le n most ≡ false
 above most n less = grind (arith, nat_tests)
 
 too-many : (words : List Text) → 6 < length words → are_plain words ≡ false
-too-many words many = no-middle (nat_le 1 (length words)) (nat_le (length words) 6) (list_all is_plain words) (above 6 (length words) many)
+too-many words many = no-middle (nat_le 1 (length words)) (nat_le (length words) 6) (list_all is_plain words)
+    (above 6 (length words) many)
 
 read-one : (w0 : Text) → Begins w0 → Reads (w0 ∷ [])
 read-one w0 b0 =
@@ -76,19 +84,28 @@ read-two w0 w1 b0 b1 =
 
 read-three : (w0 w1 w2 : Text) → Begins w0 → Begins w1 → Begins w2 → Reads (w0 ∷ w1 ∷ w2 ∷ [])
 read-three w0 w1 w2 b0 b1 b2 =
-    rw (b0.word_is, b1.word_is, b2.word_is) (three b0.first b1.first b2.first b0.rest b1.rest b2.rest b0.no_dash b1.no_dash b2.no_dash)
+    rw (b0.word_is, b1.word_is, b2.word_is)
+    (three b0.first b1.first b2.first b0.rest b1.rest b2.rest b0.no_dash b1.no_dash b2.no_dash)
 
 read-four : (w0 w1 w2 w3 : Text) → Begins w0 → Begins w1 → Begins w2 → Begins w3 → Reads (w0 ∷ w1 ∷ w2 ∷ w3 ∷ [])
 read-four w0 w1 w2 w3 b0 b1 b2 b3 =
-    rw (b0.word_is, b1.word_is, b2.word_is, b3.word_is) (four b0.first b1.first b2.first b3.first b0.rest b1.rest b2.rest b3.rest b0.no_dash b1.no_dash b2.no_dash b3.no_dash)
+    rw (b0.word_is, b1.word_is, b2.word_is, b3.word_is)
+    (four b0.first b1.first b2.first b3.first b0.rest b1.rest b2.rest b3.rest b0.no_dash b1.no_dash b2.no_dash
+    b3.no_dash)
 
-read-five : (w0 w1 w2 w3 w4 : Text) → Begins w0 → Begins w1 → Begins w2 → Begins w3 → Begins w4 → Reads (w0 ∷ w1 ∷ w2 ∷ w3 ∷ w4 ∷ [])
+read-five : (w0 w1 w2 w3 w4 : Text) → Begins w0 → Begins w1 → Begins w2 → Begins w3 → Begins w4 →
+    Reads (w0 ∷ w1 ∷ w2 ∷ w3 ∷ w4 ∷ [])
 read-five w0 w1 w2 w3 w4 b0 b1 b2 b3 b4 =
-    rw (b0.word_is, b1.word_is, b2.word_is, b3.word_is, b4.word_is) (five b0.first b1.first b2.first b3.first b4.first b0.rest b1.rest b2.rest b3.rest b4.rest b0.no_dash b1.no_dash b2.no_dash b3.no_dash b4.no_dash)
+    rw (b0.word_is, b1.word_is, b2.word_is, b3.word_is, b4.word_is)
+    (five b0.first b1.first b2.first b3.first b4.first b0.rest b1.rest b2.rest b3.rest b4.rest b0.no_dash b1.no_dash
+    b2.no_dash b3.no_dash b4.no_dash)
 
-read-six : (w0 w1 w2 w3 w4 w5 : Text) → Begins w0 → Begins w1 → Begins w2 → Begins w3 → Begins w4 → Begins w5 → Reads (w0 ∷ w1 ∷ w2 ∷ w3 ∷ w4 ∷ w5 ∷ [])
+read-six : (w0 w1 w2 w3 w4 w5 : Text) → Begins w0 → Begins w1 → Begins w2 → Begins w3 → Begins w4 → Begins w5 →
+    Reads (w0 ∷ w1 ∷ w2 ∷ w3 ∷ w4 ∷ w5 ∷ [])
 read-six w0 w1 w2 w3 w4 w5 b0 b1 b2 b3 b4 b5 =
-    rw (b0.word_is, b1.word_is, b2.word_is, b3.word_is, b4.word_is, b5.word_is) (six b0.first b1.first b2.first b3.first b4.first b5.first b0.rest b1.rest b2.rest b3.rest b4.rest b5.rest b0.no_dash b1.no_dash b2.no_dash b3.no_dash b4.no_dash b5.no_dash)
+    rw (b0.word_is, b1.word_is, b2.word_is, b3.word_is, b4.word_is, b5.word_is)
+    (six b0.first b1.first b2.first b3.first b4.first b5.first b0.rest b1.rest b2.rest b3.rest b4.rest b5.rest
+    b0.no_dash b1.no_dash b2.no_dash b3.no_dash b4.no_dash b5.no_dash)
 
 pub reads : (words : List Text) → are_plain words ≡ true → Reads words
 reads [] h = absurd (false≢true h)
@@ -124,5 +141,7 @@ reads (w0 ∷ w1 ∷ w2 ∷ w3 ∷ w4 ∷ w5 ∷ []) h =
     let p3 = and_parts _ _ p2.1 in
     let p4 = and_parts _ _ p3.1 in
     let p5 = and_parts _ _ p4.1 in
-    read-six w0 w1 w2 w3 w4 w5 (begins w0 p0.0) (begins w1 p1.0) (begins w2 p2.0) (begins w3 p3.0) (begins w4 p4.0) (begins w5 p5.0)
-reads (w0 ∷ w1 ∷ w2 ∷ w3 ∷ w4 ∷ w5 ∷ w6 ∷ more) h = absurd (false≢true (sym (too-many (w0 ∷ w1 ∷ w2 ∷ w3 ∷ w4 ∷ w5 ∷ w6 ∷ more) (omega arith)) ∙ h))
+    read-six w0 w1 w2 w3 w4 w5 (begins w0 p0.0) (begins w1 p1.0) (begins w2 p2.0) (begins w3 p3.0) (begins w4 p4.0)
+    (begins w5 p5.0)
+reads (w0 ∷ w1 ∷ w2 ∷ w3 ∷ w4 ∷ w5 ∷ w6 ∷ more) h =
+    absurd (false≢true (sym (too-many (w0 ∷ w1 ∷ w2 ∷ w3 ∷ w4 ∷ w5 ∷ w6 ∷ more) (omega arith)) ∙ h))

@@ -11,7 +11,10 @@ word_rule = record (new_rule (codes "word")) { action = Some Append; required = 
 abbrev pub words_app : App
 words_app =
     let app = new_app (codes "vcat") in
-    with_rule (record app { top = record app.top { no_binary_name = true; disable_help_flag = true; disable_help_subcommand = true } }) word_rule
+    with_rule (record app {
+      top = record app.top
+          { no_binary_name = true; disable_help_flag = true; disable_help_subcommand = true };
+    }) word_rule
 
 abbrev pub listed : Option (List Text) → List Text
 listed None = []

@@ -1,4 +1,5 @@
-//! Whether words may be a command, which is asked before `clap` sees them: it knows options, help and signs, which no command has.
+//! Whether words may be a command, which is asked before `clap` sees them: it knows options, help and signs,
+//! which no command has.
 ghost use Rattle.std.specs.Prelude.{◌≡◌, map, string_bytes};
 ghost use Rattle.cmd_words.specs.Words.{is_plain, are_plain};
 

@@ -55,8 +55,8 @@ fn words_of(alloc: Global, matches: &ArgMatches<'_>) -> Result<Vec<String>, Allo
     Ok(words)
 }
 
-/// The command of a program that the words after its name are. They are none where there are more than six of them, or where one is empty
-/// or begins with a dash; else the program says which they are.
+/// The command of a program that the words after its name are. They are none where there are more than six of
+/// them, or where one is empty or begins with a dash; else the program says which they are.
 ///
 /// # Errors
 /// `Usage` exactly where they are no command, and `Memory` where memory runs out over words that are one.

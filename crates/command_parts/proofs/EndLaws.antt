@@ -1,13 +1,12 @@
 -- What an end says, fact by fact.
-use Rattle.std.proofs.Common.{◌≡◌, ◌≢◌, ◌⊎◌, ◌↔◌, ℕ, ◌<◌, ◌≤◌, List, [], ◌++◌, length, Option, Some, None, IfSome, IsTrue, refl, sym, ◌∙◌, ap, subst, inl, inr, arith, codes, append-nil}
+use Rattle.std.proofs.Common.{◌≡◌, ◌≢◌, ◌⊎◌, ℕ, ◌<◌, ◌≤◌, List, ◌++◌, length, Option, Some, None, IfSome, IsTrue, refl, sym, ◌∙◌, ap, subst, inl, inr, arith, codes, append-nil}
 use Rattle.std.specs.Io.KnownBytes.{prepend_known, IsAtEnd}
 use Rattle.outside_io.specs.Faults.{one_more}
-use Rattle.outside_io.specs.Transfer.{GivesAll}
 use Rattle.command_parts.specs.declared.stop.Refusal.{Refusal}
 use Rattle.command_parts.specs.declared.stop.Refusal.TheVariants.{Line, Limit}
 use Rattle.command_parts.specs.Task.{Answer, Task, writes, writes_both, refuses, exceeds, none, reads, makes, IsCommand, Reads, IsGood, IsQuiet, IsQuietTask, refused_status}
-use Rattle.command_parts.specs.Ends.{Lent, Kept, Quiet, FailedOnce, TakesPart, TakesSome, IsTold, HasRead, IsLong, Meets, WritesAll, WritesPart, until, since, IsDone, IsNoCommand, IsUnread, IsCut, IsRefused, IsShort, IsTooLong, IsBeyond, Ends, done, no_command, unread, cut, refused, short, too_long, beyond}
-use Rattle.command_parts.specs.Status.{is_status, HasReadAt, HasRunAt, Rises}
+use Rattle.command_parts.specs.Ends.{Lent, Kept, Quiet, FailedOnce, IsTold, HasRead, IsLong, Meets, WritesAll, WritesPart, until, since, IsDone, IsNoCommand, IsUnread, IsCut, IsRefused, IsShort, IsTooLong, IsBeyond, Ends, done, no_command, unread, cut, refused, short, too_long, beyond}
+use Rattle.command_parts.specs.Status.{is_status, HasReadAt, Rises}
 
 -- ---- the text that was read is the one that the source tells, where it tells it
 same-text : (old new : Option (List ℕ)) (text own : List ℕ) → old ≡ prepend_known text new → IsAtEnd new → old ≡ Some own → text ≡ own

@@ -1,5 +1,5 @@
 -- Each exit of a command is one of the ends.
-use Rattle.std.proofs.Common.{◌≡◌, ◌≢◌, ◌⊎◌, ℕ, List, Some, Ok, Err, Option, Result, refl, sym, ◌∙◌, ap, ap₂, subst, inl, inr, arith}
+use Rattle.std.proofs.Common.{◌≡◌, ◌≢◌, ◌⊎◌, ℕ, List, Err, refl, sym, ◌∙◌, ap, ap₂, subst, inl, inr, arith}
 use Rattle.session_model.specs.declared.script.Script.{Script}
 use Rattle.script_read.specs.declared.fault.ScriptFault.{ScriptFault}
 use Rattle.script_read.specs.declared.fault.ScriptFault.TheVariants.{Line, Slip, Spread, Lag}
@@ -9,7 +9,7 @@ use Rattle.command_parts.specs.declared.stop.Stop.{Stop}
 use Rattle.command_parts.specs.declared.stop.Stop.TheVariants.{Read, TooLong, Refused, Write, Memory}
 use Rattle.command_parts.specs.Task.{Answer, Task, refuses, exceeds, none, reads, makes, IsCommand}
 use Rattle.command_parts.specs.Ends.{Lent, Kept, Quiet, IsTold, HasRead, Meets, WritesAll, WritesPart, until, since, Ends, no_source, done, no_command, cut, refused, unread, short, too_long, beyond}
-use Rattle.command_parts.specs.Faults.{fault_text, why_of, IsRefusedFor}
+use Rattle.command_parts.specs.Faults.{IsRefusedFor}
 use Rattle.command_parts.specs.declared.stop.Fault.{Fault}
 use Rattle.command_parts.specs.declared.stop.Refusal.{Refusal}
 use Rattle.command_parts.specs.Status.{HasRunAt}

@@ -1,5 +1,5 @@
 -- What the words of a command line ask of a program, as plain data.
-use Rattle.std.specs.Prelude.{◌≡◌, ◌≢◌, ℕ, List}
+use Rattle.std.specs.Prelude.{ℕ, List}
 use Rattle.command_parts.specs.declared.stop.Refusal.{Refusal}
 use Rattle.command_parts.specs.declared.stop.Refusal.TheVariants.{Line, Limit}
 

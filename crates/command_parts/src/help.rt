@@ -8,7 +8,8 @@ use report_text::LineCursor;
 use script_read::{Keyword, LineFault, Part};
 
 /// The words that a line may begin with.
-const FIRST_WORDS: &[u8] = b"a line begins with one of container, lines, delays, ring, lag, ticks, fail, lost, frame, add, remove, client, operator, tick, carry, back, take, round, drain";
+const FIRST_WORDS: &[u8] =
+    b"a line begins with one of container, lines, delays, ring, lag, ticks, fail, lost, frame, add, remove, client, operator, tick, carry, back, take, round, drain";
 
 /// A keyword as scripts have it.
 fn keyword_word(keyword: Keyword) -> &'static [u8]

@@ -1,5 +1,6 @@
-//! A script of a group of three lines of which one leaves, and what each beginning of it is. What is expected comes of a model of the
-//! definitions. As everywhere here texts stand behind functions, so that no proof sees them.
+//! A script of a group of three lines of which one leaves, and what each beginning of it is. What is expected
+//! comes of a model of the definitions. As everywhere here texts stand behind functions, so that no proof
+//! sees them.
 
 /// Three lines join, and the second one leaves. Turn by turn one octet more comes.
 pub fn beginning_row() -> &'static str {

@@ -1,5 +1,6 @@
-//! Tests of both programs by their calls: words, inputs and faults at each call, the walk or session that is handed back, and workers that
-//! run beside each other. Nothing is here but tests. Begin with `rows`, which says what a row is.
+//! Tests of both programs by their calls: words, inputs and faults at each call, the walk or session that is
+//! handed back, and workers that run beside each other. Nothing is here but tests. Begin with `rows`, which
+//! says what a row is.
 #![tactic(auto)]
 
 #[cfg(test)]

@@ -1,5 +1,6 @@
-//! Links of AU-4 frames: what comes of numbered VC-4s on them, what is wrong with a text, and inputs and outputs that fail. What is expected
-//! comes of a model of the definitions. Rows stand behind functions, so that no proof sees them.
+//! Links of AU-4 frames: what comes of numbered VC-4s on them, what is wrong with a text, and inputs and
+//! outputs that fail. What is expected comes of a model of the definitions. Rows stand behind functions, so
+//! that no proof sees them.
 
 use crate::rows::Program::Walk;
 use crate::rows::{Turns, try_rows};
@@ -22,41 +23,41 @@ fn carried_rows() -> &'static str {
 /// Texts each of which has a fault, with the first one.
 fn faulty_rows() -> &'static str {
     "\
-    au4; => 5;;fault: line 1: missing|\n\
-    au4;frames 3|start 0| => 5;;fault: line 1: missing|\n\
-    au4;start 0|start 0| => 5;;fault: line 2: missing|\n\
-    au4;start 0|#|up 1| => 5;;fault: line 3: missing|\n\
-    au4;start 0| => 5;;fault: line 2: missing|\n\
-    au4;start 0|frames 3|start 0| => 5;;fault: line 3: order|\n\
-    au4;start 0|frames 3|up 1|frames 3| => 5;;fault: line 4: order|\n\
-    au4;start 0|frames 3|Up 1| => 5;;fault: line 3: word|\n\
-    au4;start 0|frames 3|keep 1| => 5;;fault: line 3: word|\n\
-    au4;start| => 5;;fault: line 1: word|\n\
-    au4;start 0 0| => 5;;fault: line 1: word|\n\
-    au4;start 783| => 5;;fault: line 1: range|\n\
-    au4;start 00000000001| => 5;;fault: line 1: number|\n\
-    au4;start 9999999999| => 5;;fault: line 1: range|\n\
-    au4;start x| => 5;;fault: line 1: number|\n\
-    au4;start 0|frames 0| => 5;;fault: line 2: range|\n\
-    au4;start 0|frames 100001| => 5;;fault: line 2: range|\n\
-    au4;start 0|frames 3|up| => 5;;fault: line 3: word|\n\
-    au4;start 0|frames 3|up 1 2| => 5;;fault: line 3: word|\n\
-    au4;start 0|frames 3|up 0| => 5;;fault: line 3: range|\n\
-    au4;start 0|frames 3|down 0| => 5;;fault: line 3: range|\n\
-    au4;start 0|frames 3|up 3| => 5;;fault: line 3: range|\n\
-    au4;start 0|frames 1|up 0| => 5;;fault: line 3: range|\n\
-    au4;start 0|frames 1|down 1| => 5;;fault: line 3: range|\n\
-    au4;start 0|frames 3|new 1| => 5;;fault: line 3: word|\n\
-    au4;start 0|frames 3|new 1 2 3| => 5;;fault: line 3: word|\n\
-    au4;start 0|frames 3|new 3 783| => 5;;fault: line 3: range|\n\
-    au4;start 0|frames 3|new 1 783| => 5;;fault: line 3: range|\n\
-    au4;start 0|frames 3|new 1 -1| => 5;;fault: line 3: number|\n\
-    au4;start 0|frames 9|up 1|up 4| => 5;;fault: line 4: order|\n\
-    au4;start 0|frames 9|up 5|new 1 783| => 5;;fault: line 4: range|\n\
-    au4;start 0|frames 9|up 5|new 1 782| => 5;;fault: line 4: order|\n\
-    au4;start 0|frames 9|new 0 0|down 3| => 5;;fault: line 4: order|\n\
-    au4;start 0|frames 9|up 1|up 5|down 8| => 5;;fault: line 5: order|\n\
-    au4;start 0|frames 9|up 1|up 5|up x| => 5;;fault: line 5: number|"
+    au4; => 5;;fault: line 1: missing|help: the line start has to stand here|\n\
+    au4;frames 3|start 0| => 5;;fault: line 1: missing|help: the line start has to stand here|\n\
+    au4;start 0|start 0| => 5;;fault: line 2: missing|help: the line frames has to stand here|\n\
+    au4;start 0|#|up 1| => 5;;fault: line 3: missing|help: the line frames has to stand here|\n\
+    au4;start 0| => 5;;fault: line 2: missing|help: the line frames has to stand here|\n\
+    au4;start 0|frames 3|start 0| => 5;;fault: line 3: order|help: start stands before frames|\n\
+    au4;start 0|frames 3|up 1|frames 3| => 5;;fault: line 4: order|help: frames stands before up|\n\
+    au4;start 0|frames 3|Up 1| => 5;;fault: line 3: word|help: a line begins with one of start, frames, up, down, new|\n\
+    au4;start 0|frames 3|keep 1| => 5;;fault: line 3: word|help: a line begins with one of start, frames, up, down, new|\n\
+    au4;start| => 5;;fault: line 1: word|help: start takes 1 words, and 0 follow|\n\
+    au4;start 0 0| => 5;;fault: line 1: word|help: start takes 1 words, and 2 follow|\n\
+    au4;start 783| => 5;;fault: line 1: range|help: word 2 is from 0 to 782|\n\
+    au4;start 00000000001| => 5;;fault: line 1: number|help: word 2 is a number of one to ten digits|\n\
+    au4;start 9999999999| => 5;;fault: line 1: range|help: word 2 is from 0 to 782|\n\
+    au4;start x| => 5;;fault: line 1: number|help: word 2 is a number of one to ten digits|\n\
+    au4;start 0|frames 0| => 5;;fault: line 2: range|help: word 2 is from 1 to 100000|\n\
+    au4;start 0|frames 100001| => 5;;fault: line 2: range|help: word 2 is from 1 to 100000|\n\
+    au4;start 0|frames 3|up| => 5;;fault: line 3: word|help: up takes 1 words, and 0 follow|\n\
+    au4;start 0|frames 3|up 1 2| => 5;;fault: line 3: word|help: up takes 1 words, and 2 follow|\n\
+    au4;start 0|frames 3|up 0| => 5;;fault: line 3: range|help: word 2 is from 1 to 2|\n\
+    au4;start 0|frames 3|down 0| => 5;;fault: line 3: range|help: word 2 is from 1 to 2|\n\
+    au4;start 0|frames 3|up 3| => 5;;fault: line 3: range|help: word 2 is from 1 to 2|\n\
+    au4;start 0|frames 1|up 0| => 5;;fault: line 3: range|help: word 2 is at most 0|\n\
+    au4;start 0|frames 1|down 1| => 5;;fault: line 3: range|help: word 2 is at most 0|\n\
+    au4;start 0|frames 3|new 1| => 5;;fault: line 3: word|help: new takes 2 words, and 1 follow|\n\
+    au4;start 0|frames 3|new 1 2 3| => 5;;fault: line 3: word|help: new takes 2 words, and 3 follow|\n\
+    au4;start 0|frames 3|new 3 783| => 5;;fault: line 3: range|help: word 2 is from 0 to 2|\n\
+    au4;start 0|frames 3|new 1 783| => 5;;fault: line 3: range|help: word 3 is from 0 to 782|\n\
+    au4;start 0|frames 3|new 1 -1| => 5;;fault: line 3: number|help: word 3 is a number of one to ten digits|\n\
+    au4;start 0|frames 9|up 1|up 4| => 5;;fault: line 4: order|help: after frame 1 the next one is 5 at least|\n\
+    au4;start 0|frames 9|up 5|new 1 783| => 5;;fault: line 4: range|help: word 3 is from 0 to 782|\n\
+    au4;start 0|frames 9|up 5|new 1 782| => 5;;fault: line 4: order|help: after frame 5 the next one is 9 at least|\n\
+    au4;start 0|frames 9|new 0 0|down 3| => 5;;fault: line 4: order|help: after frame 0 the next one is 4 at least|\n\
+    au4;start 0|frames 9|up 1|up 5|down 8| => 5;;fault: line 5: order|help: after frame 5 the next one is 9 at least|\n\
+    au4;start 0|frames 9|up 1|up 5|up x| => 5;;fault: line 5: number|help: word 2 is a number of one to ten digits|"
 }
 
 /// What is answered where the first call of the input fails, the second, and so on, and last without a fault.

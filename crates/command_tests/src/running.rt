@@ -1,5 +1,6 @@
-//! The program that runs threads by words, scripts, faults and numbers of threads. What is expected comes of a model of the definitions,
-//! or is counted by hand. Rows stand behind functions, so that no proof sees them.
+//! The program that runs threads by words, scripts, faults and numbers of threads. What is expected comes of
+//! a model of the definitions, or is counted by hand. Rows stand behind functions, so that no proof sees
+//! them.
 
 use crate::group::beginning_row;
 use crate::rows::Program::Run;
@@ -25,7 +26,8 @@ fn two_lines_row() -> &'static str {
     0+;got 07*64|got 09*70|refused 2 already in|total ticks 200 taken 200 frames 2 commands 3 refused 1 got 2|;"
 }
 
-/// Inputs that seven octets at a time are read in so many calls, and what is answered where no call fails. A usage reads nothing.
+/// Inputs that seven octets at a time are read in so many calls, and what is answered where no call fails. A
+/// usage reads nothing.
 fn read_rows() -> &'static str {
     "\
     run 2;lines 3|delays 0 0 0|ring 1|lag 1|ticks 700|add 0 0|add 0 1|add 0 2|remove 600 1| => \
@@ -36,8 +38,9 @@ fn read_rows() -> &'static str {
     run; => 2;;usage: vcat_run run WORKERS|"
 }
 
-/// What is answered where the first call of `out` fails, the second, and so on; the last answer is that without a fault. Three lines, of
-/// which one leaves, and three frames whose lines each go out alone; and two lines whose output goes out at once.
+/// What is answered where the first call of `out` fails, the second, and so on; the last answer is that
+/// without a fault. Three lines, of which one leaves, and three frames whose lines each go out alone; and two
+/// lines whose output goes out at once.
 fn put_rows() -> &'static str {
     "\
     run 2;lines 3|delays 0 0 0|ring 1|lag 1|ticks 700|add 0 0|add 0 1|add 0 2|remove 600 1|frame 0 07*9600|frame 0 08*9600|frame 0 09*9600| => \
@@ -55,8 +58,8 @@ fn untold_rows() -> &'static str {
     "run 2;x| => 5;;"
 }
 
-/// A frame and a command over two lines, of whose workers each one waits for all, and the sink until each other one has moved. Until then
-/// there is room for 72 ticks, and the frame lands at the 60th.
+/// A frame and a command over two lines, of whose workers each one waits for all, and the sink until each
+/// other one has moved. Until then there is room for 72 ticks, and the frame lands at the 60th.
 fn meeting_row() -> &'static str {
     "run 2;lines 2|delays 0 3|ring 64|lag 4|ticks 200|add 0 0|frame 60 07*64| => \
     0+;got 07*64|total ticks 200 taken 200 frames 1 commands 1 refused 0 got 1|;"

@@ -1,5 +1,5 @@
-//! Scripts, their first faults, and what comes of their walks by a model that was written apart. Rows stand behind functions, so that no
-//! proof sees them.
+//! Scripts, their first faults, and what comes of their walks by a model that was written apart. Rows stand
+//! behind functions, so that no proof sees them.
 
 use crate::rows::Program::Walk;
 use crate::rows::{Turns, try_rows_with};
@@ -107,11 +107,12 @@ fn limit_rows() -> &'static str {
     lines 1|delays 0|ring 1|lag 1|ticks 9|frame 0 777*65536 => 5;;fault: line 6: hex|help: word 3 is an even number of hexadecimal digits|"
 }
 
-/// In turn: one member that carries payload, and a refusal of each kind but those of full queues; two members of different delays, of which
-/// the second fails, and cells of it are slipped; return packets that are lost; three members of which the middle one is removed, twice;
-/// three of which the last one is removed, and comes back; events in an odd order, which end before all rows are taken; a failure of one
-/// member that lasts until the source leaves it out, and a short one of the other; a line that fails from the start and is added and
-/// removed, with rounds, other events, and the rest.
+/// In turn: one member that carries payload, and a refusal of each kind but those of full queues; two members
+/// of different delays, of which the second fails, and cells of it are slipped; return packets that are lost;
+/// three members of which the middle one is removed, twice; three of which the last one is removed, and comes
+/// back; events in an odd order, which end before all rows are taken; a failure of one member that lasts
+/// until the source leaves it out, and a short one of the other; a line that fails from the start and is
+/// added and removed, with rounds, other events, and the rest.
 fn walk_rows() -> &'static str {
     "\
     container vc3|lines 1|delays 0|ring 1|lag 1|ticks 60|add 0 0|frame 0 015a*63|frame 0 02c3*1399|\

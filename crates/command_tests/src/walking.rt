@@ -1,5 +1,5 @@
-//! The program that walks by words, inputs and faults. What is expected comes of a model of the definitions, or is counted by hand. Rows
-//! stand behind functions, so that no proof sees them.
+//! The program that walks by words, inputs and faults. What is expected comes of a model of the definitions,
+//! or is counted by hand. Rows stand behind functions, so that no proof sees them.
 
 use crate::group::beginning_row;
 use crate::rows::Program::Walk;
@@ -49,9 +49,9 @@ fn usage_rows() -> &'static str {
     make 1 1; => 2;;usage: vcat_walk walk, trace, fates, capture, frames, decode, au4, make NUMBER LINES TICKS, or stream OCTETS MBITS FIRST END NUMBER|"
 }
 
-/// Frames that are carried whole or not, in containers of either size; and those that a failure of 40 containers with a slip of 39 covers:
-/// the second one lies before the first place that is confirmed after it, and the third one is not yet descrambled. The last row makes
-/// the events in another order.
+/// Frames that are carried whole or not, in containers of either size; and those that a failure of 40
+/// containers with a slip of 39 covers: the second one lies before the first place that is confirmed after
+/// it, and the third one is not yet descrambled. The last row makes the events in another order.
 fn frame_rows() -> &'static str {
     "\
     walk;lines 1|delays 0|ring 1|lag 1|ticks 41|add 0 0|frame 0 5a*2324| => 0+;got 5a*2324|total ticks 41 taken 41 frames 1 commands 1 refused 0 got 1|;\n\
@@ -98,8 +98,8 @@ fn frames_in_turn() -> &'static str {
     0+;total ticks 700 taken 700 frames 0 commands 4 refused 0 got 0|;"
 }
 
-/// Notes that can't be written: the status stays, but that of a trace. Where a line of a trace can't be written nothing follows it but the
-/// note, and on `out` nothing.
+/// Notes that can't be written: the status stays, but that of a trace. Where a line of a trace can't be
+/// written nothing follows it but the note, and on `out` nothing.
 fn untold_rows() -> &'static str {
     "\
     walk;x| => 5;;\n\
@@ -111,9 +111,10 @@ fn untold_rows() -> &'static str {
     4+;;fault: write failed| THEN 4+;;packet 0 chg 1 act 0 back none add:0|fault: write failed|"
 }
 
-/// H4 octets, and the packets in them. The first row is a line that is added to an empty group; in the second one the check of its
-/// second packet says another value. The third is from outside the program, a line while a group of three is set up: one packet has a
-/// wrong bit, one has a code that there is not, one lies where the line is not locked, and the last one is cut.
+/// H4 octets, and the packets in them. The first row is a line that is added to an empty group; in the second
+/// one the check of its second packet says another value. The third is from outside the program, a line while
+/// a group of three is set up: one packet has a wrong bit, one has a code that there is not, one lies where
+/// the line is not locked, and the last one is cut.
 fn packet_rows() -> &'static str {
     "\
     decode;000102030405060708090a1b0c0d0e0f001112130405060708090a1b0c0d0e0f0021321304151647 => 0;\
@@ -142,7 +143,8 @@ fn packet_rows() -> &'static str {
     decode;\t| => 5;;fault: line 1: hex|help: a line is an even number of hexadecimal digits|"
 }
 
-/// What is answered where the first call of `out` fails, the second, and so on, and last without a fault. Short lines go out together.
+/// What is answered where the first call of `out` fails, the second, and so on, and last without a fault.
+/// Short lines go out together.
 fn put_rows() -> &'static str {
     "\
     walk;lines 3|delays 0 0 0|ring 1|lag 1|ticks 700|add 0 0|add 0 1|add 0 2|remove 600 1|frame 0 5a*64|frame 0 5a*64|frame 0 5a*64| => \
@@ -164,8 +166,8 @@ fn put_rows() -> &'static str {
     4;;fault: write failed| THEN 4;at 8 add sq 0 gid 1 act 0 chg 1 mst 00 ack 0|;fault: write failed|"
 }
 
-/// Inputs that seven octets at a time are read in so many calls, and what is answered where no call fails. `make`, `stream` and a usage
-/// read nothing.
+/// Inputs that seven octets at a time are read in so many calls, and what is answered where no call fails.
+/// `make`, `stream` and a usage read nothing.
 fn read_rows() -> &'static str {
     "\
     walk;lines 3|delays 0 0 0|ring 1|lag 1|ticks 700|add 0 0|add 0 1|add 0 2|remove 600 1| => 13 TIMES 3;;fault: read failed| THEN 0+;total ticks 700 taken 700 frames 0 commands 4 refused 0 got 0|;\n\

@@ -1,11 +1,13 @@
 -- How long a check is, and by what it differs where bits are turned over.
-use Rattle.std.proofs.Common.{◌≡◌, ℕ, Bool, true, false, List, ◌++◌, length, replicate, sym, ◌∙◌, ap, ap₂, ◌≤◌, le_of_eq, arith}
+use Rattle.std.proofs.Common.{◌≡◌, ℕ, Bool, true, false, List, ◌++◌, length, replicate, sym, ◌∙◌, ap, ap₂, ◌≤◌}
+use Rattle.std.proofs.Common.{le_of_eq, arith}
 use Rattle.std.proofs.lemmas.List.{length-append, length-replicate}
 use Rattle.remainder.specs.Bits.{octet_bits, xors}
 use Rattle.remainder.specs.Remainder.{add_front, divide, remainder}
 use Rattle.remainder.proofs.BitLaws.{length-bits}
 use Rattle.remainder.proofs.XorLaws.{length_xors, xors-zeros, xors-append, xors_assoc}
-use Rattle.remainder.proofs.DivisionLaws.{length-add_front, add_front-xors, add_front-append, divide-xors, length-divide}
+use Rattle.remainder.proofs.DivisionLaws.{length-add_front, add_front-xors, add_front-append, divide-xors}
+use Rattle.remainder.proofs.DivisionLaws.{length-divide}
 use Rattle.remainder.proofs.OctetLaws.{length-octets_of, octet_bits-octets_of}
 use Rattle.crc32.specs.Crc32.{crc32, rest_of, check_bits, fcs_of}
 

@@ -1,5 +1,6 @@
 -- Division goes on from a part of the bits to the next, and of each part there is left what it leaves alone.
-use Rattle.std.proofs.Common.{◌≡◌, ℕ, ◌+◌, ◌≤◌, Bool, true, false, List, [], ◌∷◌, ◌++◌, length, take, drop, replicate, sym, ◌∙◌, ap, ap₂, refl, arith, append_assoc}
+use Rattle.std.proofs.Common.{◌≡◌, ℕ, ◌+◌, ◌≤◌, Bool, true, false, List, [], ◌∷◌, ◌++◌, length, take, drop, replicate}
+use Rattle.std.proofs.Common.{sym, ◌∙◌, ap, ap₂, refl, arith, append_assoc}
 use Rattle.std.proofs.lemmas.List.{length-append, length-replicate, length-take, take-append-drop}
 use Rattle.remainder.specs.Bits.{bits, xor, xors}
 use Rattle.remainder.specs.Remainder.{add_front, divide, remainder}

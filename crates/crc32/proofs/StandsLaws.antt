@@ -1,5 +1,6 @@
 -- What stands in a register: at first, after an octet or eight more, and the check that it makes.
-use Rattle.std.proofs.Common.{◌≡◌, ℕ, ◌/◌, ◌%◌, ◌^◌, ◌<◌, true, List, [], ◌∷◌, ◌++◌, map, replicate, All, bit_xor, slice_index_or, refl, sym, ◌∙◌, ap, ap₂, arith, append_assoc}
+use Rattle.std.proofs.Common.{◌≡◌, ℕ, ◌/◌, ◌%◌, ◌^◌, ◌<◌, true, List, [], ◌∷◌, ◌++◌, map, replicate, All, bit_xor}
+use Rattle.std.proofs.Common.{slice_index_or, refl, sym, ◌∙◌, ap, ap₂, arith, append_assoc}
 use Rattle.std.specs.Int.{to_le_bytes, w32, w64}
 use Rattle.std.proofs.lemmas.List.Elements.{All-nil, All-cons}
 use Rattle.remainder.specs.Bits.{octets_of, xors}
@@ -10,7 +11,8 @@ use Rattle.crc32.specs.Crc32.{crc32, rest_of, check_bits, BitOrder, ordered, fcs
 use Rattle.crc32.specs.Register.{bits_in, register_bits, Stands, IsTables}
 use Rattle.crc32.proofs.SplitLaws.{seed, rest_of-seed}
 use Rattle.crc32.proofs.OrderLaws.{All-ordered, map-ordered_twice}
-use Rattle.crc32.proofs.RegisterLaws.{entry_of, entries_of, bits_in-append, register_bits-xor, ones, octet_step, word_step}
+use Rattle.crc32.proofs.RegisterLaws.{entry_of, entries_of, bits_in-append, register_bits-xor, ones, octet_step}
+use Rattle.crc32.proofs.RegisterLaws.{word_step}
 
 rest_of_none : rest_of [] ≡ replicate 32 true
 unfolding rest_of add_front divide

@@ -1,5 +1,6 @@
 -- A register in which a check is made: its octets, the lowest first, have the 32 bits that are left of what was read.
-use Rattle.std.specs.Prelude.{◌≡◌, ℕ, ◌*◌, ◌<◌, Bool, false, List, [], ◌++◌, map, replicate, slice_index, slice_index_or}
+use Rattle.std.specs.Prelude.{◌≡◌, ℕ, ◌*◌, ◌<◌, Bool, false, List, [], ◌++◌, map, replicate, slice_index}
+use Rattle.std.specs.Prelude.{slice_index_or}
 use Rattle.std.specs.Int.{to_le_bytes, w32}
 use Rattle.remainder.specs.Bits.{bits, octet_bits}
 use Rattle.remainder.specs.Remainder.{remainder}

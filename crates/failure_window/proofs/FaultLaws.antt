@@ -14,11 +14,13 @@ fine : (i end : ℕ) (window : Window) → fault_of i end window ≡ None → (e
     (window.slip + window.first < window.end)
 fine i end window none =
     elim (cases_lt window.first window.end) [
-      | inr empty ↦ absurd (let test : nat_le window.end window.first ≡ true = grind (arith, empty) in let e : Some (Empty i) ≡ None = rw test at none in cc)
+      | inr empty ↦ absurd (let test : nat_le window.end window.first ≡ true = grind (arith, empty) in
+          let e : Some (Empty i) ≡ None = rw test at none in cc)
       | inl some ↦
           let test : nat_le window.end window.first ≡ false = grind (arith, some) in
           elim (cases_lt window.first end) [
-            | inl over ↦ absurd (let other : nat_lt window.first end ≡ true = grind (arith, over) in let e : Some (Overlap i) ≡ None = rw (test, other) at none in cc)
+            | inl over ↦ absurd (let other : nat_lt window.first end ≡ true = grind (arith, over) in
+                let e : Some (Overlap i) ≡ None = rw (test, other) at none in cc)
             | inr apart ↦
                 let other : nat_lt window.first end ≡ false = grind (arith, apart) in
                 elim (cases_lt window.slip (window.end - window.first)) [

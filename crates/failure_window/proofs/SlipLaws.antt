@@ -169,7 +169,8 @@ slip-step run end most windows i d next greatest within less sum is =
 pub slip-end : (run end most : ℕ) (windows : List Window) (i : ℕ) → length windows ≤ i → run ≤ most →
     max most (slip_after run end (drop i windows)) ≡ most
 unfolding slip_after
-slip-end run end most windows i past less = let last = at_drop_all (slip_after run end) windows i past in omega (arith, last)
+slip-end run end most windows i past less = let last = at_drop_all (slip_after run end) windows i past in
+    omega (arith, last)
 
 pub are-more : (end : ℕ) (windows : List Window) (i : ℕ) (d : Window) → i < length windows →
     AreWindows end (drop i windows) →

@@ -1,12 +1,16 @@
 -- Where a row lies among segments.
-use Rattle.std.proofs.Common.{◌≡◌, ℕ, zero, suc, ◌+◌, ◌-◌, ◌<◌, ◌≤◌, ◌&&◌, Bool, true, false, nat_le, nat_lt, List, [], ◌∷◌, ◌++◌, length, filter, drop, slice_get, slice_index_or, Some, None, refl, sym, ◌∙◌, ap, ap₂, subst, arith, inl, inr}
+use Rattle.std.proofs.Common.{◌≡◌, ℕ, zero, suc, ◌+◌, ◌-◌, ◌<◌, ◌≤◌, ◌&&◌, Bool, true, false, nat_le, nat_lt, List, []}
+use Rattle.std.proofs.Common.{◌∷◌, ◌++◌, length, filter, drop, slice_get, slice_index_or, Some, None, refl, sym, ◌∙◌}
+use Rattle.std.proofs.Common.{ap, ap₂, subst, arith, inl, inr}
 use Rattle.std.specs.Prelude.{if◌then◌else◌, max}
 use Rattle.std.specs.List.Sorted.{IsPartitionedBy, IsPartitionPoint}
-use Rattle.std.proofs.lemmas.Bool.{cases_Bool, cases_lt, lt-ltb, le-ltb, le-leb, lt-leb, ltb-true, ltb-false, leb-true, leb-false}
+use Rattle.std.proofs.lemmas.Bool.{cases_Bool, cases_lt, lt-ltb, le-ltb, le-leb, lt-leb, ltb-true, ltb-false, leb-true}
+use Rattle.std.proofs.lemmas.Bool.{leb-false}
 use Rattle.session_model.specs.Segment.{StreamRow, Segment, segments}
 use Rattle.fate_law.specs.declared.RowSegment.{RowSegment}
 use Rattle.fate_law.specs.Fates.{spoiled_from, spoiled_after}
-use Rattle.fate_law.specs.Spans.{Span, row_segment, row_segments_with, row_segments, has_row, mark_of_row, later_segments}
+use Rattle.fate_law.specs.Spans.{Span, row_segment, row_segments_with, row_segments, has_row, mark_of_row}
+use Rattle.fate_law.specs.Spans.{later_segments}
 use Rattle.fate_law.proofs.RowLaws.{with_row, next_segment, tail, segments-tail}
 use Rattle.fate_law.proofs.SpanLaws.{span_tail, spans-tail}
 use Rattle.fate_core.specs.declared.segments.Around.{Around}
@@ -51,7 +55,10 @@ look-low : (from : ℕ) (list : List RowSegment) (r : ℕ) → Rise from list �
 unfolding look Rise
 look-low from [] r rise low = refl
 look-low from (segment ∷ list) r rise low =
-    rw (lt-ltb r segment.end (let a = rise.0 in let b = rise.1 in omega (arith, a, b, low)), lt-leb segment.first r (let a = rise.0 in omega (arith, a, low))) refl
+    rw (
+      lt-ltb r segment.end (let a = rise.0 in let b = rise.1 in omega (arith, a, b, low)),
+      lt-leb segment.first r (let a = rise.0 in omega (arith, a, low)),
+    ) refl
 
 look-rows : (from : ℕ) (list : List RowSegment) (r : ℕ) → Rise from list → look (filter has_row list) r ≡ look list r
 unfolding look Rise
@@ -76,16 +83,24 @@ look-rows from (segment ∷ list) r rise =
 abbrev pub from_here : List StreamRow → Span → Segment → List RowSegment
 from_here rows span segment = row_segments_with (span_tail rows span) (tail rows segment)
 
-rises : (rows : List StreamRow) (span : Span) (segment : Segment) → span.first ≤ span.end → Rise span.first (from_here rows span segment)
+rises : (rows : List StreamRow) (span : Span) (segment : Segment) → span.first ≤ span.end →
+    Rise span.first (from_here rows span segment)
 unfolding Rise row_segments_with span_tail tail
 rises [] span segment within = (omega arith, within, tt)
 rises (row ∷ rows) span segment within =
     elim (cases_Bool row.whole) [
-      | inl whole ↦ rw whole (rises rows (record { first = span.first; end = suc span.end }) (with_row segment row.octets) (omega arith))
-      | inr cut ↦ rw cut (omega arith, within, rises rows (record { first = suc span.end; end = suc span.end }) (next_segment segment row.octets) (omega arith))
+      | inl whole ↦ rw whole (rises rows (record { first = span.first; end = suc span.end })
+          (with_row segment row.octets) (omega arith))
+      | inr cut ↦ rw cut (
+        omega arith,
+        within,
+        rises rows (record { first = suc span.end; end = suc span.end }) (next_segment segment row.octets)
+            (omega arith),
+      )
     ]
 
-look-spoiled : (rows : List StreamRow) (span : Span) (segment : Segment) (r : ℕ) → span.first ≤ span.end → span.first ≤ r → r < span.end + length rows →
+look-spoiled : (rows : List StreamRow) (span : Span) (segment : Segment) (r : ℕ) → span.first ≤ span.end →
+    span.first ≤ r → r < span.end + length rows →
     (look (from_here rows span segment) r).spoiled ≡ spoiled_from (max r span.end) (drop (r - span.end) rows)
 unfolding look row_segments_with span_tail tail spoiled_from
 look-spoiled [] span segment r within from below =
@@ -96,7 +111,8 @@ look-spoiled [] span segment r within from below =
 look-spoiled (row ∷ rows) span segment r within from below =
     elim (cases_Bool row.whole) [
       | inl whole ↦ (
-          let rest = look-spoiled rows (record { first = span.first; end = suc span.end }) (with_row segment row.octets) r (omega arith) from (omega (arith, below)) in
+          let rest = look-spoiled rows (record { first = span.first; end = suc span.end })
+          (with_row segment row.octets) r (omega arith) from (omega (arith, below)) in
           elim (cases_lt span.end r) [
             | inl later ↦ (
                 let same : max r (suc span.end) ≡ max r span.end = omega arith in
@@ -116,16 +132,22 @@ look-spoiled (row ∷ rows) span segment r within from below =
             rw (cut, lt-ltb r span.end low, le-leb span.first r from, most, none) refl)
         | inr high ↦ elim (cases_lt span.end r) [
           | inl later ↦ (
-              let rest = look-spoiled rows (record { first = suc span.end; end = suc span.end }) (next_segment segment row.octets) r (omega arith) (omega arith) (omega (arith, below)) in
+              let rest = look-spoiled rows (record { first = suc span.end; end = suc span.end })
+              (next_segment segment row.octets) r (omega arith) (omega arith) (omega (arith, below)) in
               let same : max r (suc span.end) ≡ max r span.end = omega arith in
               let dropped : r - span.end ≡ suc (r - suc span.end) = omega arith in
-              rw (cut, le-ltb r span.end high, dropped) (rest ∙ ap (λ n. spoiled_from n (drop (r - suc span.end) rows)) same))
+              rw (cut, le-ltb r span.end high, dropped)
+              (rest ∙ ap (λ n. spoiled_from n (drop (r - suc span.end) rows)) same))
           | inr here ↦ (
               let most : max r span.end ≡ span.end = omega arith in
               let none : r - span.end ≡ 0 = omega arith in
-              let low = look-low (suc span.end) (from_here rows (record { first = suc span.end; end = suc span.end }) (next_segment segment row.octets)) r
-              (rises rows (record { first = suc span.end; end = suc span.end }) (next_segment segment row.octets) (omega arith)) (omega arith) in
-              rw (cut, le-ltb r span.end high, most, none) (ap (λ (a : Around). a.spoiled) low ∙ (let e : r ≡ span.end = omega arith in e)))
+              let low = look-low (suc span.end)
+              (from_here rows (record { first = suc span.end; end = suc span.end })
+              (next_segment segment row.octets)) r
+              (rises rows (record { first = suc span.end; end = suc span.end }) (next_segment segment row.octets)
+              (omega arith)) (omega arith) in
+              rw (cut, le-ltb r span.end high, most, none)
+              (ap (λ (a : Around). a.spoiled) low ∙ (let e : r ≡ span.end = omega arith in e)))
         ]
       ]
     ]
@@ -137,29 +159,35 @@ abbrev pub no_span : Span
 no_span = record { first = 0; end = 0 }
 
 pub from-start : (rows : List StreamRow) → row_segments rows ≡ from_here rows no_span start
-from-start rows = ap₂ row_segments_with (spans-tail (record { ended = []; last = no_span }) rows) (segments-tail (record { ended = []; last = start }) rows)
+from-start rows = ap₂ row_segments_with (spans-tail (record { ended = []; last = no_span }) rows)
+    (segments-tail (record { ended = []; last = start }) rows)
 
-pub looked : (rows : List StreamRow) (r : ℕ) → r < length rows → (look (row_segments rows) r).spoiled ≡ spoiled_after rows r
+pub looked : (rows : List StreamRow) (r : ℕ) → r < length rows →
+    (look (row_segments rows) r).spoiled ≡ spoiled_after rows r
 looked rows r low =
     ap (λ l. (look l r).spoiled) (from-start rows)
     ∙ look-spoiled rows no_span start r (omega arith) (omega arith) (omega (arith, low))
-    ∙ ap₂ (λ n k. spoiled_from n (drop k rows)) (let e : max r 0 ≡ r = omega arith in e) (let e : r - 0 ≡ r = omega arith in e)
+    ∙ ap₂ (λ n k. spoiled_from n (drop k rows)) (let e : max r 0 ≡ r = omega arith in e)
+    (let e : r - 0 ≡ r = omega arith in e)
 
 all-rise : (rows : List StreamRow) → Rise 0 (row_segments rows)
 all-rise rows = subst (Rise 0) (sym (from-start rows)) (rises rows no_span start (omega arith))
 
 -- the first of them ends with the first row that isn't whole
-first-end : (rows : List StreamRow) (span : Span) (segment : Segment) → (first : RowSegment) × (rest : List RowSegment) × (from_here rows span segment ≡ first ∷ rest) × (first.end ≡ spoiled_from span.end rows)
+first-end : (rows : List StreamRow) (span : Span) (segment : Segment) → (first : RowSegment) ×
+    (rest : List RowSegment) × (from_here rows span segment ≡ first ∷ rest) × (first.end ≡ spoiled_from span.end rows)
 unfolding row_segments_with span_tail tail spoiled_from
 first-end [] span segment = (row_segment span segment, [], refl, refl)
 first-end (row ∷ rows) span segment =
     elim (cases_Bool row.whole) [
-      | inl whole ↦ rw whole (first-end rows (record { first = span.first; end = suc span.end }) (with_row segment row.octets))
+      | inl whole ↦ rw whole (first-end rows (record { first = span.first; end = suc span.end })
+          (with_row segment row.octets))
       | inr cut ↦ rw cut (row_segment span segment, _, refl, refl)
     ]
 
 -- behind the first segment the later ones with a row tell
-pub later-tell : (rows : List StreamRow) (r : ℕ) → spoiled_after rows 0 ≤ r → look (later_segments rows) r ≡ look (row_segments rows) r
+pub later-tell : (rows : List StreamRow) (r : ℕ) → spoiled_after rows 0 ≤ r →
+    look (later_segments rows) r ≡ look (row_segments rows) r
 unfolding look Rise
 later-tell rows r high =
     let found = first-end rows no_span start in
@@ -172,57 +200,73 @@ later-tell rows r high =
     ∙ sym (ap (λ l. look l r) parts ∙ ap (λ b. if b then at_first first r else look rest r) behind)
 
 -- ---- the search
-look-more : (ended more : List RowSegment) (r i : ℕ) → ((k : ℕ) (d : RowSegment) → k < i → k < length ended → (slice_index_or ended k d).end ≤ r) → look (ended ++ more) r ≡ look (drop i ended ++ more) r
+look-more : (ended more : List RowSegment) (r i : ℕ) →
+    ((k : ℕ) (d : RowSegment) → k < i → k < length ended → (slice_index_or ended k d).end ≤ r) →
+    look (ended ++ more) r ≡ look (drop i ended ++ more) r
 unfolding look
 look-more ended more r zero passed = refl
 look-more [] more r (suc i) passed = refl
 look-more (segment ∷ ended) more r (suc i) passed =
-    ap (λ b. if b then at_first segment r else look (ended ++ more) r) (le-ltb r segment.end (passed zero segment (omega arith) (omega arith)))
+    ap (λ b. if b then at_first segment r else look (ended ++ more) r)
+    (le-ltb r segment.end (passed zero segment (omega arith) (omega arith)))
     ∙ look-more ended more r i (λ k d low within. passed (suc k) d (omega arith) (omega arith))
 
-ends-low : (from : ℕ) (ended : List RowSegment) (end k : ℕ) (d : RowSegment) → AreInOrder from ended end → k < length ended → (from ≤ (slice_index_or ended k d).end) × ((slice_index_or ended k d).end ≤ end)
+ends-low : (from : ℕ) (ended : List RowSegment) (end k : ℕ) (d : RowSegment) → AreInOrder from ended end →
+    k < length ended → (from ≤ (slice_index_or ended k d).end) × ((slice_index_or ended k d).end ≤ end)
 unfolding AreInOrder
 ends-low from [] end k d are within = absurd (omega arith)
-ends-low from (segment ∷ ended) end zero d are within = (let a = are.0 in let b = are.1 in omega (arith, a, b), order-low segment.end ended end are.2)
+ends-low from (segment ∷ ended) end zero d are within =
+    (let a = are.0 in let b = are.1 in omega (arith, a, b), order-low segment.end ended end are.2)
   where
     order-low : (from : ℕ) (ended : List RowSegment) (end : ℕ) → AreInOrder from ended end → from ≤ end
     order-low from [] end are = are
-    order-low from (segment ∷ ended) end are = let rest = order-low segment.end ended end are.2 in let a = are.0 in let b = are.1 in omega (arith, rest, a, b)
+    order-low from (segment ∷ ended) end are = let rest = order-low segment.end ended end are.2 in let a = are.0 in
+        let b = are.1 in omega (arith, rest, a, b)
 ends-low from (segment ∷ ended) end (suc k) d are within =
     let rest = ends-low segment.end ended end k d are.2 (omega arith) in
     let a = are.0 in
     let b = are.1 in
     (omega (arith, rest.0, a, b), rest.1)
 
-ends-rise : (from : ℕ) (ended : List RowSegment) (end i j : ℕ) (d : RowSegment) → AreInOrder from ended end → i ≤ j → j < length ended → (slice_index_or ended i d).end ≤ (slice_index_or ended j d).end
+ends-rise : (from : ℕ) (ended : List RowSegment) (end i j : ℕ) (d : RowSegment) → AreInOrder from ended end → i ≤ j →
+    j < length ended → (slice_index_or ended i d).end ≤ (slice_index_or ended j d).end
 unfolding AreInOrder
 ends-rise from [] end i j d are before within = absurd (omega arith)
 ends-rise from (segment ∷ ended) end zero zero d are before within = omega arith
 ends-rise from (segment ∷ ended) end (suc i) zero d are before within = absurd (omega arith)
-ends-rise from (segment ∷ ended) end zero (suc j) d are before within = (ends-low segment.end ended end j d are.2 (omega arith)).0
-ends-rise from (segment ∷ ended) end (suc i) (suc j) d are before within = ends-rise segment.end ended end i j d are.2 (omega arith) (omega arith)
+ends-rise from (segment ∷ ended) end zero (suc j) d are before within =
+    (ends-low segment.end ended end j d are.2 (omega arith)).0
+ends-rise from (segment ∷ ended) end (suc i) (suc j) d are before within =
+    ends-rise segment.end ended end i j d are.2 (omega arith) (omega arith)
 
-pub parted : (ended : List RowSegment) (end r : ℕ) → AreInOrder 0 ended end → IsPartitionedBy (λ (s : RowSegment). nat_le s.end r) ended
+pub parted : (ended : List RowSegment) (end r : ℕ) → AreInOrder 0 ended end →
+    IsPartitionedBy (λ (s : RowSegment). nat_le s.end r) ended
 parted ended end r are i j d before within passed =
     let rise = ends-rise 0 ended end i j d are before within in
     let low = leb-true (slice_index_or ended j d).end r passed in
     le-leb (slice_index_or ended i d).end r (omega (arith, rise, low))
 
 abbrev pub Passed : List RowSegment → ℕ → ℕ → Type 0
-Passed ended r i = IsPartitionPoint (λ (s : RowSegment). nat_le s.end r ≡ true) (λ (s : RowSegment). nat_le s.end r ≡ false) ended i
+Passed ended r i = IsPartitionPoint (λ (s : RowSegment). nat_le s.end r ≡ true)
+    (λ (s : RowSegment). nat_le s.end r ≡ false) ended i
 
-passed-low : (ended : List RowSegment) (r i : ℕ) → Passed ended r i → (k : ℕ) (d : RowSegment) → k < i → k < length ended → (slice_index_or ended k d).end ≤ r
+passed-low : (ended : List RowSegment) (r i : ℕ) → Passed ended r i → (k : ℕ) (d : RowSegment) → k < i →
+    k < length ended → (slice_index_or ended k d).end ≤ r
 passed-low ended r i point k d low within = leb-true (slice_index_or ended k d).end r (point.0 k d (omega arith) low)
 
 front-of : (ended : List RowSegment) (i : ℕ) (segment : RowSegment) → Some segment ≡ slice_get (drop i ended) 0 →
-    (rest : List RowSegment) × (drop i ended ≡ segment ∷ rest) × (i < length ended) × (slice_index_or ended i segment ≡ segment)
+    (rest : List RowSegment) × (drop i ended ≡ segment ∷ rest) × (i < length ended) ×
+    (slice_index_or ended i segment ≡ segment)
 front-of [] zero segment there = absurd cc
 front-of [] (suc i) segment there = absurd cc
-front-of (own ∷ ended) zero segment there = let same : own ≡ segment = cc in (ended, ap (λ s. s ∷ ended) same, omega arith, same)
-front-of (own ∷ ended) (suc i) segment there = let rest = front-of ended i segment there in (rest.0, rest.1, omega (arith, rest.2), rest.3)
+front-of (own ∷ ended) zero segment there = let same : own ≡ segment = cc in
+    (ended, ap (λ s. s ∷ ended) same, omega arith, same)
+front-of (own ∷ ended) (suc i) segment there = let rest = front-of ended i segment there in
+    (rest.0, rest.1, omega (arith, rest.2), rest.3)
 
 -- ---- what is told of a row
-module _ (kept : SegmentList) (rows : List StreamRow) (stands : Stands kept rows) (are : AreSegments kept) (r : ℕ) (low : r < length rows) where
+module _ (kept : SegmentList) (rows : List StreamRow) (stands : Stands kept rows) (are : AreSegments kept) (r : ℕ)
+    (low : r < length rows) where
   abbrev told : List RowSegment
   told = if is_told kept then kept.last ∷ [] else []
 
@@ -238,7 +282,8 @@ module _ (kept : SegmentList) (rows : List StreamRow) (stands : Stands kept rows
       record {
         spoiled = ap (λ (a : Around). a.spoiled) all ∙ looked rows r low;
         first = flag around all ∙ sym (le-ltb r (spoiled_after rows 0) behind);
-        mark = λ before later. ap (λ (a : Around). a.mark) all ∙ look-mark (row_segments rows) r (let e = looked rows r low in omega (arith, e, before));
+        mark = λ before later. ap (λ (a : Around). a.mark) all
+            ∙ look-mark (row_segments rows) r (let e = looked rows r low in omega (arith, e, before));
       }
     where
       at-flag : (segment : RowSegment) (b : Bool) → (if b then in_segment segment else in_none r).first ≡ false
@@ -261,7 +306,8 @@ module _ (kept : SegmentList) (rows : List StreamRow) (stands : Stands kept rows
       let first = stands.first in
       let inside : r < spoiled_after rows 0 = omega (arith, first, before) in
       record {
-        spoiled = first ∙ spoiled-same 0 rows r (omega arith) inside ∙ ap (λ k. spoiled_from r (drop k rows)) (let e : r - 0 ≡ r = omega arith in e);
+        spoiled = first ∙ spoiled-same 0 rows r (omega arith) inside
+            ∙ ap (λ k. spoiled_from r (drop k rows)) (let e : r - 0 ≡ r = omega arith in e);
         first = sym (lt-ltb r (spoiled_after rows 0) inside);
         mark = λ some later. absurd (omega (arith, inside, later));
       }
@@ -276,14 +322,18 @@ module _ (kept : SegmentList) (rows : List StreamRow) (stands : Stands kept rows
         | inl is ↦ is
         | inr isnt ↦ absurd (let all = are.goes isnt in omega (arith, all, high, low, count))
       ] in
-      let is : is_told kept ≡ true = ap₂ ◌&&◌ (lt-ltb kept.first kept.last.first later) (lt-ltb kept.last.first kept.last.end (omega (arith, from, below))) in
+      let is : is_told kept ≡ true = ap₂ ◌&&◌ (lt-ltb kept.first kept.last.first later)
+      (lt-ltb kept.last.first kept.last.end (omega (arith, from, below))) in
       by-look (in_segment kept.last) high
       (sym (ap (λ b. look (kept.ended ++ (if b then kept.last ∷ [] else [])) r) is
-      ∙ look-more kept.ended (kept.last ∷ []) r (length kept.ended) (λ k d before within. let e = ends-low 0 kept.ended kept.last.first k d are.order within in omega (arith, e.1, from))
+      ∙ look-more kept.ended (kept.last ∷ []) r (length kept.ended)
+      (λ k d before within. let e = ends-low 0 kept.ended kept.last.first k d are.order within in
+      omega (arith, e.1, from))
       ∙ ap (λ l. look (l ++ kept.last ∷ []) r) (drop-end kept.ended (length kept.ended) (omega arith))
       ∙ rw (lt-ltb r kept.last.end below, le-leb kept.last.first r from) refl))
 
-  pub in-ended : (i : ℕ) (segment : RowSegment) → kept.first ≤ r → Passed kept.ended r i → Some segment ≡ slice_get (drop i kept.ended) 0 →
+  pub in-ended : (i : ℕ) (segment : RowSegment) → kept.first ≤ r → Passed kept.ended r i →
+      Some segment ≡ slice_get (drop i kept.ended) 0 →
       IsAround rows r (if nat_le segment.first r then in_segment segment else in_none r)
   unfolding look
   in-ended i segment high point there =
@@ -291,18 +341,22 @@ module _ (kept : SegmentList) (rows : List StreamRow) (stands : Stands kept rows
       let above = leb-false (slice_index_or kept.ended i segment).end r (point.1 i segment (omega arith) front.2) in
       let below : r < segment.end = omega (arith, above, ap (λ (s : RowSegment). s.end) front.3) in
       by-look (if nat_le segment.first r then in_segment segment else in_none r) high
-      (sym (look-more kept.ended told r i (passed-low kept.ended r i point) ∙ ap (λ l. look (l ++ told) r) front.1 ∙ rw (lt-ltb r segment.end below) refl))
+      (sym (look-more kept.ended told r i (passed-low kept.ended r i point) ∙ ap (λ l. look (l ++ told) r) front.1
+      ∙ rw (lt-ltb r segment.end below) refl))
 
-  pub in-no : (i : ℕ) → kept.first ≤ r → r < kept.last.first → Passed kept.ended r i → None ≡ slice_get (drop i kept.ended) 0 → IsAround rows r (in_none r)
+  pub in-no : (i : ℕ) → kept.first ≤ r → r < kept.last.first → Passed kept.ended r i →
+      None ≡ slice_get (drop i kept.ended) 0 → IsAround rows r (in_none r)
   unfolding look
   in-no i high before point there =
       by-look (in_none r) high
-      (sym (look-more kept.ended told r i (passed-low kept.ended r i point) ∙ ap (λ l. look (l ++ told) r) (empty (drop i kept.ended) there) ∙ rest (is_told kept)))
+      (sym (look-more kept.ended told r i (passed-low kept.ended r i point)
+      ∙ ap (λ l. look (l ++ told) r) (empty (drop i kept.ended) there) ∙ rest (is_told kept)))
     where
       empty : (list : List RowSegment) → None ≡ slice_get list 0 → list ≡ []
       empty [] there = refl
       empty (segment ∷ list) there = absurd cc
 
       rest : (b : Bool) → look ([] ++ (if b then kept.last ∷ [] else [])) r ≡ in_none r
-      rest true = (let last = are.last in rw (lt-ltb r kept.last.end (omega (arith, last, before)), lt-leb kept.last.first r before) refl)
+      rest true = (let last = are.last in rw
+          (lt-ltb r kept.last.end (omega (arith, last, before)), lt-leb kept.last.first r before) refl)
       rest false = refl

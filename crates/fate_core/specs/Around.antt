@@ -1,5 +1,6 @@
 -- The fate of a frame by where its first row lies.
-use Rattle.std.specs.Prelude.{ℕ, zero, suc, nat_le, nat_lt, if◌then◌else◌, Bool, true, false, List, Option, Some, None, slice_get}
+use Rattle.std.specs.Prelude.{ℕ, zero, suc, nat_le, nat_lt, if◌then◌else◌, Bool, true, false, List, Option, Some, None}
+use Rattle.std.specs.Prelude.{slice_get}
 use Rattle.fate_law.specs.declared.Fate.{Fate}
 use Rattle.fate_law.specs.declared.Fate.TheVariants.{Cut, Unconfirmed, Hunting, Unsettled, Got}
 use Rattle.session_model.specs.Piece.{Piece}

@@ -1,5 +1,6 @@
 -- What is kept of the packets of a group.
-use Rattle.std.specs.Prelude.{◌≡◌, ℕ, ◌*◌, ◌≤◌, ◌<◌, ◌^◌, List, map, length, take, sum_by, All, Option, Some, slice_get, slice_index_or, []}
+use Rattle.std.specs.Prelude.{◌≡◌, ℕ, ◌*◌, ◌≤◌, ◌<◌, ◌^◌, List, map, length, take, sum_by, All, Option, Some, slice_get}
+use Rattle.std.specs.Prelude.{slice_index_or, []}
 use Rattle.session_model.specs.Scenario.{Scenario}
 use Rattle.session_model.specs.Table.{Told, active}
 use Rattle.session_model.specs.Source.{table_of}
@@ -13,7 +14,8 @@ pub record PacketList : Type 0 where
 -- they are the first packets of a session
 pub record ArePackets (scenario : Scenario) (cells : List (Option Told)) (packets : PacketList) : Type 0 where
   pub size : packets.size ≡ scenario.size
-  pub lines : (k : ℕ) → k < length packets.active → slice_index_or packets.active k [] ≡ active (table_of scenario cells k)
+  pub lines : (k : ℕ) → k < length packets.active →
+      slice_index_or packets.active k [] ≡ active (table_of scenario cells k)
 
 abbrev pub packets_in : ℕ → List Packet → PacketList
 packets_in size packets = record { size = size; active = map (λ (packet : Packet). packet.lines.items) packets }
@@ -27,5 +29,6 @@ pub record IsPacketList (size : ℕ) (packets : List Packet) (end : ℕ) : Type 
   pub small : size < 2 ^ 16
   pub few : length packets ≤ 65536
   pub lines : All (λ (packet : Packet). length packet.lines.items ≤ 128) packets
-  pub starts : (k : ℕ) (packet : Packet) → slice_get packets k ≡ Some packet → packet.start ≡ start_by size (packets_in size packets).active k
+  pub starts : (k : ℕ) (packet : Packet) → slice_get packets k ≡ Some packet →
+      packet.start ≡ start_by size (packets_in size packets).active k
   pub ends : end ≡ start_by size (packets_in size packets).active (length packets)

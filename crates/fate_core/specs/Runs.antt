@@ -18,6 +18,7 @@ pub record AreRuns (runs : RunList) (causes : List (Option Cause)) : Type 0 wher
 unfoldable pub with_row : ℕ → Cause → List SpoiledRun → List SpoiledRun
 with_row row cause [] = record { first = row; end = suc row; cause = cause } ∷ []
 with_row row cause (run ∷ []) =
-    if run.end == row && same_cause run.cause cause then record { first = run.first; end = suc row; cause = run.cause } ∷ []
+    if run.end == row && same_cause run.cause cause then record { first = run.first; end = suc row; cause = run.cause }
+    ∷ []
     else run ∷ record { first = row; end = suc row; cause = cause } ∷ []
 with_row row cause (run ∷ next ∷ runs) = run ∷ with_row row cause (next ∷ runs)

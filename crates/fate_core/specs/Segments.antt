@@ -1,5 +1,6 @@
 -- What is kept of the segments of rows.
-use Rattle.std.specs.Prelude.{◌≡◌, ℕ, ◌+◌, ◌≤◌, ◌<◌, ◌^◌, ◌&&◌, nat_le, nat_lt, if◌then◌else◌, Bool, List, [], ◌∷◌, ◌++◌, length, filter, drop, Option, None}
+use Rattle.std.specs.Prelude.{◌≡◌, ℕ, ◌+◌, ◌≤◌, ◌<◌, ◌^◌, ◌&&◌, nat_le, nat_lt, if◌then◌else◌, Bool, List, [], ◌∷◌}
+use Rattle.std.specs.Prelude.{◌++◌, length, filter, drop, Option, None}
 use Rattle.std.specs.Option.{option_map}
 use Rattle.session_model.specs.Segment.{StreamRow, segments_of, octets_of_rows}
 use Rattle.session_model.specs.Loss.{confirmed_in}
@@ -8,7 +9,8 @@ use Rattle.fate_law.specs.Fates.{spoiled_after}
 use Rattle.fate_law.specs.Spans.{no_spans, spans_on, row_segment, row_segments_with, row_segments, mark_of_row, has_row}
 use Rattle.fate_core.specs.declared.segments.Around.{Around}
 
--- how many rows there are, and how many come before the first that isn't whole; the later segments that have ended and have a row, and the
+-- how many rows there are, and how many come before the first that isn't whole; the later segments that have ended and
+-- have a row, and the
 -- segment that goes on; the place at which it begins
 pub record SegmentList : Type 0 where
   pub rows : ℕ
@@ -17,11 +19,13 @@ pub record SegmentList : Type 0 where
   pub last : RowSegment
   pub base : ℕ
 
--- what is told after rows: the place at which they end, and the place that was confirmed first in the segment that goes on, from its first
+-- what is told after rows: the place at which they end, and the place that was confirmed first in the segment that goes
+-- on, from its first
 -- octet
 pub record Tells (rows : List StreamRow) (end : ℕ) (confirmed : Option ℕ) : Type 0 where
   pub ends : end ≡ length (octets_of_rows rows)
-  pub confirms : option_map (λ place. (segments_of rows).last.base + place) confirmed ≡ confirmed_in (segments_of rows).last
+  pub confirms : option_map (λ place. (segments_of rows).last.base + place) confirmed ≡ confirmed_in
+      (segments_of rows).last
 
 -- ---- the segments of rows
 -- those that have ended, and the one that goes on with the next row
@@ -50,7 +54,12 @@ gone_on kept confirmed = record {
   rows = kept.rows + 1;
   first = if nat_le kept.last.first kept.first then kept.first + 1 else kept.first;
   ended = kept.ended;
-  last = record { first = kept.last.first; end = kept.rows + 1; mark = option_map (λ place. kept.base + place) confirmed };
+  last = record {
+    first = kept.last.first;
+    end = kept.rows + 1;
+    mark =
+        option_map (λ place. kept.base + place) confirmed;
+  };
   base = kept.base;
 }
 
@@ -67,7 +76,8 @@ broken_off kept end = record {
 -- segments stand in order from a row on, each has a row, and the next one begins behind the row that ends it
 unfoldable pub AreInOrder : ℕ → List RowSegment → ℕ → Type 0
 AreInOrder from [] end = from ≤ end
-AreInOrder from (segment ∷ segments) end = (from ≤ segment.first) × (segment.first < segment.end) × AreInOrder segment.end segments end
+AreInOrder from (segment ∷ segments) end = (from ≤ segment.first) × (segment.first < segment.end) ×
+    AreInOrder segment.end segments end
 
 -- what is true of the fields
 pub record AreSegments (kept : SegmentList) : Type 0 where
@@ -82,4 +92,5 @@ pub record AreSegments (kept : SegmentList) : Type 0 where
 pub record IsAround (rows : List StreamRow) (row : ℕ) (around : Around) : Type 0 where
   pub spoiled : around.spoiled ≡ spoiled_after rows row
   pub first : around.first ≡ nat_lt row (spoiled_after rows 0)
-  pub mark : row < spoiled_after rows row → spoiled_after rows 0 ≤ row → around.mark ≡ mark_of_row (row_segments rows) row
+  pub mark : row < spoiled_after rows row → spoiled_after rows 0 ≤ row →
+      around.mark ≡ mark_of_row (row_segments rows) row

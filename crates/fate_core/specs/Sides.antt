@@ -1,5 +1,6 @@
 -- What is kept of accepted frames.
-use Rattle.std.specs.Prelude.{◌≡◌, ℕ, ◌+◌, ◌-◌, ◌%◌, ◌==◌, ◌&&◌, nat_le, ◌≤◌, ◌<◌, ◌^◌, Bool, List, [], ◌∷◌, ◌++◌, map, take, drop, length, All, Some, slice_get, slice_index_or}
+use Rattle.std.specs.Prelude.{◌≡◌, ℕ, ◌+◌, ◌-◌, ◌%◌, ◌==◌, ◌&&◌, nat_le, ◌≤◌, ◌<◌, ◌^◌, Bool, List, [], ◌∷◌, ◌++◌, map}
+use Rattle.std.specs.Prelude.{take, drop, length, All, Some, slice_get, slice_index_or}
 use Rattle.fate_law.specs.Ruler.{Ruler}
 use Rattle.fate_core.specs.declared.ruler.Piece.{Piece}
 
@@ -17,7 +18,8 @@ ruler_in frames begun end = record {
 -- with the piece of the frame that waits longest, where one does
 abbrev begun_by : ℕ → List (ℕ × ℕ) → List ℕ → Ruler
 begun_by end sent [] = record { end = end; sent = sent; waiting = [] }
-begun_by end sent (n ∷ waiting) = record { end = end + (8 + n); sent = sent ++ (end, end + (8 + n)) ∷ []; waiting = waiting }
+begun_by end sent (n ∷ waiting) =
+    record { end = end + (8 + n); sent = sent ++ (end, end + (8 + n)) ∷ []; waiting = waiting }
 
 abbrev pub with_begun : Ruler → Ruler
 with_begun ruler = begun_by ruler.end ruler.sent ruler.waiting

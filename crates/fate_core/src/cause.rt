@@ -78,8 +78,8 @@ fn least_cut(windows: &WindowLists, lines: &[u8], from: u32, count: u32) -> Opti
     least
 }
 
-/// Why a row isn't whole, by the failures of each line and the packet that governs the row, or `None` where it is. Of the lines that
-/// spoil it the least is told.
+/// Why a row isn't whole, by the failures of each line and the packet that governs the row, or `None` where
+/// it is. Of the lines that spoil it the least is told.
 pub fn row_cause(windows: &WindowLists, packets: &Packets, row: u32) -> Option<Cause>
     requires apart { All (AreWindows 0) windows.now }
     requires governed { row < 16 * length packets.now.active + 24 }

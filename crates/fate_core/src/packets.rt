@@ -1,5 +1,6 @@
 //! The rows that control packets govern: which lines carry payload in them, and where in the stream they begin.
-ghost use Rattle.std.specs.Prelude.{◌≡◌, ℕ, suc, ◌+◌, ◌-◌, ◌*◌, ◌/◌, ◌≤◌, ◌<◌, [], ◌∷◌, ◌++◌, length, List, OnOk, OnErr, IfSome, IfNone, Option};
+ghost use Rattle.std.specs.Prelude.{◌≡◌, ℕ, suc, ◌+◌, ◌-◌, ◌*◌, ◌/◌, ◌≤◌, ◌<◌, [], ◌∷◌, ◌++◌, length, List, OnOk};
+ghost use Rattle.std.specs.Prelude.{OnErr, IfSome, IfNone, Option};
 ghost use Rattle.session_model.specs.Scenario.{Scenario};
 ghost use Rattle.session_model.specs.Table.{Told, active};
 ghost use Rattle.session_model.specs.Source.{table_of};
@@ -28,8 +29,9 @@ struct Packet {
     start: u64,
 }
 
-/// The packets of a group in their order: packet `k` governs rows `16 k + 24` to `16 k + 39`, and the rows before have no octets. A
-/// contract sees the octets of payload that a line has in a row, and the active lines under each packet.
+/// The packets of a group in their order: packet `k` governs rows `16 k + 24` to `16 k + 39`, and the rows
+/// before have no octets. A contract sees the octets of payload that a line has in a row, and the active
+/// lines under each packet.
 #[derive(Drop)]
 pub struct Packets {
     size: u16,
@@ -60,8 +62,8 @@ impl Packets {
         }
     }
 
-    /// Takes the active lines under the next packet, as the decision step of that packet leaves them. Where memory is short nothing
-    /// changes.
+    /// Takes the active lines under the next packet, as the decision step of that packet leaves them. Where
+    /// memory is short nothing changes.
     pub fn push(&mut self, active: ArrayVec<u8, 128>) -> Result<(), AllocError>
         requires { length self.old.active < 65536 }
         ensures ok { OnOk result (self.new

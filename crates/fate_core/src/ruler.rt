@@ -1,5 +1,6 @@
 //! The places at which the pieces of accepted frames begin and end, by lengths alone.
-ghost use Rattle.std.specs.Prelude.{◌≡◌, ℕ, ◌+◌, ◌^◌, ◌==◌, ◌||◌, ◌<◌, ◌≤◌, [], ◌∷◌, ◌++◌, length, List, OnOk, OnErr, slice_get, IfSome};
+ghost use Rattle.std.specs.Prelude.{◌≡◌, ℕ, ◌+◌, ◌^◌, ◌==◌, ◌||◌, ◌<◌, ◌≤◌, [], ◌∷◌, ◌++◌, length, List, OnOk, OnErr};
+ghost use Rattle.std.specs.Prelude.{slice_get, IfSome};
 ghost use Rattle.session_model.specs.Client.{Stream};
 ghost use Rattle.fate_law.specs.Ruler.{new_ruler, ruler_of, ruled, with_waiting};
 ghost use Rattle.fate_law.specs.Marks.{is_piece_at};
@@ -23,8 +24,9 @@ struct Piece {
     length: u16,
 }
 
-/// Where the pieces of accepted frames begin and end in the stream. Each frame is told as it is accepted, and then how far the stream
-/// was made. A contract sees where the pieces end, the two places of each frame whose piece is begun, and the lengths of those that wait.
+/// Where the pieces of accepted frames begin and end in the stream. Each frame is told as it is accepted, and
+/// then how far the stream was made. A contract sees where the pieces end, the two places of each frame whose
+/// piece is begun, and the lengths of those that wait.
 #[derive(Drop)]
 pub struct Ruler {
     frames: Vec<Piece>,
@@ -66,7 +68,8 @@ impl Ruler {
         Ok(())
     }
 
-    /// The stream is made up to a place at least: by the frames that wait, in their order, and by idles where none does.
+    /// The stream is made up to a place at least: by the frames that wait, in their order, and by idles where
+    /// none does.
     pub fn reach(&mut self, place: u64)
         requires { place < 2 ^ 63 }
         ensures { self.new ≡ ruled place self.old.end self.old.sent self.old.waiting }
@@ -103,7 +106,8 @@ impl Ruler {
         self.end = from + (HEADERS + u64::from(length));
     }
 
-    /// The places at which the piece of a frame begins and ends, where it is begun. Frames are counted from 0 as they were accepted.
+    /// The places at which the piece of a frame begins and ends, where it is begun. Frames are counted from 0
+    /// as they were accepted.
     pub fn sides(&self, frame: usize) -> Option<(u64, u64)>
         ensures sides { result ≡ slice_get self.now.sent frame }
         ensures some { IfSome result (λ side. side.0 < side.1) }

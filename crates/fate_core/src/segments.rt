@@ -1,5 +1,6 @@
 //! The segments of the taken rows, by their rows, and their marks.
-ghost use Rattle.std.specs.Prelude.{◌≡◌, ℕ, ◌+◌, ◌^◌, ◌<◌, ◌≤◌, [], ◌∷◌, ◌++◌, length, List, OnOk, OnErr, slice_get, Option, None, false};
+ghost use Rattle.std.specs.Prelude.{◌≡◌, ℕ, ◌+◌, ◌^◌, ◌<◌, ◌≤◌, [], ◌∷◌, ◌++◌, length, List, OnOk, OnErr, slice_get};
+ghost use Rattle.std.specs.Prelude.{Option, None, false};
 ghost use Rattle.std.specs.Option.{ForSome};
 ghost use Rattle.session_model.specs.Segment.{StreamRow};
 ghost use Rattle.fate_law.specs.Spans.{later_segments};
@@ -42,7 +43,8 @@ fn nowhere(row: u32) -> Around
     }
 }
 
-/// The segments of the rows that were taken: which rows they have, and the place that is confirmed first in each but the first.
+/// The segments of the rows that were taken: which rows they have, and the place that is confirmed first in
+/// each but the first.
 #[derive(Drop)]
 pub struct Segments {
     /// How many rows there are.
@@ -86,9 +88,9 @@ impl Segments {
         }
     }
 
-    /// Takes the next row: whether it is whole, the place of the stream at which it ends, and what the receiver tells after it of the
-    /// segment that goes on: the place that it confirmed first, counted from the segment's first octet. Where memory is short nothing
-    /// changes.
+    /// Takes the next row: whether it is whole, the place of the stream at which it ends, and what the
+    /// receiver tells after it of the segment that goes on: the place that it confirmed first, counted from
+    /// the segment's first octet. Where memory is short nothing changes.
     pub fn row(&mut self, whole: bool, end: u64, confirmed: Option<u64>) -> Result<(), AllocError>
         requires rows { self.old.rows < 4294967295 }
         requires end { end < 2 ^ 63 }

@@ -1,5 +1,6 @@
 -- The frames whose fate is got, item by item and piece by piece.
-use Rattle.std.proofs.Common.{◌≡◌, ℕ, zero, suc, ◌<◌, ◌≤◌, ◌⊎◌, Bool, false, List, [], ◌∷◌, ◌++◌, length, map, filter, drop, All, Option, Some, None, slice_get, refl, sym, ◌∙◌, ap, subst, arith, inl, inr}
+use Rattle.std.proofs.Common.{◌≡◌, ℕ, zero, suc, ◌<◌, ◌≤◌, ◌⊎◌, Bool, false, List, [], ◌∷◌, ◌++◌, length, map, filter}
+use Rattle.std.proofs.Common.{drop, All, Option, Some, None, slice_get, refl, sym, ◌∙◌, ap, subst, arith, inl, inr}
 use Rattle.std.specs.List.{flat_map}
 use Rattle.std.proofs.lemmas.Bool.{cases_Bool}
 use Rattle.session_model.specs.declared.script.ItemKind.{ItemKind}
@@ -68,7 +69,8 @@ module _ (script : Script) (fate : Extent → Fate) (all : List Extent) where
   abbrev None-got : List Numbered → Type 0
   None-got items = (i : ℕ) → length all ≤ i → got_frames (ended_on script nth items i) ≡ []
 
-  then-none : (item : Numbered) (why : Option Refusal) (kind : ItemKind) (items : List Numbered) (i : ℕ) → length all ≤ i → None-got items →
+  then-none : (item : Numbered) (why : Option Refusal) (kind : ItemKind) (items : List Numbered) (i : ℕ) →
+      length all ≤ i → None-got items →
       got_frames (ended_then nth item why kind i (ended_on script nth items)) ≡ []
   then-none item (Some why) (Frame octets) items i late none = none i late
   then-none item None (Frame octets) items i late none = rw (beyond i late) (none (suc i) (omega (arith, late)))
@@ -82,14 +84,16 @@ module _ (script : Script) (fate : Extent → Fate) (all : List Extent) where
   none-got [] i late = refl
   none-got (item ∷ items) i late = then-none item (refusal_at script item) item.item.kind items i late (none-got items)
 
-  -- the frames of extents are accepted ones, then come those that wait, and of the extents behind the items' own none is got
+  -- the frames of extents are accepted ones, then come those that wait, and of the extents behind the items' own none
+  -- is got
   pub record Fits (extents : List Extent) (own : List (List ℕ)) : Type 0 where
     pub waiting : List (List ℕ)
     pub later : List (List ℕ)
     pub frames : frames_of extents ++ waiting ≡ own ++ later
     pub none : All NotGot (drop (length own) extents)
 
-  front-got : (item : Numbered) (octets : List ℕ) (e : Extent) (extents : List Extent) (others : List Ended) → e.frame ≡ octets → got_frames others ≡ frames_of (filter gets extents) →
+  front-got : (item : Numbered) (octets : List ℕ) (e : Extent) (extents : List Extent) (others : List Ended) →
+      e.frame ≡ octets → got_frames others ≡ frames_of (filter gets extents) →
       got_frames (ended_by item octets (accepted (fate e)) ∷ others) ≡ frames_of (filter gets (e ∷ extents))
   front-got item octets e extents others same rest =
       elim (cases_Bool (gets e)) [
@@ -98,27 +102,41 @@ module _ (script : Script) (fate : Extent → Fate) (all : List Extent) where
       ]
 
   abbrev Rest : List Numbered → Type 0
-  Rest items = (i : ℕ) → Fits (drop i all) (flat_map (accepts script) items) → got_frames (ended_on script nth items i) ≡ frames_of (filter gets (drop i all))
+  Rest items = (i : ℕ) → Fits (drop i all) (flat_map (accepts script) items) →
+      got_frames (ended_on script nth items i) ≡ frames_of (filter gets (drop i all))
 
-  next-got : (item : Numbered) (octets : List ℕ) (items : List Numbered) (i : ℕ) → Rest items → (within : Within all i) →
+  next-got : (item : Numbered) (octets : List ℕ) (items : List Numbered) (i : ℕ) → Rest items →
+      (within : Within all i) →
       Fits (within.extent ∷ drop (suc i) all) (octets ∷ flat_map (accepts script) items) →
-      got_frames (ended_by item octets (accepted (nth i)) ∷ ended_on script nth items (suc i)) ≡ frames_of (filter gets (within.extent ∷ drop (suc i) all))
+      got_frames (ended_by item octets (accepted (nth i)) ∷ ended_on script nth items (suc i)) ≡ frames_of
+      (filter gets (within.extent ∷ drop (suc i) all))
   next-got item octets items i rest within fits =
-      ap (λ found. got_frames (ended_by item octets (accepted (fate_if fate found)) ∷ ended_on script nth items (suc i))) within.there
-      ∙ front-got item octets within.extent (drop (suc i) all) (ended_on script nth items (suc i)) (let same = fits.frames in cc)
-      (rest (suc i) (record { waiting = fits.waiting; later = fits.later; frames = (let same = fits.frames in cc); none = fits.none }))
+      ap (λ found. got_frames (ended_by item octets (accepted (fate_if fate found)) ∷ ended_on script nth items
+      (suc i))) within.there
+      ∙ front-got item octets within.extent (drop (suc i) all) (ended_on script nth items (suc i))
+      (let same = fits.frames in cc)
+      (rest (suc i) (record {
+        waiting = fits.waiting;
+        later = fits.later;
+        frames = (let same = fits.frames in cc);
+        none = fits.none;
+      }))
 
-  then-got : (item : Numbered) (why : Option Refusal) (kind : ItemKind) (items : List Numbered) (i : ℕ) → Rest items → Fits (drop i all) (frame_by why kind ++ flat_map (accepts script) items) →
+  then-got : (item : Numbered) (why : Option Refusal) (kind : ItemKind) (items : List Numbered) (i : ℕ) → Rest items →
+      Fits (drop i all) (frame_by why kind ++ flat_map (accepts script) items) →
       got_frames (ended_then nth item why kind i (ended_on script nth items)) ≡ frames_of (filter gets (drop i all))
   then-got item (Some why) (Frame octets) items i rest fits = rest i fits
   then-got item None (Frame octets) items i rest fits =
       elim (where-at all i) [
         | inl end ↦ (
-            let none : got_frames (ended_on script nth items (suc i)) ≡ [] = none-got items (suc i) (omega (arith, end.0)) in
-            ap (λ found. got_frames (ended_by item octets (accepted (fate_if fate found)) ∷ ended_on script nth items (suc i))) end.1
+            let none : got_frames (ended_on script nth items (suc i)) ≡ [] =
+            none-got items (suc i) (omega (arith, end.0)) in
+            ap (λ found. got_frames (ended_by item octets (accepted (fate_if fate found)) ∷ ended_on script nth items
+            (suc i))) end.1
             ∙ none ∙ sym (ap (λ l. frames_of (filter gets l)) end.2))
         | inr within ↦
-            next-got item octets items i rest within (subst (λ l. Fits l (octets ∷ flat_map (accepts script) items)) within.parts fits)
+            next-got item octets items i rest within
+            (subst (λ l. Fits l (octets ∷ flat_map (accepts script) items)) within.parts fits)
             ∙ sym (ap (λ l. frames_of (filter gets l)) within.parts)
       ]
   then-got item (Some why) (Add line) items i rest fits = rest i fits

@@ -1,5 +1,6 @@
 -- After a walk, the frames whose fate is got are those that are delivered, where all marks are true.
-use Rattle.std.proofs.Common.{◌≡◌, ℕ, zero, suc, ◌+◌, ◌<◌, ◌≤◌, true, false, List, [], ◌∷◌, ◌++◌, length, drop, All, Option, refl, sym, ◌∙◌, ap, subst, arith, length-append}
+use Rattle.std.proofs.Common.{◌≡◌, ℕ, zero, suc, ◌+◌, ◌<◌, ◌≤◌, true, false, List, [], ◌∷◌, ◌++◌, length, drop, All}
+use Rattle.std.proofs.Common.{Option, refl, sym, ◌∙◌, ap, subst, arith, length-append}
 use Rattle.std.proofs.lemmas.List.{length-map}
 use Rattle.std.proofs.lemmas.Bool.{lt-leb}
 use Rattle.std.proofs.lemmas.List.Elements.{All-tail, All-weaker}
@@ -43,51 +44,80 @@ module _ (script : Script) (s : Counts) (valid : IsValid script) (walked : IsWal
   carries : CarriesStream (session_rows script s.rows) (session_pieces script)
   carries = rows-carry (scenario_of script) (session_cells (scenario_of script)) s.rows script.config.ticks rows-low
 
-  pub starts-decided : (are_true_marks (session_pieces script) (session_rows script s.rows) ≡ true → ConfirmsTrue script s.rows) × (ConfirmsTrue script s.rows → are_true_marks (session_pieces script) (session_rows script s.rows) ≡ true)
-  starts-decided = (marks-starts (session_pieces script) (session_rows script s.rows), starts-marks (session_pieces script) (session_rows script s.rows) carries)
+  pub starts-decided : (are_true_marks (session_pieces script) (session_rows script s.rows) ≡ true →
+      ConfirmsTrue script s.rows) × (ConfirmsTrue script s.rows →
+      are_true_marks (session_pieces script) (session_rows script s.rows) ≡ true)
+  starts-decided = (
+    marks-starts (session_pieces script) (session_rows script s.rows),
+    starts-marks (session_pieces script) (session_rows script s.rows) carries,
+  )
 
   -- ---- frames
   abbrev fate : Extent → Fate
   fate e = fate_of (session_pieces script) (session_rows script s.rows) e
 
   -- a frame that begins where the rows have ended isn't got
-  not-got : (e : Extent) → place_of (scenario_of script) (session_cells (scenario_of script)) s.rows ≤ e.from → e.from < e.to → is_got (fate e) ≡ false
+  not-got : (e : Extent) → place_of (scenario_of script) (session_cells (scenario_of script)) s.rows ≤ e.from →
+      e.from < e.to → is_got (fate e) ≡ false
   not-got e late some =
-      let size = rows-length (scenario_of script) (session_cells (scenario_of script)) s.rows script.config.ticks rows-low in
-      let past : is_carried (length (octets_of_rows (session_rows script s.rows))) e ≡ false = lt-leb e.to (length (octets_of_rows (session_rows script s.rows))) (omega (arith, size, late, some)) in
+      let size = rows-length (scenario_of script) (session_cells (scenario_of script)) s.rows script.config.ticks
+      rows-low in
+      let past : is_carried (length (octets_of_rows (session_rows script s.rows))) e ≡ false =
+      lt-leb e.to (length (octets_of_rows (session_rows script s.rows))) (omega (arith, size, late, some)) in
       rw past refl
 
-  drop-over : {X : Type 0} (P : X → Type 0) (k : ℕ) (front back : List X) → length front ≤ k → All P back → All P (drop k (front ++ back))
+  drop-over : {X : Type 0} (P : X → Type 0) (k : ℕ) (front back : List X) → length front ≤ k → All P back →
+      All P (drop k (front ++ back))
   drop-over P zero [] back enough all = all
   drop-over P (suc k) [] [] enough all = all
   drop-over P (suc k) [] (x ∷ back) enough all = drop-over P k [] back (omega arith) (All-tail P x back all)
   drop-over P zero (x ∷ front) back enough all = absurd (omega (arith, enough))
   drop-over P (suc k) (x ∷ front) back enough all = drop-over P k front back (omega (arith, enough)) all
 
-  none-behind : All (NotGot script fate (session_extents script)) (drop (length (flat_map (accepts script) (landed_items script s))) (session_extents script))
+  none-behind : All (NotGot script fate (session_extents script))
+      (drop (length (flat_map (accepts script) (landed_items script s))) (session_extents script))
   none-behind =
       let scenario : Scenario = scenario_of script in
       let cells : List (Option Told) = session_cells (scenario_of script) in
       let front : List Piece = (stream_before scenario cells s.rows).pieces in
       let begins = pieces-begin scenario cells s.rows script.config.ticks rows-low in
       let start : ℕ = 0 + length (stream_of front) in
-      let parts : session_extents script ≡ extents 0 front ++ extents start begins.0 = ap (extents 0) begins.1 ∙ extents-append 0 front begins.0 in
+      let parts : session_extents script ≡ extents 0 front ++ extents start begins.0 = ap (extents 0) begins.1
+      ∙ extents-append 0 front begins.0 in
       let reaches = stream-reaches scenario cells s.rows in
       let within = counts-within script s (valid-walks script valid) walked in
-      let count : length (extents 0 front) ≡ length (frames_in front) = sym (length-map (extents 0 front) (λ (e : Extent). e.frame)) ∙ ap length (frames-extents 0 front) in
+      let count : length (extents 0 front) ≡ length (frames_in front) =
+      sym (length-map (extents 0 front) (λ (e : Extent). e.frame)) ∙ ap length (frames-extents 0 front) in
       let few : length (extents 0 front) ≤ length (flat_map (accepts script) (landed_items script s)) =
-      omega (arith, count, ap length (stream_before-frames scenario cells s.rows), length-append (frames_in front) (stream_before scenario cells s.rows).waiting, before-few script s s.rows valid walked within.0) in
-      subst (λ l. All (NotGot script fate (session_extents script)) (drop (length (flat_map (accepts script) (landed_items script s))) l)) (sym parts)
-      (drop-over (NotGot script fate (session_extents script)) (length (flat_map (accepts script) (landed_items script s))) (extents 0 front) (extents start begins.0) few
+      omega (
+        arith,
+        count,
+        ap length (stream_before-frames scenario cells s.rows),
+        length-append (frames_in front) (stream_before scenario cells s.rows).waiting,
+        before-few script s s.rows valid walked within.0,
+      ) in
+      subst (λ l. All (NotGot script fate (session_extents script))
+      (drop (length (flat_map (accepts script) (landed_items script s))) l)) (sym parts)
+      (drop-over (NotGot script fate (session_extents script))
+      (length (flat_map (accepts script) (landed_items script s))) (extents 0 front) (extents start begins.0) few
       (All-weaker (IsBetween start (start + length (stream_of begins.0))) (NotGot script fate (session_extents script))
-      (λ e is. not-got e (omega (arith, is.lower, reaches)) is.size) (extents start begins.0) (extents-between start begins.0)))
+      (λ e is. not-got e (omega (arith, is.lower, reaches)) is.size) (extents start begins.0)
+      (extents-between start begins.0)))
 
-  fits : Fits script fate (session_extents script) (session_extents script) (flat_map (accepts script) (landed_items script s))
+  fits : Fits script fate (session_extents script) (session_extents script)
+      (flat_map (accepts script) (landed_items script s))
   fits =
       let first = landed-first script s.frames s.commands in
-      record { waiting = session_waiting script; later = first.0; frames = frames-known script valid ∙ first.1; none = none-behind }
+      record {
+        waiting = session_waiting script;
+        later = first.0;
+        frames = frames-known script valid ∙ first.1;
+        none =
+            none-behind;
+      }
 
-  pub got-delivered : are_true_marks (session_pieces script) (session_rows script s.rows) ≡ true → got_frames (ended_of script s) ≡ delivered_of script s.rows
+  pub got-delivered : are_true_marks (session_pieces script) (session_rows script s.rows) ≡ true →
+      got_frames (ended_of script s) ≡ delivered_of script s.rows
   got-delivered marks =
       got-ended script fate (session_extents script) (landed_items script s) 0 fits
       ∙ got-kept (session_pieces script) (session_rows script s.rows)

@@ -1,4 +1,5 @@
--- The text of fates: a line for each run of rows that aren't whole for one cause, one for each segment but the first, one for each client
+-- The text of fates: a line for each run of rows that aren't whole for one cause, one for each segment but the first,
+-- one for each client
 -- item that has landed, and a line of totals. These texts are this project's own.
 use Rattle.std.specs.Prelude.{ℕ, ◌-◌, ◌+◌, Bool, true, false, List, ◌++◌, length, Option, Some, None, codes, decimal}
 use Rattle.std.specs.List.{flat_map}
@@ -21,7 +22,8 @@ use Rattle.fate_law.specs.declared.SpoiledRun.{SpoiledRun}
 use Rattle.fate_law.specs.declared.RowSegment.{RowSegment}
 use Rattle.fate_law.specs.Spoiled.{spoiled_of}
 use Rattle.fate_law.specs.Spans.{later_segments}
-use Rattle.fate_law.specs.SessionFates.{End, refused, accepted, Ended, ended_of, is_refused, has_got, has_waited, count_of}
+use Rattle.fate_law.specs.SessionFates.{End, refused, accepted, Ended, ended_of, is_refused, has_got, has_waited}
+use Rattle.fate_law.specs.SessionFates.{count_of}
 
 -- ---- rows
 abbrev pub cause_text : Cause → List ℕ
@@ -30,7 +32,8 @@ cause_text (PacketOf line) = codes "packet " ++ decimal line
 cause_text (Container line) = codes "container " ++ decimal line
 
 abbrev pub spoiled_text : SpoiledRun → List ℕ
-spoiled_text run = codes "spoiled " ++ decimal run.first ++ codes " " ++ decimal run.end ++ codes " " ++ cause_text run.cause ++ codes "\n"
+spoiled_text run = codes "spoiled " ++ decimal run.first ++ codes " " ++ decimal run.end ++ codes " " ++ cause_text
+    run.cause ++ codes "\n"
 
 -- ---- segments
 abbrev pub truth_text : Bool → List ℕ
@@ -43,7 +46,8 @@ mark_text pieces rows (Some place) = truth_text (is_piece_at pieces place) ++ co
 
 abbrev pub segment_text : List Piece → List StreamRow → RowSegment → List ℕ
 segment_text pieces rows segment =
-    codes "segment " ++ decimal segment.first ++ codes " " ++ decimal segment.end ++ codes " " ++ mark_text pieces rows segment.mark ++ codes "\n"
+    codes "segment " ++ decimal segment.first ++ codes " " ++ decimal segment.end ++ codes " " ++ mark_text pieces rows
+    segment.mark ++ codes "\n"
 
 -- ---- frames
 abbrev pub rows_text : ℕ → ℕ → List ℕ
@@ -62,7 +66,8 @@ end_text (refused why) = codes "refused " ++ refusal_text why
 end_text (accepted fate) = fate_text fate
 
 abbrev pub ended_text : Ended → List ℕ
-ended_text ended = codes "frame " ++ decimal ended.number ++ codes " due " ++ decimal ended.due ++ codes " " ++ end_text ended.end ++ codes "\n"
+ended_text ended = codes "frame " ++ decimal ended.number ++ codes " due " ++ decimal ended.due ++ codes " " ++ end_text
+    ended.end ++ codes "\n"
 
 -- ---- the last line: how many frames are accepted, and of these are got, lost and wait, and how many are refused
 abbrev pub fates_end : ℕ → ℕ → List Ended → Bool → List ℕ
@@ -70,7 +75,8 @@ fates_end ticks rows all starts =
     codes "fates ticks " ++ decimal ticks ++ codes " taken " ++ decimal rows
     ++ codes " frames " ++ decimal (length all - count_of is_refused all)
     ++ codes " got " ++ decimal (count_of has_got all)
-    ++ codes " lost " ++ decimal (length all - (count_of is_refused all + count_of has_got all + count_of has_waited all))
+    ++ codes " lost " ++ decimal (length all -
+    (count_of is_refused all + count_of has_got all + count_of has_waited all))
     ++ codes " waits " ++ decimal (count_of has_waited all)
     ++ codes " refused " ++ decimal (count_of is_refused all)
     ++ codes " starts " ++ truth_text starts ++ codes "\n"
@@ -79,6 +85,8 @@ fates_end ticks rows all starts =
 abbrev pub fates_text : Script → Counts → List ℕ
 fates_text script s =
     flat_map spoiled_text (spoiled_of (scenario_of script) (session_of script) s.rows)
-    ++ flat_map (segment_text (session_pieces script) (session_rows script s.rows)) (later_segments (session_rows script s.rows))
+    ++ flat_map (segment_text (session_pieces script) (session_rows script s.rows))
+    (later_segments (session_rows script s.rows))
     ++ flat_map ended_text (ended_of script s)
-    ++ fates_end s.ticks s.rows (ended_of script s) (are_true_marks (session_pieces script) (session_rows script s.rows))
+    ++ fates_end s.ticks s.rows (ended_of script s)
+    (are_true_marks (session_pieces script) (session_rows script s.rows))

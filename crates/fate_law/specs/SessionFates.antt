@@ -1,5 +1,6 @@
 -- What became of each client item of a script that has landed.
-use Rattle.std.specs.Prelude.{ℕ, suc, Bool, true, false, List, [], ◌∷◌, length, map, filter, Option, Some, None, slice_get}
+use Rattle.std.specs.Prelude.{ℕ, suc, Bool, true, false, List, [], ◌∷◌, length, map, filter, Option, Some, None}
+use Rattle.std.specs.Prelude.{slice_get}
 use Rattle.session_model.specs.declared.script.ItemKind.{ItemKind}
 use Rattle.session_model.specs.declared.script.ItemKind.TheVariants.{Frame, Add, Remove}
 use Rattle.session_model.specs.declared.script.Script.{Script}
@@ -34,7 +35,8 @@ abbrev pub fate_if : (Extent → Fate) → Option Extent → Fate
 fate_if fate None = Waits
 fate_if fate (Some extent) = fate extent
 
--- what became of the accepted frame with this number: the frames of the pieces are the accepted ones in their order, and those that have no
+-- what became of the accepted frame with this number: the frames of the pieces are the accepted ones in their order,
+-- and those that have no
 -- piece come after them
 abbrev pub fate_at : List Piece → List StreamRow → ℕ → Fate
 fate_at pieces rows i = fate_if (fate_of pieces rows) (slice_get (extents 0 pieces) i)

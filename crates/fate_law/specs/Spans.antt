@@ -1,5 +1,6 @@
 -- The rows of the segments of a stream, and their marks.
-use Rattle.std.specs.Prelude.{ℕ, suc, nat_lt, Bool, true, false, List, [], ◌∷◌, ◌++◌, filter, drop, if◌then◌else◌, Option, None}
+use Rattle.std.specs.Prelude.{ℕ, suc, nat_lt, Bool, true, false, List, [], ◌∷◌, ◌++◌, filter, drop, if◌then◌else◌}
+use Rattle.std.specs.Prelude.{Option, None}
 use Rattle.session_model.specs.Segment.{StreamRow, Segment, segments}
 use Rattle.session_model.specs.Loss.{Extent, confirmed_in}
 use Rattle.fate_law.specs.declared.Fate.{Fate}
@@ -20,7 +21,11 @@ pub record Spans : Type 0 where
 -- a row that is whole goes on with the last one, and another ends it
 abbrev pub span_by : Bool → Spans → Spans
 span_by true come = record { ended = come.ended; last = record { first = come.last.first; end = suc come.last.end } }
-span_by false come = record { ended = come.ended ++ come.last ∷ []; last = record { first = suc come.last.end; end = suc come.last.end } }
+span_by false come = record {
+  ended = come.ended ++ come.last ∷ [];
+  last =
+      record { first = suc come.last.end; end = suc come.last.end };
+}
 
 unfoldable pub spans_on : Spans → List StreamRow → Spans
 spans_on come [] = come
@@ -62,10 +67,12 @@ unfoldable pub mark_of_row : List RowSegment → ℕ → Option ℕ
 mark_of_row [] r = None
 mark_of_row (segment ∷ segments) r = if nat_lt r segment.end then segment.mark else mark_of_row segments r
 
--- the fate of a frame with these first and last rows: by the first row that isn't whole from its first one on, by the first one at all, and
+-- the fate of a frame with these first and last rows: by the first row that isn't whole from its first one on, by the
+-- first one at all, and
 -- by the mark of its segment
 abbrev pub fate_by_rows : List StreamRow → List Extent → Extent → ℕ → ℕ → Fate
 fate_by_rows rows all frame r q =
     if nat_lt q (spoiled_after rows r)
-    then (if nat_lt r (spoiled_after rows 0) then Got r q else fate_after (mark_of_row (row_segments rows) r) all frame r q)
+    then (if nat_lt r (spoiled_after rows 0) then Got r q else fate_after (mark_of_row (row_segments rows) r) all frame
+    r q)
     else Cut r q (spoiled_after rows r)

@@ -1,5 +1,6 @@
 -- Why a row of a session isn't whole, and the longest runs of rows of one cause.
-use Rattle.std.specs.Prelude.{ℕ, suc, ◌-◌, ◌/◌, ◌==◌, ◌&&◌, nat_lt, min, Bool, true, false, if◌then◌else◌, List, [], ◌∷◌, map, Option, Some, None}
+use Rattle.std.specs.Prelude.{ℕ, suc, ◌-◌, ◌/◌, ◌==◌, ◌&&◌, nat_lt, min, Bool, true, false, if◌then◌else◌, List, []}
+use Rattle.std.specs.Prelude.{◌∷◌, map, Option, Some, None}
 use Rattle.std.specs.List.{range_with_len}
 use Rattle.session_model.specs.Damage.{is_good}
 use Rattle.session_model.specs.Scenario.{Scenario, carried_by, is_read, is_heard}
@@ -17,7 +18,8 @@ lesser line (Some other) = min line other
 -- the least of lines that fails a test
 unfoldable pub least_failing : (ℕ → Bool) → List ℕ → Option ℕ
 least_failing passes [] = None
-least_failing passes (line ∷ lines) = if passes line then least_failing passes lines else Some (lesser line (least_failing passes lines))
+least_failing passes (line ∷ lines) =
+    if passes line then least_failing passes lines else Some (lesser line (least_failing passes lines))
 
 abbrev pub container_cause : Option ℕ → Option Cause
 container_cause None = None
@@ -27,7 +29,8 @@ abbrev pub packet_cause : Option ℕ → Option ℕ → Option Cause
 packet_cause None hurt = container_cause hurt
 packet_cause (Some line) hurt = Some (PacketOf line)
 
--- by the packet that governs the row: no line has a packet that can be read, or a line that carries payload has none, or its container
+-- by the packet that governs the row: no line has a packet that can be read, or a line that carries payload has none,
+-- or its container
 -- isn't good. That the least line is told is this project's own
 abbrev pub cause_under : Scenario → List (Option Told) → ℕ → ℕ → Option Cause
 cause_under scenario cells k t =
@@ -57,7 +60,8 @@ abbrev pub spoiled_then : ℕ → Option Cause → List SpoiledRun → List Spoi
 spoiled_then t None runs = runs
 spoiled_then t (Some cause) [] = record { first = t; end = suc t; cause = cause } ∷ []
 spoiled_then t (Some cause) (run ∷ runs) =
-    if run.first == suc t && same_cause cause run.cause then record { first = t; end = run.end; cause = run.cause } ∷ runs
+    if run.first == suc t && same_cause cause run.cause then record { first = t; end = run.end; cause = run.cause } ∷
+    runs
     else record { first = t; end = suc t; cause = cause } ∷ run ∷ runs
 
 -- by the causes of rows that are numbered from t

@@ -1,12 +1,14 @@
-//! The laws of fates: what became of each frame of a stream that comes in rows, and whether what is confirmed after each break was true.
-//! There is no code here. Begin at `got_law`.
+//! The laws of fates: what became of each frame of a stream that comes in rows, and whether what is confirmed
+//! after each break was true. There is no code here. Begin at `got_law`.
 #![tactic(auto)]
 
-ghost use Rattle.std.specs.Prelude.{◌≡◌, ℕ, ◌<◌, ◌≤◌, ◌↔◌, ◌-◌, ◌&&◌, nat_lt, not, true, false, List, [], ◌∷◌, ◌++◌, map, length, All, Option, None};
+ghost use Rattle.std.specs.Prelude.{◌≡◌, ℕ, ◌<◌, ◌≤◌, ◌↔◌, ◌-◌, ◌&&◌, nat_lt, not, true, false, List, [], ◌∷◌, ◌++◌};
+ghost use Rattle.std.specs.Prelude.{map, length, All, Option, None};
 ghost use Rattle.std.specs.List.{list_any};
 ghost use Rattle.session_model.specs.Piece.{Piece, idle, stream_of};
 ghost use Rattle.session_model.specs.Segment.{StreamRow, segments, deliver, octets_of_rows};
-ghost use Rattle.session_model.specs.Loss.{Extent, extents, is_carried, lies_in, is_frame_lost, TrueStarts, frames_kept};
+ghost use Rattle.session_model.specs.Loss.{Extent, extents, is_carried, lies_in, is_frame_lost, TrueStarts};
+ghost use Rattle.session_model.specs.Loss.{frames_kept};
 ghost use Rattle.loss_law.specs.Carried.{CarriesStream, IsSentPiece};
 ghost use Rattle.fate_law.specs.Fates.{HasPlace, row_at, spoiled_after, fate_of, is_got, frames_got};
 ghost use Rattle.fate_law.specs.Marks.{is_piece_at, are_true_marks};
@@ -112,14 +114,15 @@ pub struct RowSegment {
     pub mark: Option<u64>,
 }
 
-/// Whether all marks are true is decided: what is confirmed first in a later segment is then the place of a piece, and not by chance.
+/// Whether all marks are true is decided: what is confirmed first in a later segment is then the place of a
+/// piece, and not by chance.
 pub fn marks_law()
     ensures { (pieces : List Piece) (rows : List StreamRow) → CarriesStream rows pieces →
         (are_true_marks pieces rows ≡ true) ↔ TrueStarts pieces rows }
 {}
 
-/// A frame of the stream is got exactly where the rows carry it and it isn't lost; and where all marks are true, the frames that are got
-/// are those that are delivered, in order and each once.
+/// A frame of the stream is got exactly where the rows carry it and it isn't lost; and where all marks are
+/// true, the frames that are got are those that are delivered, in order and each once.
 pub fn got_law()
     ensures each { (pieces : List Piece) (rows : List StreamRow) (frame : Extent) → frame.from < frame.to →
         is_got (fate_of pieces rows frame)
@@ -133,9 +136,9 @@ pub fn got_law()
         frames_got (idle ∷ idle ∷ pieces) rows ≡ deliver longest rows }
 {}
 
-/// The row of a place has it; and a frame that the rows carry lies in a segment exactly where all its rows are whole, and else the first of
-/// them that isn't is one of its rows. So its fate is known by its rows, the rows that aren't whole, and the mark of the segment that has its
-/// first row.
+/// The row of a place has it; and a frame that the rows carry lies in a segment exactly where all its rows
+/// are whole, and else the first of them that isn't is one of its rows. So its fate is known by its rows, the
+/// rows that aren't whole, and the mark of the segment that has its first row.
 pub fn row_law()
     ensures place { (rows : List StreamRow) (place : ℕ) → place < length (octets_of_rows rows) →
         HasPlace rows place (row_at rows place) }
@@ -153,8 +156,8 @@ pub fn row_law()
         ≡ fate_by_rows rows (extents 0 pieces) frame (row_at rows frame.from) (row_at rows (frame.to - 1)) }
 {}
 
-/// The places of client frames need lengths alone; and the pieces that the rows reach say of each place of theirs whether a piece begins
-/// there.
+/// The places of client frames need lengths alone; and the pieces that the rows reach say of each place of
+/// theirs whether a piece begins there.
 pub fn ruler_law()
     ensures reached { (place : ℕ) (stream : Stream) → ruler_of (reached place stream)
         ≡ ruled place (ruler_of stream).end (ruler_of stream).sent (ruler_of stream).waiting }
@@ -162,8 +165,8 @@ pub fn ruler_law()
         is_piece_at (front ++ more) place ≡ is_piece_at front place }
 {}
 
-/// More pieces change no fate of rows that the first ones reach: the fates of a session's taken rows are known by the pieces that are made
-/// with as many ticks, and those of all its ticks give the same.
+/// More pieces change no fate of rows that the first ones reach: the fates of a session's taken rows are
+/// known by the pieces that are made with as many ticks, and those of all its ticks give the same.
 pub fn made_law()
     ensures front { (pieces more : List Piece) (rows : List StreamRow) →
         length (octets_of_rows rows) ≤ length (stream_of pieces) →
@@ -180,8 +183,8 @@ pub fn cause_law()
         (row_cause scenario cells t ≡ None) ↔ (is_whole_row scenario cells t ≡ true) }
 {}
 
-/// After a walk: `starts true` comes exactly where what is confirmed first after each break is the place of a piece, and then the frames
-/// that are got are those that are delivered, in order and each once.
+/// After a walk: `starts true` comes exactly where what is confirmed first after each break is the place of a
+/// piece, and then the frames that are got are those that are delivered, in order and each once.
 pub fn fate_law()
     ensures starts { (script : Script) (s : Counts) → IsValid script → IsWalked script s →
         (are_true_marks (session_pieces script) (session_rows script s.rows) ≡ true)
@@ -191,8 +194,9 @@ pub fn fate_law()
         got_frames (ended_of script s) ≡ delivered_of script s.rows }
 {}
 
-/// Worked streams, computed: what became of four frames of which the second row, which isn't whole, cuts one, the next is sought through, the
-/// third settles the descrambler and the last is got; the mark of the segment behind the row; and runs of rows that aren't whole.
+/// Worked streams, computed: what became of four frames of which the second row, which isn't whole, cuts one,
+/// the next is sought through, the third settles the descrambler and the last is got; the mark of the segment
+/// behind the row; and runs of rows that aren't whole.
 pub fn worked_law()
     ensures fates { map (fate_of worked_pieces worked_rows) (extents 0 worked_pieces) ≡ worked_fates }
     ensures segments { later_segments worked_rows ≡ worked_segments }

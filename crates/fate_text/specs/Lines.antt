@@ -13,7 +13,8 @@ told_text (Some mark) = truth_text mark.is_true ++ codes " " ++ decimal mark.row
 
 -- the line of a segment
 abbrev pub told_segment : RowSegment → Option ToldMark → List ℕ
-told_segment segment mark = codes "segment " ++ decimal segment.first ++ codes " " ++ decimal segment.end ++ codes " " ++ told_text mark ++ codes "\n"
+told_segment segment mark = codes "segment " ++ decimal segment.first ++ codes " " ++ decimal segment.end ++ codes " "
+    ++ told_text mark ++ codes "\n"
 
 -- the line of a client item by its number, its due tick and its end
 abbrev pub item_text : ℕ → ℕ → End → List ℕ
@@ -22,6 +23,8 @@ item_text number due end = ended_text (record { number = number; due = due; fram
 -- the last line, of the ticks made, the rows taken, the items of each end, and whether all marks are true
 abbrev pub last_text : ℕ → ℕ → Tally → Bool → List ℕ
 last_text ticks rows tally starts =
-    codes "fates ticks " ++ decimal ticks ++ codes " taken " ++ decimal rows ++ codes " frames " ++ decimal tally.frames ++ codes " got " ++ decimal tally.got
-    ++ codes " lost " ++ decimal tally.lost ++ codes " waits " ++ decimal tally.waits ++ codes " refused " ++ decimal tally.refused
+    codes "fates ticks " ++ decimal ticks ++ codes " taken " ++ decimal rows ++ codes " frames " ++ decimal tally.frames
+    ++ codes " got " ++ decimal tally.got
+    ++ codes " lost " ++ decimal tally.lost ++ codes " waits " ++ decimal tally.waits ++ codes " refused " ++ decimal
+    tally.refused
     ++ codes " starts " ++ truth_text starts ++ codes "\n"

@@ -1,12 +1,14 @@
 -- A client frame with a frame check sequence (FCS) behind it, and what comes of its area. Where the FCS stands and
 -- the order of its bits are this project's own.
-use Rattle.std.specs.Prelude.{ℕ, ◌-◌, ◌/◌, ◌%◌, ◌^◌, ◌==◌, nat_lt, if◌then◌else◌, Bool, true, false, List, [], ◌∷◌, ◌++◌, length, take, drop, Option, Some, None}
+use Rattle.std.specs.Prelude.{ℕ, ◌-◌, ◌/◌, ◌%◌, ◌^◌, ◌==◌, nat_lt, if◌then◌else◌, Bool, true, false, List, [], ◌∷◌}
+use Rattle.std.specs.Prelude.{◌++◌, length, take, drop, Option, Some, None}
 use Rattle.std.specs.Str.{bytes_eq}
 use Rattle.remainder.specs.Bits.{number, octet_bits}
 use Rattle.hec16.specs.Hec.{hec_of}
 use Rattle.crc32.specs.Crc32.{fcs_of}
 use Rattle.session_model.specs.declared.TypeFault.{TypeFault}
-use Rattle.session_model.specs.declared.TypeFault.TheVariants.{Check as WrongCheck, NotClient, PayloadFcs, Extension, NotEthernet}
+use Rattle.session_model.specs.declared.TypeFault.TheVariants.{Check as WrongCheck, NotClient, PayloadFcs, Extension}
+use Rattle.session_model.specs.declared.TypeFault.TheVariants.{NotEthernet}
 use Rattle.session_model.specs.TypeHeader.{type_field, type_check}
 use Rattle.fcs_model.specs.declared.FcsWhy.{FcsWhy}
 use Rattle.fcs_model.specs.declared.FcsWhy.TheVariants.{Unsettled, TooLong, Header, Short, Fcs}

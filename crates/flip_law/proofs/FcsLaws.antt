@@ -1,8 +1,11 @@
 -- The area of a frame of which flips are left: with none the frame is delivered, and with one bit, or two that are 43
 -- places apart, it is dropped.
-use Rattle.std.proofs.Common.{◌≡◌, ◌≢◌, ℕ, zero, suc, ◌+◌, ◌-◌, ◌*◌, ◌<◌, ◌≤◌, ◌⊎◌, Bool, true, false, Option, Some, None, List, [], ◌∷◌, ◌++◌, length, take, drop, replicate, All, refl, sym, ◌∙◌, ap, ap₂, subst, inl, inr, arith, append_assoc, le_of_eq}
+use Rattle.std.proofs.Common.{◌≡◌, ◌≢◌, ℕ, zero, suc, ◌+◌, ◌-◌, ◌*◌, ◌<◌, ◌≤◌, ◌⊎◌, Bool, true, false, Option, Some}
+use Rattle.std.proofs.Common.{None, List, [], ◌∷◌, ◌++◌, length, take, drop, replicate, All, refl, sym, ◌∙◌, ap, ap₂}
+use Rattle.std.proofs.Common.{subst, inl, inr, arith, append_assoc, le_of_eq}
 use Rattle.std.specs.Str.{bytes_eq}
-use Rattle.std.proofs.lemmas.List.{length-append, length-replicate, length-take, length-drop, take_at, drop_at, take-append-drop, replicate-append-replicate}
+use Rattle.std.proofs.lemmas.List.{length-append, length-replicate, length-take, length-drop, take_at, drop_at}
+use Rattle.std.proofs.lemmas.List.{take-append-drop, replicate-append-replicate}
 use Rattle.std.proofs.lemmas.List.Elements.{All-nil, All-cons, All-append}
 use Rattle.std.proofs.lemmas.Bool.{le-ltb, cases_lt}
 use Rattle.std.proofs.lemmas.Slice.Eq.{bytes_eq-Decides}
@@ -16,7 +19,8 @@ use Rattle.fcs_model.specs.Flips.{flipped}
 use Rattle.crc32.specs.Crc32.{crc32, check_bits, fcs_of}
 use Rattle.crc32.proofs.CheckLaws.{length-crc32, length-check_bits, check_bits-xors, octet_bits-fcs_of, length-fcs_of}
 use Rattle.fcs_model.specs.declared.FcsWhy.TheVariants.{Header}
-use Rattle.fcs_model.specs.Fcs.{fcs_header, fcs_area, FcsOutcome, delivery, dropping, by_check, by_type, fcs_type_fault, fcs_outcome, frame_in}
+use Rattle.fcs_model.specs.Fcs.{fcs_header, fcs_area, FcsOutcome, delivery, dropping, by_check, by_type, fcs_type_fault}
+use Rattle.fcs_model.specs.Fcs.{fcs_outcome, frame_in}
 use Rattle.flip_law.specs.Single.{IsOneOrTwo, one, two}
 use Rattle.flip_law.specs.Flipped.{IsFrame}
 use Rattle.remainder.proofs.CountLaws.{count-zeros}
@@ -134,7 +138,12 @@ fcs_area_below frame is =
 
 pub length-fcs_area : (frame : List ℕ) → length (fcs_area frame) ≡ length frame + 8
 length-fcs_area frame =
-    omega (arith, length-append fcs_header (frame ++ fcs_of frame), length-append frame (fcs_of frame), length-fcs_of frame)
+    omega (
+      arith,
+      length-append fcs_header (frame ++ fcs_of frame),
+      length-append frame (fcs_of frame),
+      length-fcs_of frame,
+    )
 
 -- it is delivered as it is sent
 pub fcs_area-delivered : (frame : List ℕ) → IsFrame frame → fcs_outcome true (fcs_area frame) ≡ delivery frame

@@ -1,7 +1,9 @@
 -- Descrambling is linear, and at most one flip in an area and in the 43 area bits before it leaves nothing, one bit,
 -- or two bits 43 places apart.
-use Rattle.std.proofs.Common.{◌≡◌, ℕ, zero, suc, ◌+◌, ◌-◌, ◌<◌, ◌≤◌, Bool, true, false, List, ◌∷◌, ◌++◌, length, drop, replicate, refl, sym, ◌∙◌, ap, ap₂, subst, inl, inr, arith, append_assoc, le_of_eq}
-use Rattle.std.proofs.lemmas.List.{length-append, length-replicate, length-drop, drop_at, drop-replicate, replicate-append-replicate}
+use Rattle.std.proofs.Common.{◌≡◌, ℕ, zero, suc, ◌+◌, ◌-◌, ◌<◌, ◌≤◌, Bool, true, false, List, ◌∷◌, ◌++◌, length, drop}
+use Rattle.std.proofs.Common.{replicate, refl, sym, ◌∙◌, ap, ap₂, subst, inl, inr, arith, append_assoc, le_of_eq}
+use Rattle.std.proofs.lemmas.List.{length-append, length-replicate, length-drop, drop_at, drop-replicate}
+use Rattle.std.proofs.lemmas.List.{replicate-append-replicate}
 use Rattle.std.proofs.lemmas.Bool.{cases_lt}
 use Rattle.remainder.specs.Bits.{xors}
 use Rattle.remainder.proofs.XorLaws.{xors-zeros, xors-zeros_right, xors-append}

@@ -1,5 +1,6 @@
 -- A stream of frames with FCS of which bits are turned over: the frames that get through.
-use Rattle.std.specs.Prelude.{ℕ, ◌+◌, ◌-◌, ◌*◌, ◌<◌, ◌≤◌, ◌==◌, if◌then◌else◌, Bool, true, false, List, [], ◌∷◌, ◌++◌, length, map, take, drop, replicate, All}
+use Rattle.std.specs.Prelude.{ℕ, ◌+◌, ◌-◌, ◌*◌, ◌<◌, ◌≤◌, ◌==◌, if◌then◌else◌, Bool, true, false, List, [], ◌∷◌, ◌++◌}
+use Rattle.std.specs.Prelude.{length, map, take, drop, replicate, All}
 use Rattle.std.specs.List.{flat_map}
 use Rattle.session_model.specs.Core.{head}
 use Rattle.session_model.specs.Piece.{with_header, scrambled_areas}

@@ -3,7 +3,8 @@
 //! just those that it doesn't touch. There is no code here. Begin with `flip_law`.
 #![tactic(auto)]
 
-ghost use Rattle.std.specs.Prelude.{◌∷◌, ◌==◌, slice_index_or, ◌≡◌, ◌≢◌, ◌↔◌, ◌<◌, ℕ, ◌+◌, ◌*◌, ◌≤◌, ◌++◌, Bool, false, List, [], true, length, take, drop, replicate, All, Option, Some, None};
+ghost use Rattle.std.specs.Prelude.{◌∷◌, ◌==◌, slice_index_or, ◌≡◌, ◌≢◌, ◌↔◌, ◌<◌, ℕ, ◌+◌, ◌*◌, ◌≤◌, ◌++◌, Bool, false};
+ghost use Rattle.std.specs.Prelude.{List, [], true, length, take, drop, replicate, All, Option, Some, None};
 ghost use Rattle.session_model.specs.Core.{core_header, IsPli, pli_of};
 ghost use Rattle.remainder.specs.Count.{count};
 ghost use Rattle.fcs_model.specs.Flips.{flipped};
@@ -15,7 +16,8 @@ ghost use Rattle.fcs_model.specs.Near.{near, IsNear, check_of};
 ghost use Rattle.crc32.specs.Crc32.{fcs_of};
 ghost use Rattle.fcs_model.specs.Fcs.{fcs_header, fcs_type_fault, fcs_area, delivery, fcs_outcome, frame_in};
 ghost use Rattle.flip_law.specs.Single.{IsOneOrTwo};
-ghost use Rattle.flip_law.specs.Flipped.{worked_frames, one_flip, fcs_stream, IsFrame, fcs_delivered, window, AreFew, clear};
+ghost use Rattle.flip_law.specs.Flipped.{worked_frames, one_flip, fcs_stream, IsFrame, fcs_delivered, window, AreFew};
+ghost use Rattle.flip_law.specs.Flipped.{clear};
 ghost use Rattle.session_model.specs.Scramble.{descrambled};
 ghost use Rattle.remainder.specs.Bits.{xors};
 

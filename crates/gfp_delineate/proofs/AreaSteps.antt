@@ -1,26 +1,25 @@
 -- More octets of an area in SYNC.
-use Rattle.std.proofs.Common.{◌≡◌, ℕ, ◌+◌, ◌-◌, ◌<◌, ◌≤◌, Bool, true, false, List, [], ◌∷◌, ◌++◌, length, take, drop}
-use Rattle.std.proofs.Common.{inl, inr, Some, sym, ◌∙◌, ap, subst, arith, append_assoc, length-append}
+use Rattle.std.proofs.Common.{◌≡◌, ℕ, ◌+◌, ◌-◌, ◌<◌, ◌≤◌, Bool, true, false, List, [], ◌∷◌, ◌++◌, length, drop}
+use Rattle.std.proofs.Common.{inl, inr, Option, Some, sym, ◌∙◌, ap, subst, arith, append_assoc, length-append}
 use Rattle.std.proofs.lemmas.List.{append-nil, drop-append-le, drop-drop}
 use Rattle.gfp_scramble.specs.Descrambler.{Descrambling, IsKnown, unknown, Continues, DescramblesTo}
 use Rattle.gfp_scramble.specs.Descrambler as descrambler
-use Rattle.session_model.specs.declared.Why.{Why}
 use Rattle.session_model.specs.Core.{head}
 use Rattle.session_model.specs.Scramble.{descrambled_octets}
 use Rattle.session_model.specs.Piece.{joined}
-use Rattle.session_model.specs.TypeHeader.{type_fault}
 use Rattle.session_model.specs.Run.{Run}
-use Rattle.session_model.specs.Outcome.{Outcome, dropping, outcome_by, outcome_of, outcomes}
 use Rattle.session_model.proofs.ScrambledOctets.{length-descrambled_octets}
 use Rattle.session_model.proofs.AreaLaws.{length-descrambled_single}
-use Rattle.gfp_delineate.specs.declared.Phase.{Phase}
-use Rattle.gfp_delineate.specs.declared.Phase.TheVariants.{SyncHeader, SyncArea, SyncPassing}
+use Rattle.gfp_delineate.specs.declared.areas.AreaWhy.{AreaWhy}
+use Rattle.gfp_delineate.specs.declared.areas.Phase.{Phase}
+use Rattle.gfp_delineate.specs.declared.areas.Phase.TheVariants.{SyncHeader, SyncArea, SyncPassing}
 use Rattle.gfp_delineate.specs.LeftOpen.{running, Leaves}
-use Rattle.gfp_delineate.specs.Receiver.{Progress, Follows, Headed, InSyncArea, InSyncPassing, IsIn}
+use Rattle.gfp_delineate.specs.Areas.{AreaEnd, keeping, passing, reader, ends, area_ends, Progress, Follows, Headed}
+use Rattle.gfp_delineate.specs.Areas.{InSyncArea, InSyncPassing, Adds}
 use Rattle.gfp_delineate.proofs.StandingLaws.{Becomes-area, Leaves-longer, Leaves-goes_on}
-use Rattle.gfp_delineate.proofs.Known.{outcomes_with, outcomes-area, nothing, window-none}
-use Rattle.gfp_delineate.proofs.Taking.{Takes, Adds, Taken, Takes-in}
-use Rattle.gfp_delineate.proofs.RunSteps.{to-header, to-area, to-passing, outcome_of-fitting, outcomes_with-push}
+use Rattle.gfp_delineate.proofs.Known.{ends_with, ends-area, nothing, window-none}
+use Rattle.gfp_delineate.proofs.Taking.{Takes, Taken, Takes-in, Adds-in}
+use Rattle.gfp_delineate.proofs.RunSteps.{to-header, to-area, to-passing, area_ends-fitting, ends_with-push}
 use Rattle.gfp_delineate.proofs.RunSteps.{joined-push}
 
 -- with another descrambler and another area
@@ -52,9 +51,10 @@ follows-more : (old : Progress) (first : Bool) (octets : List ℕ) (ended : List
     Follows (holding old phase next area) first (octets ++ more) ended settled before (header ++ (come ++ more))
     (come ++ more)
 follows-more old first octets ended settled before header come more phase next area run passes = record {
-  leaves = subst (λ last. Leaves head head first (octets ++ more) ended (running settled before last))
+  leaves = subst (λ last. Leaves head (reader old.corrects) first (octets ++ more) ended (running settled before last))
       (append_assoc header come more)
-      (Leaves-longer head head first octets ended (running settled before (header ++ come)) more run.leaves);
+      (Leaves-longer head (reader old.corrects) first octets ended (running settled before
+      (header ++ come)) more run.leaves);
   given = subst (λ all. descrambler.Stands next settled all) (append_assoc (joined before) come more)
       (passes settled (joined before ++ come) run.given);
   window = run.window;
@@ -62,27 +62,29 @@ follows-more old first octets ended settled before header come more phase next a
 
 -- a run whose area is whole
 follows-whole : (base : Progress) (first : Bool) (octets : List ℕ) (ended : List Run) (settled : Bool)
-    (before : List (List ℕ)) (header area : List ℕ) → Headed header area 0 →
+    (before : List (List ℕ)) (header area : List ℕ) → Headed (reader base.corrects) header area 0 →
     Follows base first octets ended settled before (header ++ area) area →
     Follows base first octets ended settled (before ++ area ∷ []) (drop (4 - 0) base.window) []
 follows-whole base first octets ended settled before header area headed run =
-    let found : head header ≡ Some (length area) = headed.found
+    let found : reader base.corrects header ≡ Some (length area) = headed.found
     ∙ ap (λ n. Some n) (let e : length area + 0 ≡ length area = omega arith in e) in
     record {
-      leaves = subst (λ last. Leaves head head first octets ended (running settled (before ++ area ∷ []) last))
+      leaves = subst (λ last. Leaves head (reader base.corrects) first octets ended (running settled
+          (before ++ area ∷ []) last))
           (sym (window-none base.window run.window))
-          (Leaves-goes_on head head first octets ended (running settled before (header ++ area))
+          (Leaves-goes_on head (reader base.corrects) first octets ended (running settled before (header ++ area))
           (running settled (before ++ area ∷ []) []) run.leaves
-          (Becomes-area head head settled before header area headed.size found));
+          (Becomes-area head (reader base.corrects) settled before header area headed.size found));
       given = subst (λ all. descrambler.Stands base.descrambling settled all)
           (sym (joined-push before area) ∙ sym (append-nil (joined (before ++ area ∷ [])))) run.given;
       window = run.window;
     }
 
 -- a header with more octets of its area
-headed-more : (header come more : List ℕ) (left rest : ℕ) → length more + rest ≡ left → Headed header come left →
-    Headed header (come ++ more) rest
-headed-more header come more left rest parts headed = record {
+headed-more : (read : List ℕ → Option ℕ) (header come more : List ℕ) (left rest : ℕ) → length more + rest ≡ left →
+    Headed read header come left →
+    Headed read header (come ++ more) rest
+headed-more read header come more left rest parts headed = record {
   size = headed.size;
   found = headed.found ∙ ap (λ n. Some n)
       (let e : length come + left ≡ length (come ++ more) + rest = omega (arith, length-append come more, parts) in e);
@@ -90,36 +92,42 @@ headed-more header come more left rest parts headed = record {
 
 -- an area goes on, whatever its octets are
 area-goes_on : (old : Progress) (longest : ℕ) (first : Bool) (octets more : List ℕ) (left : ℕ) (ended : List Run)
-    (settled : Bool) (before : List (List ℕ)) (header come : List ℕ) → length more < left → Headed header come left →
+    (settled : Bool) (before : List (List ℕ)) (header come : List ℕ) → length more < left → Headed
+    (reader old.corrects) header come left →
     Follows old first octets ended settled before (header ++ come) come →
-    outcomes longest first (octets ++ more) ≡ outcomes longest first octets ++ []
+    ends longest old.corrects first (octets ++ more) ≡ ends longest old.corrects first octets ++ []
 area-goes_on old longest first octets more left ended settled before header come few headed run =
-    nothing longest first octets more (outcomes_with longest ended settled before)
-    (outcomes-area longest first octets ended settled before header come left headed (omega (arith, few)) run.leaves)
-    (outcomes-area longest first (octets ++ more) ended settled before header (come ++ more) (left - length more)
-    (headed-more header come more left (left - length more) (omega (arith, few)) headed) (omega (arith, few))
-    (subst (λ last. Leaves head head first (octets ++ more) ended (running settled before last))
+    nothing longest old.corrects first octets more (ends_with longest ended settled before)
+    (ends-area longest old.corrects first octets ended settled before header come left headed (omega
+    (arith, few)) run.leaves)
+    (ends-area longest old.corrects first (octets ++ more) ended settled before header (come ++ more)
+    (left - length more)
+    (headed-more (reader old.corrects) header come more left (left - length more) (omega (arith, few)) headed) (omega
+    (arith, few))
+    (subst (λ last. Leaves head (reader old.corrects) first (octets ++ more) ended (running settled before last))
     (append_assoc header come more)
-    (Leaves-longer head head first octets ended (running settled before (header ++ come)) more run.leaves)))
+    (Leaves-longer head (reader old.corrects) first octets ended (running settled before
+    (header ++ come)) more run.leaves)))
 
 module _ (old : Progress) (longest : ℕ) (first : Bool) (octets more : List ℕ) (limit : old.longest ≡ longest) (left : ℕ)
     (next : Descrambling) where
   -- an area is whole, whatever comes of it
   whole-area : (area : List ℕ) (ended : List Run) (settled : Bool) (before : List (List ℕ)) (header come : List ℕ)
-      (told : List Outcome) → length more ≡ left → 0 < left → Headed header come left →
+      (told : List AreaEnd) → length more ≡ left → 0 < left → Headed (reader old.corrects) header come left →
       Follows old first octets ended settled before (header ++ come) come → Continues old.descrambling next more →
-      outcome_of longest settled (length (joined before))
+      area_ends longest settled (length (joined before))
       (drop (length (joined before)) (descrambled_octets (joined before ++ (come ++ more)))) ≡ told →
-      Taken (holding old (SyncHeader 0) next area) longest first octets more told
+      Taken (holding old (SyncHeader 0) next area) longest old.corrects first octets more told
   whole-area area ended settled before header come told all part headed run passes outcome =
       let whole : List ℕ = come ++ more in
       let base : Progress = holding old (SyncHeader 0) next area in
       to-header base longest first octets more limit ended settled (before ++ whole ∷ []) told
-      (ap (λ l. l ++ told) (outcomes-area longest first octets ended settled before header come left headed part
-      run.leaves) ∙ outcomes_with-push longest ended settled before whole told outcome)
+      (ap (λ l. l ++ told)
+      (ends-area longest old.corrects first octets ended settled before header come left headed part
+      run.leaves) ∙ ends_with-push longest ended settled before whole told outcome)
       0 (omega arith)
       (follows-whole base first (octets ++ more) ended settled before header whole
-      (headed-more header come more left 0 (omega (arith, all)) headed)
+      (headed-more (reader old.corrects) header come more left 0 (omega (arith, all)) headed)
       (follows-more old first octets ended settled before header come more (SyncHeader 0) next area run passes))
 
   -- ---- an area that is kept
@@ -141,16 +149,18 @@ module _ (old : Progress) (longest : ℕ) (first : Bool) (octets more : List ℕ
         ∙ ap (λ l. drop (length before) (descrambled_octets l)) (append_assoc before is.come more)
 
     keep-part : length more < left →
-        Taken (holding old (SyncArea (left - length more)) next (old.area ++ plain)) longest first octets more []
+        Taken (holding old (SyncArea (left - length more)) next
+        (old.area ++ plain)) longest old.corrects first octets more []
     keep-part few =
         let come : List ℕ = is.come ++ more in
         to-area (holding old (SyncArea (left - length more)) next (old.area ++ plain)) longest first octets more limit
         is.ended is.settled is.before []
-        (append-nil (outcomes longest first octets)
-        ∙ outcomes-area longest first octets is.ended is.settled is.before is.header is.come left is.headed is.part
-        is.run.leaves)
+        (append-nil (ends longest old.corrects first octets)
+        ∙ ends-area longest old.corrects first octets is.ended is.settled is.before is.header is.come left
+        is.headed is.part is.run.leaves)
         is.header come (left - length more)
-        (headed-more is.header is.come more left (left - length more) (omega (arith, few)) is.headed)
+        (headed-more (reader old.corrects) is.header is.come more left (left - length more) (omega
+        (arith, few)) is.headed)
         (omega (arith, few))
         (omega (arith, is.fits, few, length-append is.come more))
         (follows-more old first octets is.ended is.settled is.before is.header is.come more
@@ -159,70 +169,75 @@ module _ (old : Progress) (longest : ℕ) (first : Bool) (octets more : List ℕ
 
     -- what comes of it
     kept-outcome : length more ≡ left →
-        outcome_of longest is.settled (length (joined is.before))
+        area_ends longest is.settled (length (joined is.before))
         (drop (length (joined is.before)) (descrambled_octets (joined is.before ++ (is.come ++ more))))
-        ≡ outcome_by (type_fault (take 4 (old.area ++ plain))) (old.area ++ plain) ∷ []
+        ≡ keeping (old.area ++ plain) ∷ []
     kept-outcome all =
         let area : List ℕ = old.area ++ plain in
         let whole : List ℕ = is.come ++ more in
         let size : length area ≡ length whole = ap length kept-more
         ∙ length-descrambled_single (joined is.before) whole in
-        ap (outcome_of longest is.settled (length (joined is.before))) (sym kept-more)
-        ∙ outcome_of-fitting longest (length (joined is.before)) is.settled area is.known
+        ap (area_ends longest is.settled (length (joined is.before))) (sym kept-more)
+        ∙ area_ends-fitting longest (length (joined is.before)) is.settled area is.known
         (omega (arith, size, length-append is.come more, is.part, all))
         (omega (arith, size, length-append is.come more, is.fits, is.part, all, limit))
 
-    keep-whole : (area : List ℕ) (told : List Outcome) → length more ≡ left →
-        outcome_by (type_fault (take 4 (old.area ++ plain))) (old.area ++ plain) ∷ [] ≡ told →
-        Taken (holding old (SyncHeader 0) next area) longest first octets more told
+    keep-whole : (area : List ℕ) (told : List AreaEnd) → length more ≡ left →
+        keeping (old.area ++ plain) ∷ [] ≡ told →
+        Taken (holding old (SyncHeader 0) next area) longest old.corrects first octets more told
     keep-whole area told all outcome =
         whole-area area is.ended is.settled is.before is.header is.come told all is.part is.headed is.run
         descrambles.stands (kept-outcome all ∙ outcome)
 
   -- ---- an area that is dropped
-  module _ (why : Why) (is : InSyncPassing left why old first octets) (passes : Continues old.descrambling next more)
+  module _ (why : AreaWhy) (is : InSyncPassing left why old first octets)
+      (passes : Continues old.descrambling next more)
     where
       pass-part : length more < left →
-          Taken (holding old (SyncPassing (left - length more) why) next old.area) longest first octets more []
+          Taken (holding old (SyncPassing
+          (left - length more) why) next old.area) longest old.corrects first octets more []
       pass-part few =
           let come : List ℕ = is.come ++ more in
           to-passing (holding old (SyncPassing (left - length more) why) next old.area) longest first octets more limit
           is.ended is.settled is.before []
-          (append-nil (outcomes longest first octets)
-          ∙ outcomes-area longest first octets is.ended is.settled is.before is.header is.come left is.headed is.part
-          is.run.leaves)
+          (append-nil (ends longest old.corrects first octets)
+          ∙ ends-area longest old.corrects first octets is.ended is.settled is.before is.header is.come left
+          is.headed is.part is.run.leaves)
           is.header come (left - length more) why
-          (headed-more is.header is.come more left (left - length more) (omega (arith, few)) is.headed)
+          (headed-more (reader old.corrects) is.header is.come more left (left - length more) (omega
+          (arith, few)) is.headed)
           (omega (arith, few))
           (follows-more old first octets is.ended is.settled is.before is.header is.come more
           (SyncPassing (left - length more) why) next old.area is.run passes)
           (λ area size. is.dropped area (omega (arith, size, few, length-append is.come more)))
 
       pass-whole : length more ≡ left →
-          Taken (holding old (SyncHeader 0) next old.area) longest first octets more (dropping why ∷ [])
+          Taken (holding old (SyncHeader 0) next old.area) longest old.corrects first octets more (passing why ∷ [])
       pass-whole all =
           let whole : List ℕ = is.come ++ more in
           let area : List ℕ = drop (length (joined is.before)) (descrambled_octets (joined is.before ++ whole)) in
           let size : length area ≡ length is.come + left =
           omega (arith, length-descrambled_single (joined is.before) whole, length-append is.come more, all) in
-          whole-area old.area is.ended is.settled is.before is.header is.come (dropping why ∷ []) all is.part is.headed
+          whole-area old.area is.ended is.settled is.before is.header is.come (passing why ∷ []) all is.part is.headed
           is.run passes
-          (ap (λ most. outcome_of most is.settled (length (joined is.before)) area) (sym limit) ∙ is.dropped area size)
+          (ap (λ most. area_ends most is.settled (length (joined is.before)) area) (sym limit) ∙ is.dropped area size)
 
 -- ---- the same for all octets that may have come
 module _ (old : Progress) (more : List ℕ) (left : ℕ) where
   -- those that leave some of the area bring nothing
   pub Adds-area : length more < left → old.phase ≡ SyncArea left → Adds old more []
-  Adds-area few was = λ longest first octets at.
-      let is : InSyncArea left old first octets = subst (λ phase. IsIn phase old first octets) was at.phase in
+  Adds-area few was =
+      Adds-in old more [] (SyncArea left) was
+      (λ longest first octets is.
       area-goes_on old longest first octets more left is.ended is.settled is.before is.header is.come few is.headed
-      is.run
+      is.run)
 
-  pub Adds-passing : (why : Why) → length more < left → old.phase ≡ SyncPassing left why → Adds old more []
-  Adds-passing why few was = λ longest first octets at.
-      let is : InSyncPassing left why old first octets = subst (λ phase. IsIn phase old first octets) was at.phase in
+  pub Adds-passing : (why : AreaWhy) → length more < left → old.phase ≡ SyncPassing left why → Adds old more []
+  Adds-passing why few was =
+      Adds-in old more [] (SyncPassing left why) was
+      (λ longest first octets is.
       area-goes_on old longest first octets more left is.ended is.settled is.before is.header is.come few is.headed
-      is.run
+      is.run)
 
   module _ (next : Descrambling) (plain : List ℕ) (was : old.phase ≡ SyncArea left)
       (descrambles : Descrambles old.descrambling next more plain) where
@@ -233,15 +248,15 @@ module _ (old : Progress) (more : List ℕ) (left : ℕ) where
         (λ longest first octets limit is. keep-part old longest first octets more limit left next plain is descrambles
         few)
 
-    pub Takes-keep-whole : (told : List Outcome) → length more ≡ left →
-        outcome_by (type_fault (take 4 (old.area ++ plain))) (old.area ++ plain) ∷ [] ≡ told →
+    pub Takes-keep-whole : (told : List AreaEnd) → length more ≡ left →
+        keeping (old.area ++ plain) ∷ [] ≡ told →
         Takes old (holding old (SyncHeader 0) next (old.area ++ plain)) more told
     Takes-keep-whole told all outcome =
         Takes-in old (holding old (SyncHeader 0) next (old.area ++ plain)) more told (SyncArea left) was
         (λ longest first octets limit is. keep-whole old longest first octets more limit left next plain is descrambles
         (old.area ++ plain) told all outcome)
 
-  module _ (next : Descrambling) (why : Why) (was : old.phase ≡ SyncPassing left why)
+  module _ (next : Descrambling) (why : AreaWhy) (was : old.phase ≡ SyncPassing left why)
       (passes : Continues old.descrambling next more) where
     pub Takes-pass-part : length more < left →
         Takes old (holding old (SyncPassing (left - length more) why) next old.area) more []
@@ -251,7 +266,7 @@ module _ (old : Progress) (more : List ℕ) (left : ℕ) where
         (λ longest first octets limit is. pass-part old longest first octets more limit left next why is passes few)
 
     pub Takes-pass-whole : length more ≡ left →
-        Takes old (holding old (SyncHeader 0) next old.area) more (dropping why ∷ [])
+        Takes old (holding old (SyncHeader 0) next old.area) more (passing why ∷ [])
     Takes-pass-whole all =
-        Takes-in old (holding old (SyncHeader 0) next old.area) more (dropping why ∷ []) (SyncPassing left why) was
+        Takes-in old (holding old (SyncHeader 0) next old.area) more (passing why ∷ []) (SyncPassing left why) was
         (λ longest first octets limit is. pass-whole old longest first octets more limit left next why is passes all)

@@ -9,7 +9,8 @@ use Rattle.session_model.specs.Outcome.{delivery}
 use Rattle.session_model.specs.Delivery.{frame_in}
 use Rattle.gfp_delineate.specs.declared.Step.{Step}
 use Rattle.gfp_delineate.specs.declared.Step.TheVariants.{Nothing, Frame, Dropped}
-use Rattle.gfp_delineate.specs.Receiver.{Progress, Receiver, frame_of, outcomes_told, told_outcomes}
+use Rattle.gfp_delineate.specs.Areas.{Progress}
+use Rattle.gfp_delineate.specs.Receiver.{Receiver, frame_of, outcomes_told, told_outcomes}
 
 -- the frames that an answer tells
 abbrev pub told : Receiver → Step → List (List ℕ)

@@ -6,19 +6,19 @@ use Rattle.std.specs.Prelude.{◌⊎◌}
 use Rattle.std.proofs.lemmas.List.{append-nil}
 use Rattle.gfp_scramble.specs.Descrambler.{Descrambling}
 use Rattle.gfp_scramble.specs.Descrambler as descrambler
-use Rattle.session_model.specs.declared.Why.TheVariants.{Unsettled, TooLong}
+use Rattle.gfp_delineate.specs.declared.areas.AreaWhy.TheVariants.{Unsettled, TooLong}
 use Rattle.session_model.specs.Core.{head}
 use Rattle.session_model.specs.Piece.{joined}
 use Rattle.session_model.specs.Run.{Run}
-use Rattle.session_model.specs.Outcome.{client_outcome, outcomes}
 use Rattle.session_model.proofs.CoreLaws.{head-core_header}
-use Rattle.gfp_delineate.specs.declared.Phase.TheVariants.{Hunt, PresyncHeader, SyncHeader, SyncArea, SyncPassing}
+use Rattle.gfp_delineate.specs.declared.areas.Phase.TheVariants.{Hunt, PresyncHeader, SyncHeader, SyncArea, SyncPassing}
 use Rattle.gfp_delineate.specs.LeftOpen.{searching, running, Leaves}
-use Rattle.gfp_delineate.specs.Receiver.{Progress, InPresyncHeader, InSyncHeader}
+use Rattle.gfp_delineate.specs.Areas.{end_of, reader, ends, Progress, InPresyncHeader, InSyncHeader}
+use Rattle.gfp_delineate.proofs.ReaderLaws.{reader-head}
 use Rattle.gfp_delineate.proofs.StandingLaws.{Becomes-refused, Becomes-confirmed, Becomes-lost, Leaves-longer}
 use Rattle.gfp_delineate.proofs.StandingLaws.{Leaves-becomes, Leaves-goes_on}
 use Rattle.gfp_delineate.proofs.OutcomeLaws.{run_outcomes-none, outcomes_of-push}
-use Rattle.gfp_delineate.proofs.Known.{outcomes_of, outcomes_with, outcomes-presync, outcomes-header, length-shifted}
+use Rattle.gfp_delineate.proofs.Known.{ends_of, ends_with, ends-presync, ends-header, length-shifted}
 use Rattle.gfp_delineate.proofs.Known.{window-few, window-none}
 use Rattle.gfp_delineate.proofs.Taking.{Takes, Taken, Takes-in, Takes-none, Takes-then}
 use Rattle.session_model.proofs.IdleLaws.{idle_header, idles, core_header-idle, idles-suc}
@@ -35,38 +35,43 @@ pub record Heads (old : Progress) (longest : ℕ) (first : Bool) (octets more wi
   pub ended : List Run
   pub settled : Bool
   pub before : List (List ℕ)
-  pub was : outcomes longest first octets ≡ outcomes_with longest ended settled before
+  pub was : ends longest old.corrects first octets ≡ ends_with longest ended settled before
   pub four : length window ≡ 4
-  pub leaves : Leaves head head first (octets ++ more) ended (running settled before window)
+  pub leaves : Leaves head (reader old.corrects) first (octets ++ more) ended (running settled before window)
   pub given : descrambler.Stands old.descrambling settled (joined before ++ [])
 
 module _ (old : Progress) (longest : ℕ) (first : Bool) (octets : List ℕ) (octet : ℕ)
     (limit : old.longest ≡ longest) where
   -- a search begins anew
-  lost-by : (ended : List Run) (forgot : Descrambling) → outcomes longest first octets ≡ outcomes_of longest ended →
+  lost-by : (ended : List Run) (forgot : Descrambling) →
+      ends longest old.corrects first octets ≡ ends_of longest ended →
       length (drop 1 old.window ++ octet ∷ []) ≡ 4 →
-      Leaves head head first (octets ++ octet ∷ []) ended (searching false (drop 1 (drop 1 old.window ++ octet ∷ []))) →
-      descrambler.Stands forgot false [] → Taken (lost old octet forgot) longest first octets (octet ∷ []) []
+      Leaves head (reader old.corrects) first (octets ++ octet ∷ []) ended (searching false (drop 1
+      (drop 1 old.window ++ octet ∷ []))) →
+      descrambler.Stands forgot false [] → Taken (lost old octet forgot) longest old.corrects first octets
+      (octet ∷ []) []
   lost-by ended forgot was four leaves given =
       to-hunt (lost old octet forgot) longest first octets (octet ∷ []) limit ended false was 3 (omega arith)
       (record { leaves = leaves; given = given; window = four })
 
   -- PRESYNC
   module _ (is : InPresyncHeader 3 old first octets) where
-    presync-leaves : Leaves head head first (octets ++ octet ∷ []) is.ended
+    presync-leaves : Leaves head (reader old.corrects) first (octets ++ octet ∷ []) is.ended
         (searching is.settled (is.header ++ (is.come ++ (drop 1 old.window ++ octet ∷ []))))
     presync-leaves =
         let last : List ℕ = drop (4 - 3) old.window in
-        subst (λ last. Leaves head head first (octets ++ octet ∷ []) is.ended (searching is.settled last))
+        subst (λ last. Leaves head (reader old.corrects) first (octets ++ octet ∷ []) is.ended
+        (searching is.settled last))
         (append_assoc is.header (is.come ++ last) (octet ∷ [])
         ∙ ap (λ l. is.header ++ l) (append_assoc is.come last (octet ∷ [])))
-        (Leaves-longer head head first octets is.ended (searching is.settled (is.header ++ (is.come ++ last)))
+        (Leaves-longer head (reader old.corrects) first octets is.ended (searching is.settled (is.header ++
+        (is.come ++ last)))
         (octet ∷ []) is.search.leaves)
 
-    presync-was : outcomes longest first octets ≡ outcomes_of longest is.ended
+    presync-was : ends longest old.corrects first octets ≡ ends_of longest is.ended
     presync-was =
         let last : List ℕ = drop (4 - 3) old.window in
-        outcomes-presync old longest first octets is.ended is.settled is.header (is.come ++ last)
+        ends-presync old longest first octets is.ended is.settled is.header (is.come ++ last)
         (length is.come + 0) is.headed.size is.headed.found
         (omega (arith, length-append is.come last, length-drop (4 - 3) old.window, is.search.window)) is.search
 
@@ -74,14 +79,16 @@ module _ (old : Progress) (longest : ℕ) (first : Bool) (octets : List ℕ) (oc
     presync-found = is.headed.found ∙ ap (λ n. Some n) (let e : length is.come + 0 ≡ length is.come = omega arith in e)
 
     confirm-lost : (forgot : Descrambling) → head (drop 1 old.window ++ octet ∷ []) ≡ None →
-        descrambler.Stands forgot false [] → Taken (lost old octet forgot) longest first octets (octet ∷ []) []
+        descrambler.Stands forgot false [] → Taken (lost old octet forgot) longest old.corrects first octets
+        (octet ∷ []) []
     confirm-lost forgot none given =
         let window : List ℕ = drop 1 old.window ++ octet ∷ [] in
         let four = length-shifted old.window is.search.window octet in
         lost-by is.ended forgot presync-was four
-        (Leaves-goes_on head head first (octets ++ octet ∷ []) is.ended
+        (Leaves-goes_on head (reader old.corrects) first (octets ++ octet ∷ []) is.ended
         (searching is.settled (is.header ++ (is.come ++ window))) (searching false (drop 1 window)) presync-leaves
-        (Becomes-refused head head is.header is.come window is.headed.size is.settled presync-found four none))
+        (Becomes-refused head
+        (reader old.corrects) is.header is.come window is.headed.size is.settled presync-found four none))
         given
 
     confirm-found : (pli : ℕ) → head (drop 1 old.window ++ octet ∷ []) ≡ Some pli →
@@ -93,39 +100,43 @@ module _ (old : Progress) (longest : ℕ) (first : Bool) (octets : List ℕ) (oc
           ended = is.ended;
           settled = is.settled;
           before = [];
-          was = presync-was ∙ sym (append-nil (outcomes_of longest is.ended))
-              ∙ ap (λ l. outcomes_of longest is.ended ++ l)
-              (sym (run_outcomes-none (client_outcome longest) is.settled));
+          was = presync-was ∙ sym (append-nil (ends_of longest is.ended))
+              ∙ ap (λ l. ends_of longest is.ended ++ l)
+              (sym (run_outcomes-none (end_of longest) is.settled));
           four = four;
-          leaves = Leaves-goes_on head head first (octets ++ octet ∷ []) is.ended
+          leaves = Leaves-goes_on head (reader old.corrects) first (octets ++ octet ∷ []) is.ended
               (searching is.settled (is.header ++ (is.come ++ window))) (running is.settled [] window) presync-leaves
-              (Becomes-confirmed head head is.header is.come window is.headed.size is.settled pli presync-found four
+              (Becomes-confirmed head
+              (reader old.corrects) is.header is.come window is.headed.size is.settled pli presync-found four
               found);
           given = is.search.given;
         }
 
   -- SYNC
   module _ (is : InSyncHeader 3 old first octets) where
-    sync-leaves : Leaves head head first (octets ++ octet ∷ []) is.ended
+    sync-leaves : Leaves head (reader old.corrects) first (octets ++ octet ∷ []) is.ended
         (running is.settled is.before (drop 1 old.window ++ octet ∷ []))
-    sync-leaves = Leaves-longer head head first octets is.ended (running is.settled is.before (drop (4 - 3) old.window))
-        (octet ∷ []) is.run.leaves
+    sync-leaves =
+        Leaves-longer head (reader old.corrects) first octets is.ended
+        (running is.settled is.before (drop (4 - 3) old.window)) (octet ∷ []) is.run.leaves
 
-    sync-was : outcomes longest first octets ≡ outcomes_with longest is.ended is.settled is.before
-    sync-was = outcomes-header longest first octets is.ended is.settled is.before (drop (4 - 3) old.window)
+    sync-was : ends longest old.corrects first octets ≡ ends_with longest is.ended is.settled is.before
+    sync-was = ends-header longest old.corrects first octets is.ended is.settled is.before (drop (4 - 3) old.window)
         (window-few old.window is.run.window 3 is.part) is.run.leaves
 
-    follow-lost : (forgot : Descrambling) → head (drop 1 old.window ++ octet ∷ []) ≡ None →
-        descrambler.Stands forgot false [] → Taken (lost old octet forgot) longest first octets (octet ∷ []) []
+    follow-lost : (forgot : Descrambling) → reader old.corrects (drop 1 old.window ++ octet ∷ []) ≡ None →
+        descrambler.Stands forgot false [] → Taken (lost old octet forgot) longest old.corrects first octets
+        (octet ∷ []) []
     follow-lost forgot none given =
         let window : List ℕ = drop 1 old.window ++ octet ∷ [] in
         let four = length-shifted old.window is.run.window octet in
         let run : Run = record { settled = is.settled; areas = is.before } in
-        lost-by (is.ended ++ run ∷ []) forgot (sync-was ∙ sym (outcomes_of-push (client_outcome longest) is.ended run))
+        lost-by (is.ended ++ run ∷ []) forgot (sync-was ∙ sym (outcomes_of-push (end_of longest) is.ended run))
         four
-        (Leaves-becomes head head first (octets ++ octet ∷ []) is.ended (run ∷ []) (running is.settled is.before window)
+        (Leaves-becomes head (reader old.corrects) first (octets ++ octet ∷ []) is.ended (run ∷ [])
+        (running is.settled is.before window)
         (searching false (drop 1 window)) sync-leaves
-        (Becomes-lost head head is.settled is.before window four none))
+        (Becomes-lost head (reader old.corrects) is.settled is.before window four none))
         given
 
     follow-found : Heads old longest first octets (octet ∷ []) (drop 1 old.window ++ octet ∷ [])
@@ -140,74 +151,86 @@ module _ (old : Progress) (longest : ℕ) (first : Bool) (octets : List ℕ) (oc
     }
 
 -- ---- the same for all octets that may have come, where the fourth octet of a header is the next
-module _ (old : Progress) (octet : ℕ) (place : (old.phase ≡ PresyncHeader 3) ⊎ (old.phase ≡ SyncHeader 3)) where
-  takes-by : (new : Progress) →
-      ((longest : ℕ) (first : Bool) (octets : List ℕ) → old.longest ≡ longest → InPresyncHeader 3 old first octets →
-      Taken new longest first octets (octet ∷ []) []) →
-      ((longest : ℕ) (first : Bool) (octets : List ℕ) → old.longest ≡ longest → InSyncHeader 3 old first octets →
-      Taken new longest first octets (octet ∷ []) []) →
-      Takes old new (octet ∷ []) []
-  takes-by new presync sync = elim place [
-    | inl was ↦ Takes-in old new (octet ∷ []) [] (PresyncHeader 3) was presync
-    | inr was ↦ Takes-in old new (octet ∷ []) [] (SyncHeader 3) was sync
-  ]
-
+module _ (old : Progress) (octet : ℕ) (corrects : Bool)
+    (place : ((old.phase ≡ PresyncHeader 3) × (corrects ≡ false))
+    ⊎ ((old.phase ≡ SyncHeader 3) × (corrects ≡ old.corrects))) where
   -- it is none
-  pub Takes-lost : (forgot : Descrambling) → head (drop 1 old.window ++ octet ∷ []) ≡ None →
+  pub Takes-lost : (forgot : Descrambling) → reader corrects (drop 1 old.window ++ octet ∷ []) ≡ None →
       descrambler.Stands forgot false [] → Takes old (lost old octet forgot) (octet ∷ []) []
   Takes-lost forgot none given =
-      takes-by (lost old octet forgot)
-      (λ longest first octets limit is. confirm-lost old longest first octets octet limit is forgot none given)
-      (λ longest first octets limit is. follow-lost old longest first octets octet limit is forgot none given)
+      let here : Bool → Type 0 = λ corrects. reader corrects (drop 1 old.window ++ octet ∷ []) ≡ None in
+      elim place [
+        | inl was ↦ Takes-in old (lost old octet forgot) (octet ∷ []) [] (PresyncHeader 3) was.0
+            (λ longest first octets limit is.
+            confirm-lost old longest first octets octet limit is forgot (subst here was.1 none) given)
+        | inr was ↦ Takes-in old (lost old octet forgot) (octet ∷ []) [] (SyncHeader 3) was.0
+            (λ longest first octets limit is.
+            follow-lost old longest first octets octet limit is forgot (subst here was.1 none) given)
+      ]
 
-  -- it is one
-  takes-found : (new : Progress) (pli : ℕ) → head (drop 1 old.window ++ octet ∷ []) ≡ Some pli →
-      ((longest : ℕ) (first : Bool) (octets : List ℕ) → old.longest ≡ longest →
-      Heads old longest first octets (octet ∷ []) (drop 1 old.window ++ octet ∷ []) →
-      Taken new longest first octets (octet ∷ []) []) →
-      Takes old new (octet ∷ []) []
-  takes-found new pli found taken =
-      takes-by new (λ longest first octets limit is. taken longest first octets limit
-      (confirm-found old longest first octets octet limit is pli found))
-      (λ longest first octets limit is. taken longest first octets limit
-      (follow-found old longest first octets octet limit is))
+  -- it is one, and in SYNC it is the same one
+  module _ (pli : ℕ) (found : reader corrects (drop 1 old.window ++ octet ∷ []) ≡ Some pli) where
+    abbrev here : Bool → Type 0
+    here corrects = reader corrects (drop 1 old.window ++ octet ∷ []) ≡ Some pli
 
-  pub Takes-idle : head (drop 1 old.window ++ octet ∷ []) ≡ Some 0 →
+    found-follow : here old.corrects
+    found-follow = elim place [
+      | inl was ↦ reader-head old.corrects (drop 1 old.window ++ octet ∷ []) pli (subst here was.1 found)
+      | inr was ↦ subst here was.1 found
+    ]
+
+    takes-found : (new : Progress) →
+        ((longest : ℕ) (first : Bool) (octets : List ℕ) → old.longest ≡ longest →
+        Heads old longest first octets (octet ∷ []) (drop 1 old.window ++ octet ∷ []) →
+        Taken new longest old.corrects first octets (octet ∷ []) []) →
+        Takes old new (octet ∷ []) []
+    takes-found new taken = elim place [
+      | inl was ↦ Takes-in old new (octet ∷ []) [] (PresyncHeader 3) was.0
+          (λ longest first octets limit is. taken longest first octets limit
+          (confirm-found old longest first octets octet limit is pli (subst here was.1 found)))
+      | inr was ↦ Takes-in old new (octet ∷ []) [] (SyncHeader 3) was.0
+          (λ longest first octets limit is. taken longest first octets limit
+          (follow-found old longest first octets octet limit is))
+    ]
+
+  pub Takes-idle : reader corrects (drop 1 old.window ++ octet ∷ []) ≡ Some 0 →
       Takes old (followed old (drop 1 old.window ++ octet ∷ []) (SyncHeader 0)) (octet ∷ []) []
   Takes-idle found =
       let window : List ℕ = drop 1 old.window ++ octet ∷ [] in
-      takes-found (followed old window (SyncHeader 0)) 0 found
+      takes-found 0 found (followed old window (SyncHeader 0))
       (λ longest first octets limit is. followed-idle old longest first octets
       (octet ∷ []) limit is.ended is.settled is.before window is.was is.four is.leaves is.given window [] is.four
-      found)
+      (found-follow 0 found))
 
-  module _ (pli : ℕ) (found : head (drop 1 old.window ++ octet ∷ []) ≡ Some pli) where
+  module _ (pli : ℕ) (found : reader corrects (drop 1 old.window ++ octet ∷ []) ≡ Some pli) where
     pub Takes-unknown : 0 < pli → Knows false old.descrambling →
         Takes old (followed old (drop 1 old.window ++ octet ∷ []) (SyncPassing pli Unsettled)) (octet ∷ []) []
     Takes-unknown some knows =
         let window : List ℕ = drop 1 old.window ++ octet ∷ [] in
-        takes-found (followed old window (SyncPassing pli Unsettled)) pli found
+        takes-found pli found (followed old window (SyncPassing pli Unsettled))
         (λ longest first octets limit is. followed-unknown old longest first octets
-        (octet ∷ []) limit is.ended is.settled is.before window is.was is.four is.leaves is.given pli some found
+        (octet ∷ []) limit is.ended is.settled is.before window is.was is.four is.leaves is.given pli some
+        (found-follow pli found)
         knows)
 
-    pub Takes-long : old.longest + 4 < pli → Knows true old.descrambling →
+    pub Takes-long : old.longest < pli → Knows true old.descrambling →
         Takes old (followed old (drop 1 old.window ++ octet ∷ []) (SyncPassing pli (TooLong pli))) (octet ∷ []) []
     Takes-long long knows =
         let window : List ℕ = drop 1 old.window ++ octet ∷ [] in
-        takes-found (followed old window (SyncPassing pli (TooLong pli))) pli found
+        takes-found pli found (followed old window (SyncPassing pli (TooLong pli)))
         (λ longest first octets limit is. followed-long old longest first octets
-        (octet ∷ []) limit is.ended is.settled is.before window is.was is.four is.leaves is.given pli long found
+        (octet ∷ []) limit is.ended is.settled is.before window is.was is.four is.leaves is.given pli long
+        (found-follow pli found)
         knows)
 
-    pub Takes-kept : 0 < pli → pli ≤ old.longest + 4 → Knows true old.descrambling →
+    pub Takes-kept : 0 < pli → pli ≤ old.longest → Knows true old.descrambling →
         Takes old (followed old (drop 1 old.window ++ octet ∷ []) (SyncArea pli)) (octet ∷ []) []
     Takes-kept some fits knows =
         let window : List ℕ = drop 1 old.window ++ octet ∷ [] in
-        takes-found (followed old window (SyncArea pli)) pli found
+        takes-found pli found (followed old window (SyncArea pli))
         (λ longest first octets limit is. followed-kept old longest first octets
         (octet ∷ []) limit is.ended is.settled is.before window is.was is.four is.leaves is.given pli some fits
-        found knows)
+        (found-follow pli found) knows)
 
 -- ---- more octets of headers in SYNC
 -- three octets of one
@@ -224,19 +247,21 @@ Takes-three old a b c was =
 -- headers of idles
 module _ (old : Progress) (was : old.phase ≡ SyncHeader 0) where
   one-idle : (longest : ℕ) (first : Bool) (octets : List ℕ) → old.longest ≡ longest → InSyncHeader 0 old first octets →
-      Taken (in_phase old (SyncHeader 0)) longest first octets idle_header []
+      Taken (in_phase old (SyncHeader 0)) longest old.corrects first octets idle_header []
   one-idle longest first octets limit is =
       let last : List ℕ = drop (4 - 0) old.window in
       let none : last ≡ [] = window-none old.window is.run.window in
       followed-idle old longest first octets idle_header limit is.ended is.settled is.before idle_header
-      (outcomes-header longest first octets is.ended is.settled is.before last
+      (ends-header longest old.corrects first octets is.ended is.settled is.before last
       (window-few old.window is.run.window 0 is.part) is.run.leaves)
       refl
-      (subst (λ l. Leaves head head first (octets ++ idle_header) is.ended
+      (subst (λ l. Leaves head (reader old.corrects) first (octets ++ idle_header) is.ended
       (running is.settled is.before (l ++ idle_header))) none
-      (Leaves-longer head head first octets is.ended (running is.settled is.before last) idle_header is.run.leaves))
+      (Leaves-longer head (reader old.corrects) first octets is.ended
+      (running is.settled is.before last) idle_header is.run.leaves))
       is.run.given old.window old.area is.run.window
-      (ap head (sym core_header-idle) ∙ head-core_header 0 (omega arith, inl refl))
+      (reader-head old.corrects idle_header 0
+      (ap head (sym core_header-idle) ∙ head-core_header 0 (omega arith, inl refl)))
 
   takes-one : Takes old old idle_header []
   takes-one =

@@ -3,15 +3,15 @@ use Rattle.std.proofs.Common.{◌≡◌, ℕ, zero, suc, ◌-◌, ◌<◌, List,
 use Rattle.std.proofs.Common.{arith}
 use Rattle.std.proofs.lemmas.List.{append-nil, take-append-drop}
 use Rattle.session_model.specs.Core.{head}
-use Rattle.session_model.specs.Outcome.{outcomes}
 use Rattle.session_model.proofs.CoreLaws.{head-core_header}
 use Rattle.session_model.proofs.IdleLaws.{idle_header, core_header-idle}
-use Rattle.gfp_delineate.specs.declared.Phase.TheVariants.{SyncHeader}
+use Rattle.gfp_delineate.specs.declared.areas.Phase.TheVariants.{SyncHeader}
 use Rattle.gfp_delineate.specs.LeftOpen.{running, Leaves}
-use Rattle.gfp_delineate.specs.Receiver.{Progress}
+use Rattle.gfp_delineate.specs.Areas.{reader, ends, Progress}
 use Rattle.gfp_delineate.specs.Repeated.{repeated, idles_from}
+use Rattle.gfp_delineate.proofs.ReaderLaws.{reader-head}
 use Rattle.gfp_delineate.proofs.StandingLaws.{Leaves-longer}
-use Rattle.gfp_delineate.proofs.Known.{outcomes-header, window-few, window-none}
+use Rattle.gfp_delineate.proofs.Known.{ends-header, window-few, window-none}
 use Rattle.gfp_delineate.proofs.Taking.{Takes, Takes-in, Takes-none, Takes-then}
 use Rattle.gfp_delineate.proofs.SearchSteps.{in_phase}
 use Rattle.gfp_delineate.proofs.RunSteps.{to-header, followed-idle}
@@ -27,15 +27,17 @@ module _ (old : Progress) (place : ℕ) (part : place < 4) (was : old.phase ≡ 
       let whole : last ++ drop place idle_header ≡ idle_header = ap (λ l. l ++ drop place idle_header) begins
       ∙ take-append-drop place idle_header in
       followed-idle old longest first octets (drop place idle_header) limit is.ended is.settled is.before idle_header
-      (outcomes-header longest first octets is.ended is.settled is.before last
+      (ends-header longest old.corrects first octets is.ended is.settled is.before last
       (window-few old.window is.run.window place is.part) is.run.leaves)
       refl
-      (subst (λ l. Leaves head head first (octets ++ drop place idle_header) is.ended (running is.settled is.before l))
+      (subst (λ l. Leaves head (reader old.corrects) first (octets ++ drop place idle_header) is.ended
+      (running is.settled is.before l))
       whole
-      (Leaves-longer head head first octets is.ended (running is.settled is.before last)
+      (Leaves-longer head (reader old.corrects) first octets is.ended (running is.settled is.before last)
       (drop place idle_header) is.run.leaves))
       is.run.given old.window old.area is.run.window
-      (ap head (sym core_header-idle) ∙ head-core_header 0 (omega arith, inl refl)))
+      (reader-head old.corrects idle_header 0
+      (ap head (sym core_header-idle) ∙ head-core_header 0 (omega arith, inl refl))))
 
   -- the front of the next one
   takes-front : Takes (in_phase old (SyncHeader 0)) old (take place idle_header) []
@@ -46,15 +48,15 @@ module _ (old : Progress) (place : ℕ) (part : place < 4) (was : old.phase ≡ 
       (λ longest first octets limit is.
       let last : List ℕ = drop (4 - 0) old.window in
       to-header old longest first octets (take place idle_header) limit is.ended is.settled is.before []
-      (append-nil (outcomes longest first octets)
-      ∙ outcomes-header longest first octets is.ended is.settled is.before last
+      (append-nil (ends longest old.corrects first octets)
+      ∙ ends-header longest old.corrects first octets is.ended is.settled is.before last
       (window-few old.window is.run.window 0 is.part) is.run.leaves)
       place part
       (record {
-        leaves = subst (λ l. Leaves head head first (octets ++ take place idle_header) is.ended
+        leaves = subst (λ l. Leaves head (reader old.corrects) first (octets ++ take place idle_header) is.ended
             (running is.settled is.before l))
             (ap (λ l. l ++ take place idle_header) (window-none old.window is.run.window) ∙ sym begins)
-            (Leaves-longer head head first octets is.ended (running is.settled is.before last)
+            (Leaves-longer head (reader old.corrects) first octets is.ended (running is.settled is.before last)
             (take place idle_header) is.run.leaves);
         given = is.run.given;
         window = is.run.window;

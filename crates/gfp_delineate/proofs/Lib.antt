@@ -1,7 +1,10 @@
+pub mod TurnLaws
+pub mod ReaderLaws
 pub mod HuntLaws
 pub mod RunLaws
 pub mod StandingLaws
 pub mod OutcomeLaws
+pub mod ClientLaws
 pub mod Taking
 pub mod Known
 pub mod ListLaws

@@ -1,13 +1,14 @@
 -- The laws of outcomes, with any outcome of an area: what one more area of a run adds, and what one more run adds.
-use Rattle.std.proofs.Common.{◌≡◌, ℕ, ◌+◌, Bool, List, [], ◌∷◌, ◌++◌, length, map, drop, sum, refl, sym, ◌∙◌, ap, arith}
-use Rattle.std.proofs.Common.{append_assoc}
+use Rattle.std.proofs.Common.{◌≡◌, ℕ, ◌+◌, Bool, List, [], ◌∷◌, ◌++◌, length, map, drop, sum, refl, sym, ◌∙◌, ap}
+use Rattle.std.proofs.Common.{ap₂, arith, append_assoc, Option}
 use Rattle.std.specs.List.{flat_map}
-use Rattle.std.proofs.lemmas.List.{append-nil}
+use Rattle.std.proofs.lemmas.List.{append-nil, map-append}
 use Rattle.std.proofs.lemmas.List.Concat.{flat_map-append}
 use Rattle.session_model.specs.Scramble.{descrambled_octets}
 use Rattle.session_model.specs.Piece.{cut, joined}
-use Rattle.session_model.specs.Run.{Run}
-use Rattle.session_model.specs.Outcome.{area_outcomes, outcomes_after_with, descrambled_areas, run_outcomes_with}
+use Rattle.session_model.specs.Run.{Run, runs_with}
+use Rattle.session_model.specs.Outcome.{area_outcomes, is_settled, outcomes_after_with, descrambled_areas}
+use Rattle.session_model.specs.Outcome.{run_outcomes_with, outcomes_with}
 use Rattle.session_model.proofs.CutLaws.{sum-cons, length-joined}
 use Rattle.session_model.proofs.AreaLaws.{map-length-descrambled_areas, descrambled_areas-push}
 
@@ -61,3 +62,44 @@ module _ {X : Type 0} (outcome : Bool → List ℕ → X) where
       (run_outcomes_with outcome) ended ++ run_outcomes_with outcome run
   outcomes_of-push ended run = flat_map-append (run_outcomes_with outcome) ended (run ∷ [])
       ∙ ap (λ l. flat_map (run_outcomes_with outcome) ended ++ l) (append-nil (run_outcomes_with outcome run))
+
+-- ---- an outcome that is made of another one
+module _ {X Y : Type 0} (outcome : Bool → List ℕ → X) (other : Bool → List ℕ → Y) (made : X → Y)
+    (same : (settled : Bool) (area : List ℕ) → other settled area ≡ made (outcome settled area)) where
+  area_outcomes-map : (settled : Bool) (before : ℕ) (area : List ℕ) →
+      area_outcomes other settled before area ≡ map made (area_outcomes outcome settled before area)
+  area_outcomes-map settled before [] = refl
+  area_outcomes-map settled before (o ∷ area) =
+      ap (λ y. y ∷ []) (same (is_settled settled before) (o ∷ area))
+
+  outcomes_after-map : (settled : Bool) (before : ℕ) (areas : List (List ℕ)) →
+      outcomes_after_with other settled before areas ≡ map made (outcomes_after_with outcome settled before areas)
+  unfolding outcomes_after_with
+  outcomes_after-map settled before [] = refl
+  outcomes_after-map settled before (area ∷ areas) =
+      ap₂ ◌++◌ (area_outcomes-map settled before area) (outcomes_after-map settled (before + length area) areas)
+      ∙ sym (map-append made (area_outcomes outcome settled before area)
+      (outcomes_after_with outcome settled (before + length area) areas))
+
+  runs-map : (runs : List Run) →
+      flat_map (run_outcomes_with other) runs ≡ map made (flat_map (run_outcomes_with outcome) runs)
+  runs-map [] = refl
+  runs-map (run ∷ runs) =
+      ap₂ ◌++◌ (outcomes_after-map run.settled 0 (descrambled_areas run.areas)) (runs-map runs)
+      ∙ sym (map-append made (run_outcomes_with outcome run) (flat_map (run_outcomes_with outcome) runs))
+
+  -- of a segment
+  pub outcomes-map : (seek follow : List ℕ → Option ℕ) (first : Bool) (octets : List ℕ) →
+      outcomes_with seek follow other first octets ≡ map made (outcomes_with seek follow outcome first octets)
+  outcomes-map seek follow first octets = runs-map (runs_with seek follow first octets)
+
+  -- what more octets add
+  pub outcomes_more-map : (seek follow : List ℕ → Option ℕ) (first : Bool) (octets more : List ℕ) (come : List X) →
+      outcomes_with seek follow outcome first
+      (octets ++ more) ≡ outcomes_with seek follow outcome first octets ++ come →
+      outcomes_with seek follow other first (octets ++ more)
+      ≡ outcomes_with seek follow other first octets ++ map made come
+  outcomes_more-map seek follow first octets more come is =
+      outcomes-map seek follow first (octets ++ more) ∙ ap (map made) is
+      ∙ map-append made (outcomes_with seek follow outcome first octets) come
+      ∙ ap (λ l. l ++ map made come) (sym (outcomes-map seek follow first octets))

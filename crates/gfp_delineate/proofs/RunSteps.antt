@@ -1,62 +1,65 @@
 -- More octets in SYNC, or the one by which a run begins.
-use Rattle.std.proofs.Common.{◌≡◌, ℕ, ◌+◌, ◌-◌, ◌<◌, ◌≤◌, Bool, true, false, List, [], ◌∷◌, ◌++◌, length, take, drop}
+use Rattle.std.proofs.Common.{◌≡◌, ℕ, ◌+◌, ◌-◌, ◌<◌, ◌≤◌, Bool, true, false, List, [], ◌∷◌, ◌++◌, length, drop}
 use Rattle.std.proofs.Common.{inl, inr, Some, refl, sym, ◌∙◌, ap, subst, arith, append_assoc}
 use Rattle.std.specs.Prelude.{◌⊎◌, ◌↔◌, IsTrue}
 use Rattle.std.proofs.lemmas.List.{append-nil, drop_all}
 use Rattle.std.proofs.lemmas.Bool.{cases_lt, lt-ltb, le-ltb, le-leb, lt-leb}
 use Rattle.gfp_scramble.specs.Descrambler.{Descrambling, IsKnown}
 use Rattle.gfp_scramble.specs.Descrambler as descrambler
-use Rattle.session_model.specs.declared.Why.{Why}
-use Rattle.session_model.specs.declared.Why.TheVariants.{Unsettled, TooLong}
 use Rattle.session_model.specs.Core.{head}
 use Rattle.session_model.specs.Scramble.{descrambled_octets}
 use Rattle.session_model.specs.Piece.{joined}
-use Rattle.session_model.specs.TypeHeader.{type_fault}
 use Rattle.session_model.specs.Run.{Run}
-use Rattle.session_model.specs.Outcome.{Outcome, dropping, outcome_by, client_outcome, is_settled, outcome_of, outcomes}
-use Rattle.session_model.specs.Outcome.{run_outcomes}
+use Rattle.session_model.specs.Outcome.{is_settled}
 use Rattle.session_model.proofs.ScrambledOctets.{length-descrambled_octets}
 use Rattle.session_model.proofs.CutLaws.{joined-append}
 use Rattle.session_model.proofs.AreaLaws.{length-descrambled_single}
-use Rattle.gfp_delineate.specs.declared.Phase.{Phase}
-use Rattle.gfp_delineate.specs.declared.Phase.TheVariants.{SyncHeader, SyncArea, SyncPassing}
+use Rattle.gfp_delineate.specs.declared.areas.AreaWhy.{AreaWhy}
+use Rattle.gfp_delineate.specs.declared.areas.AreaWhy.TheVariants.{Unsettled, TooLong}
+use Rattle.gfp_delineate.specs.declared.areas.Phase.{Phase}
+use Rattle.gfp_delineate.specs.declared.areas.Phase.TheVariants.{SyncHeader, SyncArea, SyncPassing}
 use Rattle.gfp_delineate.specs.LeftOpen.{running, Leaves}
-use Rattle.gfp_delineate.specs.Receiver.{Progress, Follows, Headed, InSyncHeader}
+use Rattle.gfp_delineate.specs.Areas.{AreaEnd, keeping, passing, end_of, reader, ends, area_ends, run_ends}
+use Rattle.gfp_delineate.specs.Areas.{Progress, Follows, Headed, InSyncHeader}
 use Rattle.gfp_delineate.proofs.StandingLaws.{Becomes-area, Leaves-longer, Leaves-goes_on}
 use Rattle.gfp_delineate.proofs.OutcomeLaws.{run_outcomes-push}
-use Rattle.gfp_delineate.proofs.Known.{outcomes_of, outcomes_with, outcomes-header, outcomes-area, length-shifted}
+use Rattle.gfp_delineate.proofs.Known.{ends_of, ends_with, ends-header, ends-area, length-shifted}
 use Rattle.gfp_delineate.proofs.Known.{window-few, window-more, window-none}
 use Rattle.gfp_delineate.proofs.Taking.{Takes, Taken, Takes-in}
 use Rattle.gfp_delineate.proofs.SearchSteps.{in_phase, shifted}
 
 -- ---- the phases that are reached
 module _ (base : Progress) (longest : ℕ) (first : Bool) (octets more : List ℕ) (limit : base.longest ≡ longest)
-    (ended : List Run) (settled : Bool) (before : List (List ℕ)) (come : List Outcome)
-    (was : outcomes longest first octets ++ come ≡ outcomes_with longest ended settled before) where
+    (ended : List Run) (settled : Bool) (before : List (List ℕ)) (come : List AreaEnd)
+    (was : ends longest base.corrects first octets ++ come ≡ ends_with longest ended settled before) where
   pub to-header : (have : ℕ) → have < 4 →
       Follows (in_phase base (SyncHeader have)) first (octets ++ more) ended settled before
       (drop (4 - have) base.window) [] →
-      Taken (in_phase base (SyncHeader have)) longest first octets more come
+      Taken (in_phase base (SyncHeader have)) longest base.corrects first octets more come
   to-header have part run = record {
     stands = record {
       limit = limit;
+      setting = refl;
       phase =
           record { ended = ended; settled = settled; before = before; part = part; run = run };
     };
-    outcome = outcomes-header longest first (octets ++ more) ended settled before (drop (4 - have) base.window)
+    outcome = ends-header longest base.corrects first (octets ++ more) ended settled before (drop
+        (4 - have) base.window)
         (window-few base.window run.window have part) run.leaves ∙ sym was;
   }
 
-  pub to-area : (header part_come : List ℕ) (left : ℕ) → Headed header part_come left → 0 < left →
-      length part_come + left ≤ base.longest + 4 →
+  pub to-area : (header part_come : List ℕ) (left : ℕ) → Headed (reader base.corrects) header part_come left →
+      0 < left →
+      length part_come + left ≤ base.longest →
       Follows (in_phase base (SyncArea left)) first (octets ++ more) ended settled before
       (header ++ part_come) part_come →
       (settled ≡ true) ⊎ (6 ≤ length (joined before)) →
       base.area ≡ drop (length (joined before)) (descrambled_octets (joined before ++ part_come)) →
-      Taken (in_phase base (SyncArea left)) longest first octets more come
+      Taken (in_phase base (SyncArea left)) longest base.corrects first octets more come
   to-area header part_come left headed part fits run known kept = record {
     stands = record {
       limit = limit;
+      setting = refl;
       phase = record {
         ended = ended;
         settled = settled;
@@ -72,19 +75,22 @@ module _ (base : Progress) (longest : ℕ) (first : Bool) (octets more : List �
         kept = kept;
       };
     };
-    outcome = outcomes-area longest first (octets ++ more) ended settled before header part_come left headed part
+    outcome = ends-area longest base.corrects first
+        (octets ++ more) ended settled before header part_come left headed part
         run.leaves ∙ sym was;
   }
 
-  pub to-passing : (header part_come : List ℕ) (left : ℕ) (why : Why) → Headed header part_come left → 0 < left →
+  pub to-passing : (header part_come : List ℕ) (left : ℕ) (why : AreaWhy) → Headed
+      (reader base.corrects) header part_come left → 0 < left →
       Follows (in_phase base (SyncPassing left why)) first (octets ++ more) ended settled before
       (header ++ part_come) part_come →
       ((area : List ℕ) → length area ≡ length part_come + left →
-      outcome_of base.longest settled (length (joined before)) area ≡ dropping why ∷ []) →
-      Taken (in_phase base (SyncPassing left why)) longest first octets more come
+      area_ends base.longest settled (length (joined before)) area ≡ passing why ∷ []) →
+      Taken (in_phase base (SyncPassing left why)) longest base.corrects first octets more come
   to-passing header part_come left why headed part run dropped = record {
     stands = record {
       limit = limit;
+      setting = refl;
       phase = record {
         ended = ended;
         settled = settled;
@@ -98,26 +104,27 @@ module _ (base : Progress) (longest : ℕ) (first : Bool) (octets more : List �
         dropped = dropped;
       };
     };
-    outcome = outcomes-area longest first (octets ++ more) ended settled before header part_come left headed part
+    outcome = ends-area longest base.corrects first
+        (octets ++ more) ended settled before header part_come left headed part
         run.leaves ∙ sym was;
   }
 
 -- ---- the octets before the fourth of a header
 pub follow-part : (old : Progress) (longest : ℕ) (first : Bool) (octets : List ℕ) (octet : ℕ) → old.longest ≡ longest →
     (have : ℕ) → have < 3 → InSyncHeader have old first octets →
-    Taken (shifted old octet (SyncHeader (have + 1))) longest first octets (octet ∷ []) []
+    Taken (shifted old octet (SyncHeader (have + 1))) longest old.corrects first octets (octet ∷ []) []
 follow-part old longest first octets octet limit have more is =
     let new : Progress = shifted old octet (SyncHeader (have + 1)) in
     let last = drop (4 - have) old.window in
     to-header new longest first octets (octet ∷ []) limit is.ended is.settled is.before []
-    (append-nil (outcomes longest first octets)
-    ∙ outcomes-header longest first octets is.ended is.settled is.before last
+    (append-nil (ends longest old.corrects first octets)
+    ∙ ends-header longest old.corrects first octets is.ended is.settled is.before last
     (window-few old.window is.run.window have is.part) is.run.leaves)
     (have + 1) (omega arith)
     (record {
-      leaves = subst (λ last. Leaves head head first (octets ++ octet ∷ []) is.ended
+      leaves = subst (λ last. Leaves head (reader old.corrects) first (octets ++ octet ∷ []) is.ended
           (running is.settled is.before last)) (window-more old.window is.run.window have octet is.part)
-          (Leaves-longer head head first octets is.ended (running is.settled is.before last)
+          (Leaves-longer head (reader old.corrects) first octets is.ended (running is.settled is.before last)
           (octet ∷ []) is.run.leaves);
       given = is.run.given;
       window = length-shifted old.window is.run.window octet;
@@ -133,40 +140,40 @@ settled-unknown : (settled : Bool) (before : ℕ) → settled ≡ false → befo
 settled-unknown settled before unsettled few = rw (unsettled, lt-leb 6 before few) refl
 
 -- where it has octets
-outcome_of-some : (longest before : ℕ) (settled b : Bool) (area : List ℕ) → 0 < length area →
-    is_settled settled before ≡ b → outcome_of longest settled before area ≡ client_outcome longest b area ∷ []
-outcome_of-some longest before settled b [] some is = absurd (omega arith)
-outcome_of-some longest before settled b (o ∷ area) some is = ap (λ b. client_outcome longest b (o ∷ area) ∷ []) is
+area_ends-some : (longest before : ℕ) (settled b : Bool) (area : List ℕ) → 0 < length area →
+    is_settled settled before ≡ b → area_ends longest settled before area ≡ end_of longest b area ∷ []
+area_ends-some longest before settled b [] some is = absurd (omega arith)
+area_ends-some longest before settled b (o ∷ area) some is = ap (λ b. end_of longest b (o ∷ area) ∷ []) is
 
-outcome_of-long : (longest before : ℕ) (settled : Bool) (area : List ℕ) → (settled ≡ true) ⊎ (6 ≤ before) →
-    longest + 4 < length area → outcome_of longest settled before area ≡ dropping (TooLong (length area)) ∷ []
-outcome_of-long longest before settled area known long =
-    outcome_of-some longest before settled true area (omega (arith, long)) (settled-known settled before known)
-    ∙ rw (lt-ltb (longest + 4) (length area) long) refl
+area_ends-long : (longest before : ℕ) (settled : Bool) (area : List ℕ) → (settled ≡ true) ⊎ (6 ≤ before) →
+    longest < length area → area_ends longest settled before area ≡ passing (TooLong (length area)) ∷ []
+area_ends-long longest before settled area known long =
+    area_ends-some longest before settled true area (omega (arith, long)) (settled-known settled before known)
+    ∙ rw (lt-ltb longest (length area) long) refl
 
-pub outcome_of-fitting : (longest before : ℕ) (settled : Bool) (area : List ℕ) → (settled ≡ true) ⊎ (6 ≤ before) →
-    0 < length area → length area ≤ longest + 4 →
-    outcome_of longest settled before area ≡ outcome_by (type_fault (take 4 area)) area ∷ []
-outcome_of-fitting longest before settled area known some fits =
-    outcome_of-some longest before settled true area some (settled-known settled before known)
-    ∙ rw (le-ltb (longest + 4) (length area) fits) refl
+pub area_ends-fitting : (longest before : ℕ) (settled : Bool) (area : List ℕ) → (settled ≡ true) ⊎ (6 ≤ before) →
+    0 < length area → length area ≤ longest →
+    area_ends longest settled before area ≡ keeping area ∷ []
+area_ends-fitting longest before settled area known some fits =
+    area_ends-some longest before settled true area some (settled-known settled before known)
+    ∙ rw (le-ltb longest (length area) fits) refl
 
-outcome_of-idle : (longest before : ℕ) (settled : Bool) (area : List ℕ) → length area ≡ 0 →
-    outcome_of longest settled before area ≡ []
-outcome_of-idle longest before settled [] none = refl
-outcome_of-idle longest before settled (o ∷ area) none = absurd (omega arith)
+area_ends-idle : (longest before : ℕ) (settled : Bool) (area : List ℕ) → length area ≡ 0 →
+    area_ends longest settled before area ≡ []
+area_ends-idle longest before settled [] none = refl
+area_ends-idle longest before settled (o ∷ area) none = absurd (omega arith)
 
 -- one more area of a run
-pub outcomes_with-push : (longest : ℕ) (ended : List Run) (settled : Bool) (before : List (List ℕ)) (area : List ℕ)
-    (come : List Outcome) →
-    outcome_of longest settled (length (joined before))
+pub ends_with-push : (longest : ℕ) (ended : List Run) (settled : Bool) (before : List (List ℕ)) (area : List ℕ)
+    (come : List AreaEnd) →
+    area_ends longest settled (length (joined before))
     (drop (length (joined before)) (descrambled_octets (joined before ++ area))) ≡ come →
-    outcomes_with longest ended settled before ++ come ≡ outcomes_with longest ended settled (before ++ area ∷ [])
-outcomes_with-push longest ended settled before area come outcome =
-    append_assoc (outcomes_of longest ended) (run_outcomes longest (record { settled = settled; areas = before })) come
-    ∙ ap (λ l. outcomes_of longest ended ++ l)
-    (ap (λ l. run_outcomes longest (record { settled = settled; areas = before }) ++ l) (sym outcome)
-    ∙ sym (run_outcomes-push (client_outcome longest) settled before area))
+    ends_with longest ended settled before ++ come ≡ ends_with longest ended settled (before ++ area ∷ [])
+ends_with-push longest ended settled before area come outcome =
+    append_assoc (ends_of longest ended) (run_ends longest (record { settled = settled; areas = before })) come
+    ∙ ap (λ l. ends_of longest ended ++ l)
+    (ap (λ l. run_ends longest (record { settled = settled; areas = before }) ++ l) (sym outcome)
+    ∙ sym (run_outcomes-push (end_of longest) settled before area))
 
 pub joined-push : (before : List (List ℕ)) (area : List ℕ) → joined (before ++ area ∷ []) ≡ joined before ++ area
 joined-push before area = joined-append before (area ∷ []) ∙ ap (λ l. joined before ++ l) (append-nil area)
@@ -193,30 +200,31 @@ followed old window phase = record old { phase = phase; window = window; area = 
 -- the header is in the window
 module _ (old : Progress) (longest : ℕ) (first : Bool) (octets more : List ℕ) (limit : old.longest ≡ longest)
     (ended : List Run) (settled : Bool) (before : List (List ℕ)) (window : List ℕ)
-    (was : outcomes longest first octets ≡ outcomes_with longest ended settled before) (four : length window ≡ 4)
-    (leaves : Leaves head head first (octets ++ more) ended (running settled before window))
+    (was : ends longest old.corrects first octets ≡ ends_with longest ended settled before) (four : length window ≡ 4)
+    (leaves : Leaves head (reader old.corrects) first (octets ++ more) ended (running settled before window))
     (given : descrambler.Stands old.descrambling settled (joined before ++ [])) where
   -- an idle, whatever is in the window afterwards, and whatever is kept
-  pub followed-idle : (left area : List ℕ) → length left ≡ 4 → head window ≡ Some 0 →
-      Taken (record old { phase = SyncHeader 0; window = left; area = area }) longest first octets more []
+  pub followed-idle : (left area : List ℕ) → length left ≡ 4 → reader old.corrects window ≡ Some 0 →
+      Taken (record old { phase = SyncHeader 0; window = left; area = area }) longest old.corrects first octets more []
   followed-idle left area left_four found =
-      let now : Leaves head head first (octets ++ more) ended (running settled before (window ++ [])) =
-      subst (λ last. Leaves head head first (octets ++ more) ended (running settled before last))
+      let now : Leaves head (reader old.corrects) first (octets ++ more) ended (running settled before (window ++ [])) =
+      subst (λ last. Leaves head (reader old.corrects) first (octets ++ more) ended (running settled before last))
       (sym (append-nil window)) leaves in
-      let next : Leaves head head first (octets ++ more) ended (running settled (before ++ [] ∷ []) []) =
-      Leaves-goes_on head head first (octets ++ more) ended (running settled before (window ++ []))
+      let next : Leaves head (reader old.corrects) first (octets ++ more) ended (running settled
+      (before ++ [] ∷ []) []) =
+      Leaves-goes_on head (reader old.corrects) first (octets ++ more) ended (running settled before (window ++ []))
       (running settled (before ++ [] ∷ []) []) now
-      (Becomes-area head head settled before window [] four found) in
+      (Becomes-area head (reader old.corrects) settled before window [] four found) in
       to-header (record old { phase = SyncHeader 0; window = left; area = area }) longest first octets more limit ended
       settled (before ++ [] ∷ []) []
       (ap (λ l. l ++ []) was
-      ∙ outcomes_with-push longest ended settled before [] []
-      (outcome_of-idle longest (length (joined before)) settled
+      ∙ ends_with-push longest ended settled before [] []
+      (area_ends-idle longest (length (joined before)) settled
       (drop (length (joined before)) (descrambled_octets (joined before ++ [])))
       (length-descrambled_single (joined before) [])))
       0 (omega arith)
       (record {
-        leaves = subst (λ last. Leaves head head first (octets ++ more) ended
+        leaves = subst (λ last. Leaves head (reader old.corrects) first (octets ++ more) ended
             (running settled (before ++ [] ∷ []) last)) (sym (window-none left left_four)) next;
         given = subst (λ all. descrambler.Stands old.descrambling settled all)
             (sym (append-nil (joined before ++ [])) ∙ ap (λ l. l ++ []) (sym (joined-push before []))) given;
@@ -227,13 +235,14 @@ module _ (old : Progress) (longest : ℕ) (first : Bool) (octets more : List ℕ
   follows-header : (phase : Phase) →
       Follows (followed old window phase) first (octets ++ more) ended settled before (window ++ []) []
   follows-header phase = record {
-    leaves = subst (λ last. Leaves head head first (octets ++ more) ended (running settled before last))
+    leaves = subst (λ last. Leaves head (reader old.corrects) first (octets ++ more) ended
+        (running settled before last))
         (sym (append-nil window)) leaves;
     given = given;
     window = four;
   }
 
-  headed-by : (pli : ℕ) → head window ≡ Some pli → Headed window [] pli
+  headed-by : (pli : ℕ) → reader old.corrects window ≡ Some pli → Headed (reader old.corrects) window [] pli
   headed-by pli found = record {
     size = four;
     found = found
@@ -243,17 +252,17 @@ module _ (old : Progress) (longest : ℕ) (first : Bool) (octets more : List ℕ
   size_same : length (joined before ++ []) ≡ length (joined before)
   size_same = ap length (append-nil (joined before))
 
-  was_more : outcomes longest first octets ++ [] ≡ outcomes_with longest ended settled before
-  was_more = append-nil (outcomes longest first octets) ∙ was
+  was_more : ends longest old.corrects first octets ++ [] ≡ ends_with longest ended settled before
+  was_more = append-nil (ends longest old.corrects first octets) ∙ was
 
   -- an area whose octets aren't known
-  pub followed-unknown : (pli : ℕ) → 0 < pli → head window ≡ Some pli → Knows false old.descrambling →
-      Taken (followed old window (SyncPassing pli Unsettled)) longest first octets more []
+  pub followed-unknown : (pli : ℕ) → 0 < pli → reader old.corrects window ≡ Some pli → Knows false old.descrambling →
+      Taken (followed old window (SyncPassing pli Unsettled)) longest old.corrects first octets more []
   followed-unknown pli some found knows =
       to-passing (followed old window (SyncPassing pli Unsettled)) longest first octets more limit ended settled before
       [] was_more
       window [] pli Unsettled (headed-by pli found) some (follows-header (SyncPassing pli Unsettled))
-      (λ area size. outcome_of-some old.longest (length (joined before)) settled false area (omega (arith, some, size))
+      (λ area size. area_ends-some old.longest (length (joined before)) settled false area (omega (arith, some, size))
       (settled-unknown settled (length (joined before))
       (unknown-settled settled (joined before ++ []) (knows settled (joined before ++ []) given))
       (omega (
@@ -268,8 +277,9 @@ module _ (old : Progress) (longest : ℕ) (first : Bool) (octets more : List ℕ
       ((knows settled (joined before ++ []) given).0 refl)
 
   -- an area that is too long
-  pub followed-long : (pli : ℕ) → old.longest + 4 < pli → head window ≡ Some pli → Knows true old.descrambling →
-      Taken (followed old window (SyncPassing pli (TooLong pli))) longest first octets more []
+  pub followed-long : (pli : ℕ) → old.longest < pli → reader old.corrects window ≡ Some pli →
+      Knows true old.descrambling →
+      Taken (followed old window (SyncPassing pli (TooLong pli))) longest old.corrects first octets more []
   followed-long pli long found knows =
       to-passing (followed old window (SyncPassing pli (TooLong pli))) longest first octets more limit ended settled
       before [] was_more
@@ -277,12 +287,12 @@ module _ (old : Progress) (longest : ℕ) (first : Bool) (octets more : List ℕ
       (follows-header (SyncPassing pli (TooLong pli)))
       (λ area size.
       let same : length area ≡ pli = omega (arith, size) in
-      outcome_of-long old.longest (length (joined before)) settled area (known-before knows) (omega (arith, long, same))
-      ∙ ap (λ n. dropping (TooLong n) ∷ []) same)
+      area_ends-long old.longest (length (joined before)) settled area (known-before knows) (omega (arith, long, same))
+      ∙ ap (λ n. passing (TooLong n) ∷ []) same)
 
   -- an area that is kept
-  pub followed-kept : (pli : ℕ) → 0 < pli → pli ≤ old.longest + 4 → head window ≡ Some pli →
-      Knows true old.descrambling → Taken (followed old window (SyncArea pli)) longest first octets more []
+  pub followed-kept : (pli : ℕ) → 0 < pli → pli ≤ old.longest → reader old.corrects window ≡ Some pli →
+      Knows true old.descrambling → Taken (followed old window (SyncArea pli)) longest old.corrects first octets more []
   followed-kept pli some fits found knows =
       to-area (followed old window (SyncArea pli)) longest first octets more limit ended settled before [] was_more
       window [] pli (headed-by pli found) some (omega (arith, fits)) (follows-header (SyncArea pli))

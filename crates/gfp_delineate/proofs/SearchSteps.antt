@@ -1,16 +1,15 @@
 -- More octets in HUNT or in PRESYNC, where no run begins.
 use Rattle.std.proofs.Common.{◌≡◌, ℕ, ◌+◌, ◌-◌, ◌<◌, ◌≤◌, Bool, List, [], ◌∷◌, ◌++◌, length, drop, Some, None, sym, ◌∙◌}
-use Rattle.std.proofs.Common.{ap, subst, arith, append_assoc, length-append, length-drop}
+use Rattle.std.proofs.Common.{refl, ap, subst, arith, append_assoc, length-append, length-drop}
 use Rattle.std.proofs.lemmas.List.{append-nil}
 use Rattle.session_model.specs.Core.{head}
 use Rattle.session_model.specs.Run.{Run}
-use Rattle.session_model.specs.Outcome.{outcomes}
-use Rattle.gfp_delineate.specs.declared.Phase.{Phase}
-use Rattle.gfp_delineate.specs.declared.Phase.TheVariants.{Hunt, PresyncArea, PresyncHeader}
+use Rattle.gfp_delineate.specs.declared.areas.Phase.{Phase}
+use Rattle.gfp_delineate.specs.declared.areas.Phase.TheVariants.{Hunt, PresyncArea, PresyncHeader}
 use Rattle.gfp_delineate.specs.LeftOpen.{searching, Leaves}
-use Rattle.gfp_delineate.specs.Receiver.{Progress, Searches, Headed, InHunt, InPresyncArea, InPresyncHeader}
+use Rattle.gfp_delineate.specs.Areas.{ends, reader, Progress, Searches, Headed, InHunt, InPresyncArea, InPresyncHeader}
 use Rattle.gfp_delineate.proofs.StandingLaws.{Becomes-on, Leaves-longer, Leaves-goes_on}
-use Rattle.gfp_delineate.proofs.Known.{outcomes_of, outcomes-hunt, outcomes-presync, nothing, length-shifted}
+use Rattle.gfp_delineate.proofs.Known.{ends_of, ends-hunt, ends-presync, nothing, length-shifted}
 use Rattle.gfp_delineate.proofs.Known.{window-more, window-whole, window-none}
 use Rattle.gfp_delineate.proofs.Taking.{Takes, Taken, Takes-in}
 
@@ -27,30 +26,41 @@ searches-more : (old : Progress) (first : Bool) (octets : List ℕ) (ended : Lis
     Searches old first octets ended settled last → length window ≡ 4 → last ++ more ≡ next →
     Searches (record old { phase = phase; window = window }) first (octets ++ more) ended settled next
 searches-more old first octets ended settled last next more phase window is four same = record {
-  leaves = subst (λ last. Leaves head head first (octets ++ more) ended (searching settled last)) same
-      (Leaves-longer head head first octets ended (searching settled last) more is.leaves);
+  leaves = subst (λ last. Leaves head (reader old.corrects) first (octets ++ more) ended (searching settled last)) same
+      (Leaves-longer head (reader old.corrects) first octets ended (searching settled last) more is.leaves);
   given = is.given;
   window = four;
 }
 
 -- ---- the phases that are reached
 module _ (base : Progress) (longest : ℕ) (first : Bool) (octets more : List ℕ) (limit : base.longest ≡ longest)
-    (ended : List Run) (settled : Bool) (was : outcomes longest first octets ≡ outcomes_of longest ended) where
+    (ended : List Run) (settled : Bool) (was : ends longest base.corrects first octets ≡ ends_of longest ended) where
   pub to-hunt : (have : ℕ) → have < 4 →
       Searches (in_phase base (Hunt have)) first (octets ++ more) ended settled (drop (4 - have) base.window) →
-      Taken (in_phase base (Hunt have)) longest first octets more []
+      Taken (in_phase base (Hunt have)) longest base.corrects first octets more []
   to-hunt have part is = record {
-    stands = record { limit = limit; phase = record { ended = ended; settled = settled; part = part; search = is } };
-    outcome = nothing longest first octets more (outcomes_of longest ended) was
-        (outcomes-hunt (in_phase base (Hunt have)) longest first (octets ++ more) ended settled have part is);
+    stands = record {
+      limit = limit;
+      setting = refl;
+      phase = record {
+        ended = ended;
+        settled = settled;
+        part
+            = part;
+        search = is;
+      };
+    };
+    outcome = nothing longest base.corrects first octets more (ends_of longest ended) was
+        (ends-hunt (in_phase base (Hunt have)) longest first (octets ++ more) ended settled have part is);
   }
 
-  to-presync-area : (header come : List ℕ) (left : ℕ) → Headed header come left → 0 < left →
+  to-presync-area : (header come : List ℕ) (left : ℕ) → Headed head header come left → 0 < left →
       Searches (in_phase base (PresyncArea left)) first (octets ++ more) ended settled (header ++ come) →
-      Taken (in_phase base (PresyncArea left)) longest first octets more []
+      Taken (in_phase base (PresyncArea left)) longest base.corrects first octets more []
   to-presync-area header come left headed part is = record {
     stands = record {
       limit = limit;
+      setting = refl;
       phase =
           record {
             ended = ended;
@@ -63,18 +73,19 @@ module _ (base : Progress) (longest : ℕ) (first : Bool) (octets more : List �
                 is;
           };
     };
-    outcome = nothing longest first octets more (outcomes_of longest ended) was
-        (outcomes-presync (in_phase base (PresyncArea left)) longest first (octets ++ more) ended settled header come
+    outcome = nothing longest base.corrects first octets more (ends_of longest ended) was
+        (ends-presync (in_phase base (PresyncArea left)) longest first (octets ++ more) ended settled header come
         (length come + left) headed.size headed.found (omega arith) is);
   }
 
-  to-presync-header : (header come : List ℕ) (have : ℕ) → Headed header come 0 → have < 4 →
+  to-presync-header : (header come : List ℕ) (have : ℕ) → Headed head header come 0 → have < 4 →
       Searches (in_phase base (PresyncHeader have)) first (octets ++ more) ended settled
       (header ++ (come ++ drop (4 - have) base.window)) →
-      Taken (in_phase base (PresyncHeader have)) longest first octets more []
+      Taken (in_phase base (PresyncHeader have)) longest base.corrects first octets more []
   to-presync-header header come have headed part is = record {
     stands = record {
       limit = limit;
+      setting = refl;
       phase =
           record {
             ended = ended;
@@ -87,8 +98,8 @@ module _ (base : Progress) (longest : ℕ) (first : Bool) (octets more : List �
                 is;
           };
     };
-    outcome = nothing longest first octets more (outcomes_of longest ended) was
-        (outcomes-presync (in_phase base (PresyncHeader have)) longest first (octets ++ more) ended settled header
+    outcome = nothing longest base.corrects first octets more (ends_of longest ended) was
+        (ends-presync (in_phase base (PresyncHeader have)) longest first (octets ++ more) ended settled header
         (come ++ drop (4 - have) base.window) (length come + 0) headed.size headed.found
         (omega (arith, length-append come (drop (4 - have) base.window), length-drop (4 - have) base.window, is.window))
         is);
@@ -98,11 +109,11 @@ module _ (base : Progress) (longest : ℕ) (first : Bool) (octets more : List �
 module _ (old : Progress) (longest : ℕ) (first : Bool) (octets : List ℕ) (limit : old.longest ≡ longest) where
   -- HUNT: an octet before the fourth
   hunt-part : (octet have : ℕ) → have < 3 → InHunt have old first octets →
-      Taken (shifted old octet (Hunt (have + 1))) longest first octets (octet ∷ []) []
+      Taken (shifted old octet (Hunt (have + 1))) longest old.corrects first octets (octet ∷ []) []
   hunt-part octet have more is =
       let new : Progress = shifted old octet (Hunt (have + 1)) in
       to-hunt new longest first octets (octet ∷ []) limit is.ended is.settled
-      (outcomes-hunt old longest first octets is.ended is.settled have is.part is.search)
+      (ends-hunt old longest first octets is.ended is.settled have is.part is.search)
       (have + 1) (omega arith)
       (searches-more old first octets is.ended is.settled (drop (4 - have) old.window)
       (drop (4 - (have + 1)) new.window) (octet ∷ []) (Hunt (have + 1)) new.window is.search
@@ -110,8 +121,8 @@ module _ (old : Progress) (longest : ℕ) (first : Bool) (octets : List ℕ) (li
 
   -- the fourth
   module _ (octet have : ℕ) (whole : have ≡ 3) (is : InHunt have old first octets) where
-    hunt_was : outcomes longest first octets ≡ outcomes_of longest is.ended
-    hunt_was = outcomes-hunt old longest first octets is.ended is.settled have is.part is.search
+    hunt_was : ends longest old.corrects first octets ≡ ends_of longest is.ended
+    hunt_was = ends-hunt old longest first octets is.ended is.settled have is.part is.search
 
     hunt_four : length (drop 1 old.window ++ octet ∷ []) ≡ 4
     hunt_four = length-shifted old.window is.search.window octet
@@ -121,7 +132,7 @@ module _ (old : Progress) (longest : ℕ) (first : Bool) (octets : List ℕ) (li
 
     -- no header stands here
     hunt-none : head (drop 1 old.window ++ octet ∷ []) ≡ None →
-        Taken (shifted old octet (Hunt 3)) longest first octets (octet ∷ []) []
+        Taken (shifted old octet (Hunt 3)) longest old.corrects first octets (octet ∷ []) []
     hunt-none none =
         let new : Progress = shifted old octet (Hunt 3) in
         let all : Searches new first (octets ++ octet ∷ []) is.ended is.settled new.window =
@@ -129,16 +140,17 @@ module _ (old : Progress) (longest : ℕ) (first : Bool) (octets : List ℕ) (li
         (Hunt 3) new.window is.search hunt_four hunt_window in
         to-hunt new longest first octets (octet ∷ []) limit is.ended is.settled hunt_was 3 (omega arith)
         (record {
-          leaves = Leaves-goes_on head head first (octets ++ octet ∷ []) is.ended (searching is.settled new.window)
+          leaves = Leaves-goes_on head (reader old.corrects) first (octets ++ octet ∷ []) is.ended
+              (searching is.settled new.window)
               (searching is.settled (drop 1 new.window)) all.leaves
-              (Becomes-on head head is.settled new.window hunt_four none);
+              (Becomes-on head (reader old.corrects) is.settled new.window hunt_four none);
           given = all.given;
           window = hunt_four;
         })
 
     -- the header of an idle
     hunt-idle : head (drop 1 old.window ++ octet ∷ []) ≡ Some 0 →
-        Taken (shifted old octet (PresyncHeader 0)) longest first octets (octet ∷ []) []
+        Taken (shifted old octet (PresyncHeader 0)) longest old.corrects first octets (octet ∷ []) []
     hunt-idle found =
         let window : List ℕ = drop 1 old.window ++ octet ∷ [] in
         let none : window ≡ window ++ ([] ++ drop (4 - 0) window) = sym (append-nil window)
@@ -152,7 +164,7 @@ module _ (old : Progress) (longest : ℕ) (first : Bool) (octets : List ℕ) (li
 
     -- the header of a client frame
     hunt-client : (pli : ℕ) → 0 < pli → head (drop 1 old.window ++ octet ∷ []) ≡ Some pli →
-        Taken (shifted old octet (PresyncArea pli)) longest first octets (octet ∷ []) []
+        Taken (shifted old octet (PresyncArea pli)) longest old.corrects first octets (octet ∷ []) []
     hunt-client pli some found =
         let window : List ℕ = drop 1 old.window ++ octet ∷ [] in
         to-presync-area (shifted old octet (PresyncArea pli)) longest first octets
@@ -163,13 +175,13 @@ module _ (old : Progress) (longest : ℕ) (first : Bool) (octets : List ℕ) (li
 
   -- PRESYNC: octets of the area
   module _ (more : List ℕ) (left : ℕ) (is : InPresyncArea left old first octets) where
-    skip_was : outcomes longest first octets ≡ outcomes_of longest is.ended
-    skip_was = outcomes-presync old longest first octets is.ended is.settled is.header is.come
+    skip_was : ends longest old.corrects first octets ≡ ends_of longest is.ended
+    skip_was = ends-presync old longest first octets is.ended is.settled is.header is.come
         (length is.come + left) is.headed.size is.headed.found (omega (arith, is.part)) is.search
 
     -- but not all that are left
     skip-part : length more < left →
-        Taken (in_phase old (PresyncArea (left - length more))) longest first octets more []
+        Taken (in_phase old (PresyncArea (left - length more))) longest old.corrects first octets more []
     skip-part few =
         let count : length is.come + left ≡ length (is.come ++ more) + (left - length more) =
         omega (arith, length-append is.come more, few) in
@@ -181,7 +193,7 @@ module _ (old : Progress) (longest : ℕ) (first : Bool) (octets : List ℕ) (li
         (append_assoc is.header is.come more))
 
     -- all that are left
-    skip-last : length more ≡ left → Taken (in_phase old (PresyncHeader 0)) longest first octets more []
+    skip-last : length more ≡ left → Taken (in_phase old (PresyncHeader 0)) longest old.corrects first octets more []
     skip-last all =
         let come : List ℕ = is.come ++ more in
         let count : length is.come + left ≡ length come + 0 = omega (arith, length-append is.come more, all) in
@@ -197,14 +209,14 @@ module _ (old : Progress) (longest : ℕ) (first : Bool) (octets : List ℕ) (li
 
   -- PRESYNC: an octet of the header after it, before the fourth
   confirm-part : (octet have : ℕ) → have < 3 → InPresyncHeader have old first octets →
-      Taken (shifted old octet (PresyncHeader (have + 1))) longest first octets (octet ∷ []) []
+      Taken (shifted old octet (PresyncHeader (have + 1))) longest old.corrects first octets (octet ∷ []) []
   confirm-part octet have more is =
       let new : Progress = shifted old octet (PresyncHeader (have + 1)) in
       let last = drop (4 - have) old.window in
       let few : length (is.come ++ last) < 4 + (length is.come + 0) =
       omega (arith, length-append is.come last, length-drop (4 - have) old.window, is.search.window, is.part) in
       to-presync-header new longest first octets (octet ∷ []) limit is.ended is.settled
-      (outcomes-presync old longest first octets is.ended is.settled is.header (is.come ++ last)
+      (ends-presync old longest first octets is.ended is.settled is.header (is.come ++ last)
       (length is.come + 0) is.headed.size is.headed.found few is.search)
       is.header is.come (have + 1) is.headed (omega arith)
       (searches-more old first octets is.ended is.settled (is.header ++ (is.come ++ last))

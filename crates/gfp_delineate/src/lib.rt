@@ -7,22 +7,26 @@
 #![tactic(auto)]
 
 ghost use Rattle.std.specs.Prelude.{◌≡◌, ◌≢◌, ℕ, ◌+◌, ◌-◌, ◌<◌, ◌≤◌, ◌↔◌, Bool, true, false, List, [], ◌∷◌, ◌++◌};
-ghost use Rattle.std.specs.Prelude.{length, take, All, IfOk, IfSome, IfNone, IsSome, IsTrue};
+ghost use Rattle.std.specs.Prelude.{length, map, take, drop, All, IfOk, IfSome, IfNone, IsSome, IsTrue};
 ghost use Rattle.session_model.specs.Core.{core_header};
 ghost use Rattle.session_model.specs.Piece.{stream_of, opening, frames_by};
 ghost use Rattle.session_model.specs.Run.{is_sync};
-ghost use Rattle.session_model.specs.Outcome.{outcomes};
+ghost use Rattle.session_model.specs.TypeHeader.{type_fault};
+ghost use Rattle.session_model.specs.Outcome.{outcome_by, outcomes};
 ghost use Rattle.session_model.specs.Delivery.{delivered};
 ghost use Rattle.gfp_delineate.specs.Repeated.{idles_from};
 ghost use Rattle.gfp_delineate.specs.Receiver.{most, StandsIn, Advances, Brings, frame_of, header_begun, told_outcomes};
-ghost use Rattle.gfp_delineate.specs.Receiver.{IsClientFrame};
+ghost use Rattle.gfp_delineate.specs.Areas.{ends_told};
+ghost use Rattle.gfp_delineate.specs.Receiver.{IsClientFrame, outcomes_told, client_of};
 
+mod areas;
+mod near;
 mod octets;
 mod steps;
 
-use crate::octets::begins_idle;
-pub use crate::octets::word_run;
-use gfp_scramble::Descrambler;
+pub use crate::areas::{AreaReceiver, AreaStep, AreaWhy};
+pub use crate::octets::{first_four, word_run};
+use gfp_headers::read_type;
 pub use session_model::{TypeFault, Why};
 use std::alloc::{AllocError, Global};
 use std::marker::Model;
@@ -46,50 +50,20 @@ impl Step {
     }
 }
 
-/// Where in a piece of the stream a receiver is.
-#[derive(Clone, Copy)]
-enum Phase {
-    /// HUNT, after a number of octets, below four, at which a header may have begun.
-    Hunt { have: u8 },
-    /// PRESYNC, in the area after a header, of which a number of octets is left to come.
-    PresyncArea { left: u16 },
-    /// PRESYNC, after a number of octets, below four, of the header that confirms.
-    PresyncHeader { have: u8 },
-    /// SYNC, after a number of octets, below four, of a header.
-    SyncHeader { have: u8 },
-    /// SYNC, in an area that is kept, of which a number of octets is left to come.
-    SyncArea { left: u16 },
-    /// SYNC, in an area that is dropped, of which a number of octets is left to come.
-    SyncPassing { left: u16, why: Why },
-}
-
 /// Finds the frames in a stream.
 #[derive(Drop)]
 pub struct Delineator {
-    /// The most octets of a frame that is delivered.
-    max: u16,
-    phase: Phase,
-    /// The last octets of what may be a header.
-    window: [u8; 4],
-    descrambler: Descrambler,
-    /// The descrambled octets of an area, or the last area that was kept.
-    area: Vec<u8>,
-    /// Whether the last call completed the frame in the area.
+    receiver: AreaReceiver,
+    /// Whether the last call completed the frame in the area that the receiver holds.
     holds: bool,
 }
 
 impl Model for Delineator {
-    ghost use Rattle.std.specs.Prelude.{vec_len, vec_capacity};
-    ghost use Rattle.gfp_delineate.specs.Receiver.{Receiver, IsSound};
+    ghost use Rattle.gfp_delineate.specs.Receiver.{Receiver};
 
     ghost Value = { Receiver };
 
-    ghost view = { λ s. record {
-      progress = record { longest = s.max; phase = s.phase; window = s.window; descrambling = s.descrambler; area = s.area.items };
-      holds = s.holds;
-    } };
-
-    ghost invariant = { λ s. IsSound s.max (vec_capacity s.area) (vec_len s.area) s.phase };
+    ghost view = { λ s. record { progress = s.receiver; holds = s.holds } };
 }
 
 impl Delineator {
@@ -100,11 +74,7 @@ impl Delineator {
         ensures { IfOk result (λ delineator. StandsIn delineator max true []) }
     {
         Ok(Delineator {
-            max,
-            phase: Phase::Hunt { have: 0 },
-            window: [0; 4],
-            descrambler: Descrambler::new(),
-            area: Vec::with_capacity(alloc, usize::from(max) + 4)?,
+            receiver: AreaReceiver::new(alloc, max + 4, false)?,
             holds: false,
         })
     }
@@ -119,7 +89,8 @@ impl Delineator {
             StandsIn self.old longest first octets →
             IfSome (frame_of self.new) (λ frame. length frame ≤ longest) }
     {
-        let (_, step) = self.step(&[octet]);
+        let end = self.receiver.byte(octet);
+        let step = step_of(end, self.receiver.area());
         self.holds = step.is_frame();
         step
     }
@@ -139,7 +110,8 @@ impl Delineator {
             StandsIn self.old longest first octets →
             IfSome (frame_of self.new) (λ frame. length frame ≤ longest) }
     {
-        let (taken, step) = self.take(piece);
+        let (taken, end) = self.receiver.feed(piece);
+        let step = step_of(end, self.receiver.area());
         self.holds = step.is_frame();
         (taken, step)
     }
@@ -149,7 +121,7 @@ impl Delineator {
         requires { IsSome (frame_of self.now) }
         ensures { frame_of self.now ≡ Some result.now }
     {
-        &self.area[4..]
+        &self.receiver.area()[4..]
     }
 
     /// A break of the stream: the octets that come belong to a new segment. A frame that is held stays.
@@ -159,8 +131,7 @@ impl Delineator {
             StandsIn self.new longest false [] }
         ensures held { frame_of self.new ≡ frame_of self.old }
     {
-        self.descrambler.forget();
-        self.phase = Phase::Hunt { have: 0 };
+        self.receiver.broken();
     }
 
     /// How many octets of the header of an idle frame came last, below four, in SYNC where a header is due, and `None`
@@ -175,12 +146,7 @@ impl Delineator {
             Advances self.now self.now (idles_from place count)
             × Brings self.now (idles_from place count) []) }
     {
-        match self.phase {
-            Phase::SyncHeader { have } if begins_idle(&self.window, have) => {
-                Some(usize::from(have))
-            }
-            _ => None,
-        }
+        self.receiver.idle_place()
     }
 
     /// Whether the state is SYNC.
@@ -189,10 +155,37 @@ impl Delineator {
             StandsIn self.now longest first octets →
             result ≡ is_sync octets }
     {
-        match self.phase {
-            Phase::Hunt { .. } | Phase::PresyncArea { .. } | Phase::PresyncHeader { .. } => false,
-            Phase::SyncHeader { .. } | Phase::SyncArea { .. } | Phase::SyncPassing { .. } => true,
-        }
+        self.receiver.synced()
+    }
+}
+
+/// What an octet completes, by how the area ended.
+#[inline]
+fn step_of(end: AreaStep, area: &[u8]) -> Step
+    requires { end ≡ AreaStep.Area → 4 ≤ length area.now }
+    ensures outcome { outcomes_told (Some (drop 4 area.now)) result
+        ≡ map client_of (ends_told area.now end) }
+    ensures nothing { (result ≡ Step.Nothing) ↔ (end ≡ AreaStep.Nothing) }
+    ensures frame { result ≡ Step.Frame → end ≡ AreaStep.Area }
+{
+    match end {
+        AreaStep::Nothing => Step::Nothing,
+        AreaStep::Area => client_step(area),
+        AreaStep::Dropped(AreaWhy::Unsettled) => Step::Dropped(Why::Unsettled),
+        AreaStep::Dropped(AreaWhy::TooLong { pli }) => Step::Dropped(Why::TooLong { pli }),
+    }
+}
+
+/// What comes of a whole area.
+fn client_step(area: &[u8]) -> Step
+    requires { 4 ≤ length area.now }
+    ensures outcome { outcomes_told (Some (drop 4 area.now)) result
+        ≡ outcome_by (type_fault (take 4 area.now)) area.now ∷ [] }
+    ensures some { result ≢ Step.Nothing }
+{
+    match read_type(&first_four(area)) {
+        Ok(()) => Step::Frame,
+        Err(fault) => Step::Dropped(Why::Header(fault)),
     }
 }
 

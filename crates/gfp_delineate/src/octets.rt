@@ -147,6 +147,15 @@ pub fn begins_idle(window: &[u8; 4], have: u8) -> bool
     &window[4 - have..] == &IDLE[..have]
 }
 
+/// The first four octets.
+#[inline]
+pub fn first_four(octets: &[u8]) -> [u8; 4]
+    requires { 4 ≤ length octets.now }
+    ensures { result ≡ take 4 octets.now }
+{
+    [octets[0], octets[1], octets[2], octets[3]]
+}
+
 /// Keeps more octets of an area, descrambled.
 #[inline]
 pub fn keep(area: &mut Vec<u8>, descrambler: &mut Descrambler, piece: &[u8])

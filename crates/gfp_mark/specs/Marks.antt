@@ -1,5 +1,7 @@
--- The mark of a segment: how many of its octets have come while nothing is confirmed, or the place that was confirmed first.
-use Rattle.std.specs.Prelude.{◌≡◌, ℕ, ◌+◌, ◌-◌, ◌^◌, ◌<◌, nat_lt, if◌then◌else◌, Bool, true, false, List, ◌++◌, length, Option, Some, None}
+-- The mark of a segment: how many of its octets have come while nothing is confirmed, or the place that was confirmed
+-- first.
+use Rattle.std.specs.Prelude.{◌≡◌, ℕ, ◌+◌, ◌-◌, ◌^◌, ◌<◌, nat_lt, if◌then◌else◌, Bool, true, false, List, ◌++◌, length}
+use Rattle.std.specs.Prelude.{Option, Some, None}
 use Rattle.std.specs.Option.{option_map}
 use Rattle.session_model.specs.Hunt.{Confirmed, hunt}
 use Rattle.session_model.specs.Outcome.{Outcome, outcomes}
@@ -26,7 +28,8 @@ abbrev pub is_hunting : Mark → Bool
 is_hunting (Hunting come) = true
 is_hunting (Confirms place) = false
 
--- with one more octet, after which the state is SYNC or not: SYNC begins with the last of the four octets of the header that confirms
+-- with one more octet, after which the state is SYNC or not: SYNC begins with the last of the four octets of the header
+-- that confirms
 abbrev pub next_mark : Mark → Bool → Mark
 next_mark (Hunting come) true = Confirms (come - 3)
 next_mark (Hunting come) false = Hunting (if nat_lt come (2 ^ 64 - 1) then come + 1 else come)
@@ -46,12 +49,15 @@ told_outcomes marked step = receiver.told_outcomes marked.receiver step
 
 -- these octets of a segment have come, which is the first one of its stream or a later one, and the mark is theirs
 abbrev pub StandsIn : Marked → ℕ → Bool → List ℕ → Type 0
-StandsIn marked longest first octets = receiver.StandsIn marked.receiver longest first octets × HasMark marked.mark octets
+StandsIn marked longest first octets = receiver.StandsIn marked.receiver longest first octets ×
+    HasMark marked.mark octets
 
 -- whatever octets of a segment came before, these came after them
 abbrev pub Advances : Marked → Marked → List ℕ → Type 0
-Advances was now more = (longest : ℕ) (first : Bool) (octets : List ℕ) → StandsIn was longest first octets → StandsIn now longest first (octets ++ more)
+Advances was now more = (longest : ℕ) (first : Bool) (octets : List ℕ) → StandsIn was longest first octets →
+    StandsIn now longest first (octets ++ more)
 
 -- whatever octets of a segment came before, these bring these outcomes after them
 abbrev pub Brings : Marked → List ℕ → List Outcome → Type 0
-Brings was more come = (longest : ℕ) (first : Bool) (octets : List ℕ) → StandsIn was longest first octets → outcomes longest first (octets ++ more) ≡ outcomes longest first octets ++ come
+Brings was more come = (longest : ℕ) (first : Bool) (octets : List ℕ) → StandsIn was longest first octets →
+    outcomes longest first (octets ++ more) ≡ outcomes longest first octets ++ come

@@ -1,15 +1,19 @@
-//! The receiver of a stream of GFP frames (G.7041) that also tells of each segment which place was confirmed first in it: its mark.
+//! The receiver of a stream of GFP frames (G.7041) that also tells of each segment which place was confirmed
+//! first in it: its mark.
 //!
-//! It is a `Delineator`, which finds the frames, and beside it what the search for the mark has come to. It doesn't know where in its stream
-//! a segment begins. `MarkedDelineator` is the place to begin; `confirm_law` says with which octet the state SYNC begins.
+//! It is a `Delineator`, which finds the frames, and beside it what the search for the mark has come to. It
+//! doesn't know where in its stream a segment begins. `MarkedDelineator` is the place to begin; `confirm_law`
+//! says with which octet the state SYNC begins.
 #![tactic(auto)]
 
-ghost use Rattle.std.specs.Prelude.{◌≡◌, ◌≢◌, ℕ, ◌+◌, ◌-◌, ◌^◌, ◌<◌, ◌≤◌, ◌↔◌, Bool, true, false, List, [], ◌∷◌, ◌++◌, length, take, Option, Some, None, IfOk, IfSome, IsSome};
+ghost use Rattle.std.specs.Prelude.{◌≡◌, ◌≢◌, ℕ, ◌+◌, ◌-◌, ◌^◌, ◌<◌, ◌≤◌, ◌↔◌, Bool, true, false, List, [], ◌∷◌, ◌++◌};
+ghost use Rattle.std.specs.Prelude.{length, take, Option, Some, None, IfOk, IfSome, IsSome};
 ghost use Rattle.session_model.specs.Hunt.{Confirmed, hunt};
 ghost use Rattle.session_model.specs.Run.{is_sync};
 ghost use Rattle.gfp_delineate.specs.Receiver.{most};
 ghost use Rattle.gfp_delineate.specs.Repeated.{idles_from};
-ghost use Rattle.gfp_mark.specs.Marks.{first_place, next_mark, is_hunting, StandsIn, Advances, Brings, frame_of, told_outcomes};
+ghost use Rattle.gfp_mark.specs.Marks.{first_place, next_mark, is_hunting, StandsIn, Advances, Brings, frame_of};
+ghost use Rattle.gfp_mark.specs.Marks.{told_outcomes};
 
 use gfp_delineate::{Delineator, Step};
 use std::alloc::{AllocError, Global};
@@ -31,7 +35,8 @@ pub enum Mark {
 }
 
 impl Mark {
-    /// The mark with one more octet. `synced` says whether the state is SYNC after it: the confirming header is then its last four octets.
+    /// The mark with one more octet. `synced` says whether the state is SYNC after it: the confirming header
+    /// is then its last four octets.
     fn next(self, synced: bool) -> Mark
         ensures { result ≡ next_mark self synced }
     {
@@ -68,7 +73,8 @@ impl Model for MarkedDelineator {
 }
 
 impl MarkedDelineator {
-    /// A receiver of a stream of which nothing has come. It has room for one frame of `max` octets, the most that it delivers.
+    /// A receiver of a stream of which nothing has come. It has room for one frame of `max` octets, the most
+    /// that it delivers.
     pub fn new(alloc: Global, max: u16) -> Result<MarkedDelineator, AllocError>
         requires { max ≤ most }
         ensures { IfOk result (λ marked. StandsIn marked max true []) }
@@ -93,8 +99,8 @@ impl MarkedDelineator {
         step
     }
 
-    /// Takes octets as a `Delineator` does, at least one where there is one, and only one while nothing is confirmed. The answer is
-    /// their number, and what the last of them completed.
+    /// Takes octets as a `Delineator` does, at least one where there is one, and only one while nothing is
+    /// confirmed. The answer is their number, and what the last of them completed.
     pub fn feed(&mut self, piece: &[u8]) -> (usize, Step)
         ensures within { result.0 ≤ length piece.now }
         ensures none { (result.0 ≡ 0) ↔ (length piece.now ≡ 0) }
@@ -122,8 +128,8 @@ impl MarkedDelineator {
         }
     }
 
-    /// How many octets of the header of an idle frame came last, as a `Delineator` says. Idle frames that go on from there change
-    /// nothing.
+    /// How many octets of the header of an idle frame came last, as a `Delineator` says. Idle frames that go
+    /// on from there change nothing.
     pub fn idle_place(&self) -> Option<usize>
         ensures below { IfSome result (λ place. place < 4) }
         ensures stays { IfSome result (λ place. (count : ℕ) →

@@ -11,4 +11,5 @@ name_of got = got.out.ghost_name
 -- this text was written since a start, or waits
 abbrev pub HasText : {K : Type 0} → (K → Option (List ℕ)) → (K → ℕ) → LentGotLines K → Start → List ℕ → Type 0
 HasText written faults got start text = (got.out.ghost_name ≡ start.name)
-    × WritesOrWaits got.failed (seen (told_of start.octets) start.faults) (seen (written got.out.now) (faults got.out.now)) got.block.now text
+    × WritesOrWaits got.failed (seen (told_of start.octets) start.faults)
+    (seen (written got.out.now) (faults got.out.now)) got.block.now text

@@ -1,4 +1,5 @@
--- What is written so far of a text. `written` and `faults` are a sink's, `start` is the sink before the first line, and `now` is the
+-- What is written so far of a text. `written` and `faults` are a sink's, `start` is the sink before the first line, and
+-- `now` is the
 -- sink as it is.
 use Rattle.std.specs.Prelude.{◌≡◌, ℕ, Bool, true, false, List, [], ◌∷◌, ◌++◌, Option, Some, None}
 use Rattle.std.specs.Io.KnownBytes.{append_known}
@@ -7,7 +8,8 @@ use Rattle.outside_io.specs.Start.{Start}
 use Rattle.got_lines.specs.declared.got.GotLines.{GotLines}
 
 -- of a text, a prefix is appended to the sink, and the rest waits in a block
-pub record Holds {K : Type 0} (written : K → Option (List ℕ)) (faults : K → ℕ) (start now : K) (waiting text : List ℕ) : Type 0 where
+pub record Holds {K : Type 0} (written : K → Option (List ℕ)) (faults : K → ℕ) (start now : K)
+    (waiting text : List ℕ) : Type 0 where
   pub put : List ℕ
   pub appends : Appends written faults start now put
   pub all : put ++ waiting ≡ text
@@ -31,7 +33,8 @@ abbrev pub WritesOrWaits : Bool → Seen → Seen → List ℕ → List ℕ → 
 WritesOrWaits false first now waiting text = Holds known_of faults_of first now waiting text
 WritesOrWaits true first now waiting text = AppendsPart known_of faults_of first now text
 
--- what a sink tells as octets, which a start can name: an octet before those that are told, and none where none are told
+-- what a sink tells as octets, which a start can name: an octet before those that are told, and none where none are
+-- told
 abbrev pub named : Option (List ℕ) → List ℕ
 named None = []
 named (Some octets) = 0 ∷ octets
@@ -58,10 +61,12 @@ start_at written faults first name = record { octets = named (written first); fa
 -- this text was written since a start, or waits
 abbrev pub HasText : {K : Type 0} → (K → Option (List ℕ)) → (K → ℕ) → GotLines K → Start → List ℕ → Type 0
 HasText written faults got start text = (got.out.ghost_name ≡ start.name)
-    × WritesOrWaits got.failed (seen (told_of start.octets) start.faults) (seen (written got.out.now) (faults got.out.now)) got.block text
+    × WritesOrWaits got.failed (seen (told_of start.octets) start.faults)
+    (seen (written got.out.now) (faults got.out.now)) got.block text
 
 -- a prefix of a text was appended to the sink, which may be nothing or the whole, and no fault was counted
-pub record AppendsSome {K : Type 0} (written : K → Option (List ℕ)) (faults : K → ℕ) (old new : K) (text : List ℕ) : Type 0 where
+pub record AppendsSome {K : Type 0} (written : K → Option (List ℕ)) (faults : K → ℕ) (old new : K)
+    (text : List ℕ) : Type 0 where
   pub part : List ℕ
   pub rest : List ℕ
   pub prefix : part ++ rest ≡ text

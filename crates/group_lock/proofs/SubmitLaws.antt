@@ -1,6 +1,6 @@
 -- An item that lands leaves a group bound to its session.
-use Rattle.std.proofs.Common.{◌≡◌, ℕ, suc, ◌+◌, ◌-◌, ◌<◌, ◌≤◌, nat_lt, nat_le, not, ◌&&◌, Bool, true, false}
-use Rattle.std.proofs.Common.{if◌then◌else◌, List, [], ◌∷◌, ◌++◌, map, filter, fold, take, drop, length, slice_get}
+use Rattle.std.proofs.Common.{◌≡◌, ℕ, ◌+◌, ◌-◌, ◌<◌, ◌≤◌, nat_lt, nat_le, not, ◌&&◌, Bool, true, false}
+use Rattle.std.proofs.Common.{if◌then◌else◌, List, [], ◌∷◌, ◌++◌, drop, length, slice_get}
 use Rattle.std.proofs.Common.{get_or, All, Option, Some, None, is_none, option_map, inl, inr, refl, sym, ◌∙◌, ap, subst}
 use Rattle.std.proofs.Common.{arith, length-append}
 use Rattle.std.proofs.Math.Logic.{∥∥₁_map, ∥∥₁_elim}
@@ -8,7 +8,7 @@ use Rattle.std.proofs.Props.{props}
 use Rattle.std.proofs.lemmas.Bool.{cases_Bool, ltb-false, eqb-true}
 use Rattle.std.proofs.lemmas.Bool.Decides.{nat_tests}
 use Rattle.std.proofs.lemmas.List.Elements.{All-cons, All-append}
-use Rattle.std.proofs.lemmas.Option.{slice_get_within, slice_get-map}
+use Rattle.std.proofs.lemmas.Option.{slice_get_within}
 use Rattle.report_text.specs.declared.report.Refusal.{Refusal}
 use Rattle.session_model.specs.declared.script.Script.{Script}
 use Rattle.walk_law.specs.Landed.{Numbered, is_client, refused_by, IsPlaced}
@@ -19,34 +19,24 @@ use Rattle.group_lock.specs.Answer.{fault_of, has_landed, is_full, refusal_told}
 use Rattle.group_lock.specs.Session.{refusal_by, refusals_by, accepted_frames_by, accepted_commands_by, AreItemsOf}
 use Rattle.group_lock.specs.Session.{IsBound}
 use Rattle.session_model.specs.Table.{Told}
-use Rattle.walk_law.proofs.ReportLaws.{IsInserted, landed-frame, landed-command, placed, one-more}
-use Rattle.std.proofs.lemmas.List.{length-map, length-drop, get_or-drop}
+use Rattle.walk_law.proofs.ReportLaws.{IsInserted, placed, one-more}
+use Rattle.std.proofs.lemmas.List.{length-drop}
 use Rattle.std.proofs.lemmas.List.Sums.{sum_by-drop_more}
 use Rattle.std.proofs.lemmas.Option.{slice_get-get_or, get_or_from_slice_get}
-use Rattle.line_law.proofs.ListLaws.{take-next}
 use Rattle.session_model.specs.declared.script.Item.{Item}
 use Rattle.session_model.specs.declared.script.ItemKind.{ItemKind}
 use Rattle.session_model.specs.declared.script.ItemKind.TheVariants.{Frame, Add, Remove}
-use Rattle.session_model.specs.declared.table.Command.{Command}
 use Rattle.session_model.specs.declared.table.Command.TheVariants.{Add as add, Remove as remove}
 use Rattle.session_model.specs.Scenario.{Scenario, DueCommand, DueFrame, order_of, offer_of, orders_of, offers_of}
-use Rattle.session_model.specs.Scenario.{scenario_of, steps_in, lands_at, comes_at}
-use Rattle.session_model.specs.Source.{Source, asked_all, refusal}
-use Rattle.session_model.specs.Client.{Stream, stream_before, frame_refusal, refusal_while, offered}
-use Rattle.session_model.specs.Course.{Course}
-use Rattle.session_model.specs.Journal.{with_items}
-use Rattle.session_model.specs.Counts.{Counts, dues_of, frame_dues, command_dues}
-use Rattle.session_law.proofs.AlikeLaws.{Alike, alike-after, alike-stream}
+use Rattle.session_model.specs.Scenario.{scenario_of}
+use Rattle.session_model.specs.Counts.{Counts}
 use Rattle.report_text.specs.declared.report.Refusal.TheVariants.{Frame as frame_refused, Command as command_refused}
-use Rattle.source_core.specs.Terminal.{Terminal}
 use Rattle.source_core.specs.Given.{Stands as HasMade}
-use Rattle.source_core.proofs.LandedLaws.{alike-landed, first-alike}
-use Rattle.walk_law.specs.Landed.{landed_from, landed_items, landed_scenario, kind_refusal, source_met, IsOfferAt}
+use Rattle.walk_law.specs.Landed.{landed_items, landed_scenario, IsOfferAt}
 use Rattle.walk_law.specs.Landed.{IsOrderAt}
-use Rattle.walk_law.proofs.LandLaws.{frame-dues, command-dues, offer-at, order-at}
-use Rattle.group_source.specs.Place.{is_frame, is_command, place_of}
+use Rattle.walk_law.proofs.LandLaws.{offer-at, order-at}
 use Rattle.group_lock.specs.declared.group.GroupState.{GroupState}
-use Rattle.group_source.specs.Item.{size_of as octet_count, bare}
+use Rattle.group_source.specs.Item.{size_of as octet_count}
 use Rattle.group_lock.specs.Journal.{entry_of, items_in, fits}
 use Rattle.std.specs.Global.{Vec}
 use Rattle.std.proofs.lemmas.List.{append-nil, map_push}
@@ -62,15 +52,14 @@ use Rattle.group_lock.specs.Calls.{Submits}
 use Rattle.group_lock.proofs.AlikeLaws.{push-cases, offers-push, orders-push}
 use Rattle.group_lock.proofs.BoundLaws.{of-then}
 use Rattle.group_lock.proofs.MostLaws.{most-next}
-use Rattle.group_source.specs.Landed.{next_number, due_in, due_at}
-use Rattle.group_source.specs.Lands.{met_by, with_kind}
-use Rattle.group_lock.specs.Group.{IsOf, HasCounted, parts_of, items_of, ticks_of, frames_of, commands_of, taken_of}
+use Rattle.group_source.specs.Landed.{next_number, due_at}
+use Rattle.group_source.specs.Lands.{with_kind}
+use Rattle.group_lock.specs.Group.{IsOf, HasCounted, counted_by, parts_of, items_of, ticks_of, frames_of, commands_of, taken_of}
 use Rattle.group_lock.specs.Group.{source_of, next_of, refusal_of, is_number, fault_met, fault_in, slots_of, bytes_of}
 use Rattle.group_lock.specs.Group.{journal_of, refusals_of, lag_of, lost_of, entries_by, with_landed, room_for}
 use Rattle.group_lock.specs.Session.{counts_of, IsItemOf, octets_in, HasRoom, HasLandedOf}
-use Rattle.group_source.proofs.PlaceLaws.{count_of, place-found, offers-size, orders-size}
-use Rattle.group_source.proofs.LandingLaws.{number-there, item-there, next-due, all-left, all-right, placed-same}
-use Rattle.group_source.proofs.BareLaws.{bare-dues, bare-place, frame-blind, command-blind}
+use Rattle.group_source.proofs.LandingLaws.{all-left, all-right, placed-same}
+use Rattle.group_source.proofs.LandsLaws.{due-now, next-there, next-counts, offer-here, order-here, met-item, leaves}
 use Rattle.group_lock.proofs.GroupLaws.{refused-is, fault_by, met_in}
 
 -- ---- what holds of each of them, and of one more
@@ -88,32 +77,8 @@ pub item-here : (script : Script) (g : GroupState) (number : ℕ) (kind : ItemKi
     next_of g kind ≡ Some number → due_at (items_of g) number ≤ ticks_of g → IsItemOf script number kind →
     slice_get script.items number ≡ Some (record { due = ticks_of g; kind = kind })
 item-here script g number kind of_script next due is_item =
-    let (at, there) = number-there g.source.landed (is_client kind) number next in
-    let same = ap length of_script.items ∙ length-map script.items bare in
-    let (item, found) = item-there script.items number (omega arith) in
-    let bared : slice_get (items_of g) number ≡ Some (bare item) =
-    ap (λ (l : List Item). slice_get l number) of_script.items ∙ slice_get-map bare script.items number
-    ∙ ap (option_map bare) found in
-    let when : due_at (items_of g) number ≡ item.due = ap due_in bared in
-    let late = next-due g.source.landed (is_client kind) number (ticks_of g) next g.keeps.ahead in
-    let now : item.due ≡ ticks_of g = omega arith in
-    let is : kind ≡ item.kind = is_item item found in
-    found ∙ ap (λ n. Some (record { due = n; kind = item.kind })) now
-    ∙ ap (λ (k : ItemKind). Some (record { due = ticks_of g; kind = k })) (sym is)
-
-frame-place : (script : Script) (g : GroupState) (number : ℕ) → IsOf script g → next_number g.source.landed true
-    ≡ Some number → number ≡ place_of is_frame (frames_of g) script.items
-frame-place script g number of_script next =
-    let (at, there) = number-there g.source.landed true number next in
-    at ∙ ap (place_of is_frame (frames_of g)) of_script.items ∙ bare-place is_frame frame-blind
-    (frames_of g) script.items
-
-command-place : (script : Script) (g : GroupState) (number : ℕ) → IsOf script g → next_number g.source.landed false
-    ≡ Some number → number ≡ place_of is_command (commands_of g) script.items
-command-place script g number of_script next =
-    let (at, there) = number-there g.source.landed false number next in
-    at ∙ ap (place_of is_command (commands_of g)) of_script.items ∙ bare-place is_command command-blind
-    (commands_of g) script.items
+    due-now script.items g.source.landed of_script.items (is_client kind) number (ticks_of g) kind next due
+    g.keeps.ahead is_item
 
 pub offer-next : (script : Script) (g : GroupState) (number : ℕ) (octets : List ℕ) → IsOf script g →
     next_number g.source.landed true ≡ Some number →
@@ -121,15 +86,8 @@ pub offer-next : (script : Script) (g : GroupState) (number : ℕ) (octets : Lis
     IsOfferAt script.items (frames_of g) (entry_of number (ticks_of g) (Frame octets))
     (record { due = ticks_of g; frame = octets })
 offer-next script g number octets of_script next here =
-    let at = frame-place script g number of_script next in
-    let found = place-found is_frame script.items (frames_of g) (record { due = ticks_of g; kind = Frame octets })
-    (sym (ap (slice_get script.items) at) ∙ here) in
-    record {
-      there = here;
-      is = refl;
-      before = offers-size (take number script.items)
-          ∙ ap (λ n. count_of is_frame (take n script.items)) at ∙ found.1;
-    }
+    offer-here script.items (frames_of g) number (ticks_of g) octets
+    (next-there script.items g.source.landed of_script.items true number next).0 here
 
 pub order-next : (script : Script) (g : GroupState) (number : ℕ) (kind : ItemKind) (order : DueCommand) →
     IsOf script g → next_number g.source.landed false ≡ Some number →
@@ -137,125 +95,20 @@ pub order-next : (script : Script) (g : GroupState) (number : ℕ) (kind : ItemK
     (record { due = ticks_of g; kind = kind }) →
     IsOrderAt script.items (commands_of g) (entry_of number (ticks_of g) kind) order
 order-next script g number kind order of_script next is here =
-    let at = command-place script g number of_script next in
-    let found = place-found is_command script.items (commands_of g) (record { due = ticks_of g; kind = kind })
-    (sym (ap (slice_get script.items) at) ∙ here) in
-    record {
-      there = here;
-      is = is;
-      before = orders-size (take number script.items)
-          ∙ ap (λ n. count_of is_command (take n script.items)) at ∙ found.1;
-    }
-
--- ---- what has landed is the script's, up to the ticks made
-module _ (script : Script) (g : GroupState) (of_script : IsOf script g) where
-  offers-after : All (λ (offer : DueFrame). ticks_of g ≤ offer.due) (drop (frames_of g) (offers_of script.items))
-  offers-after k d inside =
-      let n : ℕ = frames_of g + k in
-      let size = length-drop (frames_of g) (offers_of script.items) in
-      let here : slice_get (frame_dues (dues_of (items_of g))) n ≡ Some (get_or (offers_of script.items) n d).due =
-      ap (λ (l : List Item). slice_get (frame_dues (dues_of l)) n) of_script.items
-      ∙ ap (λ l. slice_get (frame_dues l) n) (bare-dues script.items)
-      ∙ ap (λ l. slice_get l n) (frame-dues script.items) ∙ slice_get-map (λ (offer : DueFrame). offer.due)
-      (offers_of script.items) n
-      ∙ ap (option_map (λ (offer : DueFrame). offer.due))
-      (slice_get-get_or (offers_of script.items) n d (omega arith)) in
-      let late = g.keeps.ahead.of_frames n (get_or (offers_of script.items) n d).due (omega arith) here in
-      subst (λ (offer : DueFrame). ticks_of g ≤ offer.due)
-      (sym (get_or-drop (frames_of g) (offers_of script.items) k d)) late
-
-  orders-after : All (λ (order : DueCommand). ticks_of g ≤ order.due) (drop (commands_of g) (orders_of script.items))
-  orders-after k d inside =
-      let n : ℕ = commands_of g + k in
-      let size = length-drop (commands_of g) (orders_of script.items) in
-      let here : slice_get (command_dues (dues_of (items_of g))) n ≡ Some (get_or (orders_of script.items) n d).due =
-      ap (λ (l : List Item). slice_get (command_dues (dues_of l)) n) of_script.items
-      ∙ ap (λ l. slice_get (command_dues l) n) (bare-dues script.items)
-      ∙ ap (λ l. slice_get l n) (command-dues script.items) ∙ slice_get-map (λ (order : DueCommand). order.due)
-      (orders_of script.items) n
-      ∙ ap (option_map (λ (order : DueCommand). order.due))
-      (slice_get-get_or (orders_of script.items) n d (omega arith)) in
-      let late = g.keeps.ahead.of_commands n (get_or (orders_of script.items) n d).due (omega arith) here in
-      subst (λ (order : DueCommand). ticks_of g ≤ order.due)
-      (sym (get_or-drop (commands_of g) (orders_of script.items) k d)) late
-
-  pub landed-alike : Alike (landed_scenario script (counts_of g)) (taken_of g) (scenario_of script) (taken_of g)
-      (ticks_of g)
-  landed-alike =
-      alike-landed (landed_scenario script (counts_of g)) (scenario_of script) (taken_of g) (taken_of g) (ticks_of g)
-      (first-alike (scenario_of script) (commands_of g) (frames_of g) (ticks_of g) orders-after offers-after) refl
-
--- ---- what the source says of it is what the script says
-met-frame : (core : Terminal) (script : Script) (s : Counts) (cells : List (Option Told)) (number : ℕ)
-    (octets : List ℕ) → HasMade core (landed_scenario script s) cells →
-    Alike (landed_scenario script s) cells (scenario_of script) cells core.ticks → offers_of (take number script.items)
-    ≡ take s.frames (offers_of script.items) →
-    met_by core (Frame octets) ≡ kind_refusal (scenario_of script) cells core.ticks (take number script.items)
-    (Frame octets)
-met-frame core script s cells number octets made alike earlier =
-    ap (λ (waiting : List (List ℕ)). option_map frame_refused (refusal_while waiting octets)) made.stream.waits
-    ∙ ap (λ (stream : Stream). option_map frame_refused
-    (frame_refusal octets
-    (fold offered stream
-    (map (λ (offer : DueFrame). offer.frame) (filter (comes_at core.ticks) (take s.frames (offers_of script.items)))))))
-    (alike-stream (landed_scenario script s) cells (scenario_of script) cells core.ticks alike)
-    ∙ ap (λ (offers : List DueFrame). kind_met offers) (sym earlier)
-  where
-    kind_met : List DueFrame → Option Refusal
-    kind_met offers =
-        option_map frame_refused (frame_refusal octets (fold offered (stream_before (scenario_of script) cells core.ticks)
-        (map (λ (offer : DueFrame). offer.frame) (filter (comes_at core.ticks) offers))))
-
-met-command : (core : Terminal) (script : Script) (s : Counts) (cells : List (Option Told)) (number : ℕ)
-    (command : Command) → HasMade core (landed_scenario script s) cells →
-    Alike (landed_scenario script s) cells (scenario_of script) cells core.ticks → orders_of (take number script.items)
-    ≡ take s.commands (orders_of script.items) →
-    option_map command_refused (refusal core.lines command core.table.source)
-    ≡ option_map command_refused
-    (refusal (length script.config.windows) command
-    (source_met (scenario_of script) cells core.ticks (orders_of (take number script.items))))
-met-command core script s cells number command made alike earlier =
-    ap (λ n. option_map command_refused (refusal n command core.table.source)) made.lines
-    ∙ ap (λ (course : Course). option_map command_refused
-    (refusal (length script.config.windows) command course.source)) made.table
-    ∙ ap (λ (source : Source). option_map command_refused
-    (refusal (length script.config.windows) command
-    (asked_all (length script.config.windows)
-    (map (λ (order : DueCommand). order.command)
-    (filter (lands_at (steps_in core.ticks)) (take s.commands (orders_of script.items)))) source)))
-    (alike-after (landed_scenario script s) cells (scenario_of script) cells core.ticks (steps_in core.ticks) alike
-    (omega arith))
-    ∙ ap (λ (orders : List DueCommand). option_map command_refused
-    (refusal (length script.config.windows) command (source_met (scenario_of script) cells core.ticks orders)))
-    (sym earlier)
+    order-here script.items (commands_of g) number (ticks_of g) kind order
+    (next-there script.items g.source.landed of_script.items false number next).0 is here
 
 -- ---- why it is refused
 pub refusal-item : (script : Script) (g : GroupState) (number : ℕ) (kind : ItemKind) → IsOf script g →
     HasLandedOf script g → next_of g kind ≡ Some number →
     slice_get script.items number ≡ Some (record { due = ticks_of g; kind = kind }) →
     refusal_of g kind ≡ refusal_by script (taken_of g) (entry_of number (ticks_of g) kind)
-refusal-item script g number (Frame octets) of_script has next here =
-    let at = offer-at script.items (frames_of g) (entry_of number (ticks_of g) (Frame octets))
-    (record { due = ticks_of g; frame = octets }) (offer-next script g number octets of_script next here) in
-    sym (refused-is g (Frame octets)) ∙ ∥∥₁_elim has.made (hlevel props)
-    (λ made. met-frame (source_of g) script (counts_of g) (taken_of g) number octets made
-    (landed-alike script g of_script) at.1)
-refusal-item script g number (Add line) of_script has next here =
-    let order : DueCommand = record { due = ticks_of g; command = add line } in
-    let at = order-at script.items (commands_of g) (entry_of number (ticks_of g) (Add line)) order
-    (order-next script g number (Add line) order of_script next refl here) in
-    sym (refused-is g (Add line)) ∙ ∥∥₁_elim has.made (hlevel props)
-    (λ made. met-command (source_of g) script (counts_of g) (taken_of g) number (add line) made
-    (landed-alike script g of_script) at.1)
-refusal-item script g number (Remove line) of_script has next here =
-    let order : DueCommand = record { due = ticks_of g; command = remove line } in
-    let at = order-at script.items (commands_of g) (entry_of number (ticks_of g) (Remove line)) order
-    (order-next script g number (Remove line) order of_script next refl here) in
-    sym (refused-is g (Remove line)) ∙ ∥∥₁_elim has.made (hlevel props)
-    (λ made. met-command (source_of g) script (counts_of g) (taken_of g) number (remove line) made
-    (landed-alike script g of_script) at.1)
+refusal-item script g number kind of_script has next here =
+    sym (refused-is g kind) ∙ ∥∥₁_elim has.made (hlevel props)
+    (λ made. met-item script (counts_of g) g.source.landed (source_of g) (taken_of g) number kind of_script.items
+    g.keeps.ahead made next here)
 
--- ---- what has landed with it
+-- ---- what has landed with it, and what is left
 pub record Next (script : Script) (a b : GroupState) (number : ℕ) (kind : ItemKind) : Type 0 where
   pub inserted : IsInserted (entry_of number (ticks_of a) kind) (landed_items script (counts_of a))
       (landed_items script (counts_of b))
@@ -268,107 +121,98 @@ pub record Next (script : Script) (a b : GroupState) (number : ℕ) (kind : Item
       ≡ length (drop (frames_of b) (offers_of script.items)) + length
       (drop (commands_of b) (orders_of script.items)) + 1
 
-command-next : (script : Script) (a b : GroupState) (number : ℕ) (kind : ItemKind) (order : DueCommand) →
-    IsOf script a → next_number a.source.landed false ≡ Some number → order_of (ticks_of a) kind ≡ order ∷ [] →
-    slice_get script.items number ≡ Some (record { due = ticks_of a; kind = kind }) → frames_of b ≡ frames_of a →
-    commands_of b ≡ commands_of a + 1 →
-    IsInserted (entry_of number (ticks_of a) kind) (landed_items script (counts_of a))
-    (landed_items script (counts_of b))
-    × (with_items (scenario_of script) (take (commands_of a) (orders_of script.items) ++ order ∷ [])
-    (take (frames_of a) (offers_of script.items)) ≡ landed_scenario script (counts_of b))
-    × (commands_of a < length (orders_of script.items))
-command-next script a b number kind order of_script next is here frames commands =
-    let at = order-next script a number kind order of_script next is here in
-    let there = (order-at script.items (commands_of a) (entry_of number (ticks_of a) kind) order at).0 in
-    let up : suc (commands_of a) ≡ commands_of b = omega arith in
-    let items : landed_items script (record (counts_of a) { commands = commands_of a + 1 }) ≡ landed_items script
-    (counts_of b) =
-    ap (λ n. landed_from (frames_of a) n 0 script.items) (sym commands)
-    ∙ ap (λ n. landed_from n (commands_of b) 0 script.items) (sym frames) in (
-      subst (IsInserted (entry_of number (ticks_of a) kind) (landed_items script (counts_of a))) items
-          (landed-command script (counts_of a) (entry_of number (ticks_of a) kind) order at),
-      ap (λ (l : List DueCommand). with_items (scenario_of script) l (take (frames_of a) (offers_of script.items)))
-          (sym (take-next (orders_of script.items) (commands_of a) order there))
-          ∙ ap (λ n. with_items (scenario_of script) (take n (orders_of script.items))
-          (take (frames_of a) (offers_of script.items))) up
-          ∙ ap (λ n. with_items (scenario_of script) (take (commands_of b) (orders_of script.items))
-          (take n (offers_of script.items))) (sym frames),
-      slice_get_within (orders_of script.items) (commands_of a) order there,
-    )
-
 less-by : (n m size : ℕ) → n < size → m ≡ n + 1 → size - n ≡ size - m + 1
 less-by n m size low e = omega arith
 
-next-command : (script : Script) (a b : GroupState) (number : ℕ) (kind : ItemKind) (order : DueCommand) →
-    IsOf script a → next_number a.source.landed false ≡ Some number → order_of (ticks_of a) kind ≡ order ∷ [] →
-    slice_get script.items number ≡ Some (record { due = ticks_of a; kind = kind }) → frames_of b ≡ frames_of a →
-    commands_of b ≡ commands_of a + 1 → octet_count kind ≡ 0 →
-    with_kind (landed_scenario script (counts_of a)) (ticks_of a) kind ≡ with_items (scenario_of script)
-    (take (commands_of a) (orders_of script.items) ++ order ∷ []) (take (frames_of a) (offers_of script.items)) →
-    Next script a b number kind
-next-command script a b number kind order of_script next is here frames commands none with_one =
-    let made = command-next script a b number kind order of_script next is here frames commands in
-    let one = length-drop (commands_of a) (orders_of script.items) in
-    let two = length-drop (commands_of b) (orders_of script.items) in
-    let step = less-by (commands_of a) (commands_of b) (length (orders_of script.items)) made.2 commands in
-    let same : length (drop (frames_of a) (offers_of script.items)) ≡ length
-    (drop (frames_of b) (offers_of script.items)) = ap (λ n. length (drop n (offers_of script.items))) (sym frames) in
-    let octets : octets_in (drop (frames_of a) (offers_of script.items)) ≡ octets_in
-    (drop (frames_of b) (offers_of script.items)) = ap (λ n. octets_in (drop n (offers_of script.items)))
-    (sym frames) in
-    record {
-      inserted = made.0;
-      scenario = with_one ∙ made.1;
-      octets = (let h = octets in omega arith);
-      entries = omega arith;
-    }
+-- the octets and the items that are left
+abbrev Left : Script → GroupState → GroupState → ItemKind → Type 0
+Left script a b kind =
+    (octets_in (drop (frames_of a) (offers_of script.items)) ≡ octet_count kind + octets_in
+    (drop (frames_of b) (offers_of script.items)))
+    × (length (drop (frames_of a) (offers_of script.items)) + length (drop (commands_of a) (orders_of script.items))
+    ≡ length (drop (frames_of b) (offers_of script.items)) + length
+    (drop (commands_of b) (orders_of script.items)) + 1)
 
-pub next-of : (script : Script) (a b : GroupState) (number : ℕ) (kind : ItemKind) → IsOf script a →
-    next_of a kind ≡ Some number → slice_get script.items number ≡ Some (record { due = ticks_of a; kind = kind }) →
-    HasCounted a b kind true → Next script a b number kind
-next-of script a b number (Frame octets) of_script next here counted =
+left-frame : (script : Script) (a b : GroupState) (octets : List ℕ) →
+    slice_get (offers_of script.items) (frames_of a) ≡ Some (record { due = ticks_of a; frame = octets }) →
+    frames_of b ≡ frames_of a + 1 → commands_of b ≡ commands_of a → Left script a b (Frame octets)
+left-frame script a b octets there frames commands =
     let offer : DueFrame = record { due = ticks_of a; frame = octets } in
-    let at = offer-next script a number octets of_script next here in
-    let there = (offer-at script.items (frames_of a) (entry_of number (ticks_of a) (Frame octets)) offer at).0 in
     let inside = slice_get_within (offers_of script.items) (frames_of a) offer there in
-    let frames : frames_of b ≡ frames_of a + 1 = counted.frames in
-    let commands : commands_of b ≡ commands_of a =
-    counted.commands ∙ (let e : commands_of a + 0 ≡ commands_of a = omega arith in e) in
-    let up : suc (frames_of a) ≡ frames_of b = omega arith in
-    let items : landed_items script (record (counts_of a) { frames = frames_of a + 1 }) ≡ landed_items script
-    (counts_of b) =
-    ap (λ n. landed_from n (commands_of a) 0 script.items) (sym frames)
-    ∙ ap (λ n. landed_from (frames_of b) n 0 script.items) (sym commands) in
     let one = length-drop (frames_of a) (offers_of script.items) in
     let two = length-drop (frames_of b) (offers_of script.items) in
     let step = less-by (frames_of a) (frames_of b) (length (offers_of script.items)) inside frames in
     let same : length (drop (commands_of a) (orders_of script.items)) ≡ length
     (drop (commands_of b) (orders_of script.items)) = ap (λ n. length (drop n (orders_of script.items)))
-    (sym commands) in
-    record {
-      inserted = subst (IsInserted (entry_of number (ticks_of a) (Frame octets))
-          (landed_items script (counts_of a))) items
-          (landed-frame script (counts_of a) (entry_of number (ticks_of a) (Frame octets)) offer at);
-      scenario = ap (λ (l : List DueFrame). with_items (scenario_of script)
-          (take (commands_of a) (orders_of script.items)) l)
-          (sym (take-next (offers_of script.items) (frames_of a) offer there))
-          ∙ ap (λ n. with_items (scenario_of script) (take (commands_of a) (orders_of script.items))
-          (take n (offers_of script.items))) up
-          ∙ ap (λ n. with_items (scenario_of script) (take n (orders_of script.items))
-          (take (frames_of b) (offers_of script.items))) (sym commands);
-      octets = sum_by-drop_more (λ (o : DueFrame). length o.frame) (offers_of script.items) (frames_of a) offer inside
+    (sym commands) in (
+      sum_by-drop_more (λ (o : DueFrame). length o.frame) (offers_of script.items) (frames_of a) offer inside
           ∙ ap (λ (o : DueFrame). length o.frame + octets_in (drop (frames_of a + 1) (offers_of script.items)))
           (get_or_from_slice_get (offers_of script.items) (frames_of a) offer offer there)
-          ∙ ap (λ n. length octets + octets_in (drop n (offers_of script.items))) (sym frames);
-      entries = omega arith;
+          ∙ ap (λ n. length octets + octets_in (drop n (offers_of script.items))) (sym frames),
+      omega arith,
+    )
+
+left-command : (script : Script) (a b : GroupState) (kind : ItemKind) (order : DueCommand) →
+    slice_get (orders_of script.items) (commands_of a) ≡ Some order → octet_count kind ≡ 0 →
+    frames_of b ≡ frames_of a → commands_of b ≡ commands_of a + 1 → Left script a b kind
+left-command script a b kind order there none frames commands =
+    let inside = slice_get_within (orders_of script.items) (commands_of a) order there in
+    let one = length-drop (commands_of a) (orders_of script.items) in
+    let two = length-drop (commands_of b) (orders_of script.items) in
+    let step = less-by (commands_of a) (commands_of b) (length (orders_of script.items)) inside commands in
+    let same : length (drop (frames_of a) (offers_of script.items)) ≡ length
+    (drop (frames_of b) (offers_of script.items)) = ap (λ n. length (drop n (offers_of script.items))) (sym frames) in
+    let octets : octets_in (drop (frames_of a) (offers_of script.items)) ≡ octets_in
+    (drop (frames_of b) (offers_of script.items)) = ap (λ n. octets_in (drop n (offers_of script.items)))
+    (sym frames) in
+    (let h = octets in omega arith, omega arith)
+
+left-next : (script : Script) (a b : GroupState) (number : ℕ) (kind : ItemKind) → IsOf script a →
+    next_of a kind ≡ Some number → slice_get script.items number ≡ Some (record { due = ticks_of a; kind = kind }) →
+    HasCounted a b kind true → Left script a b kind
+left-next script a b number (Frame octets) of_script next here counted =
+    left-frame script a b octets
+    (offer-at script.items (frames_of a) (entry_of number (ticks_of a) (Frame octets))
+    (record { due = ticks_of a; frame = octets }) (offer-next script a number octets of_script next here)).0
+    counted.frames (counted.commands ∙ (let e : commands_of a + 0 ≡ commands_of a = omega arith in e))
+left-next script a b number (Add line) of_script next here counted =
+    let order : DueCommand = record { due = ticks_of a; command = add line } in
+    left-command script a b (Add line) order
+    (order-at script.items (commands_of a) (entry_of number (ticks_of a) (Add line)) order
+    (order-next script a number (Add line) order of_script next refl here)).0 refl
+    (counted.frames ∙ (let e : frames_of a + 0 ≡ frames_of a = omega arith in e)) counted.commands
+left-next script a b number (Remove line) of_script next here counted =
+    let order : DueCommand = record { due = ticks_of a; command = remove line } in
+    left-command script a b (Remove line) order
+    (order-at script.items (commands_of a) (entry_of number (ticks_of a) (Remove line)) order
+    (order-next script a number (Remove line) order of_script next refl here)).0 refl
+    (counted.frames ∙ (let e : frames_of a + 0 ≡ frames_of a = omega arith in e)) counted.commands
+
+counted-one : (client : Bool) → counted_by client true ≡ (if client then 1 else 0)
+counted-one true = refl
+counted-one false = refl
+
+counted-other : (client : Bool) → counted_by (not client) true ≡ (if client then 0 else 1)
+counted-other true = refl
+counted-other false = refl
+
+pub next-of : (script : Script) (a b : GroupState) (number : ℕ) (kind : ItemKind) → IsOf script a →
+    next_of a kind ≡ Some number → slice_get script.items number ≡ Some (record { due = ticks_of a; kind = kind }) →
+    HasCounted a b kind true → Next script a b number kind
+next-of script a b number kind of_script next here counted =
+    let at = (next-there script.items a.source.landed of_script.items (is_client kind) number next).0 in
+    let with_it = leaves script (counts_of a) a.source.landed number (ticks_of a) kind at here in
+    let same = next-counts (is_client kind) (counts_of a) a.source.landed (frames_of b) (commands_of b)
+    (counted.frames ∙ ap (λ n. frames_of a + n) (counted-one (is_client kind)))
+    (counted.commands ∙ ap (λ n. commands_of a + n) (counted-other (is_client kind))) in
+    let less = left-next script a b number kind of_script next here counted in
+    record {
+      inserted = subst (λ (c : Counts). IsInserted (entry_of number (ticks_of a) kind)
+          (landed_items script (counts_of a)) (landed_items script c)) same with_it.inserted;
+      scenario = with_it.scenario ∙ ap (landed_scenario script) same;
+      octets = less.0;
+      entries = less.1;
     }
-next-of script a b number (Add line) of_script next here counted =
-    next-command script a b number (Add line) (record { due = ticks_of a; command = add line }) of_script next refl here
-    (counted.frames ∙ (let e : frames_of a + 0 ≡ frames_of a = omega arith in e)) counted.commands refl refl
-next-of script a b number (Remove line) of_script next here counted =
-    next-command script a b number (Remove line)
-    (record { due = ticks_of a; command = remove line }) of_script next refl here
-    (counted.frames ∙ (let e : frames_of a + 0 ≡ frames_of a = omega arith in e)) counted.commands refl refl
 
 -- ---- what an answer tells
 number-is : (next : Option ℕ) (number : ℕ) → is_number next number ≡ true → next ≡ Some number

@@ -82,7 +82,7 @@ impl GroupState {
         ensures { result ≡ totals_of self.now }
     {
         Totals {
-            ticks: self.source.core().ticks(),
+            ticks: self.source.ticks(),
             taken: 0,
             frames: self.journal.frames(),
             commands: self.journal.commands(),
@@ -108,7 +108,7 @@ impl GroupState {
         if next != Some(number) {
             return Err(SubmitFault::NotNext { next });
         }
-        let now = self.source.core().ticks();
+        let now = self.source.ticks();
         if now < self.source.landing().due(item.is_frame(), number) {
             return Err(SubmitFault::Early { now });
         }
@@ -190,7 +190,7 @@ impl GroupState {
         match self.source.land(number, item) {
             Some(why) => Err(refused(why)),
             None => {
-                self.journal.push(number, self.source.core().ticks(), item);
+                self.journal.push(number, self.source.ticks(), item);
                 Ok(())
             }
         }

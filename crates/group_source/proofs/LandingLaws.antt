@@ -222,12 +222,12 @@ next-fresh landed frame number item of_landed at there kind k d inside same =
     let next : next_place landed (is_client item.kind) ≡ next_place landed frame = ap (next_place landed) kind in
     omega arith
 
-client-frame : (kind : ItemKind) → is_frame kind ≡ true → is_client kind ≡ true
+pub client-frame : (kind : ItemKind) → is_frame kind ≡ true → is_client kind ≡ true
 client-frame (Frame octets) is = refl
 client-frame (Add line) is = absurd cc
 client-frame (Remove line) is = absurd cc
 
-operator-command : (kind : ItemKind) → is_command kind ≡ true → is_client kind ≡ false
+pub operator-command : (kind : ItemKind) → is_command kind ≡ true → is_client kind ≡ false
 operator-command (Frame octets) is = absurd cc
 operator-command (Add line) is = refl
 operator-command (Remove line) is = refl

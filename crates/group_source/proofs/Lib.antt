@@ -4,3 +4,4 @@ pub mod BareLaws
 pub mod LandingLaws
 pub mod CellLaws
 pub mod SourceLaws
+pub mod LandsLaws

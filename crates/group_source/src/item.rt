@@ -1,5 +1,10 @@
 //! What lands, as it is handed in.
 
+ghost use Rattle.std.specs.Prelude.{◌≡◌};
+ghost use Rattle.group_source.specs.Item.{kind_of};
+
+use session_model::ItemKind;
+
 /// An item that is handed in.
 #[derive(Clone, Copy, Debug)]
 pub enum ItemRef<'a> {
@@ -9,6 +14,17 @@ pub enum ItemRef<'a> {
     Add(u8),
     /// The operator removes a line from the group.
     Remove(u8),
+}
+
+/// An item of this kind, as it is handed in.
+pub fn handed(kind: &ItemKind) -> ItemRef<'_>
+    ensures { kind_of result ≡ kind.now }
+{
+    match kind {
+        ItemKind::Frame(octets) => ItemRef::Frame(&octets.0),
+        ItemKind::Add(line) => ItemRef::Add(*line),
+        ItemKind::Remove(line) => ItemRef::Remove(*line),
+    }
 }
 
 impl ItemRef<'_> {

@@ -102,14 +102,21 @@ impl Landing {
         &self.refusals
     }
 
-    /// How many frames, or how many commands, were refused.
-    pub fn refused(&self, client: bool) -> u32
-        ensures { result ≡ refused_of self.now client }
+    /// How many frames, or how many commands, have landed.
+    pub fn landed(&self, client: bool) -> u32
+        ensures { result ≡ landed_of self.now client }
+    {
+        if client { self.frames } else { self.commands }
+    }
+
+    /// How many of them weren't refused.
+    pub fn accepted(&self, client: bool) -> u32
+        ensures { result + refused_of self.now client ≡ landed_of self.now client }
     {
         if client {
-            self.refused_frames
+            self.frames - self.refused_frames
         } else {
-            self.refused_commands
+            self.commands - self.refused_commands
         }
     }
 

@@ -12,8 +12,8 @@ mod laws;
 mod source;
 
 pub use boxes::blank_boxes;
-pub use inbox::{Inbox, is_lost};
-pub use item::ItemRef;
+pub use inbox::Inbox;
+pub use item::{ItemRef, handed};
 pub use items::{held_item, next_command, next_frame};
 pub use landing::Landing;
 pub use laws::source_law;

@@ -3,7 +3,7 @@
 ghost use Rattle.std.specs.Prelude.{◌≡◌, ◌+◌, ◌<◌, ◌≤◌, ◌&&◌, not, if◌then◌else◌, List, Option, None, Some, length, slice_get, IsSome, IfOk};
 ghost use Rattle.std.specs.Option.{is_some};
 ghost use Rattle.vc_cell.specs.Held.{held};
-ghost use Rattle.session_model.specs.Scenario.{Scenario};
+ghost use Rattle.session_model.specs.Scenario.{Scenario, steps_in};
 ghost use Rattle.session_model.specs.Table.{Told};
 ghost use Rattle.session_model.specs.Sent.{frame_of};
 ghost use Rattle.session_model.specs.Valid.{IsValid};
@@ -19,6 +19,7 @@ ghost use Rattle.group_source.specs.Source.{IsUnused, SameRest, SameScript, earl
 use crate::inbox::Inbox;
 use crate::item::ItemRef;
 use crate::landing::Landing;
+use lcas_source::SourceTable;
 use report_text::Refusal;
 use session_model::{Item, Script};
 use source_core::{Command, SourceCore};
@@ -79,11 +80,19 @@ impl GroupSource {
         })
     }
 
-    /// The terminal.
-    pub fn core(&self) -> &SourceCore
-        ensures { result.now ≡ self.now.core }
+    /// How many ticks were made.
+    pub fn ticks(&self) -> u32
+        ensures { result ≡ self.now.core.ticks }
     {
-        &self.core
+        self.core.ticks()
+    }
+
+    /// The table of the lines.
+    pub fn table(&self) -> &SourceTable
+        ensures table { result.now ≡ self.now.core.table }
+        ensures steps { result.now.steps ≡ steps_in self.now.core.ticks }
+    {
+        self.core.table()
     }
 
     /// What has landed.

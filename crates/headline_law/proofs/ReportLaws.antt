@@ -1,5 +1,6 @@
 -- The frames that a report tells, as they are picked out of those of the stream.
-use Rattle.std.proofs.Common.{◌≡◌, ◌⊎◌, ℕ, ◌+◌, ◌<◌, ◌≤◌, Bool, true, false, not, List, ◌++◌, length, filter, slice_index_or, All, refl, sym, ◌∙◌, ap, arith, inl, inr}
+use Rattle.std.proofs.Common.{◌≡◌, ◌⊎◌, ℕ, ◌+◌, ◌<◌, ◌≤◌, Bool, true, false, not, List, ◌++◌, length, filter}
+use Rattle.std.proofs.Common.{slice_index_or, All, refl, sym, ◌∙◌, ap, arith, inl, inr}
 use Rattle.std.specs.Prelude.{◌&&◌, ◌||◌}
 use Rattle.std.proofs.lemmas.Bool.{cases_Bool, and_parts, not-true, leb-true, le-leb}
 use Rattle.session_model.specs.declared.script.Script.{Script}
@@ -19,7 +20,8 @@ use Rattle.loss_law.proofs.WholeLaws.{IsWhole, only_segment}
 use Rattle.loss_law.proofs.SessionLossLaws.{undamaged-whole, rows-whole}
 use Rattle.walk_law.specs.Delivered.{session_rows}
 use Rattle.walk_law.specs.Landed.{Numbered, refusals_among, totals_among}
-use Rattle.walk_law.specs.Promise.{session_pieces, session_extents, place_after, HasNoFailure, AreWholeBefore, ConfirmsTrue}
+use Rattle.walk_law.specs.Promise.{session_pieces, session_extents, place_after, HasNoFailure, AreWholeBefore}
+use Rattle.walk_law.specs.Promise.{ConfirmsTrue}
 use Rattle.walk_law.specs.Report.{refused_texts, report_among}
 use Rattle.walk_law.proofs.PlanLaws.{valid-walks}
 use Rattle.walk_law.proofs.PromiseLaws.{frames-kept, frames-known}

@@ -8,7 +8,8 @@ use Rattle.report_text.specs.Report.{got_texts, total_text}
 use Rattle.script_read.specs.Script.{script_of}
 use Rattle.walk_law.specs.Delivered.{session_rows}
 use Rattle.walk_law.specs.Landed.{Numbered, landed_items, refusals_among, totals_among}
-use Rattle.walk_law.specs.Promise.{numbered, accepted_frames, session_extents, session_waiting, place_after, HasNoFailure, ConfirmsTrue}
+use Rattle.walk_law.specs.Promise.{numbered, accepted_frames, session_extents, session_waiting, place_after}
+use Rattle.walk_law.specs.Promise.{HasNoFailure, ConfirmsTrue}
 use Rattle.walk_law.specs.Report.{refused_texts}
 use Rattle.headline_law.specs.Texts.{counts_in}
 
@@ -42,7 +43,8 @@ pub record Reports (script : Script) (ticks rows : ℕ) (items : List Numbered) 
       ++ total_text (totals_among script ticks rows items)
 
 -- THE HEADLINE. The frames that are written are, in order and each once, exactly those accepted frames that the taken
--- rows carry whole, except those that a declared failure costs, or finding the frames again after it in the one way that
+-- rows carry whole, except those that a declared failure costs, or finding the frames again after it in the one way
+-- that
 -- is stated. The premise is that what is confirmed first after each break is the place of a piece. Where no line has a
 -- failure it isn't asked, and no frame is lost at all
 pub record IsHeadline (script : Script) (ticks rows : ℕ) (items : List Numbered) (text : List ℕ) : Type 0 where

@@ -34,7 +34,8 @@ other_refused text place fits has bytes ok =
 pub other_more : (text : List ℕ) (i : ℕ) (right a b : Bool) → (right ≡ false → HasOther text (2 * i)) →
     a ≡ is_hex_digit (slice_index text (2 * i)) →
     b ≡ is_hex_digit (slice_index text (2 * i + 1)) → right && a && b ≡ false → HasOther text (2 * (i + 1))
-other_more text i false a b had high low wrong = let has = had refl in record { at = has.at; within = omega (arith, has.within); other = has.other }
+other_more text i false a b had high low wrong = let has = had refl in
+    record { at = has.at; within = omega (arith, has.within); other = has.other }
 other_more text i true false b had high low wrong = record { at = 2 * i; within = omega arith; other = cc }
 other_more text i true true false had high low wrong = record { at = 2 * i + 1; within = omega arith; other = cc }
 other_more text i true true true had high low wrong = absurd cc

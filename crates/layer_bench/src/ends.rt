@@ -17,8 +17,8 @@ const FRAME: [u8; 1518] = [0x5a; 1518];
 /// The most frames that wait at once.
 const WAITING: u64 = 256;
 
-/// Fills at least so many octets with a stream that has this number of new frames in each row. The answer is how many octets they were,
-/// and the sum of each row's last octet, or `None` where there is no memory.
+/// Fills at least so many octets with a stream that has this number of new frames in each row. The answer is
+/// how many octets they were, and the sum of each row's last octet, or `None` where there is no memory.
 pub(crate) fn fill(alloc: Global, each: u64, octets: u64) -> Option<Done> {
     let mut queue = FrameQueue::new(alloc).ok()?;
     let mut filler = Filler::new();
@@ -67,8 +67,9 @@ fn stream(alloc: Global, each: u64) -> Option<Vec<u8>> {
     Some(stream)
 }
 
-/// Gives a receiver at least so many octets of a stream that has this number of new frames in each row. The answer is how many octets
-/// they were, and how many frames are delivered, or `None` where there is no memory.
+/// Gives a receiver at least so many octets of a stream that has this number of new frames in each row. The
+/// answer is how many octets they were, and how many frames are delivered, or `None` where there is no
+/// memory.
 pub(crate) fn delineate(alloc: Global, each: u64, octets: u64) -> Option<Done> {
     let stream = stream(alloc, each)?;
     let mut delineator = Delineator::new(alloc, 9600).ok()?;

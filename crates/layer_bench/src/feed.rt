@@ -1,4 +1,5 @@
-//! The cells that the lines of a sink are given: containers with the headers of a group, whose payload comes again after some rows.
+//! The cells that the lines of a sink are given: containers with the headers of a group, whose payload comes
+//! again after some rows.
 ghost use Rattle.std.specs.Prelude.{◌<◌, ◌≤◌};
 
 use crate::Done;
@@ -16,8 +17,8 @@ pub(crate) const ROWS: usize = 16;
 /// The containers that are held, of all lines together.
 const HELD: usize = 2048;
 
-/// The octets of each client frame. With its headers it has two thirds of those of a container, so that the frame after the rows that
-/// are held begins where they begin anew.
+/// The octets of each client frame. With its headers it has two thirds of those of a container, so that the
+/// frame after the rows that are held begins where they begin anew.
 const FRAME: usize = 1552;
 
 /// The first frame that carries payload.
@@ -135,8 +136,8 @@ impl Feed {
     }
 }
 
-/// Copies at least so many octets: the containers that are held, as many at once as the sink of so many lines is given. The answer is
-/// how many they were, and a sum of some of them, or `None` where there is no memory.
+/// Copies at least so many octets: the containers that are held, as many at once as the sink of so many lines
+/// is given. The answer is how many they were, and a sum of some of them, or `None` where there is no memory.
 pub(crate) fn copy(alloc: Global, lines: u8, octets: u64) -> Option<Done>
     requires some { 0 < lines }
     requires most { lines ≤ 128 }

@@ -44,8 +44,8 @@ fn drain(rx: &mut RingIn<Cell>, count: u16) -> u64 {
     sum
 }
 
-/// Sends at least so many octets through a worker with a delay of so many containers. The answer is how many they were, and the sum
-/// of the octets H4 that came out, or `None` where there is no memory.
+/// Sends at least so many octets through a worker with a delay of so many containers. The answer is how many
+/// they were, and the sum of the octets H4 that came out, or `None` where there is no memory.
 pub(crate) fn line(alloc: Global, delay: u16, octets: u64) -> Option<Done> {
     let LineEnds {
         mut tx,

@@ -1,5 +1,5 @@
-//! Puts octets through one layer alone, or reads texts, to be timed from outside. It prints how much went through and a sum, and never a
-//! time. `all` does a little of everything. Begin with `Way`.
+//! Puts octets through one layer alone, or reads texts, to be timed from outside. It prints how much went
+//! through and a sum, and never a time. `all` does a little of everything. Begin with `Way`.
 #![tactic(auto)]
 
 mod draws;
@@ -57,8 +57,8 @@ impl Way {
         }
     }
 
-    /// Does it with at least this many octets, or with this many texts. The answer is what went through and a sum, or `None` where there
-    /// is no memory.
+    /// Does it with at least this many octets, or with this many texts. The answer is what went through and a
+    /// sum, or `None` where there is no memory.
     fn time(self, alloc: Global, number: u64, count: u64) -> Option<String> {
         let members = number.clamp(1, MEMBERS) as u8;
         let done = match self {

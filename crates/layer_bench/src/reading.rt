@@ -1,11 +1,12 @@
-//! Reads texts that are made from a number, and counts what they are: scripts, or with which fault. The sum is over what is said of
-//! each text, so that another reader of the same texts can be compared.
+//! Reads texts that are made from a number, and counts what they are: scripts, or with which fault. The sum
+//! is over what is said of each text, so that another reader of the same texts can be compared.
 
 use crate::texts::{MOST, make_text};
 use script_read::{ScriptFault, read_script};
 use std::alloc::{AllocError, Global};
 
-/// How many texts are scripts, have a faulty line, or have limits that don't fit; and a sum over what is said of all of them.
+/// How many texts are scripts, have a faulty line, or have limits that don't fit; and a sum over what is said
+/// of all of them.
 #[derive(Clone, Copy)]
 struct Counts {
     scripts: u64,

@@ -70,7 +70,8 @@ fn spread_rounds(
     sum
 }
 
-/// Gathers a piece of a row again and again, from the last places on to the first. The answer is the sum of the first octets.
+/// Gathers a piece of a row again and again, from the last places on to the first. The answer is the sum of
+/// the first octets.
 fn gather_rounds(
     rounds: u64,
     places: usize,
@@ -122,8 +123,8 @@ fn rounds_of(places: usize, members: usize, octets: u64) -> (u64, u64)
     (octets.div_ceil(a_round.max(1)), a_round)
 }
 
-/// Spreads at least so many octets over the members. The answer is how many octets they were, and the sum of the first one of each round,
-/// or `None` where there is no memory.
+/// Spreads at least so many octets over the members. The answer is how many octets they were, and the sum of
+/// the first one of each round, or `None` where there is no memory.
 pub(crate) fn spread(alloc: Global, members: u8, octets: u64) -> Option<Done>
     requires { members ≤ 128 }
 {

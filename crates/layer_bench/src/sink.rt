@@ -61,8 +61,8 @@ fn drain(worker: &mut SinkWorker, out: &mut Count, back: &mut RingIn<BackCell>) 
     }
 }
 
-/// Gives at least so many octets to the sink of so many lines. The answer is how many they were, and the sum of the frames that were
-/// delivered and the octets that were written, or `None` where there is no memory.
+/// Gives at least so many octets to the sink of so many lines. The answer is how many they were, and the sum
+/// of the frames that were delivered and the octets that were written, or `None` where there is no memory.
 pub(crate) fn sink(alloc: Global, lines: u8, octets: u64) -> Option<Done>
     requires some { 0 < lines }
     requires most { lines ≤ 128 }

@@ -61,7 +61,8 @@ fn offer(core: &mut SourceCore, frame: &[u8])
     }
 }
 
-/// Adds all lines to the group of a terminal that made no frame, and makes frames until the table has all of them in use.
+/// Adds all lines to the group of a terminal that made no frame, and makes frames until the table has all of
+/// them in use.
 fn add_all(core: &mut SourceCore, out: &mut [Container])
     requires places { length out.old ≡ core.old.lines }
     requires lines { length out.old ≤ 128 }
@@ -80,8 +81,8 @@ fn add_all(core: &mut SourceCore, out: &mut [Container])
     }
 }
 
-/// Makes frames of all lines until these have carried the octets. The answer is how many they were, and a sum of some of
-/// them, or `None` where there is no memory.
+/// Makes frames of all lines until these have carried the octets. The answer is how many they were, and a sum
+/// of some of them, or `None` where there is no memory.
 pub(crate) fn source(alloc: Global, members: u8, octets: u64) -> Option<Done>
     requires some { 0 < members }
     requires most { members ≤ 128 }

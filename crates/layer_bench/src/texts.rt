@@ -1,4 +1,5 @@
-//! Texts that are scripts, or nearly: octets, characters that scripts have, lines of their words, and lines in their order.
+//! Texts that are scripts, or nearly: octets, characters that scripts have, lines of their words, and lines
+//! in their order.
 
 use crate::draws::Draws;
 use std::alloc::AllocError;

@@ -54,7 +54,8 @@ fn end_one<R: Wait>(
     Ok(log.finish(rt, posts))
 }
 
-/// What three posts answer, of which the first two are before a turn; what the turn answers; and the places in the list.
+/// What three posts answer, of which the first two are before a turn; what the turn answers; and the places
+/// in the list.
 fn one_slot<R: Wait>(
     rt: &R,
     alloc: Global,

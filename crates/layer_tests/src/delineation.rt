@@ -15,7 +15,8 @@ fn two_frames() -> &'static str {
     0088119021001102"
 }
 
-/// Frames of mixed lengths from the middle of one on, where one area has an octet too much, and one header a bit that is turned.
+/// Frames of mixed lengths from the middle of one on, where one area has an octet too much, and one header a
+/// bit that is turned.
 fn from_the_middle() -> &'static str {
     "3333333773b7777777ff67ffffffeeb6a0808becfeefdedfffbdffd9f9ddb6ab31e0b6ef39a0f7beeb1e088dc4ee50f2\
     228baef92d776246ec169ddf7beeb1e088dc4ee50f2228baef92d776246ec169ddf7beeb1e088dc4ee50f2228baef92d\

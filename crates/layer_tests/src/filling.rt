@@ -56,7 +56,8 @@ fn written(alloc: Global, steps: &[Step]) -> Option<([u8; 180], u16)> {
     Some((out, queue.waiting()))
 }
 
-// A row: the steps, a place of what is written by them, the octets that stand there, and how many frames wait afterwards.
+// A row: the steps, a place of what is written by them, the octets that stand there, and how many frames wait
+// afterwards.
 type Row = (&'static [Step], usize, &'static [u8], u16);
 
 fn rows() -> &'static [Row] {

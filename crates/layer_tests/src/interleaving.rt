@@ -5,7 +5,8 @@ use std::alloc::Global;
 use vc_cell::{Container, HeldContainer, PAYLOAD};
 use vcat_interleave::{gather, gather_places, spread, spread_places};
 
-// The first octets that a member of three carries of a row, whether 0 is all that follows, and what is gathered of it alone.
+// The first octets that a member of three carries of a row, whether 0 is all that follows, and what is
+// gathered of it alone.
 fn dealt(row: &[u8; 12], rank: usize) -> ([u8; 4], bool, [u8; 12])
     requires { rank < 3 }
 {

@@ -1,5 +1,5 @@
-//! Tests of the layers by their calls: values from outside, the path of each call, and faults in mid-stream. Nothing is here but tests; those of
-//! a crate of a few functions stand in that crate.
+//! Tests of the layers by their calls: values from outside, the path of each call, and faults in mid-stream.
+//! Nothing is here but tests; those of a crate of a few functions stand in that crate.
 #![tactic(auto)]
 
 #[cfg(test)]

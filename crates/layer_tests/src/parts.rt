@@ -1,15 +1,15 @@
-//! A line whose ring fills, a return path, and items of both kinds.
+//! A line whose ring fills, a return ring and an inbox, and items of both kinds.
 
 ghost use Rattle.std.specs.Prelude.{◌≡◌, length, IfSome};
 
 use failure_window::Window;
-use group_source::{held_item, next_command, next_frame};
+use group_source::{Inbox, held_item, next_command, next_frame};
 use lcas_packet::Packet;
 use realign_core::{RowAnswer, RowGather};
 use session_model::{Item, ItemKind, Octets};
 use std::alloc::Global;
 use vc_cell::{BackCell, Container, Ctrl, HeldContainer, PAYLOAD};
-use walk_parts::{ReturnPath, WalkLine};
+use walk_parts::{ReturnRing, WalkLine};
 
 const CONTAINER: Container = Container {
     h4: 5,
@@ -68,13 +68,19 @@ fn a_ring_fills_and_is_popped(rt: HostRuntime) {
     assert_eq!(rt; a_line(rt.alloc()), Some((seen, 3)));
 }
 
-// Whether a return path is empty, and what it gives of a packet, where the next one is lost.
-fn returned(alloc: Global, packet: Packet) -> Option<(bool, Option<BackCell>)> {
-    let mut path = ReturnPath::new(alloc, 1).ok()?;
-    let is_empty = path.is_empty() && path.is_inbox_empty();
-    path.say(Some(packet));
-    path.move_one(&[(1, 2)]);
-    Some((is_empty, path.take()))
+// Whether a return ring is empty before a packet is said, and after it.
+fn said(alloc: Global, packet: Packet) -> Option<(bool, bool)> {
+    let mut ring = ReturnRing::new(alloc).ok()?;
+    let is_empty = ring.is_empty();
+    ring.say(Some(packet));
+    Some((is_empty, ring.is_empty()))
+}
+
+// What an inbox gives of a packet, where the next one is lost.
+fn returned(alloc: Global, packet: Packet) -> Option<BackCell> {
+    let mut inbox = Inbox::new(alloc, &[(1, 2)], 1).ok()?;
+    inbox.put(BackCell::Packet(packet.nibbles()));
+    inbox.take()
 }
 
 #[test]
@@ -90,7 +96,8 @@ fn a_packet_is_returned(rt: HostRuntime) {
         act: 0,
     };
     let cell = BackCell::Packet(packet.nibbles());
-    assert_eq!(rt; returned(rt.alloc(), packet), Some((true, Some(cell))));
+    assert_eq!(rt; said(rt.alloc(), packet), Some((true, false)));
+    assert_eq!(rt; returned(rt.alloc(), packet), Some(cell));
 }
 
 // An add, a frame and a remove.

@@ -78,8 +78,8 @@ fn give(reader: &mut LineReader, line: &Line, cell: Cell, t: u64, end: u64) -> O
     pass(reader, line, t, end)
 }
 
-/// Gives a line its cells, and then its end. Tells the number that is not decided by the cells, and that after three more, where all
-/// are right.
+/// Gives a line its cells, and then its end. Tells the number that is not decided by the cells, and that
+/// after three more, where all are right.
 fn numbers(reader: &mut LineReader, line: &Line) -> Option<(u64, u64)> {
     let mut t = 0;
     for n in 0..line.total {

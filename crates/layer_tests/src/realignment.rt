@@ -224,7 +224,8 @@ fn said(rows: &RowGather, line: u8) -> Option<Option<Octets>>
     }
 }
 
-/// Gives the cells of a line to a group of one line. Tells whether each number that they decide, and each packet, is that of the line.
+/// Gives the cells of a line to a group of one line. Tells whether each number that they decide, and each
+/// packet, is that of the line.
 fn are_right(rows: &mut RowGather, line: Line) -> bool
     requires lines { line_count rows.old ≡ 1 }
     requires rows { rows.old.rows ≡ 0 }

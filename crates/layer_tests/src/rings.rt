@@ -54,7 +54,8 @@ fn cell_letter(ring: &mut RingIn<Cell>) -> u8 {
     }
 }
 
-// Does what a letter says, and answers with another one: `b` is a burst, `n` pops the next cell, and a digit pushes its container.
+// Does what a letter says, and answers with another one: `b` is a burst, `n` pops the next cell, and a digit
+// pushes its container.
 fn answer(
     letter: u8,
     worker: &mut LineWorker,

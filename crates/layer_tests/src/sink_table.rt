@@ -30,9 +30,9 @@ const DNU: Packet = Packet {
     ..IDLE
 };
 
-/// Rows: the packets of two lines, which are `-` for none, `i` for IDLE, `a` for ADD and `d` for DNU; the member statuses and the
-/// acknowledgement that are told of them; and the states after it, which are `i` for Idle, `f` for Fine and `x` for Failed. The status of
-/// a line is told in every sixteenth packet.
+/// Rows: the packets of two lines, which are `-` for none, `i` for IDLE, `a` for ADD and `d` for DNU; the
+/// member statuses and the acknowledgement that are told of them; and the states after it, which are `i` for
+/// Idle, `f` for Fine and `x` for Failed. The status of a line is told in every sixteenth packet.
 fn listed() -> &'static str {
     "\
     -- ff - ii\n\

@@ -65,8 +65,8 @@ fn three_bursts(
     [first, second, sink.burst(out, gate)]
 }
 
-// What the bursts of a sink of one row do; and then how many rows were taken and frames delivered, whether a write failed, and how
-// many octets were written.
+// What the bursts of a sink of one row do; and then how many rows were taken and frames delivered, whether a
+// write failed, and how many octets were written.
 fn one_row(alloc: Global, gate: &Counter) -> Option<([SinkBurst; 3], u32, u64, bool, usize)> {
     let mut out = MemSink::new(alloc, 100, &[]).ok()?;
     let LineEnds {
@@ -210,7 +210,8 @@ fn serve(
     }
 }
 
-// Whether the sink takes all rows and frames in this order, and writes their lines, of which there is room for so many octets.
+// Whether the sink takes all rows and frames in this order, and writes their lines, of which there is room
+// for so many octets.
 fn is_written(alloc: Global, order: [u8; 4], room: usize) -> Option<bool> {
     let mut out = MemSink::new(alloc, room, &[]).ok()?;
     let (mut a, mut b, mut sink) = group(alloc)?;

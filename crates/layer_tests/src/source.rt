@@ -45,7 +45,8 @@ fn tick(core: &mut SourceCore, cells: &[BackCell], out: &mut [Container])
     core.tick(cell, out);
 }
 
-/// The first octets of a stream: two idles, and then the headers of a frame of 64 zeros and its first octets, scrambled.
+/// The first octets of a stream: two idles, and then the headers of a frame of 64 zeros and its first octets,
+/// scrambled.
 const STREAM: [u8; 28] = [
     0xb6, 0xab, 0x31, 0xe0, 0xb6, 0xab, 0x31, 0xe0, 0xb6, 0xef, 0x39, 0xa0, 0x00, 0x01, 0x10, 0x21,
     0x00, 0x00, 0x00, 0x22, 0x04, 0x20, 0x00, 0x00, 0x04, 0x40, 0x84, 0x00,
@@ -84,8 +85,8 @@ fn one_line(alloc: Global, octets: usize) -> Option<SourceCore>
     Some(core)
 }
 
-/// Makes a frame for each place of `h4`, where the sink says at once that it reads the line, and then one more, which lies in `out`.
-/// Tells whether the payload of all but the last is 0.
+/// Makes a frame for each place of `h4`, where the sink says at once that it reads the line, and then one
+/// more, which lies in `out`. Tells whether the payload of all but the last is 0.
 fn make(core: &mut SourceCore, h4: &mut [u8], out: &mut [Container; 1]) -> bool
     requires lines { core.old.lines ≡ 1 }
     requires none { core.old.ticks ≡ 0 }
@@ -169,8 +170,8 @@ fn hear(core: &SourceCore, lines: u8, silent: Option<u8>, cells: &mut [BackCell;
     }
 }
 
-/// Which lines carry payload from frame 600 on, where the second one is removed before that frame. An octet of a stream of idles is
-/// never 0.
+/// Which lines carry payload from frame 600 on, where the second one is removed before that frame. An octet
+/// of a stream of idles is never 0.
 fn carrying(core: &mut SourceCore) -> [[bool; 3]; 17]
     requires lines { core.old.lines ≡ 3 }
     requires none { core.old.ticks ≡ 0 }
@@ -197,7 +198,8 @@ fn carrying(core: &mut SourceCore) -> [[bool; 3]; 17]
     seen
 }
 
-/// Three lines are added, and the second one is removed at 600 ticks: all carry payload up to frame 615, and two of them from then on.
+/// Three lines are added, and the second one is removed at 600 ticks: all carry payload up to frame 615, and
+/// two of them from then on.
 #[test]
 fn a_removal(rt: HostRuntime) {
     let seen = match source(rt.alloc(), 3, 1, 756, 3) {

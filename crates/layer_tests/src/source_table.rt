@@ -22,8 +22,8 @@ fn back(mst: u8, rs_ack: bool) -> BackCell {
     BackCell::Packet(packet.nibbles())
 }
 
-/// What is seen of a line that is added: its state before the first step and after it, what its packets say after the first step and
-/// the second one, and how many lines carry payload then.
+/// What is seen of a line that is added: its state before the first step and after it, what its packets say
+/// after the first step and the second one, and how many lines carry payload then.
 type Steps = ([SourceState; 2], (Ctrl, u8, bool), (Ctrl, u8, u8), usize);
 
 /// A line is added, and its member status is OK from the second step on.
@@ -57,8 +57,8 @@ fn one_line(rt: HostRuntime) {
     );
 }
 
-/// The answers to an unknown line, to one that is not in, to one that is in already, to one command too much, and to the same after a
-/// step; and how many commands were accepted before that.
+/// The answers to an unknown line, to one that is not in, to one that is in already, to one command too much,
+/// and to the same after a step; and how many commands were accepted before that.
 fn answers() -> ([Result<(), CommandFault>; 5], u32) {
     let mut table = SourceTable::new(2);
     let unknown = table.add(2);
@@ -193,8 +193,9 @@ fn accepts(table: &mut SourceTable, commands: &[(usize, Command)], step: usize) 
     accepted
 }
 
-/// The first of 69 steps at which a command is refused, or the packets say otherwise, where each return packet comes `lag` steps later
-/// and the sink does not read one of the lines. Each command comes before its step.
+/// The first of 69 steps at which a command is refused, or the packets say otherwise, where each return
+/// packet comes `lag` steps later and the sink does not read one of the lines. Each command comes before its
+/// step.
 fn first_wrong(
     lag: usize,
     silent: Option<u8>,

@@ -75,7 +75,8 @@ replicate-at (suc n) x (suc k) = replicate-at n x k
 -- ---- member status
 pub status-first : (row : Row) (first : ℕ) →
     number_behind 0 (map (λ sq. not (status_of row sq)) (range_with_len (first + 0) 8)) ≡ mst_of row first
-status-first row first = let e : first + 0 ≡ first = omega arith in ap (λ sq. number_behind 0 (map (λ sq. not (status_of row sq)) (range_with_len sq 8))) e
+status-first row first = let e : first + 0 ≡ first = omega arith in
+    ap (λ sq. number_behind 0 (map (λ sq. not (status_of row sq)) (range_with_len sq 8))) e
 
 behind-more : (n : ℕ) (b : Bool) (bs : List Bool) →
     number_behind n (b ∷ bs) ≡ number_behind (2 * n + (if b then 1 else 0)) bs

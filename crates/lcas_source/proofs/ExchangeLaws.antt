@@ -28,7 +28,8 @@ IsPassed kept order from sq = take_out kept from (drop from order) ≡ behind (t
     (take_out kept sq (drop sq order))
 
 pub passed-none : (kept : ℕ → Option Bool) (order : List Member) (from : ℕ) → IsPassed kept order from from
-passed-none kept order from = let e : from - from ≡ 0 = omega arith in rw e (behind-nothing (take_out kept from (drop from order)))
+passed-none kept order from = let e : from - from ≡ 0 = omega arith in
+    rw e (behind-nothing (take_out kept from (drop from order)))
 
 take_out-pass : (kept : ℕ → Option Bool) (sq : ℕ) (member : Member) (order : List Member) →
     (is_adding member && is_ok (kept sq)) ≡ false →

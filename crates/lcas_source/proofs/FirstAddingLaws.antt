@@ -61,7 +61,8 @@ exchange-none kept sq = refl
 exchange-front : (kept : ℕ → Option Bool) (base : ℕ) (order : List Member) →
     exchange kept base order ≡ after_front (take (prefix_len is_other order) order)
     (exchange kept (base + prefix_len is_other order) (drop (prefix_len is_other order) order))
-exchange-front kept base [] = let e : base + 0 ≡ base = omega arith in rw e (after_front-nothing (exchange kept base []))
+exchange-front kept base [] = let e : base + 0 ≡ base = omega arith in
+    rw e (after_front-nothing (exchange kept base []))
 exchange-front kept base (member ∷ order) =
     elim (is_other member) as (λ b. is_other member ≡ b → exchange kept base (member ∷ order)
     ≡ after_front (take (cond b (1 + prefix_len is_other order) 0) (member ∷ order))
@@ -74,7 +75,8 @@ exchange-front kept base (member ∷ order) =
           rw (one, place) (exchange-pass kept base member order (not_not (is_adding member) e)
           ∙ ap (option_map (λ rest. member ∷ rest)) (exchange-front kept (base + 1) order)
           ∙ after_front-more member (take n order) (exchange kept (base + 1 + n) (drop n order)))
-      | false ↦ λ e. let here : base + 0 ≡ base = omega arith in rw here (after_front-nothing (exchange kept base (member ∷ order)))
+      | false ↦ λ e. let here : base + 0 ≡ base = omega arith in
+          rw here (after_front-nothing (exchange kept base (member ∷ order)))
     ] refl
 
 -- the first line in ADD stands at a place

@@ -83,7 +83,8 @@ add-one : (i : ℕ) → suc i ≡ i + 1
 add-one i = omega arith
 
 IsLeast_only : (d r a b : ℕ) → IsLeast d r a → IsLeast d r b → a ≡ b
-IsLeast_only d r a b p q = let low = p.least b q.least_of q.same in let high = q.least a p.least_of p.same in omega arith
+IsLeast_only d r a b p q = let low = p.least b q.least_of q.same in let high = q.least a p.least_of p.same in
+    omega arith
 
 module _ (cells : List Cell) (more : HasNoEnd cells) where
   before-stands : (i : ℕ) → Stands (reading_of (take i cells)).lock (signs_of (take i cells))
@@ -192,7 +193,8 @@ module _ (cells : List Cell) (more : HasNoEnd cells) where
   locks-not-at i p q = let same = IsFirstStep_only (signs_of cells) p.0 q.0 i p.1 q.1 in omega (arith, same, p.2, q.2)
 
   inside : (from i : ℕ) → IsFirstStep (signs_of cells) from i → i < length cells
-  inside from i first = let within = IsInStep-inside (signs_of cells) from i first.in_step in omega (arith, within, length-map cells sign_of)
+  inside from i first = let within = IsInStep-inside (signs_of cells) from i first.in_step in
+      omega (arith, within, length-map cells sign_of)
 
   at-size : (i : ℕ) → IsAt (signs_of cells) i → Counted i → dec_of cells (suc i) ≡ dec_of cells i + 1
   at-size i is (unknown, sight, size) = absurd (sight is.0 is.1.in_step)

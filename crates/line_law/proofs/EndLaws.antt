@@ -43,7 +43,8 @@ pub are_decided : AreDecided
 are_decided cells t more =
     let all : dec_of cells (length cells) ≡ length (reading_of cells).verdicts =
     ap (λ l. length ((reading_of l).verdicts)) (take_all (length cells) cells (omega arith)) in (
-      λ none. let beyond = none-beyond (reading_of cells).verdicts t (sym (verdict-open cells t more) ∙ none) in omega arith,
+      λ none. let beyond = none-beyond (reading_of cells).verdicts t (sym (verdict-open cells t more) ∙ none) in
+          omega arith,
       λ beyond. verdict-open cells t more ∙ slice_get_past (reading_of cells).verdicts t (omega arith),
     )
 

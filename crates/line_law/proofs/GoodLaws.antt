@@ -100,10 +100,12 @@ lock_last n h = omega arith
 
 -- a container after which the line is locked is whole, and so is the one before it
 pub IsLocked-last : (carries : ℕ → Carried) (n : ℕ) → IsLocked carries (suc n) → is_whole (carries n) ≡ true
-IsLocked-last carries n locked = let two = locked.two in let low = lock_last n (omega arith) in locked.whole n (omega arith) (omega arith)
+IsLocked-last carries n locked = let two = locked.two in let low = lock_last n (omega arith) in
+    locked.whole n (omega arith) (omega arith)
 
 pub IsLocked-before : (carries : ℕ → Carried) (k : ℕ) → IsLocked carries (suc (suc k)) → is_whole (carries k) ≡ true
-IsLocked-before carries k locked = let low = lock_last (suc k) (omega arith) in locked.whole k (omega arith) (omega arith)
+IsLocked-before carries k locked = let low = lock_last (suc k) (omega arith) in
+    locked.whole k (omega arith) (omega arith)
 
 lock_same : (k : ℕ) → (k % 16 ≡ 0 → ⊥) → (1 ≤ k) × (lock_of (suc k) ≡ lock_of (suc (suc k)))
 lock_same k other = (omega arith, omega arith)

@@ -69,7 +69,9 @@ read-stays (own ∷ cells) (x ∷ longer) k are decided =
     (read-stays cells longer k (record { size = (let size = are.size in omega arith); each = λ m. are.each (suc m) })
     (λ m. decided (suc m)))
 
-pub nones-stay : (cells longer : List (List Cell)) → length longer ≡ length cells → map (λ own. let none : Option Packet = None in none) longer ≡ map (λ own. let none : Option Packet = None in none) cells
+pub nones-stay : (cells longer : List (List Cell)) → length longer ≡ length cells →
+    map (λ own. let none : Option Packet = None in none) longer ≡ map (λ own. let none : Option Packet = None in none)
+    cells
 nones-stay [] [] size = refl
 nones-stay [] (x ∷ longer) size = absurd (omega arith)
 nones-stay (own ∷ cells) [] size = absurd (omega arith)

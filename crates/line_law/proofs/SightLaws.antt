@@ -155,7 +155,8 @@ stands-after (locks number) signs h4 is = (length signs, is.0.0, is_last signs (
 stands-after at signs h4 is = (length signs, is.0, is_last signs (Some h4), is.1, mfi1-last signs h4)
 
 none-last : (signs : List (Option ℕ)) (mfi1 : ℕ) → HasMfi1 (signs ++ None ∷ []) (length signs) mfi1 → ⊥
-none-last signs mfi1 has = let e : Some None ≡ Some (Some has.0) = sym (slice_get-append_seam signs None []) ∙ has.1 in absurd cc
+none-last signs mfi1 has = let e : Some None ≡ Some (Some has.0) = sym (slice_get-append_seam signs None []) ∙ has.1 in
+    absurd cc
 
 pub stands-fail : (signs : List (Option ℕ)) → Stands unlocked (signs ++ None ∷ [])
 stands-fail signs place last =

@@ -17,7 +17,8 @@ broken-in false = refl
 pub vanishes-in : (window : Window) (n : ℕ) → carried_in window n ≡ Vanishes → window.end ≤ n + window.slip
 vanishes-in window n fate =
     elim (cases_lt (n + window.slip) window.end) [
-      | inl fails ↦ absurd (let f : nat_lt (n + window.slip) window.end ≡ true = grind (arith, fails) in let e : Fails ≡ Vanishes = rw f at fate in cc)
+      | inl fails ↦ absurd (let f : nat_lt (n + window.slip) window.end ≡ true = grind (arith, fails) in
+          let e : Fails ≡ Vanishes = rw f at fate in cc)
       | inr other ↦ other
     ]
 
@@ -154,7 +155,8 @@ carried-early : (from : ℕ) (windows : List Window) (n : ℕ) → AreWindows fr
 unfolding AreWindows carried
 carried-early from [] n are before = refl
 carried-early from (window ∷ windows) n are before =
-    carried-before window windows n (let first = are.0 in omega arith) ∙ carried-early window.end windows n are.2 (let first = are.0 in let sign = are.1 in omega arith)
+    carried-before window windows n (let first = are.0 in omega arith)
+    ∙ carried-early window.end windows n are.2 (let first = are.0 in let sign = are.1 in omega arith)
 
 -- the sum of the run that a window ends
 abbrev run_with : ℕ → ℕ → Window → ℕ

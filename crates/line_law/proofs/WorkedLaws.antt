@@ -28,7 +28,8 @@ container_place n =
 containers-at : (n count k : ℕ) (c : Container) → slice_get (containers n count) k ≡ Some c → c ≡ container (n + k)
 unfolding containers
 containers-at n zero k c e = absurd cc
-containers-at n (suc count) zero c e = let e : c ≡ container n = cc in e ∙ ap container (let e : n ≡ n + 0 = omega arith in e)
+containers-at n (suc count) zero c e = let e : c ≡ container n = cc in
+    e ∙ ap container (let e : n ≡ n + 0 = omega arith in e)
 containers-at n (suc count) (suc k) c e = containers-at (suc n) count k c e
     ∙ ap container (let e : suc n + k ≡ n + suc k = omega arith in e)
 

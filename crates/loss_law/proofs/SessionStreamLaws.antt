@@ -101,7 +101,8 @@ rows-carry scenario cells t n low =
 place-rises : (scenario : Scenario) (cells : List (Option Told)) (t i : ℕ) →
     place_of scenario cells t ≤ place_of scenario cells (i + t)
 unfolding place_of
-place-rises scenario cells t zero = let e : zero + t ≡ t = omega arith in subst (λ n. place_of scenario cells t ≤ place_of scenario cells n) (sym e) (omega arith)
+place-rises scenario cells t zero = let e : zero + t ≡ t = omega arith in
+    subst (λ n. place_of scenario cells t ≤ place_of scenario cells n) (sym e) (omega arith)
 place-rises scenario cells t (suc i) =
     let e : suc i + t ≡ suc (i + t) = omega arith in
     let before = place-rises scenario cells t i in

@@ -1,3 +1,5 @@
 pub mod EndLaws
 pub mod LaterLaws
 pub mod CallLaws
+pub mod AlarmLaws
+pub mod NotedLaws

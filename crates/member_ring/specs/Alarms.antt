@@ -1,5 +1,5 @@
 -- The alarms of a line over the cells that it sent.
-use Rattle.std.specs.Prelude.{ℕ, suc, Bool, true, false, List, [], ◌∷◌, ◌++◌}
+use Rattle.std.specs.Prelude.{ℕ, suc, Bool, true, false, Option, Some, None, List, [], ◌∷◌, ◌++◌}
 use Rattle.vc_cell.specs.declared.Cell.{Cell}
 use Rattle.vc_cell.specs.declared.Cell.TheVariants.{Good, Fail, End}
 use Rattle.member_ring.specs.declared.alarm.Alarm.{Alarm}
@@ -26,6 +26,18 @@ alarms_from m i failed [] = []
 alarms_from m i failed (Good container ∷ rest) = return_of m i failed ++ alarms_from m (suc i) false rest
 alarms_from m i failed (Fail ∷ rest) = failure_of m i failed ++ alarms_from m (suc i) true rest
 alarms_from m i failed (End ∷ rest) = alarm_at m i Ends ∷ alarms_from m (suc i) false rest
+
+-- whether the last cell is the sign of a failure, where the cell before these was one or not
+unfoldable pub failed_after : Bool → List Cell → Bool
+failed_after failed [] = failed
+failed_after failed (Good container ∷ rest) = failed_after false rest
+failed_after failed (Fail ∷ rest) = failed_after true rest
+failed_after failed (End ∷ rest) = failed_after false rest
+
+-- the alarm of line m at place i that says this, if anything is said
+abbrev pub alarm_if : ℕ → ℕ → Option AlarmKind → List Alarm
+alarm_if m i None = []
+alarm_if m i (Some what) = alarm_at m i what ∷ []
 
 -- the alarms of line m over the cells that it sent
 abbrev pub alarms_of_line : ℕ → List Cell → List Alarm

@@ -1,4 +1,4 @@
 pub mod Ends
 pub mod Calls
-pub mod Worker
 pub mod Alarms
+pub mod Worker

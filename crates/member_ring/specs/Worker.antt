@@ -1,9 +1,11 @@
 -- What a worker of a line has carried.
-use Rattle.std.specs.Prelude.{◌≡◌, ℕ, ◌+◌, ◌<◌, ◌≤◌, List, [], length}
+use Rattle.std.specs.Prelude.{◌≡◌, ℕ, ◌+◌, ◌<◌, ◌≤◌, List, [], ◌++◌, length}
 use mathlib.Core.List.{IsPrefix}
 use Rattle.outside_io.specs.Faults.{one_more}
 use Rattle.session_model.specs.declared.window.Window.{Window}
-use Rattle.member_ring.specs.Ends.{out_free, out_misses, in_passed, in_items, in_misses, SameOut, SameIn}
+use Rattle.member_ring.specs.Ends.{out_passed, out_free, out_misses, in_passed, in_items, in_misses, SameOut, SameIn}
+use Rattle.member_ring.specs.declared.alarm.Alarm.{Alarm}
+use Rattle.member_ring.specs.Alarms.{alarms_of_line}
 use Rattle.member_ring.specs.declared.worker.LineWorker.{LineWorker}
 
 -- the number of the line
@@ -29,6 +31,14 @@ flushes_of worker = worker.core.flushed
 -- how many carries were made: one for each container, and one for each flush
 abbrev pub carries_of : LineWorker → ℕ
 carries_of worker = length (in_passed worker.consumer) + flushes_of worker
+
+-- the alarms of all cells that it sent
+abbrev pub raised_by : LineWorker → List Alarm
+raised_by worker = alarms_of_line (number_of worker) (out_passed worker.producer)
+
+-- those that its last burst raised
+abbrev pub last_raised : LineWorker → List Alarm
+last_raised worker = worker.raised.alarms.items
 
 -- the worker of the same line over the same rings, at another moment
 pub record SameWorker (a b : LineWorker) : Type 0 where
@@ -58,3 +68,9 @@ pub record WasFull (a b : LineWorker) : Type 0 where
   pub none : out_free a.producer ≡ 0
   pub missed : out_misses b.producer ≡ one_more (out_misses a.producer)
   pub other : in_misses b.consumer ≡ in_misses a.consumer
+
+-- the same worker later: where places are numbers of 32 bits, the alarms of what it sent since were added to those of its last burst
+pub record HasNoted (a b : LineWorker) : Type 0 where
+  pub grown : length (out_passed a.producer) ≤ length (out_passed b.producer)
+  pub alarms : length (out_passed b.producer) ≤ 4294967296 → (before : List Alarm) →
+      before ++ last_raised a ≡ raised_by a → before ++ last_raised b ≡ raised_by b

@@ -1,9 +1,10 @@
 //! Alarms of a line: what is told of the cells that it sent.
 
 /// What an alarm says.
-#[derive(Clone, Copy, Debug, PartialEq, Eq)]
+#[derive(Clone, Copy, Debug, Default, PartialEq, Eq)]
 pub enum AlarmKind {
     /// The line fails.
+    #[default]
     Fails,
     /// The line returns.
     Returns,
@@ -12,7 +13,7 @@ pub enum AlarmKind {
 }
 
 /// An alarm of a line, at a place among the cells that it sent.
-#[derive(Clone, Copy, Debug, PartialEq, Eq)]
+#[derive(Clone, Copy, Debug, Default, PartialEq, Eq)]
 pub struct Alarm {
     /// The line.
     pub line: u8,

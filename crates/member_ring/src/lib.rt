@@ -6,6 +6,7 @@
 mod alarm;
 mod ends;
 mod gate;
+mod raised;
 mod rings;
 mod worker;
 

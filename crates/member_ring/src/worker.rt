@@ -1,12 +1,15 @@
 //! A worker that carries the containers of a line from ring to ring.
-ghost use Rattle.std.specs.Prelude.{◌≡◌, ◌+◌, ◌<◌, ◌≤◌, ◌++◌};
+ghost use Rattle.std.specs.Prelude.{◌≡◌, ◌+◌, ◌<◌, ◌≤◌, ◌++◌, length, min, false};
 ghost use Rattle.line_core.specs.Line.{Stands, path_cells};
 ghost use Rattle.line_core.specs.Carry.{carry_cells};
 ghost use Rattle.member_ring.specs.Ends.{out_passed, out_free, out_misses, in_passed, SameOut};
 ghost use Rattle.member_ring.specs.Calls.{calls_on};
+ghost use Rattle.member_ring.specs.Alarms.{failed_after};
 
+use crate::alarm::Alarm;
 use crate::ends::{RingIn, RingOut};
 use crate::gate::{Gate, Who};
+use crate::raised::Raised;
 use line_core::{CarrySign, LineCore};
 use vc_cell::{Cell, Container, PAYLOAD};
 
@@ -44,20 +47,26 @@ pub struct LineWorker {
     pub producer: RingOut<Cell>,
     /// Where the container of a good cell lies until it is pushed.
     place: Container,
+    /// What the cells of the last burst raised.
+    raised: Raised,
     ghost stands: { Stands core (calls_on core (in_passed consumer)) },
     ghost sent: { out_passed producer ≡ path_cells (calls_on core (in_passed consumer)) },
     pub ghost order: { 0 < core.flushed → core.pushed ≡ core.total },
     pub ghost flushes: { core.flushed ≤ core.delay + 1 },
+    pub ghost received: { length (in_passed consumer) ≤ core.total },
+    ghost failed: { raised.failed ≡ failed_after false (out_passed producer) },
+    ghost next: { raised.place ≡ min (length (out_passed producer)) 4294967295 },
 }
 
 impl LineWorker {
-    ghost use Rattle.std.specs.Prelude.{◌≡◌, ◌≢◌, ◌+◌, ◌<◌, ◌≤◌, ◌↔◌, [], Contains};
+    ghost use Rattle.std.specs.Prelude.{◌≡◌, ◌≢◌, ◌+◌, ◌<◌, ◌≤◌, ◌↔◌, ◌++◌, [], length, Contains};
     ghost use Rattle.vc_cell.specs.declared.Cell.{Cell};
     ghost use Rattle.session_model.specs.Damage.{carried};
     ghost use Rattle.session_model.specs.Path.{cells};
     ghost use Rattle.member_ring.specs.Ends.{out_passed, in_passed};
     ghost use Rattle.member_ring.specs.Calls.{IsOpened};
     ghost use Rattle.member_ring.specs.Worker.{number_of, delay_of, windows_of, total_of, flushes_of, carries_of, IsLater, WasEmpty, WasFull};
+    ghost use Rattle.member_ring.specs.Worker.{raised_by, last_raised, HasNoted};
 
     /// The worker of line number `line`, over fresh rings and a line into which nothing was pushed.
     pub fn new(
@@ -82,11 +91,13 @@ impl LineWorker {
             core,
             producer,
             place: blank(),
+            raised: Raised::new(),
         }
     }
 
     /// Passes the gate, and then makes up to 16 carries. What was sent since the worker was made is, whatever the bursts were, the
-    /// cells of the path of its line for the containers that were received.
+    /// cells of the path of its line for the containers that were received. Once the end was pushed no burst is made, and the alarms
+    /// are still those of the one before.
     pub fn burst<G: Gate>(&mut self, gate: &G) -> Burst
         ensures sent { out_passed self.new.producer
             ≡ cells (carried (windows_of self.new)) (delay_of self.new) (total_of self.new)
@@ -98,8 +109,15 @@ impl LineWorker {
         ensures empty { result ≡ Burst.Idle IdleCause.Empty → WasEmpty self.old self.new }
         ensures full { result ≡ Burst.Idle IdleCause.Full → WasFull self.old self.new }
         ensures later { IsLater self.old self.new }
+        ensures cells { length (out_passed self.new.producer) ≤ total_of self.new + 1 }
+        ensures alarms { result ≢ Burst.Done → total_of self.new < 4294967296 →
+            raised_by self.new ≡ raised_by self.old ++ last_raised self.new }
     {
         gate.pass(Who::Line(self.line));
+        if self.core.ended() {
+            return Burst::Done;
+        }
+        self.raised.clear();
         let first = self.carry();
         if first == Burst::Moved {
             self.carry_on();
@@ -108,8 +126,18 @@ impl LineWorker {
         first
     }
 
+    /// What the cells of the last burst raised, in their order.
+    pub fn alarms(&self) -> &[Alarm]
+        ensures last { result.now ≡ last_raised self.now }
+        ensures few { length result.now ≤ 16 }
+    {
+        self.raised.alarms.as_slice()
+    }
+
     /// Makes carries up to the sixteenth of a burst, after the first.
     fn carry_on(&mut self)
+        requires { length (last_raised self.old) ≤ 1 }
+        ensures noted { HasNoted self.old self.new }
         ensures least { carries_of self.old ≤ carries_of self.new }
         ensures most { carries_of self.new ≤ carries_of self.old + 15 }
         ensures later { IsLater self.old self.new }
@@ -123,6 +151,9 @@ impl LineWorker {
 
     /// Makes a carry if it can.
     fn carry(&mut self) -> Burst
+        requires { length (last_raised self.old) < 16 }
+        ensures noted { HasNoted self.old self.new }
+        ensures few { length (last_raised self.new) ≤ length (last_raised self.old) + 1 }
         ensures moved { result ≡ Burst.Moved → carries_of self.new ≡ carries_of self.old + 1 }
         ensures stays { result ≢ Burst.Moved → carries_of self.new ≡ carries_of self.old }
         ensures done { (result ≡ Burst.Done) ↔ Contains (out_passed self.old.producer) Cell.End }
@@ -143,7 +174,10 @@ impl LineWorker {
     /// Carries the next container, where it is there and there is a slot for its cell. It goes into the line from where it lies in the
     /// ring.
     fn pass(&mut self) -> Burst
-        requires { self.old.core.pushed < self.old.core.total }
+        requires more { self.old.core.pushed < self.old.core.total }
+        requires room { length (last_raised self.old) < 16 }
+        ensures noted { HasNoted self.old self.new }
+        ensures few { length (last_raised self.new) ≤ length (last_raised self.old) + 1 }
         ensures moved { result ≡ Burst.Moved → carries_of self.new ≡ carries_of self.old + 1 }
         ensures stays { result ≢ Burst.Moved → carries_of self.new ≡ carries_of self.old }
         ensures never { result ≢ Burst.Done }
@@ -160,6 +194,7 @@ impl LineWorker {
         let carry = self.core.push_from(self.consumer.front(), &mut self.place);
         self.consumer.pop();
         send(&mut self.producer, carry, &self.place);
+        self.raised.note(self.line, carry);
         Burst::Moved
     }
 
@@ -167,6 +202,9 @@ impl LineWorker {
     fn flush(&mut self) -> Burst
         requires pushed { self.old.core.pushed ≡ self.old.core.total }
         requires runs { self.old.core.flushed ≤ self.old.core.delay }
+        requires room { length (last_raised self.old) < 16 }
+        ensures noted { HasNoted self.old self.new }
+        ensures few { length (last_raised self.new) ≤ length (last_raised self.old) + 1 }
         ensures moved { result ≡ Burst.Moved → carries_of self.new ≡ carries_of self.old + 1 }
         ensures stays { result ≢ Burst.Moved → carries_of self.new ≡ carries_of self.old }
         ensures never { result ≢ Burst.Done }
@@ -179,6 +217,7 @@ impl LineWorker {
         }
         let carry = self.core.flush_to(&mut self.place);
         send(&mut self.producer, carry, &self.place);
+        self.raised.note(self.line, carry);
         Burst::Moved
     }
 }

@@ -1,7 +1,8 @@
 -- What is known of a source and a sink in memory. Counts of calls and of faults stop at 2^64 - 1.
 use Rattle.std.specs.Prelude.{◌≡◌, ℕ, ◌⊎◌, ◌<◌, List, length, min, Option, Some, None, Contains}
 
--- a source that has these octets left, gives at most `step` of them in a call where that is told, had so many calls and counted so
+-- a source that has these octets left, gives at most `step` of them in a call where that is told, had so many calls and
+-- counted so
 -- many faults; the calls whose numbers are in `fail` fail, and the first call has number 0
 pub record MemSourceState : Type 0 where
   pub left : List ℕ

@@ -1,4 +1,5 @@
--- What a run of calls moves. `left` and `faults` of a source, `written` and `faults` of a sink, are its ghost members: what it
+-- What a run of calls moves. `left` and `faults` of a source, `written` and `faults` of a sink, are its ghost members:
+-- what it
 -- tells of its octets, where it tells them, and its count of faults.
 use Rattle.std.specs.Prelude.{◌≡◌, ℕ, ◌⊎◌, ◌<◌, List, ◌++◌, length, Option}
 use Rattle.std.specs.Io.KnownBytes.{append_known, prepend_known, IsAtEnd}
@@ -10,12 +11,14 @@ pub record GivesAll {S : Type 0} (left : S → Option (List ℕ)) (old new : S) 
   pub end : IsAtEnd (left new)
 
 -- the text was appended to the sink, and no fault was counted
-pub record Appends {K : Type 0} (written : K → Option (List ℕ)) (faults : K → ℕ) (old new : K) (text : List ℕ) : Type 0 where
+pub record Appends {K : Type 0} (written : K → Option (List ℕ)) (faults : K → ℕ) (old new : K)
+    (text : List ℕ) : Type 0 where
   pub appended : written new ≡ append_known (written old) text
   pub quiet : faults new ≡ faults old
 
 -- a prefix of the text was appended to the sink, which may be nothing but is never the whole, and one fault was counted
-pub record AppendsPart {K : Type 0} (written : K → Option (List ℕ)) (faults : K → ℕ) (old new : K) (text : List ℕ) : Type 0 where
+pub record AppendsPart {K : Type 0} (written : K → Option (List ℕ)) (faults : K → ℕ) (old new : K)
+    (text : List ℕ) : Type 0 where
   pub part : List ℕ
   pub rest : List ℕ
   pub prefix : part ++ rest ≡ text

@@ -37,7 +37,8 @@ pub trait ByteSink {
     ghost faults: { Self → ℕ };
 
     /// Appends a prefix of `piece`, at least one octet if there is one, and answers how many octets it has.
-    /// At `Failed` nothing is appended, and one fault is counted; else none is. The count never falls, whoever keeps it.
+    /// At `Failed` nothing is appended, and one fault is counted; else none is. The count never falls,
+    /// whoever keeps it.
     fn put(&mut self, piece: &[u8]) -> Result<usize, Failed>
         ensures bound { IfOk result (λ n. n ≤ length piece.now) }
         ensures moves { IfOk result (λ n. 0 < length piece.now → 0 < n) }

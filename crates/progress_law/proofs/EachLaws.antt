@@ -59,7 +59,8 @@ unfolding sum_lines
 sum-set [] m line new h c p = absurd cc
 sum-set (other ∷ lines) zero line new h c p =
     let e : other ≡ line = cc in
-    let f : other.carried ≡ line.carried = ap (λ l. l.carried) e in let g : other.popped ≡ line.popped = ap (λ l. l.popped) e in
+    let f : other.carried ≡ line.carried = ap (λ l. l.carried) e in
+    let g : other.popped ≡ line.popped = ap (λ l. l.popped) e in
     omega (arith, c, p, f, g)
 sum-set (other ∷ lines) (suc m) line new h c p = let rest = sum-set lines m line new h c p in omega (arith, rest)
 

@@ -42,7 +42,8 @@ fate-few Vanishes container = omega arith
 path-few : (carries : ℕ → Carried) (n : ℕ) (xs : List Container) → length (path carries n xs) ≤ length xs
 unfolding path
 path-few carries n [] = omega arith
-path-few carries n (x ∷ xs) = let one = fate-few (carries n) x in let rest = path-few carries (suc n) xs in omega (arith, one, rest, length-append (cells_of (carries n) x) (path carries (suc n) xs))
+path-few carries n (x ∷ xs) = let one = fate-few (carries n) x in let rest = path-few carries (suc n) xs in
+    omega (arith, one, rest, length-append (cells_of (carries n) x) (path carries (suc n) xs))
 
 -- the first y cells are those of some containers
 abbrev Cut : (ℕ → Carried) → ℕ → List Container → ℕ → Type 0
@@ -102,7 +103,8 @@ pub is_decided : (carries : ℕ → Carried) (containers : List Container) (dela
     IsDecided carries delay containers y t
 is_decided carries containers delay y t h =
     let reading : Reading = reading_of (take y (all_cells carries delay containers)) in (
-      λ some. let (told, e) = some-told (verdict_in reading t) some in decided-some (length containers) t reading.lock reading.verdicts told h e,
+      λ some. let (told, e) = some-told (verdict_in reading t) some in
+          decided-some (length containers) t reading.lock reading.verdicts told h e,
       λ d. let (told, e) = some-decided (length containers) t reading.lock reading.verdicts h d in rw e refl,
     )
 
@@ -221,7 +223,8 @@ module _ (windows : List Window) (containers : List Container) (delay : ℕ) (li
             ∙ length-append (first total) (End ∷ []) in
             elim (cases_lt y (length (first total) + 1)) [
               | inl less ↦ inside-of x y total (omega arith) (omega (arith, ends)) (omega (arith, less))
-              | inr more ↦ let full : y ≡ given x = omega (arith, more, sizes, h) in whole e (take_all y all (let f = ap given e in omega (arith, f, full))) full
+              | inr more ↦ let full : y ≡ given x = omega (arith, more, sizes, h) in
+                  whole e (take_all y all (let f = ap given e in omega (arith, f, full))) full
             ]
       ]
 
@@ -261,7 +264,8 @@ module _ (windows : List Window) (containers : List Container) (delay : ℕ) (li
   early x y most h = by (place x y most h)
     where
       by : Place x y → dec (take y all) ≤ x - delay
-      by (inside k top low same size) = let told = ap dec same in let few = (read k top).0 in omega (arith, told, few, low)
+      by (inside k top low same size) = let told = ap dec same in let few = (read k top).0 in
+          omega (arith, told, few, low)
       by (whole e same full) = let told = ap dec same ∙ whole-over in omega (arith, told, e)
 
   left : (x y : ℕ) → x ≤ total + delay + 1 → y ≤ given x → given x ≤ y + ((x - delay) - dec (take y all))
@@ -291,7 +295,8 @@ module _ (windows : List Window) (containers : List Container) (delay : ℕ) (li
   ]
     where
       by : Place (total + delay + 1) y → dec (take y all) ≤ total
-      by (inside k top low same size) = let told = ap dec same in let few = (read k top).0 in omega (arith, told, few, top)
+      by (inside k top low same size) = let told = ap dec same in let few = (read k top).0 in
+          omega (arith, told, few, top)
       by (whole e same full) = let told = ap dec same ∙ whole-over in omega (arith, told)
 
   rises : (y : ℕ) → dec (take y all) ≤ dec (take (suc y) all)

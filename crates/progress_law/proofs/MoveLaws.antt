@@ -121,7 +121,8 @@ module _ (slow fast slip : ℕ) (plan : Plan) (is : IsPlanOf slow fast slip plan
       let sums = sum-bounded plan.ticks plan.paths s.lines
       (each-map (At s) (λ path line. (line.carried ≤ plan.ticks + path.delay + 1) × (line.popped ≤ plan.ticks + 1))
       plan.paths s.lines (λ path line at_. few path line at_) (lines-at s fits)) in
-      let ticks = fits.ticks in let rows = fits.rows in let frames = fits.frames in let commands = fits.commands in let backs = fits.backs in
+      let ticks = fits.ticks in let rows = fits.rows in let frames = fits.frames in let commands = fits.commands in
+      let backs = fits.backs in
       let both = kinds plan.items in
       let product : (2 * length plan.paths + 3) * plan.ticks ≡ length plan.paths * (2 * plan.ticks) + 3 * plan.ticks =
       grind arith in
@@ -194,7 +195,8 @@ full-at total ticks i m [] is = absurd cc
 full-at total ticks i m (line ∷ lines) is =
     elim (cases_Bool (nat_le 32 (in_send total ticks line))) [
       | inl e ↦ record { m = 0; line = line; line_at = refl; fills = leb-true 32 (in_send total ticks line) e }
-      | inr e ↦ let rest = full-at total ticks (suc i) m lines (rw e at is) in record { m = suc rest.m; line = rest.line; line_at = rest.line_at; fills = rest.fills }
+      | inr e ↦ let rest = full-at total ticks (suc i) m lines (rw e at is) in
+          record { m = suc rest.m; line = rest.line; line_at = rest.line_at; fills = rest.fills }
     ]
 
 path-at : (P : LinePath → LineCounts → Type 0) (paths : List LinePath) (lines : List LineCounts) (m : ℕ)
@@ -336,7 +338,8 @@ module _ (slow fast slip : ℕ) (plan : Plan) (is : IsPlanOf slow fast slip plan
 
     missing_moves : IsMissing plan s → Moves plan s
     missing_moves missing =
-        let late = missing.late in let place = missing.place in let none = missing.none in let close = near in let lag = is.lag in
+        let late = missing.late in let place = missing.place in let none = missing.none in let close = near in
+        let lag = is.lag in
         try_back (λ empty_. absurd (omega (arith, late, place, none, close, lag, empty_)))
 
     tick_moves : Moves plan s
@@ -382,7 +385,8 @@ module _ (slow fast slip : ℕ) (plan : Plan) (is : IsPlanOf slow fast slip plan
   run-rises s event [] fits here more = absurd here
   run-rises s event (first ∷ events) fits here more =
       elim (any-kept slow fast slip plan is s first fits) [
-        | inr (new, up) ↦ let rest = (run-fits slow fast slip plan is (step plan s first).counts events new).1 in omega (arith, up, rest)
+        | inr (new, up) ↦ let rest = (run-fits slow fast slip plan is (step plan s first).counts events new).1 in
+            omega (arith, up, rest)
         | inl same ↦ elim here [
           | inl e ↦ let f : made (step plan s event).counts ≡ made s = subst (λ event. made (step plan s event).counts ≡ made s) e (ap made same) in absurd (omega (arith, f, more))
           | inr later ↦ subst (λ next. made s < made (run plan next events)) (sym same)
@@ -391,7 +395,8 @@ module _ (slow fast slip : ℕ) (plan : Plan) (is : IsPlanOf slow fast slip plan
       ]
 
   pub round-rises : (s : Counts) → Fits plan s → s.rows < plan.ticks → made s < made (run plan s (round plan))
-  round-rises s fits open_ = let (event, tried, more) = some_moves slow fast slip plan is s fits open_ in run-rises s event (round plan) fits tried.0 more
+  round-rises s fits open_ = let (event, tried, more) = some_moves slow fast slip plan is s fits open_ in
+      run-rises s event (round plan) fits tried.0 more
 
   pub drain-ends : (k : ℕ) (s : Counts) → Fits plan s → bound plan ≤ made s + k → (drain k plan s).rows ≡ plan.ticks
   unfolding drain

@@ -24,7 +24,11 @@ land-kept : (plan : Plan) (s next : Counts) (ticks : ℕ) (due : Option ℕ) →
 land-kept plan s next ticks None moves = inl (refl, λ d e. absurd cc)
 land-kept plan s next ticks (Some due) moves =
     elim (cases_Bool (nat_lt ticks due)) [
-      | inl e ↦ rw e (inl (refl, λ d same. let early = ltb-true ticks due e in let f : due ≡ d = cc in omega (arith, early, f)))
+      | inl e ↦ rw e (inl (
+        refl,
+        λ d same. let early = ltb-true ticks due e in let f : due ≡ d = cc in
+            omega (arith, early, f),
+      ))
       | inr e ↦ rw e (inr (moves due refl))
     ]
 
@@ -104,7 +108,8 @@ pub data TickWhy (plan : Plan) (s : Counts) : Type 0 where
 
 missing-true : (plan : Plan) (s : Counts) → is_missing plan s ≡ true → IsMissing plan s
 missing-true plan s e =
-    let a : Bool = nat_le (16 * plan.lag + 8) s.ticks in let b : Bool = s.ticks % 16 == 8 in let c : Bool = nat_le (in_inbox plan s) 0 in
+    let a : Bool = nat_le (16 * plan.lag + 8) s.ticks in let b : Bool = s.ticks % 16 == 8 in
+    let c : Bool = nat_le (in_inbox plan s) 0 in
     let ab : (a && b) ≡ true = (and_parts (a && b) c e).0 in
     record {
       late = leb-true (16 * plan.lag + 8) s.ticks ((and_parts a b ab).0);
@@ -213,7 +218,8 @@ carried-fits total ring ticks rows slip path line is fits more sends room =
     let up = one.0 in let few = one.1 in let pops = fits.pops in let sent = fits.sent in let send = fits.send in
     record {
       carries = omega (arith, more);
-      sent = elim (cases_lt line.carried total) [ inl h ↦ let ahead = sends h in omega (arith, ahead) | inr h ↦ omega (arith, h, sent) ];
+      sent = elim (cases_lt line.carried total)
+          [ inl h ↦ let ahead = sends h in omega (arith, ahead) | inr h ↦ omega (arith, h, sent) ];
       send = omega (arith, send);
       pops = omega (arith, up, pops);
       receive = omega (arith, few, room);
@@ -283,7 +289,8 @@ module _ (slow fast slip : ℕ) (plan : Plan) (s : Counts) (is : IsPlanOf slow f
           (nat_lt line.carried plan.ticks && nat_le (in_send plan.ticks s.ticks line) 0) ≡ false →
           line.carried < s.ticks
       sends line open_ f = elim (cases_Bool (nat_le (in_send plan.ticks s.ticks line) 0)) [
-        | inl none ↦ let less : nat_lt line.carried plan.ticks ≡ true = grind (arith, open_) in absurd (let g : true ≡ false = rw (less, none) at f in cc)
+        | inl none ↦ let less : nat_lt line.carried plan.ticks ≡ true = grind (arith, open_) in
+            absurd (let g : true ≡ false = rw (less, none) at f in cc)
         | inr some ↦ let h = leb-false (in_send plan.ticks s.ticks line) 0 some in omega (arith, h, open_)
       ]
 

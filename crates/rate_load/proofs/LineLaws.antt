@@ -1,5 +1,6 @@
 -- How long a line is, and how the lines and the draws run on.
-use Rattle.std.proofs.Common.{◌≡◌, ℕ, zero, suc, ◌+◌, ◌-◌, ◌*◌, ◌/◌, ◌<◌, ◌≤◌, ◌↔◌, List, [], ◌∷◌, ◌++◌, length, take, map, map-id, refl, sym, ◌∙◌, ap, ap₂, arith, append_assoc, append-nil, zero-add, suc-add}
+use Rattle.std.proofs.Common.{◌≡◌, ℕ, zero, suc, ◌+◌, ◌-◌, ◌*◌, ◌/◌, ◌<◌, ◌≤◌, ◌↔◌, List, [], ◌∷◌, ◌++◌, length, take}
+use Rattle.std.proofs.Common.{map, map-id, refl, sym, ◌∙◌, ap, ap₂, arith, append_assoc, append-nil, zero-add, suc-add}
 use Rattle.std.specs.Prelude.{codes}
 use Rattle.std.specs.List.{flat_map, range_with_len}
 use Rattle.std.proofs.lemmas.List.{length-append, length-map, length-take}
@@ -14,7 +15,8 @@ use Rattle.crc32.proofs.CheckLaws.{length-fcs_of}
 use Rattle.make_load.specs.Draws.{draws, after_draws, next}
 use Rattle.make_load.proofs.DrawLaws.{length-draws}
 use Rattle.rate_load.specs.declared.lines.RateLoad.{RateLoad}
-use Rattle.rate_load.specs.Lines.{IsRateLoad, due_of, count_of, head, content_of, frame_of, state_of, start_of, line_at, lines_of}
+use Rattle.rate_load.specs.Lines.{IsRateLoad, due_of, count_of, head, content_of, frame_of, state_of, start_of, line_at}
+use Rattle.rate_load.specs.Lines.{lines_of}
 
 -- ---- draws
 after_draws-add : (a b state : ℕ) → after_draws (a + b) state ≡ after_draws b (after_draws a state)
@@ -37,7 +39,8 @@ next_state load k octets before after size is moves =
 -- ---- lengths
 length-check : (octets : List ℕ) → length (fcs_in least_first octets) ≡ 4
 length-check octets =
-    length-map (fcs_of (map (ordered least_first) octets)) (ordered least_first) ∙ length-fcs_of (map (ordered least_first) octets)
+    length-map (fcs_of (map (ordered least_first) octets)) (ordered least_first)
+    ∙ length-fcs_of (map (ordered least_first) octets)
 
 pub length-frame_of : (octets state : ℕ) → 64 ≤ octets → length (frame_of octets state) ≡ octets
 length-frame_of octets state h =
@@ -90,7 +93,11 @@ total-more load k total start octets made h same is within so_far =
     omega (arith, line, whole)
 
 rest_from : (load : RateLoad) (k more : ℕ) → (rest : List ℕ) × (lines_of load (k + more) ≡ lines_of load k ++ rest)
-rest_from load k zero = ([], ap (lines_of load) (let e : k + 0 ≡ k = omega arith in e) ∙ sym (append-nil (lines_of load k)))
+rest_from load k zero = (
+  [],
+  ap (lines_of load) (let e : k + 0 ≡ k = omega arith in e)
+      ∙ sym (append-nil (lines_of load k)),
+)
 rest_from load k (suc more) =
     let before = rest_from load k more in (
       before.0 ++ line_at load (k + more),
@@ -100,12 +107,14 @@ rest_from load k (suc more) =
     )
 
 -- the lines after the first ones
-pub lines_of-rest : (load : RateLoad) (k count : ℕ) → k ≤ count → (rest : List ℕ) × (lines_of load count ≡ lines_of load k ++ rest)
+pub lines_of-rest : (load : RateLoad) (k count : ℕ) → k ≤ count → (rest : List ℕ) ×
+    (lines_of load count ≡ lines_of load k ++ rest)
 lines_of-rest load k count h =
     let from = rest_from load k (count - k) in
     (from.0, ap (lines_of load) (let e : count ≡ k + (count - k) = omega arith in e) ∙ from.1)
 
-pub length-lines_of : (load : RateLoad) (k count : ℕ) → k ≤ count → length (lines_of load k) ≤ length (lines_of load count)
+pub length-lines_of : (load : RateLoad) (k count : ℕ) → k ≤ count →
+    length (lines_of load k) ≤ length (lines_of load count)
 length-lines_of load k count h =
     let rest = lines_of-rest load k count h in
     omega (arith, ap length rest.1, length-append (lines_of load k) rest.0)
@@ -121,12 +130,14 @@ due_before load k is =
     let bounds = div_ceil_times a b some in
     let by_product = div-lt_iff_lt-mul {x = 8 * k * load.octets} {y = load.end - load.first} moves in (
       λ h.
-          let more : b * (k + 1) ≤ b * count_of load = mul-le-mul_left b (let e : k + 1 ≤ count_of load = omega (arith, h) in e) in
+          let more : b * (k + 1) ≤ b * count_of load =
+          mul-le-mul_left b (let e : k + 1 ≤ count_of load = omega (arith, h) in e) in
           let below : 8 * k * load.octets < a = omega (arith, more, bounds.1) in
           let early = by_product.1 below in
           omega (arith, early, is.before),
       λ due.
-          let early : 8 * k * load.octets / (125 * load.mbits) < load.end - load.first = omega (arith, due, is.before) in
+          let early : 8 * k * load.octets / (125 * load.mbits) < load.end - load.first =
+          omega (arith, due, is.before) in
           let below = by_product.0 early in
           lt_of_mul-lt-mul_left b (let e : b * k < b * count_of load = omega (arith, below, bounds.0) in e),
     )

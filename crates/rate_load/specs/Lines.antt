@@ -1,4 +1,5 @@
--- The lines of a client that sends frames of one length at a rate. A tick of 125 microseconds carries 125 bits for each megabit a second.
+-- The lines of a client that sends frames of one length at a rate. A tick of 125 microseconds carries 125 bits for each
+-- megabit a second.
 use Rattle.std.specs.Prelude.{ℕ, ◌+◌, ◌-◌, ◌*◌, ◌/◌, ◌<◌, ◌≤◌, List, [], ◌∷◌, ◌++◌, codes, decimal}
 use Rattle.std.specs.List.{flat_map, range_with_len}
 use Rattle.std.specs.Int.{div_ceil}

@@ -1,5 +1,6 @@
-//! The lines of a script for a client that sends frames of one length at a rate, drawn from a number: when each is due, and which octets
-//! it has. The text is written line by line, and how long it is can be known before. Nothing is run here. Begin with `RateLoad`.
+//! The lines of a script for a client that sends frames of one length at a rate, drawn from a number: when
+//! each is due, and which octets it has. The text is written line by line, and how long it is can be known
+//! before. Nothing is run here. Begin with `RateLoad`.
 #![tactic(auto)]
 
 ghost use Rattle.std.specs.Prelude.{◌↔◌, ◌<◌, ℕ};

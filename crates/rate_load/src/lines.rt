@@ -7,7 +7,8 @@ use crc32::ethernet_fcs;
 use make_load::Draws;
 use report_text::LineCursor;
 
-/// What is sent: frames of so many octets, so many megabits a second, from one tick on and before another, drawn from a number.
+/// What is sent: frames of so many octets, so many megabits a second, from one tick on and before another,
+/// drawn from a number.
 #[derive(Clone, Copy, Debug, PartialEq, Eq)]
 pub struct RateLoad {
     /// The octets of a frame with its check: 64 to 9,600.

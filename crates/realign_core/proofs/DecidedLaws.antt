@@ -41,7 +41,8 @@ pub decided-here : (lines : List Line) (line : Line) → slice_get lines (decide
 decided-here [] line e = absurd cc
 decided-here (x ∷ lines) line e =
     elim (cases_Bool (is_open x.numbers)) [
-      | inl open' ↦ ap (λ line. is_open line.numbers) (let here : slice_get (x ∷ lines) 0 ≡ Some line = rw open' at e in let same : line ≡ x = cc in same) ∙ open'
+      | inl open' ↦ ap (λ line. is_open line.numbers)
+          (let here : slice_get (x ∷ lines) 0 ≡ Some line = rw open' at e in let same : line ≡ x = cc in same) ∙ open'
       | inr shut ↦ decided-here lines line (rw shut at e)
     ]
 

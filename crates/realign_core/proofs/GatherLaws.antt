@@ -48,7 +48,8 @@ new_stands count lines places packets size none fresh = record {
 pub new_more : (count : ℕ) (lines : List Line) (line : Line) → AreNew count lines →
     ((place : Container) → LineStands line place [] 0) → IsOpen line.numbers → AreNew (count + 1) (lines ++ line ∷ [])
 new_more count lines line are fresh open' = record {
-  size = length-append lines (line ∷ []) ∙ (let size = are.size in let e : length lines + 1 ≡ count + 1 = omega arith in e);
+  size = length-append lines (line ∷ [])
+      ∙ (let size = are.size in let e : length lines + 1 ≡ count + 1 = omega arith in e);
   fresh = λ m found place here.
       elim (cases_lt m (length lines)) [
         | inl earlier ↦ are.fresh m found place (sym (slice_get-append lines (line ∷ []) m earlier) ∙ here)

@@ -17,7 +17,8 @@ use Rattle.realign_core.specs.Loops.{AreRead}
 use Rattle.realign_core.proofs.DecidedLaws.{EachStands}
 
 -- ---- by line
-none-map : (cells : List (List Cell)) (t : ℕ) → nat_lt t 24 ≡ true → map (λ own. let none : Option Packet = None in none) cells ≡ map (λ own. packet_at own t) cells
+none-map : (cells : List (List Cell)) (t : ℕ) → nat_lt t 24 ≡ true →
+    map (λ own. let none : Option Packet = None in none) cells ≡ map (λ own. packet_at own t) cells
 none-map [] t early = refl
 none-map (own ∷ cells) t early = ap₂ (λ packet packets. packet ∷ packets) (rw early refl) (none-map cells t early)
 

@@ -80,7 +80,8 @@ pub length-divide : (k : ℕ) (lower p : List Bool) → length (divide k lower p
 unfolding divide
 length-divide zero lower p = omega arith
 length-divide (suc k) lower [] = omega arith
-length-divide (suc k) lower (true ∷ p) = let e = length-divide k lower (add_front lower p) in omega (arith, length-add_front lower p)
+length-divide (suc k) lower (true ∷ p) = let e = length-divide k lower (add_front lower p) in
+    omega (arith, length-add_front lower p)
 length-divide (suc k) lower (false ∷ p) = let e = length-divide k lower p in omega arith
 
 -- what stands behind the part that is divided stays
@@ -98,8 +99,10 @@ divide-append (suc k) lower (false ∷ p) q h = divide-append k lower p q (omega
 pub length-times : (lower q : List Bool) → length (times lower q) ≡ length q + length lower
 unfolding times
 length-times lower [] = omega (arith, length-replicate (length lower) false)
-length-times lower (true ∷ q) = let e = length-times lower q in omega (arith, length-add_front (true ∷ lower) (false ∷ times lower q))
-length-times lower (false ∷ q) = let e = length-times lower q in omega (arith, length-add_front [] (false ∷ times lower q))
+length-times lower (true ∷ q) = let e = length-times lower q in
+    omega (arith, length-add_front (true ∷ lower) (false ∷ times lower q))
+length-times lower (false ∷ q) = let e = length-times lower q in
+    omega (arith, length-add_front [] (false ∷ times lower q))
 
 pub divide-times : (lower q : List Bool) → divide (length q) lower (times lower q) ≡ replicate (length lower) false
 unfolding divide times add_front

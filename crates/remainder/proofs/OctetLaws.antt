@@ -17,7 +17,8 @@ octet_bits-append front back = flat_map-append (bits 8) front back
 
 pub length-octet_bits : (octets : List ℕ) → length (octet_bits octets) ≡ 8 * length octets
 length-octet_bits [] = omega arith
-length-octet_bits (o ∷ octets) = let e = length-octet_bits octets in omega (arith, length-append (bits 8 o) (octet_bits octets), length-bits 8 o)
+length-octet_bits (o ∷ octets) = let e = length-octet_bits octets in
+    omega (arith, length-append (bits 8 o) (octet_bits octets), length-bits 8 o)
 
 pub length-octets_of : (count : ℕ) (bs : List Bool) → length (octets_of count bs) ≡ count
 unfolding octets_of

@@ -56,7 +56,8 @@ joined-from : (octet : ℕ → ℕ) (containers : List Container) (size : ℕ) �
     p + n ≤ size →
     octets_from p n (payloads containers) ≡ map octet (range_with_len (p * length containers) (n * length containers))
 unfolding octets_from
-joined-from octet containers size dealt p zero fits = let e : 0 ≡ 0 * length containers = omega arith in ap (λ c. map octet (range_with_len (p * length containers) c)) e
+joined-from octet containers size dealt p zero fits = let e : 0 ≡ 0 * length containers = omega arith in
+    ap (λ c. map octet (range_with_len (p * length containers) c)) e
 joined-from octet containers size dealt p (suc n) fits =
     let x = length containers in
     ap (λ front. front ++ octets_from (suc p) n (payloads containers))

@@ -38,7 +38,8 @@ use Rattle.row_law.proofs.WholeLaws.{heard-any}
 list_any-none : (test : Option Packet → Bool) (read : ℕ → Option Packet) (a n : ℕ) →
     ((l : ℕ) → a ≤ l → test (read l) ≡ false) → list_any test (all_read read a n) ≡ false
 list_any-none test read a zero h = refl
-list_any-none test read a (suc n) h = let here = h a (omega arith) in rw here (list_any-none test read (a + 1) n (λ l low. h l (omega arith)))
+list_any-none test read a (suc n) h = let here = h a (omega arith) in
+    rw here (list_any-none test read (a + 1) n (λ l low. h l (omega arith)))
 
 or_false : (b : Bool) → (b || false) ≡ b
 or_false true = refl
@@ -100,7 +101,8 @@ status-order (member ∷ order) lines sq chg k act (suc i) readable once below =
     (read_of order (sq + 1) chg k act readable) 0 lines
     (λ l. head-rest is_member refl member order sq chg k act l (sq + suc i) (readable l) (omega arith) (once l))
     ∙ ap (λ s. list_any (has is_member s) (all_read (read_of order (sq + 1) chg k act readable) 0 lines)) e
-    ∙ status-order order lines (sq + 1) chg k act i readable (λ l. let most = once l in omega arith) (λ l high. let none = below l high in omega arith)
+    ∙ status-order order lines (sq + 1) chg k act i readable (λ l. let most = once l in omega arith)
+    (λ l high. let none = below l high in omega arith)
 
 says-has : (sq : ℕ) (found : Option Packet) → says_at sq found ≡ has is_member sq found
 says-has sq None = refl

@@ -51,7 +51,8 @@ all_read read a n = map read (range_with_len a n)
 lines_at-none : (read : ℕ → Option Packet) (sq a n : ℕ) → ((l : ℕ) → a ≤ l → has is_carrying sq (read l) ≡ false) →
     lines_at sq a (all_read read a n) ≡ []
 lines_at-none read sq a zero h = refl
-lines_at-none read sq a (suc n) h = let here = h a (omega arith) in rw here (lines_at-none read sq (a + 1) n (λ l low. h l (omega arith)))
+lines_at-none read sq a (suc n) h = let here = h a (omega arith) in
+    rw here (lines_at-none read sq (a + 1) n (λ l low. h l (omega arith)))
 
 lines_at-one : (read : ℕ → Option Packet) (sq line : ℕ) → has is_carrying sq (read line) ≡ true →
     ((l : ℕ) → (line ≡ l → ⊥) → has is_carrying sq (read l) ≡ false) →
@@ -264,7 +265,8 @@ active_from-order (member ∷ order) lines sq chg k act (suc count) readable fit
     (active_from-same (read_of (member ∷ order) sq chg k act readable) (read_of order (sq + 1) chg k act readable) lines
     (sq + 1) count
     (λ s l low. head-rest is_carrying refl member order sq chg k act l s (readable l) low (once l))
-    ∙ active_from-order order lines (sq + 1) chg k act count readable (omega arith) (λ l. let most = once l in omega arith) (λ l high. let none = below l high in omega arith))
+    ∙ active_from-order order lines (sq + 1) chg k act count readable (omega arith)
+    (λ l. let most = once l in omega arith) (λ l high. let none = below l high in omega arith))
     ∙ first-carrying member order readable
 
 -- ---- the count

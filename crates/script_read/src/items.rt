@@ -6,8 +6,8 @@ ghost use Rattle.script_read.specs.Statements.{rest_fault, said};
 ghost use Rattle.session_model.specs.Valid.{IsWithin, IsItem};
 ghost use Rattle.script_read.specs.Drafts.{IsDraft, last_due, command_fault};
 
-use crate::draft::{Draft, Statement};
 use crate::count::count_fault;
+use crate::draft::{Draft, Statement};
 use crate::fault::{LineFault, LineStop};
 use crate::keyword::Keyword;
 use session_model::{EventLine, Item, ItemKind, Octets};

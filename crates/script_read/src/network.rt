@@ -44,11 +44,7 @@ pub(crate) fn read_delays(alloc: Global, rest: &[u8], lines: u8) -> Result<Delay
     ensures err { IfErr result (λ stop. IsStop stop (delays_fault lines (words rest.now))) }
 {
     if count_words(rest) != usize::from(lines) {
-        return Err(LineStop::Fault(count_fault(
-            Keyword::Delays,
-            u64::from(lines),
-            rest,
-        )));
+        return Err(LineStop::Fault(count_fault(Keyword::Delays, u64::from(lines), rest)));
     }
     let mut delays = Vec::with_capacity(alloc, usize::from(lines))?;
     let mut further = rest;

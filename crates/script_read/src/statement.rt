@@ -128,7 +128,9 @@ fn read_setting(
         Keyword::Delays => Ok(Statement::Delays(read_delays(alloc, rest, draft.config.lines)?)),
         Keyword::Ring => Ok(Statement::Ring(one_number(Keyword::Ring, rest, 1, 2048)? as u16)),
         Keyword::Lag => Ok(Statement::Lag(one_number(Keyword::Lag, rest, 1, 512)? as u16)),
-        Keyword::Ticks => Ok(Statement::Ticks(one_number(Keyword::Ticks, rest, 1, 1_000_000)? as u32)),
+        Keyword::Ticks => Ok(Statement::Ticks(
+            one_number(Keyword::Ticks, rest, 1, 1_000_000)? as u32,
+        )),
         Keyword::Fail => {
             let (m, window) = read_fail(draft, rest)?;
             Ok(Statement::Fail(m, window))

@@ -27,7 +27,8 @@ filter-all test (x ∷ xs) passes = let first = passes.0 in rw first (ap (λ res
 filter-none : {X : Type 0} (test other : X → Bool) (xs : List X) → ((x : X) → other x ≡ true → test x ≡ false) →
     Passes other xs → filter test xs ≡ []
 filter-none test other [] apart passes = refl
-filter-none test other (x ∷ xs) apart passes = let first = apart x passes.0 in rw first (filter-none test other xs apart passes.1)
+filter-none test other (x ∷ xs) apart passes = let first = apart x passes.0 in
+    rw first (filter-none test other xs apart passes.1)
 
 -- ---- a list that grows at each step by elements which pass the test of that step, where no element passes the tests
 -- of two steps

@@ -364,7 +364,8 @@ take_out-only kept base (member ∷ order) line only =
 
 before_none : (member : Member) (order : List Member) (sq line s l : ℕ) → is_adding member ≡ false →
     Leads order sq line → s < suc sq → Has (member ∷ order) s l adding → ⊥
-before_none member order sq line zero l other leads before has = let adds : is_adding member ≡ true = ap is_add (Has-standing member l adding has) in cc
+before_none member order sq line zero l other leads before has =
+    let adds : is_adding member ≡ true = ap is_add (Has-standing member l adding has) in cc
 before_none member order sq line (suc s) l other leads before has = leads.first s l (omega arith) has
 
 LeadsIn-later : (found : Option (List Member)) (first : Member) (line : ℕ) → is_adding first ≡ false →
@@ -479,7 +480,8 @@ failed kept o (inr fail) = fail
 there_first : (adds ok : Bool) (member : Member) (rest order : List Member) (line : ℕ) → is_adding member ≡ adds →
     ok ≡ true →
     Has (admit_on adds ok member rest order) 0 line adding → ⊥
-there_first false ok member rest order line e o has = let adds : is_adding member ≡ true = ap is_add (Has-standing member line adding has) in cc
+there_first false ok member rest order line e o has =
+    let adds : is_adding member ≡ true = ap is_add (Has-standing member line adding has) in cc
 there_first true true member rest order line e o has = let s = Has-standing (in_use member) line adding has in cc
 there_first true false member rest order line e o has = cc
 
@@ -533,4 +535,5 @@ pub exchange-there_plain : (kept : ℕ → Option Bool) (order : List Member) (s
     is_ok (kept sq) ≡ true →
     Has (admit kept 0 order) sq line adding → IsThere (exchange kept 0 (turned kept 0 (admit kept 0 order)))
 unfolding turned_exchange
-exchange-there_plain kept order sq line known ok has = let e : 0 + sq ≡ sq = omega arith in exchange-there kept 0 order sq line known (rw e ok) has
+exchange-there_plain kept order sq line known ok has = let e : 0 + sq ≡ sq = omega arith in
+    exchange-there kept 0 order sq line known (rw e ok) has

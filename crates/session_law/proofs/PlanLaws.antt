@@ -32,7 +32,8 @@ times (x ∷ xs) l = one x l + times xs l
 
 times-append : (xs ys : List ℕ) (l : ℕ) → times (xs ++ ys) l ≡ times xs l + times ys l
 times-append [] ys l = let e : times ys l ≡ 0 + times ys l = omega arith in e
-times-append (x ∷ xs) ys l = let rest = times-append xs ys l in let e : one x l + times (xs ++ ys) l ≡ one x l + times xs l + times ys l = omega (arith, rest) in e
+times-append (x ∷ xs) ys l = let rest = times-append xs ys l in
+    let e : one x l + times (xs ++ ys) l ≡ one x l + times xs l + times ys l = omega (arith, rest) in e
 
 -- ---- numbers below a bound that stand at most once
 abbrev pub total : ℕ → (ℕ → ℕ) → ℕ
@@ -84,12 +85,14 @@ length-total n (x ∷ xs) inside =
     let sums = total-add n (one x) (times xs) in
     let self = one-self x in
     elim (cases_lt x n) [
-      | inl low ↦ let first = total-one n x low in (let e : suc (length xs) ≡ total n (times (x ∷ xs)) = omega arith in e)
+      | inl low ↦ let first = total-one n x low in
+          (let e : suc (length xs) ≡ total n (times (x ∷ xs)) = omega arith in e)
       | inr high ↦ let none = inside x high in absurd (omega arith)
     ]
 
 length-at_most : (n : ℕ) (xs : List ℕ) → IsBelow n (times xs) → ((l : ℕ) → times xs l ≤ 1) → length xs ≤ n
-length-at_most n xs inside once = let whole = length-total n xs inside in let most = total-at_most n (times xs) once in omega arith
+length-at_most n xs inside once = let whole = length-total n xs inside in let most = total-at_most n (times xs) once in
+    omega arith
 
 -- ---- an exchange only moves lines
 abbrev pub SameTimes : Option (List Member) → List Member → Type 0
@@ -328,8 +331,10 @@ one-other x l other =
 with_line-add : (line : ℕ) (f : ℕ → ℕ) → f line ≡ 0 → (l : ℕ) → with_line line 1 f l ≡ f l + one line l
 with_line-add line f none l =
     elim (l == line) as (λ b. (l == line) ≡ b → (if b then 1 else f l) ≡ f l + one line l) [
-      | true ↦ λ e. let same = eqb-true l line e in let self = one-self line in rw same (let whole : 1 ≡ f line + one line line = omega arith in whole)
-      | false ↦ λ e. let none = one-other line l (eqb-false l line e) in (let whole : f l ≡ f l + one line l = omega arith in whole)
+      | true ↦ λ e. let same = eqb-true l line e in let self = one-self line in
+          rw same (let whole : 1 ≡ f line + one line line = omega arith in whole)
+      | false ↦ λ e. let none = one-other line l (eqb-false l line e) in
+          (let whole : f l ≡ f l + one line l = omega arith in whole)
     ] refl
 
 with_line-below : (lines line n : ℕ) (f : ℕ → ℕ) → line < lines → IsBelow lines f → IsBelow lines (with_line line n f)

@@ -65,7 +65,8 @@ Agree-append scenario cells more j enough i inside =
     elim (nat_le scenario.lag i) as (λ b. nat_le scenario.lag i ≡ b →
     (if b then slice_index_or (cells ++ more) (i - scenario.lag) None else None) ≡
     (if b then slice_index_or cells (i - scenario.lag) None else None)) [
-      | true ↦ λ e. let low = leb-true scenario.lag i e in get_or_append_left cells more None (i - scenario.lag) (omega arith)
+      | true ↦ λ e. let low = leb-true scenario.lag i e in
+          get_or_append_left cells more None (i - scenario.lag) (omega arith)
       | false ↦ λ e. refl
     ] refl
 

@@ -547,7 +547,8 @@ state-last scenario cells good since first sq line i fair all alone start at (in
     as (λ c. carried scenario cells i ≡ c → IsUsedBefore scenario cells line since (suc i)) [
       | None ↦ λ e. used-now scenario cells line since i (omega arith)
           (step-last scenario cells good first sq line i fair all waits at e)
-      | Some command ↦ λ e. let lag = fair.lag in used-longer scenario cells line since i (suc i) (omega arith) (alone i command (omega arith) (omega arith) e)
+      | Some command ↦ λ e. let lag = fair.lag in
+          used-longer scenario cells line since i (suc i) (omega arith) (alone i command (omega arith) (omega arith) e)
     ] refl
 
 -- after a change, an ADD line up to whose SQ each ADD line can be read is in use sixteen packets and the lag later

@@ -14,7 +14,8 @@ size-piece idle = omega arith
 size-piece (client frame) = omega arith
 
 size-more : (pieces : List Piece) (piece : Piece) → size pieces + 4 ≤ size (pieces ++ piece ∷ [])
-size-more pieces piece = let sums = sum_by-append size_of pieces (piece ∷ []) in let last = size-piece piece in rw sums (omega arith)
+size-more pieces piece = let sums = sum_by-append size_of pieces (piece ∷ []) in let last = size-piece piece in
+    rw sums (omega arith)
 
 pub next_by-size : (waiting : List (List ℕ)) (pieces : List Piece) →
     size pieces + 4 ≤ size (next_by waiting pieces).pieces
@@ -125,7 +126,8 @@ fewest_next : (before : List Piece) (piece : Piece) (more : List Piece) (place :
     ((n : ℕ) → n < length more → size (before ++ piece ∷ [] ++ take n more) < place) → (n : ℕ) →
     n < length (piece ∷ more) → size (before ++ take n (piece ∷ more)) < place
 fewest_next before piece more place short rest zero h = let e : before ++ [] ≡ before = append-nil before in rw e short
-fewest_next before piece more place short rest (suc n) h = let e = append_assoc before (piece ∷ []) (take n more) in rw e at (rest n (omega arith))
+fewest_next before piece more place short rest (suc n) h = let e = append_assoc before (piece ∷ []) (take n more) in
+    rw e at (rest n (omega arith))
 
 follows-next : (before : List Piece) (piece : Piece) (place : ℕ) (after : List Piece) → size before < place →
     Follows (before ++ piece ∷ []) place after → Follows before place after

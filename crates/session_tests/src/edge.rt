@@ -1,4 +1,5 @@
-//! The edge: the two loops over the fakes, the fakes call by call, and readers and writers of the standard library that fail.
+//! The edge: the two loops over the fakes, the fakes call by call, and readers and writers of the standard
+//! library that fail.
 
 use outside_io::{
     ByteSink, ByteSource, Failed, MemSink, MemSource, ReadEnd, StdSink, StdSource, put_all,

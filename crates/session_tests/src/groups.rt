@@ -72,7 +72,8 @@ fn ticks(group: &mut GroupState, times: u32, want: TickAnswer) -> bool {
     are_right
 }
 
-/// Whether the command and the frame of the script, a frame that is an octet too short, ticks, or a return packet are answered so.
+/// Whether the command and the frame of the script, a frame that is an octet too short, ticks, or a return
+/// packet are answered so.
 fn is_answered(group: &mut GroupState, back: &mut RingOut<BackCell>, step: Try) -> bool {
     match step {
         Try::Add(number, want) => group.submit(number, ItemRef::Add(0)) == want,

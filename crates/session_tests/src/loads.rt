@@ -4,7 +4,8 @@ use make_load::make;
 use session_model::{Config, ItemKind, Script};
 use std::alloc::Global;
 
-/// What is told of the frames of a load: how many there are, their octets and the sum of those, and the due tick of the last one.
+/// What is told of the frames of a load: how many there are, their octets and the sum of those, and the due
+/// tick of the last one.
 #[derive(Clone, Copy, Default, PartialEq, Eq)]
 struct Frames {
     count: u64,

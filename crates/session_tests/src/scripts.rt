@@ -1,4 +1,5 @@
-//! Texts of many lines, and what each line of a script says. What faults are told of is among the rows of `command_tests`.
+//! Texts of many lines, and what each line of a script says. What faults are told of is among the rows of
+//! `command_tests`.
 ghost use Rattle.std.specs.Prelude.{IfOk};
 ghost use Rattle.session_model.specs.Valid.{IsValid};
 

@@ -1,5 +1,6 @@
 -- Idle frames that are dealt to members.
-use Rattle.std.proofs.Common.{◌≡◌, ℕ, zero, suc, ◌+◌, ◌-◌, ◌*◌, ◌/◌, ◌%◌, ◌<◌, List, [], ◌∷◌, ◌++◌, length, take, drop, slice_index, refl, sym, ◌∙◌, ap, ap₂, arith, length-append}
+use Rattle.std.proofs.Common.{◌≡◌, ℕ, zero, suc, ◌+◌, ◌-◌, ◌*◌, ◌/◌, ◌%◌, ◌<◌, List, [], ◌∷◌, ◌++◌, length, take, drop}
+use Rattle.std.proofs.Common.{slice_index, refl, sym, ◌∙◌, ap, ap₂, arith, length-append}
 use Rattle.std.proofs.lemmas.List.{get_or_append_left, get_or-append_right, get_or-map}
 use Rattle.std.proofs.lemmas.Nat.{div-add-mod'}
 use Rattle.session_model.specs.Core.{core_header}
@@ -19,7 +20,8 @@ length-repeated (suc n) k octets size =
     ∙ ap₂ (λ a b. a + b) size (length-repeated n k octets size)
     ∙ (let e : k + n * k ≡ suc n * k = omega arith in e)
 
-get-turn : (n k q r : ℕ) (octets : List ℕ) → length octets ≡ k → q < n → r < k → slice_index (repeated n octets) (q * k + r) ≡ slice_index octets r
+get-turn : (n k q r : ℕ) (octets : List ℕ) → length octets ≡ k → q < n → r < k →
+    slice_index (repeated n octets) (q * k + r) ≡ slice_index octets r
 get-turn zero k q r octets size below within = absurd (omega arith)
 get-turn (suc n) k zero r octets size below within =
     ap (slice_index (octets ++ repeated n octets)) (let e : 0 * k + r ≡ r = omega arith in e)
@@ -29,11 +31,14 @@ get-turn (suc n) k (suc q) r octets size below within =
     ∙ ap (slice_index (repeated n octets)) (let e : suc q * k + r - k ≡ q * k + r = omega arith in e)
     ∙ get-turn n k q r octets size (omega arith) within
 
-pub get-eights : (n i : ℕ) (octets : List ℕ) → length octets ≡ 8 → i < n * 8 → slice_index (repeated n octets) i ≡ slice_index octets (i % 8)
+pub get-eights : (n i : ℕ) (octets : List ℕ) → length octets ≡ 8 → i < n * 8 →
+    slice_index (repeated n octets) i ≡ slice_index octets (i % 8)
 get-eights n i octets size within =
-    ap (slice_index (repeated n octets)) (sym (div-add-mod' i 8)) ∙ get-turn n 8 (i / 8) (i % 8) octets size (omega arith) (omega arith)
+    ap (slice_index (repeated n octets)) (sym (div-add-mod' i 8))
+    ∙ get-turn n 8 (i / 8) (i % 8) octets size (omega arith) (omega arith)
 
-pub get-eight : (octet : ℕ → ℕ) (a b c d e f g h : ℕ) → a ≡ octet 0 → b ≡ octet 1 → c ≡ octet 2 → d ≡ octet 3 → e ≡ octet 4 → f ≡ octet 5 → g ≡ octet 6 → h ≡ octet 7 →
+pub get-eight : (octet : ℕ → ℕ) (a b c d e f g h : ℕ) → a ≡ octet 0 → b ≡ octet 1 → c ≡ octet 2 → d ≡ octet 3 →
+    e ≡ octet 4 → f ≡ octet 5 → g ≡ octet 6 → h ≡ octet 7 →
     (i : ℕ) → i < 8 → slice_index (a ∷ b ∷ c ∷ d ∷ e ∷ f ∷ g ∷ h ∷ []) i ≡ octet i
 get-eight octet a b c d e f g h p0 p1 p2 p3 p4 p5 p6 p7 zero below = p0
 get-eight octet a b c d e f g h p0 p1 p2 p3 p4 p5 p6 p7 (suc zero) below = p1
@@ -43,7 +48,8 @@ get-eight octet a b c d e f g h p0 p1 p2 p3 p4 p5 p6 p7 (suc (suc (suc (suc zero
 get-eight octet a b c d e f g h p0 p1 p2 p3 p4 p5 p6 p7 (suc (suc (suc (suc (suc zero))))) below = p5
 get-eight octet a b c d e f g h p0 p1 p2 p3 p4 p5 p6 p7 (suc (suc (suc (suc (suc (suc zero)))))) below = p6
 get-eight octet a b c d e f g h p0 p1 p2 p3 p4 p5 p6 p7 (suc (suc (suc (suc (suc (suc (suc zero))))))) below = p7
-get-eight octet a b c d e f g h p0 p1 p2 p3 p4 p5 p6 p7 (suc (suc (suc (suc (suc (suc (suc (suc i)))))))) below = absurd (omega arith)
+get-eight octet a b c d e f g h p0 p1 p2 p3 p4 p5 p6 p7 (suc (suc (suc (suc (suc (suc (suc (suc i)))))))) below =
+    absurd (omega arith)
 
 -- ---- the octets of idle frames
 turn : ℕ → List ℕ
@@ -87,36 +93,45 @@ get-turned have (suc (suc (suc (suc i)))) a b = absurd (omega arith)
 
 length-idles : (have count : ℕ) → have < 4 → length (idles_from have count) ≡ count * 4
 unfolding turn
-length-idles have count below = length-repeated count 4 (turn have) (ap length (turn-is have) ∙ length-turned have below)
+length-idles have count below =
+    length-repeated count 4 (turn have) (ap length (turn-is have) ∙ length-turned have below)
 
-get-idles : (have count i : ℕ) → have < 4 → i < count * 4 → slice_index (idles_from have count) i ≡ slice_index (core_header 0) ((have + i) % 4)
+get-idles : (have count i : ℕ) → have < 4 → i < count * 4 →
+    slice_index (idles_from have count) i ≡ slice_index (core_header 0) ((have + i) % 4)
 unfolding turn
 get-idles have count i below within =
     ap (slice_index (repeated count (turn have))) (sym (div-add-mod' i 4))
-    ∙ get-turn count 4 (i / 4) (i % 4) (turn have) (ap length (turn-is have) ∙ length-turned have below) (omega arith) (omega arith)
+    ∙ get-turn count 4 (i / 4) (i % 4) (turn have) (ap length (turn-is have) ∙ length-turned have below) (omega arith)
+    (omega arith)
     ∙ ap (λ l. slice_index l (i % 4)) (turn-is have)
     ∙ get-turned have (i % 4) below (omega arith)
-    ∙ ap₂ (λ header n. slice_index header n) (sym core_header-idle) (let e : (have + i % 4) % 4 ≡ (have + i) % 4 = omega arith in e)
+    ∙ ap₂ (λ header n. slice_index header n) (sym core_header-idle)
+    (let e : (have + i % 4) % 4 ≡ (have + i) % 4 = omega arith in e)
 
 -- ---- dealt to members
 -- eight places on a member is at the same place of a header
 same-place : (have rank p x : ℕ) → (have + (p * x + rank)) % 4 ≡ (have + rank + p % 8 * x) % 4
 same-place have rank p x =
-    let parts : p * x ≡ 8 * (p / 8 * x) + p % 8 * x = ap (λ n. n * x) (sym (div-add-mod' p 8)) ∙ (let e : (p / 8 * 8 + p % 8) * x ≡ 8 * (p / 8 * x) + p % 8 * x = omega arith in e) in
+    let parts : p * x ≡ 8 * (p / 8 * x) + p % 8 * x = ap (λ n. n * x) (sym (div-add-mod' p 8))
+    ∙ (let e : (p / 8 * 8 + p % 8) * x ≡ 8 * (p / 8 * x) + p % 8 * x = omega arith in e) in
     omega (arith, parts)
 
 -- the octets of idle frames at a place of each of these members
 abbrev pub AreDealt : ℕ → ℕ → ℕ → ℕ → List Container → List ℕ → Type 0
 AreDealt have place places upto containers active = (rank p : ℕ) → rank < upto → p < places →
-    slice_index (payload_at containers (slice_index active rank)) (place + p) ≡ slice_index (core_header 0) ((have + rank + p % 8 * length active) % 4)
+    slice_index (payload_at containers (slice_index active rank)) (place + p) ≡ slice_index (core_header 0)
+    ((have + rank + p % 8 * length active) % 4)
 
 pub idles-dealt : (have place places : ℕ) (containers : List Container) (active : List ℕ) → have < 4 → places % 8 ≡ 0 →
-    AreDealt have place places (length active) containers active → octets_from place places (payloads_of containers active) ≡ idles_from have (places / 4 * length active)
+    AreDealt have place places (length active) containers active →
+    octets_from place places (payloads_of containers active) ≡ idles_from have (places / 4 * length active)
 idles-dealt have place places containers active below eights dealt =
     let x : ℕ = length active in
     let fours : places ≡ places / 4 * 4 = omega (arith, eights) in
-    let size : places / 4 * x * 4 ≡ places * x = (let e : places / 4 * x * 4 ≡ places / 4 * 4 * x = omega arith in e) ∙ ap (λ n. n * x) (sym fours) in
-    sym (is-row containers active place places (idles_from have (places / 4 * x)) (length-idles have (places / 4 * x) below ∙ size)
+    let size : places / 4 * x * 4 ≡ places * x = (let e : places / 4 * x * 4 ≡ places / 4 * 4 * x = omega arith in e)
+    ∙ ap (λ n. n * x) (sym fours) in
+    sym (is-row containers active place places (idles_from have (places / 4 * x))
+    (length-idles have (places / 4 * x) below ∙ size)
     (λ p rank low few.
     get-idles have (places / 4 * x) (p * x + rank) below (omega (arith, size, within-row x places p rank low few))
     ∙ ap (slice_index (core_header 0)) (same-place have rank p x)

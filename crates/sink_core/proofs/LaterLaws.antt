@@ -1,5 +1,6 @@
 -- More cells change nothing of rows that are decided, and more rows add frames.
-use Rattle.std.proofs.Common.{◌≡◌, ℕ, zero, suc, ◌+◌, ◌-◌, ◌*◌, ◌/◌, ◌%◌, ◌<◌, ◌≤◌, ◌==◌, nat_lt, inl, inr, List, [], ◌∷◌, ◌++◌, length, drop, slice_get, Some, refl, sym, ◌∙◌, ap, subst, arith, append_assoc}
+use Rattle.std.proofs.Common.{◌≡◌, ℕ, zero, suc, ◌+◌, ◌-◌, ◌*◌, ◌/◌, ◌%◌, ◌<◌, ◌≤◌, ◌==◌, nat_lt, inl, inr, List, []}
+use Rattle.std.proofs.Common.{◌∷◌, ◌++◌, length, drop, slice_get, Some, refl, sym, ◌∙◌, ap, subst, arith, append_assoc}
 use Rattle.std.specs.Prelude.{is_some}
 use Rattle.std.proofs.lemmas.Bool.{cases_Bool}
 use Rattle.std.proofs.lemmas.Bool.Decides.{nat_tests}
@@ -25,27 +26,32 @@ use Rattle.sink_core.proofs.GivenLaws.{received-more}
 abbrev AreDecidedTo : List (List Cell) → ℕ → Type 0
 AreDecidedTo cells taken = (t : ℕ) → t < taken → AreDecidedAt cells t
 
-received-stays : (size taken : ℕ) (cells longer : List (List Cell)) → IsLonger cells longer → AreDecidedTo cells taken → received_rows size longer taken ≡ received_rows size cells taken
+received-stays : (size taken : ℕ) (cells longer : List (List Cell)) → IsLonger cells longer → AreDecidedTo cells taken →
+    received_rows size longer taken ≡ received_rows size cells taken
 received-stays size taken cells longer more decided =
     map-same (λ t. row_in (row_at size longer t)) (λ t. row_in (row_at size cells t)) 0 taken
     (λ t low. ap row_in (rows_stay size cells longer t more (decided t (omega arith))))
 
-packets-stay : (taken : ℕ) (cells longer : List (List Cell)) → IsLonger cells longer → AreDecidedTo cells taken → read_rows longer (packet_rows taken) ≡ read_rows cells (packet_rows taken)
+packets-stay : (taken : ℕ) (cells longer : List (List Cell)) → IsLonger cells longer → AreDecidedTo cells taken →
+    read_rows longer (packet_rows taken) ≡ read_rows cells (packet_rows taken)
 packets-stay taken cells longer more decided =
     map-same (read_packets longer) (read_packets cells) 0 (packet_rows taken)
     (λ k low. read-stays cells longer k more (decided (16 * k + 23) (omega arith)))
 
 -- what governs the row after those that are decided
-governing-stays : (taken : ℕ) (cells longer : List (List Cell)) → IsLonger cells longer → AreDecidedTo cells taken → governing longer taken ≡ governing cells taken
+governing-stays : (taken : ℕ) (cells longer : List (List Cell)) → IsLonger cells longer → AreDecidedTo cells taken →
+    governing longer taken ≡ governing cells taken
 governing-stays taken cells longer more decided =
     elim (cases_Bool (nat_lt taken 24)) [
       | inl early ↦ rw early (nones-stay cells longer more.size)
       | inr late ↦
           let high : 24 ≤ taken = grind (arith, nat_tests, late) in
-          rw late (read-stays cells longer ((taken - 24) / 16) more (decided (16 * ((taken - 24) / 16) + 23) (omega arith)))
+          rw late (read-stays cells longer ((taken - 24) / 16) more
+          (decided (16 * ((taken - 24) / 16) + 23) (omega arith)))
     ]
 
-decided-stays : (t : ℕ) (cells longer : List (List Cell)) → IsLonger cells longer → AreDecidedAt cells t → AreDecidedAt longer t
+decided-stays : (t : ℕ) (cells longer : List (List Cell)) → IsLonger cells longer → AreDecidedAt cells t →
+    AreDecidedAt longer t
 decided-stays t cells longer are decided m own here =
     let inside = slice_get_within longer m own here in
     let size = are.size in
@@ -55,19 +61,25 @@ decided-stays t cells longer are decided m own here =
     let (told, said) = is-some (verdict before t) (decided m before was) in
     ap is_some (ap (λ own. verdict own t) same ∙ verdict-stays before more t told said)
 
-pub stands-longer : (core : Core) (cells longer : List (List Cell)) → IsLonger cells longer → Stands core cells → Stands core longer
+pub stands-longer : (core : Core) (cells longer : List (List Cell)) → IsLonger cells longer → Stands core cells →
+    Stands core longer
 stands-longer core cells longer more stands = record {
   lines = more.size ∙ stands.lines;
-  receives = subst (Receives core.receiver) (sym (received-stays core.size core.taken cells longer more stands.decided)) stands.receives;
-  table = subst (sink_table.Stands core.table) (sym (packets-stay core.taken cells longer more stands.decided)) stands.table;
+  receives = subst (Receives core.receiver) (sym (received-stays core.size core.taken cells longer more stands.decided))
+      stands.receives;
+  table = subst (sink_table.Stands core.table) (sym (packets-stay core.taken cells longer more stands.decided))
+      stands.table;
   active = stands.active ∙ ap active_of (sym (governing-stays core.taken cells longer more stands.decided));
   decided = λ t low. decided-stays t cells longer more (stands.decided t low);
 }
 
-pub frames-stay : (size taken : ℕ) (cells longer : List (List Cell)) → IsLonger cells longer → ((t : ℕ) → t < taken → AreDecidedAt cells t) → given_frames size longer taken ≡ given_frames size cells taken
-frames-stay size taken cells longer more decided = ap (deliver 9600) (received-stays size taken cells longer more decided)
+pub frames-stay : (size taken : ℕ) (cells longer : List (List Cell)) → IsLonger cells longer →
+    ((t : ℕ) → t < taken → AreDecidedAt cells t) → given_frames size longer taken ≡ given_frames size cells taken
+frames-stay size taken cells longer more decided =
+    ap (deliver 9600) (received-stays size taken cells longer more decided)
 
-pub back-stays : (t : ℕ) (cells longer : List (List Cell)) → IsLonger cells longer → AreDecidedAt cells t → back_at longer t ≡ back_at cells t
+pub back-stays : (t : ℕ) (cells longer : List (List Cell)) → IsLonger cells longer → AreDecidedAt cells t →
+    back_at longer t ≡ back_at cells t
 back-stays t cells longer more decided =
     elim (cases_Bool (nat_lt 22 t)) [
       | inr early ↦ rw early refl
@@ -91,29 +103,37 @@ with_cell-longer cells line cell = record { size = size cells line; each = each 
     size (own ∷ cells) zero = refl
     size (own ∷ cells) (suc line) = ap suc (size cells line)
 
-    each : (cells : List (List Cell)) (line m : ℕ) (own : List Cell) → slice_get cells m ≡ Some own → (more : List Cell) × (slice_get (with_cell cells line cell) m ≡ Some (own ++ more))
+    each : (cells : List (List Cell)) (line m : ℕ) (own : List Cell) → slice_get cells m ≡ Some own →
+        (more : List Cell) × (slice_get (with_cell cells line cell) m ≡ Some (own ++ more))
     each [] line m own here = absurd cc
-    each (first ∷ cells) zero zero own here = (cell ∷ [], ap (λ own. Some (own ++ cell ∷ [])) (let same : first ≡ own = cc in same))
+    each (first ∷ cells) zero zero own here =
+        (cell ∷ [], ap (λ own. Some (own ++ cell ∷ [])) (let same : first ≡ own = cc in same))
     each (first ∷ cells) zero (suc m) own here = ([], here ∙ ap Some (sym (append-nil own)))
     each (first ∷ cells) (suc line) zero own here = ([], here ∙ ap Some (sym (append-nil own)))
     each (first ∷ cells) (suc line) (suc m) own here = each cells line m own here
 
 -- ---- more rows
-received-split : (size : ℕ) (cells : List (List Cell)) (n more : ℕ) → (rest : List StreamRow) × (received_rows size cells (n + more) ≡ received_rows size cells n ++ rest)
+received-split : (size : ℕ) (cells : List (List Cell)) (n more : ℕ) → (rest : List StreamRow) ×
+    (received_rows size cells (n + more) ≡ received_rows size cells n ++ rest)
 received-split size cells n zero =
-    let e : n + 0 ≡ n = omega arith in ([], ap (received_rows size cells) e ∙ sym (append-nil (received_rows size cells n)))
+    let e : n + 0 ≡ n = omega arith in
+    ([], ap (received_rows size cells) e ∙ sym (append-nil (received_rows size cells n)))
 received-split size cells n (suc more) =
     let (rest, is) = received-split size cells n more in
     let e : n + suc more ≡ n + more + 1 = omega arith in
     let row = row_in (row_at size cells (n + more)) in (
       rest ++ row ∷ [],
-      ap (received_rows size cells) e ∙ received-more size cells (n + more) ∙ ap (λ l. l ++ row ∷ []) is ∙ append_assoc (received_rows size cells n) rest (row ∷ []),
+      ap (received_rows size cells) e ∙ received-more size cells (n + more) ∙ ap (λ l. l ++ row ∷ []) is
+          ∙ append_assoc (received_rows size cells n) rest (row ∷ []),
     )
 
-pub frames-grow : (size before taken : ℕ) (cells : List (List Cell)) → before ≤ taken → given_frames size cells taken ≡ given_frames size cells before ++ added_frames size cells before taken
+pub frames-grow : (size before taken : ℕ) (cells : List (List Cell)) → before ≤ taken →
+    given_frames size cells taken ≡ given_frames size cells before ++ added_frames size cells before taken
 frames-grow size before taken cells low =
     let (rest, is) = received-split size cells before (taken - before) in
     let e : before + (taken - before) ≡ taken = omega arith in
-    let all : received_rows size cells taken ≡ received_rows size cells before ++ rest = ap (received_rows size cells) (sym e) ∙ is in
+    let all : received_rows size cells taken ≡ received_rows size cells before ++ rest =
+    ap (received_rows size cells) (sym e) ∙ is in
     ap (deliver 9600) all ∙ deliver-grows 9600 (received_rows size cells before) rest
-    ∙ ap (λ rows. given_frames size cells before ++ drop (length (given_frames size cells before)) (deliver 9600 rows)) (sym all)
+    ∙ ap (λ rows. given_frames size cells before ++ drop (length (given_frames size cells before)) (deliver 9600 rows))
+    (sym all)

@@ -9,7 +9,8 @@ use Rattle.lcas_sink.specs.Stands as sink_table
 use Rattle.sink_core.specs.Given.{received_rows, read_rows, packet_rows}
 use Rattle.sink_core.specs.Receives.{Receives}
 
--- how many lines there are, how many payload octets a container has, how many rows were taken, its receiver, its table, and the lines that
+-- how many lines there are, how many payload octets a container has, how many rows were taken, its receiver, its table,
+-- and the lines that
 -- carry payload in the next row
 pub record Core : Type 0 where
   pub lines : ℕ

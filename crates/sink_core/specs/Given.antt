@@ -1,5 +1,6 @@
 -- What a sink takes, gives and says, by the cells of its lines alone (G.707, G.7041, G.7042).
-use Rattle.std.specs.Prelude.{◌≡◌, ℕ, ◌-◌, ◌/◌, ◌%◌, ◌==◌, ◌&&◌, ◌<◌, nat_lt, if◌then◌else◌, List, [], map, length, drop, Option, Some, None}
+use Rattle.std.specs.Prelude.{◌≡◌, ℕ, ◌-◌, ◌/◌, ◌%◌, ◌==◌, ◌&&◌, ◌<◌, nat_lt, if◌then◌else◌, List, [], map, length}
+use Rattle.std.specs.Prelude.{drop, Option, Some, None}
 use Rattle.std.specs.List.{range_with_len}
 use Rattle.vc_cell.specs.declared.Cell.{Cell}
 use Rattle.session_model.specs.declared.packet.Packet.{Packet}

@@ -15,12 +15,14 @@ Receives receiver rows = StandsIn receiver longest_frame (segments_of rows).last
 
 -- whatever octets of a segment came before, these came after them
 abbrev pub Grows : Receiver → Receiver → List ℕ → Type 0
-Grows was now more = (first : Bool) (octets : List ℕ) → StandsIn was longest_frame first octets → StandsIn now longest_frame first (octets ++ more)
+Grows was now more = (first : Bool) (octets : List ℕ) → StandsIn was longest_frame first octets →
+    StandsIn now longest_frame first (octets ++ more)
 
 -- whatever was given before, the frames that these octets add are given after it
 abbrev pub Gives : {A : Type 0} → (A → List (List ℕ) → Type 0) → Receiver → List ℕ → A → A → Type 0
 Gives stands was more before after = (first : Bool) (octets : List ℕ) → StandsIn was longest_frame first octets →
-    (frames : List (List ℕ)) → stands before frames → stands after (frames ++ next_frames longest_frame first octets more)
+    (frames : List (List ℕ)) → stands before frames →
+    stands after (frames ++ next_frames longest_frame first octets more)
 
 -- these octets change nothing of a receiver, and add no frame
 abbrev pub IsIdle : Receiver → List ℕ → Type 0

@@ -12,10 +12,12 @@ use Rattle.row_law.specs.Received.{TellsRow, IsDealtRow}
 -- the first rows that the cells give are those of the session: whole where these are, and with their octets
 abbrev pub AreSessionRows : Scenario → List (Option Told) → List (List Cell) → ℕ → Type 0
 AreSessionRows scenario returns cells n = (t : ℕ) → t < n →
-    row_at scenario.size cells t ≡ (if is_whole_row scenario returns t then Some (payload_of scenario returns t) else None)
+    row_at scenario.size cells t ≡ (if is_whole_row scenario returns t then Some
+    (payload_of scenario returns t) else None)
 
 -- the cells tell row t, of which the lines that carry payload have the octets that the frame carries
-pub record TellsDealt (scenario : Scenario) (returns : List (Option Told)) (cells : List (List Cell)) (t : ℕ) : Type 0 where
+pub record TellsDealt (scenario : Scenario) (returns : List (Option Told)) (cells : List (List Cell))
+    (t : ℕ) : Type 0 where
   pub sent : ℕ → Container
   pub tells : TellsRow scenario returns sent cells t
   pub dealt : IsDealtRow scenario returns sent t

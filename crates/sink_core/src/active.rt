@@ -66,7 +66,8 @@ fn push_lines(sq: u8, packets: &[Option<Packet>], active: &mut Vec<u8>)
     }
 }
 
-/// The lines that carry payload, in the order of their sequence numbers. Once all are found, no further number is tried.
+/// The lines that carry payload, in the order of their sequence numbers. Once all are found, no further
+/// number is tried.
 pub(crate) fn find_active(packets: &[Option<Packet>], active: &mut Vec<u8>)
     requires few { length packets.now ≤ 128 }
     requires room { 128 ≤ vec_capacity active.old }

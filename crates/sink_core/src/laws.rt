@@ -14,8 +14,8 @@ ghost use Rattle.sink_core.specs.Core.{Core, Stands};
 ghost use Rattle.sink_core.specs.Session.{AreSessionRows, TellRows};
 ghost use Rattle.session_model.specs.Limits.{longest_frame};
 
-/// What was taken stays taken where more cells come, and more rows give more frames and change none of those before. Return packet k
-/// is made at row 16 k + 23.
+/// What was taken stays taken where more cells come, and more rows give more frames and change none of those
+/// before. Return packet k is made at row 16 k + 23.
 pub fn sink_law()
     ensures stands { (core : Core) (cells longer : List (List Cell)) → IsLonger cells longer →
         Stands core cells → Stands core longer }
@@ -35,8 +35,9 @@ pub fn sink_law()
         IsLonger cells (with_cell cells line cell) }
 {}
 
-/// Where the first rows that the cells give are those of a session, the frames given are those that it delivers in these rows. They are
-/// where the cells tell the packets that could be read and the containers that are good, and these were dealt the octets of the stream.
+/// Where the first rows that the cells give are those of a session, the frames given are those that it
+/// delivers in these rows. They are where the cells tell the packets that could be read and the containers
+/// that are good, and these were dealt the octets of the stream.
 pub fn session_sink_law()
     ensures frames { (scenario : Scenario) (returns : List (Option Told)) (cells : List (List Cell))
         (n : ℕ) → AreSessionRows scenario returns cells n →

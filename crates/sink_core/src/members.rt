@@ -1,6 +1,7 @@
 //! The octets of the members of a row, given to a receiver, and the frames that they complete.
 
-ghost use Rattle.std.specs.Prelude.{◌≡◌, ℕ, ◌+◌, ◌*◌, ◌/◌, ◌%◌, ◌<◌, ◌≤◌, Bool, true, false, List, [], ◌++◌, length, take, drop, slice_index, IfSome, IsSome};
+ghost use Rattle.std.specs.Prelude.{◌≡◌, ℕ, ◌+◌, ◌*◌, ◌/◌, ◌%◌, ◌<◌, ◌≤◌, Bool, true, false, List, [], ◌++◌, length};
+ghost use Rattle.std.specs.Prelude.{take, drop, slice_index, IfSome, IsSome};
 ghost use Rattle.std.specs.Int.{to_le_bytes, w64};
 ghost use Rattle.std.specs.Option.{option_to_list};
 ghost use Rattle.vc_cell.specs.Held.{held};
@@ -35,7 +36,8 @@ fn give<F: FrameOut>(delineator: &MarkedDelineator, out: &mut F)
     out.frame(delineator.frame());
 }
 
-/// Gives octets to a receiver, up to the first that completes a frame, and that frame to `out`. The answer is their number.
+/// Gives octets to a receiver, up to the first that completes a frame, and that frame to `out`. The answer is
+/// their number.
 fn take_some<F: FrameOut>(delineator: &mut MarkedDelineator, piece: &[u8], out: &mut F) -> usize
     requires { IsKnown delineator.old }
     ensures within { result ≤ length piece.now }
@@ -91,7 +93,8 @@ fn word_of(octets: &[u8; 8]) -> u64
     u64::from_le_bytes(*octets)
 }
 
-/// The octets of idle frames at eight places of a member, which carries one of each `x`, the first of them octet `first`.
+/// The octets of idle frames at eight places of a member, which carries one of each `x`, the first of them
+/// octet `first`.
 fn idle_word(first: usize, x: usize) -> u64
     requires first { first < 256 }
     requires few { x ≤ 128 }
@@ -148,7 +151,8 @@ fn carries_word(
     word_run(part_of(containers, line, place, places), word) == places / 8
 }
 
-/// Whether the octets of a row at some places, a multiple of eight, are those of idle frames from place `have` of a header on.
+/// Whether the octets of a row at some places, a multiple of eight, are those of idle frames from place
+/// `have` of a header on.
 fn are_idle(
     containers: &[Box<HeldContainer>],
     active: &[u8],
@@ -180,8 +184,8 @@ fn are_idle(
     true
 }
 
-/// How many places from one on have the octets of idle frames that change nothing of a receiver: all that are left, to a multiple of
-/// eight, or none.
+/// How many places from one on have the octets of idle frames that change nothing of a receiver: all that are
+/// left, to a multiple of eight, or none.
 fn idle_places(
     delineator: &MarkedDelineator,
     containers: &[Box<HeldContainer>],
@@ -214,9 +218,9 @@ fn only_payload(containers: &[Box<HeldContainer>], line: u8, size: usize) -> &[u
     &containers[usize::from(line)].container().payload[..size]
 }
 
-/// Gives the octets of a row to a receiver, block by block, or as they lie where one line carries them alone. Where all that are left
-/// are idle frames that change nothing, they aren't gathered. `active` has the lines that carry payload, by rank, and `containers` has
-/// the container of each line, each in a box.
+/// Gives the octets of a row to a receiver, block by block, or as they lie where one line carries them alone.
+/// Where all that are left are idle frames that change nothing, they aren't gathered. `active` has the lines
+/// that carry payload, by rank, and `containers` has the container of each line, each in a box.
 pub(crate) fn take_members<F: FrameOut>(
     delineator: &mut MarkedDelineator,
     block: &mut [u8],

@@ -1,6 +1,7 @@
 //! The sink.
 
-ghost use Rattle.std.specs.Prelude.{◌≡◌, ℕ, ◌+◌, ◌^◌, ◌%◌, ◌<◌, ◌≤◌, ◌==◌, ◌&&◌, ◌⊎◌, ◌↔◌, nat_lt, List, ◌++◌, length, IfOk, IsSome, IsTrue};
+ghost use Rattle.std.specs.Prelude.{◌≡◌, ℕ, ◌+◌, ◌^◌, ◌%◌, ◌<◌, ◌≤◌, ◌==◌, ◌&&◌, ◌⊎◌, ◌↔◌, nat_lt, List, ◌++◌, length};
+ghost use Rattle.std.specs.Prelude.{IfOk, IsSome, IsTrue};
 ghost use Rattle.vc_cell.specs.declared.Cell.{Cell};
 ghost use Rattle.realign_core.specs.Gather.{Stands as Gathers, line_count, open_line};
 ghost use Rattle.outside_io.specs.Start.{Start};
@@ -8,7 +9,8 @@ ghost use Rattle.std.specs.Vec.{vec_capacity};
 ghost use Rattle.session_model.specs.Rows.{governing, active_of};
 ghost use Rattle.vcat_interleave.specs.Members.{AreLines};
 ghost use Rattle.lcas_sink.specs.Stands.{Stands as HasTold};
-ghost use Rattle.sink_core.specs.Given.{answer_at, added_frames, back_at, received_rows, read_rows, packet_rows, rows_taken, waiting_for, back_of, IsPacketEnd, IsWaiting, Allows};
+ghost use Rattle.sink_core.specs.Given.{answer_at, added_frames, back_at, received_rows, read_rows, packet_rows};
+ghost use Rattle.sink_core.specs.Given.{rows_taken, waiting_for, back_of, IsPacketEnd, IsWaiting, Allows};
 ghost use Rattle.sink_core.specs.Core.{Stands};
 ghost use Rattle.session_model.specs.Valid.{IsSize};
 ghost use Rattle.session_model.specs.Segment.{segments_of};
@@ -108,8 +110,8 @@ impl SinkCore {
         })
     }
 
-    /// Takes the next row, where it is decided on each line: the frames that it completes are given to `out`, and at rows 16 k + 23 the
-    /// answer has return packet k. Else nothing changes.
+    /// Takes the next row, where it is decided on each line: the frames that it completes are given to `out`,
+    /// and at rows 16 k + 23 the answer has return packet k. Else nothing changes.
     pub fn take<F: FrameOut>(&mut self, rows: &mut RowGather, out: &mut F) -> TakeAnswer
         requires lines { line_count rows.old ≡ self.old.lines }
         requires rows { rows.old.rows ≡ self.old.taken }
@@ -182,7 +184,8 @@ fn ends_packet(t: u32) -> bool
     t >= FIRST_ROW - 1 && t % 16 == 7
 }
 
-/// Counts row `t`, which was passed, and gives the return packet where a packet ends with it. `packets` govern the row after it.
+/// Counts row `t`, which was passed, and gives the return packet where a packet ends with it. `packets`
+/// govern the row after it.
 fn pass_row(table: &mut SinkTable, t: u32, packets: &[Option<Packet>]) -> Option<Packet>
     requires lines { length packets.now ≡ table.old.lines }
     requires few { t < 4294967295 }
@@ -203,7 +206,8 @@ fn pass_row(table: &mut SinkTable, t: u32, packets: &[Option<Packet>]) -> Option
     }
 }
 
-/// Finds the lines that carry payload after row `t`, where a packet ends with it; else they stay. `packets` govern the row after it.
+/// Finds the lines that carry payload after row `t`, where a packet ends with it; else they stay. `packets`
+/// govern the row after it.
 fn keep_active(active: &mut Vec<u8>, t: u32, packets: &[Option<Packet>])
     requires few { length packets.now ≤ 128 }
     requires room { 128 ≤ vec_capacity active.old }

@@ -131,7 +131,8 @@ sent-frame lines t nibbles active size row before after begun spreads long =
 -- ---- one member
 -- its part is the row
 part_of-one : (row : List ℕ) → part_of 0 1 (length row) row ≡ row
-part_of-one row = sym (is-part_of row row 0 1 (λ p low. let place : p ≡ p * 1 + 0 = omega arith in ap (slice_index row) place))
+part_of-one row = sym (is-part_of row row 0 1
+    (λ p low. let place : p ≡ p * 1 + 0 = omega arith in ap (slice_index row) place))
 
 -- the row is put into its container
 pub spreads-one : (size : ℕ) (row active : List ℕ) (before after : List Container) → length active ≡ 1 →

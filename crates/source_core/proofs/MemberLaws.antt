@@ -25,10 +25,12 @@ times-twice (x ∷ xs) zero (suc j) before low same =
     let later = times-at xs j (omega arith) in
     let self : one x (slice_index xs j) ≡ 1 = subst (λ y. one x y ≡ 1) same (one-self x) in
     omega arith
-times-twice (x ∷ xs) (suc i) (suc j) before low same = let later = times-twice xs i j (omega arith) (omega arith) same in omega arith
+times-twice (x ∷ xs) (suc i) (suc j) before low same =
+    let later = times-twice xs i j (omega arith) (omega arith) same in omega arith
 
 distinct-of_times : (xs : List ℕ) → ((l : ℕ) → times xs l ≤ 1) → AreDistinct xs
-distinct-of_times xs once i j before low same = let two = times-twice xs i j before low same in let most = once (slice_index xs j) in absurd (omega arith)
+distinct-of_times xs once i j before low same = let two = times-twice xs i j before low same in
+    let most = once (slice_index xs j) in absurd (omega arith)
 
 among-of_times : (n : ℕ) (xs : List ℕ) → IsBelow n (times xs) → AreLines n xs
 among-of_times n xs inside i low =
@@ -69,7 +71,9 @@ active-members lines source fits =
     let size = Fits-size lines source fits in
     let few = kept-length order in
     record {
-      among = among-of_times lines (active source.table) (λ l high. let none = fits.0.0 l high in let less = kept-times order l in omega arith);
-      distinct = distinct-of_times (active source.table) (λ l. let most = once l in let less = kept-times order l in omega arith);
+      among = among-of_times lines (active source.table)
+          (λ l high. let none = fits.0.0 l high in let less = kept-times order l in omega arith);
+      distinct = distinct-of_times (active source.table)
+          (λ l. let most = once l in let less = kept-times order l in omega arith);
       most = omega arith;
     }

@@ -106,11 +106,14 @@ Stands-new lag size lines queue sender table active nibbles scenario is_queue wr
       lines = ap (λ (course : Course). course.lines) is_table ∙ sym fresh.of_lines;
       lag = sym fresh.of_lag;
       size = sym fresh.of_size;
-      offers = subst (All (λ (offer : DueFrame). offer.due ≤ 0)) (sym fresh.no_offers) (λ k d low. absurd (omega arith));
-      orders = subst (All (λ (order : DueCommand). order.due ≤ 0)) (sym fresh.no_orders) (λ k d low. absurd (omega arith));
+      offers = subst (All (λ (offer : DueFrame). offer.due ≤ 0)) (sym fresh.no_offers)
+          (λ k d low. absurd (omega arith));
+      orders = subst (All (λ (order : DueCommand). order.due ≤ 0)) (sym fresh.no_orders)
+          (λ k d low. absurd (omega arith));
       told = omega arith;
       table = is_table ∙ course-new scenario lines fresh.no_orders fresh.of_lines;
-      stream = subst (λ queue. HasWritten sender queue (stream_now scenario [] 0) (place_of scenario [] 0)) (sym is_queue)
+      stream = subst (λ queue. HasWritten sender queue (stream_now scenario [] 0) (place_of scenario [] 0))
+          (sym is_queue)
           (subst (λ stream. HasWritten sender (unbegun []) stream (place_of scenario [] 0))
           (sym (stream-new scenario fresh.no_offers))
           (subst (HasWritten sender (unbegun []) (unsent [])) (sym (place-new scenario)) written));

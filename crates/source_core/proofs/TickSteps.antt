@@ -414,7 +414,8 @@ Stands-ticked lag size t queue later sender further table next active members ni
       orders = later-orders t scenario stands.orders;
       told = told-ticked scenario cells back t stands.told (subst (λ n. IsDue n t back) stands.lag due);
       table = fields.table_is;
-      stream = stream-written size t (place_of scenario cells t + size * length members) later further members back scenario
+      stream = stream-written size t (place_of scenario cells t + size * length members) later further members back
+          scenario
           cells stands.told stands.size fields.members_are stands.offers refl
           (writes (stream_now scenario cells t) (place_of scenario cells t) stands.stream);
       active = fields.members_are;

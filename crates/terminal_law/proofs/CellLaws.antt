@@ -54,7 +54,8 @@ given-whole scenario returns line frames delay carries made taken =
     let f = container_of scenario returns line in
     let n : ℕ = carries - delay in
     elim (cases_lt frames n) [
-      | inl beyond ↦ let all : frames ≡ scenario.ticks = omega arith in ap (λ frames. given scenario returns line frames delay carries) all
+      | inl beyond ↦ let all : frames ≡ scenario.ticks = omega arith in
+          ap (λ frames. given scenario returns line frames delay carries) all
       | inr within ↦
           ap (λ l. path (carried_by scenario line) 0 l ++ end_of scenario.ticks n)
           (take-map-range_with_len f 0 frames n within

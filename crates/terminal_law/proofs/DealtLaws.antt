@@ -54,7 +54,8 @@ rank-from (x ∷ lines) from (suc r) line once here =
     let there = times-there lines r line here in
     let most = once line in
     let other : (x == line) ≡ false = ne_eqb x line (λ same. let first : one x line ≡ 1 = ap (λ l. one l line) same ∙ one-self line in omega arith) in
-    rw other (rank-from lines (from + 1) r line (λ l. let all = once l in omega arith) here ∙ ap Some (let e : from + 1 + r ≡ from + suc r = omega arith in e))
+    rw other (rank-from lines (from + 1) r line (λ l. let all = once l in omega arith) here
+    ∙ ap Some (let e : from + 1 + r ≡ from + suc r = omega arith in e))
   where
     times-there : (lines : List ℕ) (r line : ℕ) → slice_get lines r ≡ Some line → 1 ≤ times lines line
     times-there [] r line here = absurd cc

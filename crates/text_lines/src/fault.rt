@@ -36,33 +36,19 @@ pub enum LineKind {
 pub enum FieldFault {
     /// It isn't a number of one to ten decimal digits.
     #[error("number")]
-    Number {
-        word: u64,
-    },
+    Number { word: u64 },
     /// Its digits are odd in number, or one of them is no hexadecimal digit.
     #[error("hex")]
-    Hex {
-        word: u64,
-    },
+    Hex { word: u64 },
     /// It is a number that isn't from `least` to `most`.
     #[error("range")]
-    Range {
-        word: u64,
-        least: u64,
-        most: u64,
-    },
+    Range { word: u64, least: u64, most: u64 },
     /// It doesn't say from `least` to `most` octets.
     #[error("range")]
-    Size {
-        word: u64,
-        least: u64,
-        most: u64,
-    },
+    Size { word: u64, least: u64, most: u64 },
     /// It is none of the names that it may be.
     #[error("word")]
-    Name {
-        word: u64,
-    },
+    Name { word: u64 },
 }
 
 impl FieldFault {

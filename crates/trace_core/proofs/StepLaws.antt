@@ -1,7 +1,9 @@
 -- What a decoder knows after the next octet, from what the lock of its line says of that.
-use Rattle.std.proofs.Common.{◌≡◌, ◌≢◌, ℕ, zero, suc, ◌+◌, ◌-◌, ◌/◌, ◌%◌, ◌<◌, nat_le, Bool, true, false, List, [], ◌∷◌, ◌++◌, length, take, slice_set, Option, Some, Result, refl, sym, ◌∙◌, ap, subst, arith}
+use Rattle.std.proofs.Common.{◌≡◌, ◌≢◌, ℕ, zero, suc, ◌+◌, ◌-◌, ◌/◌, ◌%◌, ◌<◌, nat_le, Bool, true, false, List, [], ◌∷◌}
+use Rattle.std.proofs.Common.{◌++◌, length, take, slice_set, Option, Some, Result, refl, sym, ◌∙◌, ap, subst, arith}
 use Rattle.std.proofs.lemmas.Bool.{ne_eqb, eq-eqb, le-leb, lt-leb}
-use Rattle.std.proofs.lemmas.List.{append-nil, length-append, length-map, length-set, length-take, map-append, take_all, take_more_set}
+use Rattle.std.proofs.lemmas.List.{append-nil, length-append, length-map, length-set, length-take, map-append, take_all}
+use Rattle.std.proofs.lemmas.List.{take_more_set}
 use Rattle.vc_bits.proofs.LockLaws.{IsFirstStep_only}
 use Rattle.h4_multiframe.specs.declared.MfiLock.{MfiLock}
 use Rattle.h4_multiframe.specs.declared.Place.{Place}
@@ -27,7 +29,8 @@ good_cells-append octets more = map-append Some octets more
 pub length-good_cells : (octets : List ℕ) → length (good_cells octets) ≡ length octets
 length-good_cells octets = length-map octets Some
 
-stands-on : (octets : List ℕ) (lock : LineLock) (signs : List (Option ℕ)) → SightStands lock signs → SightStands (lock_on lock octets) (signs ++ good_cells octets)
+stands-on : (octets : List ℕ) (lock : LineLock) (signs : List (Option ℕ)) → SightStands lock signs →
+    SightStands (lock_on lock octets) (signs ++ good_cells octets)
 unfolding lock_on
 stands-on [] lock signs stands = rw (append-nil signs) stands
 stands-on (h4 ∷ octets) lock signs stands =
@@ -43,7 +46,8 @@ is_at_answer Unknown = false
 is_at_answer (LocksAnswer number) = false
 is_at_answer (At number) = true
 
-same-sight : (signs : List (Option ℕ)) (i : ℕ) (answer : Place) (sight : Sight) → IsPlace signs i answer → IsSight signs i sight → is_at sight ≡ is_at_answer answer
+same-sight : (signs : List (Option ℕ)) (i : ℕ) (answer : Place) (sight : Sight) → IsPlace signs i answer →
+    IsSight signs i sight → is_at sight ≡ is_at_answer answer
 same-sight signs i Unknown unknown p q = refl
 same-sight signs i Unknown (locks m) p q = refl
 same-sight signs i Unknown at p q = absurd (p q.0 q.1.in_step)
@@ -62,9 +66,11 @@ same-sight signs i (At n) at p q = refl
 abbrev pub IsAnswer : List ℕ → ℕ → Place → Type 0
 IsAnswer octets o answer = IsPlace (good_cells octets ++ Some o ∷ []) (length (good_cells octets)) answer
 
-sight-here : (octets : List ℕ) (o : ℕ) (answer : Place) → IsAnswer octets o answer → is_at (sight_of (lock_on unlocked octets) o) ≡ is_at_answer answer
+sight-here : (octets : List ℕ) (o : ℕ) (answer : Place) → IsAnswer octets o answer →
+    is_at (sight_of (lock_on unlocked octets) o) ≡ is_at_answer answer
 sight-here octets o answer is =
-    same-sight (good_cells octets ++ Some o ∷ []) (length (good_cells octets)) answer (sight_of (lock_on unlocked octets) o) is
+    same-sight (good_cells octets ++ Some o ∷ []) (length (good_cells octets)) answer
+    (sight_of (lock_on unlocked octets) o) is
     (sight-is (lock_on unlocked octets) (good_cells octets) o (stands-of octets))
 
 not_answer : (answer : Place) → ((number : ℕ) → answer ≡ At number → ⊥) → is_at_answer answer ≡ false
@@ -73,7 +79,8 @@ not_answer (LocksAnswer number) other = refl
 not_answer (At number) other = absurd (other number refl)
 
 -- ---- the decoder
-next_lock : (lock : MfiLock) (octets : List ℕ) (o : ℕ) → LockStands lock (good_cells octets ++ Some o ∷ []) → LockStands lock (good_cells (octets ++ o ∷ []))
+next_lock : (lock : MfiLock) (octets : List ℕ) (o : ℕ) → LockStands lock (good_cells octets ++ Some o ∷ []) →
+    LockStands lock (good_cells (octets ++ o ∷ []))
 next_lock lock octets o stands = subst (LockStands lock) (sym (good_cells-append octets (o ∷ []))) stands
 
 next_count : (given : ℕ) (octets : List ℕ) (o : ℕ) → given ≡ length octets → given + 1 ≡ length (octets ++ o ∷ [])
@@ -81,20 +88,27 @@ next_count given octets o e = let more = length-append octets (o ∷ []) in omeg
 
 -- what it knows then, and what is found
 abbrev pub Goes : Decoding → List ℕ → ℕ → List Found → Type 0
-Goes after octets o found = Stands after (octets ++ o ∷ []) × (packets_in (octets ++ o ∷ []) ≡ packets_in octets ++ found)
+Goes after octets o found = Stands after (octets ++ o ∷ []) ×
+    (packets_in (octets ++ o ∷ []) ≡ packets_in octets ++ found)
 
 -- after an octet that didn't come while the line was locked
 pub goes-out : (before : Decoding) (lock : MfiLock) (nibbles octets : List ℕ) (o : ℕ) (answer : Place) →
-    ((number : ℕ) → answer ≡ At number → ⊥) → IsAnswer octets o answer → LockStands lock (good_cells octets ++ Some o ∷ []) → Stands before octets →
+    ((number : ℕ) → answer ≡ At number → ⊥) → IsAnswer octets o answer →
+    LockStands lock (good_cells octets ++ Some o ∷ []) → Stands before octets →
     Goes (record { given = before.given + 1; lock = lock; nibbles = nibbles; begun = 0 }) octets o []
 goes-out before lock nibbles octets o answer other is lock_stands stands =
     let none = packets-out octets unlocked 0 o (sight-here octets o answer is ∙ not_answer answer other) in (
-      record { count = next_count before.given octets o stands.count; lock = next_lock lock octets o lock_stands; begun = sym none.0 },
+      record {
+        count = next_count before.given octets o stands.count;
+        lock = next_lock lock octets o lock_stands;
+        begun = sym none.0;
+      },
       none.1 ∙ sym (append-nil (packets_in octets)),
     )
 
 -- after one that did, with the nibbles of a packet that has begun and of this octet
-module _ (before : Decoding) (lock : MfiLock) (nibbles octets grew : List ℕ) (o number : ℕ) (is : IsAnswer octets o (At number))
+module _ (before : Decoding) (lock : MfiLock) (nibbles octets grew : List ℕ) (o number : ℕ)
+    (is : IsAnswer octets o (At number))
     (lock_stands : LockStands lock (good_cells octets ++ Some o ∷ [])) (stands : Stands before octets)
     (grew_is : grown (take before.begun before.nibbles) o ≡ grew) where
   grows : Grows unlocked 0 octets o grew
@@ -117,7 +131,8 @@ module _ (before : Decoding) (lock : MfiLock) (nibbles octets grew : List ℕ) (
 
   -- they are
   pub goes-whole : (reading : Result Packet PacketFault) → length grew ≡ 16 → reading ≡ read_of grew →
-      Goes (record { given = before.given + 1; lock = lock; nibbles = nibbles; begun = 0 }) octets o ((before.given + 1 - 16, reading) ∷ [])
+      Goes (record { given = before.given + 1; lock = lock; nibbles = nibbles; begun = 0 }) octets o
+      ((before.given + 1 - 16, reading) ∷ [])
   goes-whole reading size read =
       let long : nat_le 16 (length grew) ≡ true = le-leb 16 (length grew) (omega arith) in
       let place : 0 + (length octets + 1) - 16 ≡ before.given + 1 - 16 = omega (arith, stands.count) in (
@@ -136,16 +151,22 @@ grown-none nibbles zero o none other = rw (ne_eqb (o % 16) 8 other) refl
 grown-none nibbles (suc n) o none other = absurd (omega arith)
 
 -- else they are written after those before them
-pub grown-take : (nibbles : List ℕ) (begun o upper : ℕ) → begun < length nibbles → (begun ≡ 0 → o % 16 ≡ 8) → upper ≡ o / 16 →
+pub grown-take : (nibbles : List ℕ) (begun o upper : ℕ) → begun < length nibbles → (begun ≡ 0 → o % 16 ≡ 8) →
+    upper ≡ o / 16 →
     grown (take begun nibbles) o ≡ take (begun + 1) (slice_set nibbles begun upper)
 grown-take [] n o upper inside first is = absurd (omega arith)
-grown-take (x ∷ nibbles) zero o upper inside first is = rw (eq-eqb (o % 16) 8 (first refl)) (ap (λ (n : ℕ). n ∷ []) (sym is))
+grown-take (x ∷ nibbles) zero o upper inside first is =
+    rw (eq-eqb (o % 16) 8 (first refl)) (ap (λ (n : ℕ). n ∷ []) (sym is))
 grown-take (x ∷ nibbles) (suc n) o upper inside first is =
-    ap (λ (l : ℕ). take (suc n) (x ∷ nibbles) ++ l ∷ []) (sym is) ∙ sym (take_more_set (x ∷ nibbles) (suc n) upper inside)
+    ap (λ (l : ℕ). take (suc n) (x ∷ nibbles) ++ l ∷ []) (sym is)
+    ∙ sym (take_more_set (x ∷ nibbles) (suc n) upper inside)
 
-pub length-grown : (nibbles : List ℕ) (begun octet : ℕ) → begun < length nibbles → length (take (begun + 1) (slice_set nibbles begun octet)) ≡ begun + 1
+pub length-grown : (nibbles : List ℕ) (begun octet : ℕ) → begun < length nibbles →
+    length (take (begun + 1) (slice_set nibbles begun octet)) ≡ begun + 1
 length-grown nibbles n octet inside =
     omega (arith, length-take (n + 1) (slice_set nibbles n octet), length-set nibbles n octet)
 
-pub all-grown : (nibbles : List ℕ) (begun octet : ℕ) → begun + 1 ≡ 16 → length nibbles ≡ 16 → take (begun + 1) (slice_set nibbles begun octet) ≡ slice_set nibbles begun octet
-all-grown nibbles n octet last size = take_all (n + 1) (slice_set nibbles n octet) (omega (arith, length-set nibbles n octet))
+pub all-grown : (nibbles : List ℕ) (begun octet : ℕ) → begun + 1 ≡ 16 → length nibbles ≡ 16 →
+    take (begun + 1) (slice_set nibbles begun octet) ≡ slice_set nibbles begun octet
+all-grown nibbles n octet last size =
+    take_all (n + 1) (slice_set nibbles n octet) (omega (arith, length-set nibbles n octet))

@@ -6,7 +6,8 @@ use Rattle.session_model.specs.Number.{LineLock, unlocked}
 use Rattle.session_model.specs.Sight.{lock_by}
 use Rattle.session_model.specs.Decode.{good_cells, is_front, upper_halves}
 
--- how many octets were given, the lock of the line, and sixteen nibbles of which the first `begun` are those of a packet that has
+-- how many octets were given, the lock of the line, and sixteen nibbles of which the first `begun` are those of a
+-- packet that has
 -- begun
 pub record Decoding : Type 0 where
   pub given : ℕ
@@ -14,12 +15,14 @@ pub record Decoding : Type 0 where
   pub nibbles : List ℕ
   pub begun : ℕ
 
--- the nibbles of a packet that has begun among octets that come after others, and is not whole: the last octets are the first
+-- the nibbles of a packet that has begun among octets that come after others, and is not whole: the last octets are the
+-- first
 -- ones of a packet, and fewer than sixteen
 unfoldable pub begun_on : LineLock → List ℕ → List ℕ
 begun_on lock [] = []
 begun_on lock (h4 ∷ octets) =
-    if nat_lt (length (h4 ∷ octets)) 16 && is_front lock (h4 ∷ octets) then upper_halves (h4 ∷ octets) else begun_on (lock_by lock (Some h4)) octets
+    if nat_lt (length (h4 ∷ octets)) 16 && is_front lock (h4 ∷ octets) then upper_halves (h4 ∷ octets) else begun_on
+    (lock_by lock (Some h4)) octets
 
 abbrev pub begun_in : List ℕ → List ℕ
 begun_in octets = begun_on unlocked octets

@@ -1,4 +1,5 @@
--- What is written of a decision step of the source: its number, what its packets say, the return cell that it took, and each line's
+-- What is written of a decision step of the source: its number, what its packets say, the return cell that it took, and
+-- each line's
 -- code and SQ. This text is this project's own.
 use Rattle.std.specs.Prelude.{ℕ, ◌%◌, ◌==◌, List, [], ◌++◌, length, slice_index_or, Option, Some, None, codes, decimal}
 use Rattle.std.specs.List.{flat_map, range_with_len}
@@ -17,7 +18,8 @@ abbrev pub back_text : Option BackCell → List ℕ
 back_text None = codes "none"
 back_text (Some Lost) = codes "lost"
 back_text (Some (Packet nibbles)) =
-    nibble_text (nibble_at nibbles 0) ++ nibble_text (nibble_at nibbles 1) ++ codes "/" ++ bit_text (nibble_at nibbles 2 % 2 == 1)
+    nibble_text (nibble_at nibbles 0) ++ nibble_text (nibble_at nibbles 1) ++ codes "/" ++ bit_text
+    (nibble_at nibbles 2 % 2 == 1)
 
 -- a line: its code and its SQ
 abbrev pub place_text : LineFields → List ℕ
@@ -30,5 +32,6 @@ place_texts table lines = flat_map (λ line. place_text (place_in table.order 0 
 -- the step that left this table
 abbrev pub step_text : ℕ → Option BackCell → Table → ℕ → List ℕ
 step_text packet back table lines =
-    codes "packet " ++ decimal packet ++ codes " chg " ++ bit_text (table.count % 2 == 1) ++ codes " act " ++ decimal (length (active table))
+    codes "packet " ++ decimal packet ++ codes " chg " ++ bit_text (table.count % 2 == 1) ++ codes " act " ++ decimal
+    (length (active table))
     ++ codes " back " ++ back_text back ++ place_texts table lines ++ codes "\n"

@@ -13,7 +13,8 @@ pub record HasPacketAt (octets : List ℕ) (place : ℕ) : Type 0 where
 unfoldable pub AreFound : List ℕ → ℕ → List Found → Type 0
 AreFound octets from [] = (place : ℕ) → from ≤ place → ¬ HasPacketAt octets place
 AreFound octets from (one ∷ found) =
-    (from ≤ one.0) × ((place : ℕ) → from ≤ place → place < one.0 → ¬ HasPacketAt octets place) × HasPacketAt octets one.0
+    (from ≤ one.0) × ((place : ℕ) → from ≤ place → place < one.0 → ¬ HasPacketAt octets place) ×
+    HasPacketAt octets one.0
     × (one.1 ≡ read_of (front_nibbles (drop one.0 octets))) × AreFound octets (one.0 + 1) found
 
 -- those that are computed are the packets of octets

@@ -1,6 +1,7 @@
-//! Finds the control packets of a line in its H4 octets, octet by octet, and puts together the lines of a decoding, of a trace and of a VC-4.
-//! Begin with `H4Decoder` and `trace_line`; `packets_law` says that the decoder's definition is what is worded of packets. How a packet
-//! is read is not said here, and nothing is written to an output.
+//! Finds the control packets of a line in its H4 octets, octet by octet, and puts together the lines of a
+//! decoding, of a trace and of a VC-4. Begin with `H4Decoder` and `trace_line`; `packets_law` says that the
+//! decoder's definition is what is worded of packets. How a packet is read is not said here, and nothing is
+//! written to an output.
 #![tactic(auto)]
 
 ghost use Rattle.std.specs.Prelude.{◌≡◌, ℕ, ◌+◌, ◌<◌, List, [], ◌∷◌, ◌++◌};
@@ -65,8 +66,8 @@ impl H4Decoder {
         }
     }
 
-    /// Takes the next H4 octet. The answer comes at the last octet of a packet all of whose octets came while the line was locked:
-    /// the place of its first octet, counted from 0, and what is read of it.
+    /// Takes the next H4 octet. The answer comes at the last octet of a packet all of whose octets came while
+    /// the line was locked: the place of its first octet, counted from 0, and what is read of it.
     pub fn octet(&mut self, h4: u8) -> Option<(u64, Result<Packet, PacketFault>)>
         requires { self.old.given < 4294967295 }
         ensures given { self.new.given ≡ self.old.given + 1 }
@@ -94,7 +95,8 @@ impl H4Decoder {
     }
 }
 
-/// The packets that are computed of octets are those that are worded of them, and no others are. More octets have these first.
+/// The packets that are computed of octets are those that are worded of them, and no others are. More octets
+/// have these first.
 pub fn packets_law()
     ensures worded { AreWorded }
     ensures only { AreOnly }

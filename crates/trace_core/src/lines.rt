@@ -175,9 +175,9 @@ fn add_places(line: &mut LineCursor, table: &SourceTable, lines: u8)
     }
 }
 
-/// Writes the line of a decision step of the source, which left this table of `lines` lines: the number of the step, which is that of
-/// the packets that are sent from it on; the change bit and the number of active lines that these say; the return cell that it took;
-/// and the code and the SQ of each line.
+/// Writes the line of a decision step of the source, which left this table of `lines` lines: the number of
+/// the step, which is that of the packets that are sent from it on; the change bit and the number of active
+/// lines that these say; the return cell that it took; and the code and the SQ of each line.
 pub fn trace_line(
     packet: u32,
     back: Option<BackCell>,

@@ -20,7 +20,8 @@ by_test : (code n : ℕ) (word ctrl : Ctrl) (others : Option Ctrl) → code_of w
     (if code == n then Some word else others) ≡ Some ctrl → code_of ctrl ≡ code
 by_test code n word ctrl others own further e =
     elim (cases_eq code n) [
-      | inl same ↦ let is : Some word ≡ Some ctrl = rw (eq-eqb code n same) at e in let found : word ≡ ctrl = cc in ap code_of (sym found) ∙ own ∙ sym same
+      | inl same ↦ let is : Some word ≡ Some ctrl = rw (eq-eqb code n same) at e in let found : word ≡ ctrl = cc in
+          ap code_of (sym found) ∙ own ∙ sym same
       | inr other ↦ further (rw (ne_eqb code n other) at e)
     ]
 

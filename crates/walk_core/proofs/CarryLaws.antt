@@ -33,7 +33,8 @@ use Rattle.walk_parts.specs.Ringed.{Ringed, ring_of}
 use Rattle.walk_core.specs.declared.moved.StepNote.{StepNote}
 use Rattle.walk_core.specs.declared.moved.Moved.TheVariants.{Yes, Stalled}
 use Rattle.walk_core.specs.Moved.{answer_by, moved_of, counts_after}
-use Rattle.walk_core.specs.Parts.{Parts, Landing, frame_in, HasSent, counts_of, calls_on, line_counts, HasLine, IsWalk}
+use Rattle.group_source.specs.Landed.{Landed}
+use Rattle.walk_core.specs.Parts.{Parts, frame_in, HasSent, counts_of, calls_on, line_counts, HasLine, IsWalk}
 use Rattle.walk_core.specs.Carry.{carry_cause, CanCarry, HasRoom, IsSentOn, IsCarriedAt}
 use Rattle.walk_core.specs.Waiting.{send_ring, receive_ring}
 use Rattle.walk_core.proofs.EventLaws.{walk-fits, walked-next}
@@ -266,7 +267,7 @@ cells-same script lines m line x e same =
     (λ k. ap (λ n. take n (cells_on (scenario_of script) (delay_on script k) k))
     (sym (popped-same lines m k line x e same))) (range_with_len 0 (length script.config.windows))
 
-module _ (script : Script) (parts : Parts) (landing : Landing) (got : ℕ) (last : Option StepNote)
+module _ (script : Script) (parts : Parts) (landing : Landed) (got : ℕ) (last : Option StepNote)
     (is : IsWalk script parts landing got last)
     (m : ℕ) (low : m < script.config.lines) (line : Ringed) (there : slice_get parts.lines m ≡ Some line) where
   here : slice_get (counts_of parts landing).lines m ≡ Some (line_counts line)
@@ -359,6 +360,7 @@ module _ (script : Script) (parts : Parts) (landing : Landing) (got : ℕ) (last
           ∙ ap (popped_cells script) (sym (map-set line_counts parts.lines m after)) in
           record {
             valid = is.valid;
+            total = is.total;
             walked = walked-next script (counts_of parts landing) _ (Carry m) is.walked carry-counts;
             source = record {
               made = is.source.made;
@@ -388,15 +390,12 @@ module _ (script : Script) (parts : Parts) (landing : Landing) (got : ℕ) (last
               all = is.sink.all;
               size = is.sink.size;
             };
-            back = record { ring = is.back.ring; inbox = is.back.inbox; room = is.back.room };
+            back = record { ring = is.back.ring; lost = is.back.lost; inbox = is.back.inbox; room = is.back.room };
             landed = record {
-              frame = is.landed.frame;
-              command = is.landed.command;
+              items = is.landed.items;
               refusals = is.landed.refusals;
-              room = is.landed.room;
               frames = is.landed.frames;
               commands = is.landed.commands;
-              refused = is.landed.refused;
             };
             counted = is.counted;
             noted = is.noted;
@@ -436,7 +435,7 @@ pub is-sent : (script : Script) (ticks : ℕ) (counts : List LineCounts) (sent :
 is-sent script ticks counts sent m x has own late some room low frame e =
     has.frames x m (frame_in frame) own late (some low) (room low) (map-get frame_in sent (x % 32) frame e)
 
-module _ (script : Script) (parts : Parts) (landing : Landing) (got : ℕ) (last : Option StepNote)
+module _ (script : Script) (parts : Parts) (landing : Landed) (got : ℕ) (last : Option StepNote)
     (is : IsWalk script parts landing got last)
     (m : ℕ) (low : m < script.config.lines) (line : Ringed) (there : slice_get parts.lines m ≡ Some line) where
   fits-line : LineFits script.config.ticks script.config.ring parts.source.ticks parts.sink.taken

@@ -11,7 +11,8 @@ use Rattle.group_source.proofs.ItemLaws.{at-index}
 use Rattle.walk_core.specs.declared.moved.StepNote.{StepNote}
 use Rattle.walk_core.specs.declared.moved.Moved.TheVariants.{Yes, Stalled}
 use Rattle.walk_core.specs.Moved.{Walked, moved_of, counts_after}
-use Rattle.walk_core.specs.Parts.{Parts, Landing, frame_in, counts_of, line_counts, HasLine, IsWalk}
+use Rattle.group_source.specs.Landed.{Landed}
+use Rattle.walk_core.specs.Parts.{Parts, frame_in, counts_of, line_counts, HasLine, IsWalk}
 use Rattle.walk_core.specs.Carry.{carry_cause, CanCarry, HasRoom, IsSentOn, IsCarriedAt}
 use Rattle.walk_core.proofs.CarryLaws.{same-some, line-has, line-room, carry-stays, carry-kept_at, carry-counts_at, carry-moved, line-sent, room-left}
 
@@ -23,7 +24,7 @@ pub record IsOn (m : ℕ) (was line : Ringed) (before : List (Vec (Box Container
   pub popped : line.popped ≡ was.popped
   pub sent : IsCarriedAt (was.carried % 32) m (map frame_in before) after
 
-module _ (script : Script) (parts : Parts) (landing : Landing) (got : ℕ) (last : Option StepNote)
+module _ (script : Script) (parts : Parts) (landing : Landed) (got : ℕ) (last : Option StepNote)
     (is : IsWalk script parts landing got last)
     (old : Walked) (view : record { script = script; counts = counts_of parts landing } ≡ old)
     (m k : ℕ) (at : k ≡ m) (inside : m < old.script.config.lines) where

@@ -1,28 +1,19 @@
 -- An item lands.
-use Rattle.std.proofs.Common.{◌≡◌, ℕ, zero, suc, ◌+◌, ◌≤◌, nat_lt, Bool, true, List, [], ◌∷◌, ◌++◌, length, take, slice_get, if◌then◌else◌, Option, Some, None, option_map, inl, inr, refl, sym, ◌∙◌, ap, arith}
+use Rattle.std.proofs.Common.{◌≡◌, ℕ, ◌+◌, nat_lt, slice_get, Option, Some, None, option_map, inl, inr, refl, sym, ◌∙◌}
+use Rattle.std.proofs.Common.{ap, arith}
 use Rattle.std.proofs.lemmas.Bool.{cases_Bool}
 use Rattle.session_model.specs.declared.script.Item.{Item}
-use Rattle.session_model.specs.declared.script.ItemKind.{ItemKind}
-use Rattle.session_model.specs.declared.script.ItemKind.TheVariants.{Frame, Add, Remove}
 use Rattle.session_model.specs.declared.script.Script.{Script}
 use Rattle.session_model.specs.declared.walk.Event.{Event}
 use Rattle.session_model.specs.declared.walk.Event.TheVariants.{Accept, Command}
 use Rattle.session_model.specs.declared.walk.StallCause.{StallCause}
 use Rattle.session_model.specs.declared.walk.StallCause.TheVariants.{NotDue}
-use Rattle.session_model.specs.Scenario.{Scenario, DueCommand, DueFrame, order_of, offer_of, orders_of, offers_of}
 use Rattle.session_model.specs.Counts.{Counts, Step, land_due, step}
-use Rattle.session_model.specs.declared.table.Command.TheVariants.{Add as add, Remove as remove}
-use Rattle.session_model.specs.Source.{refusal}
-use Rattle.session_model.specs.Client.{refusal_while}
-use Rattle.report_text.specs.declared.report.Refusal.TheVariants.{Frame as frame_fault, Command as command_fault}
-use Rattle.source_core.specs.Terminal.{Terminal}
-use Rattle.source_core.specs.Given.{with_frame, with_command}
 use Rattle.walk_law.specs.Walk.{walk_plan}
 use Rattle.group_source.specs.Place.{is_frame, is_command, place_of}
 use Rattle.group_source.proofs.PlaceLaws.{due_found, frame-due, command-due}
 use Rattle.report_text.specs.declared.report.Refusal.{Refusal}
 use Rattle.walk_law.specs.Landed.{refusal_at}
-use Rattle.group_source.specs.Lands.{met_by, with_kind}
 use Rattle.walk_core.specs.Landing.{stall_by}
 use Rattle.walk_core.specs.declared.moved.Moved.{Moved}
 use Rattle.walk_core.specs.declared.moved.Moved.TheVariants.{Stalled}
@@ -30,68 +21,44 @@ use Rattle.walk_core.specs.Moved.{answer_by, refusal_of_item, refusal_in_event, 
 use Rattle.walk_core.proofs.EventLaws.{stalled-moved}
 
 -- ---- why the next item doesn't land
-stall-cause : (ticks : ℕ) (found : Option Item) (s next : Counts) → (land_due ticks (option_map (λ (item : Item). item.due) found) s next).cause ≡ stall_by ticks found
+stall-cause : (ticks : ℕ) (found : Option Item) (s next : Counts) →
+    (land_due ticks (option_map (λ (item : Item). item.due) found) s next).cause ≡ stall_by ticks found
 stall-cause ticks None s next = refl
-stall-cause ticks (Some item) s next = elim (cases_Bool (nat_lt ticks item.due)) [ inl e ↦ rw e refl | inr e ↦ rw e refl ]
+stall-cause ticks (Some item) s next = elim (cases_Bool (nat_lt ticks item.due))
+    [ inl e ↦ rw e refl | inr e ↦ rw e refl ]
 
-land-stays : (ticks : ℕ) (due : Option ℕ) (s next : Counts) (cause : StallCause) → (land_due ticks due s next).cause ≡ Some cause → (land_due ticks due s next).counts ≡ s
+land-stays : (ticks : ℕ) (due : Option ℕ) (s next : Counts) (cause : StallCause) →
+    (land_due ticks due s next).cause ≡ Some cause → (land_due ticks due s next).counts ≡ s
 land-stays ticks None s next cause e = refl
 land-stays ticks (Some due) s next cause e =
-    elim (cases_Bool (nat_lt ticks due)) [ inl late ↦ rw late refl | inr now ↦ absurd (let f : None ≡ Some cause = rw now at e in cc) ]
+    elim (cases_Bool (nat_lt ticks due))
+        [ inl late ↦ rw late refl | inr now ↦ absurd (let f : None ≡ Some cause = rw now at e in cc) ]
 
-land-moves : (ticks : ℕ) (due : Option ℕ) (s next : Counts) → (land_due ticks due s next).cause ≡ None → (land_due ticks due s next).counts ≡ next
+land-moves : (ticks : ℕ) (due : Option ℕ) (s next : Counts) → (land_due ticks due s next).cause ≡ None →
+    (land_due ticks due s next).counts ≡ next
 land-moves ticks None s next e = absurd cc
 land-moves ticks (Some due) s next e =
-    elim (cases_Bool (nat_lt ticks due)) [ inl late ↦ absurd (let f : Some (NotDue due) ≡ None = rw late at e in cc) | inr now ↦ rw now refl ]
-
--- an item that lands is there, and is due
-pub item-there : (ticks : ℕ) (items : List Item) (i : ℕ) → stall_by ticks (slice_get items i) ≡ None → (item : Item) × (slice_get items i ≡ Some item) × (item.due ≤ ticks)
-item-there ticks items i none = by-found (slice_get items i) none
-  where
-    by-found : (found : Option Item) → stall_by ticks found ≡ None → (item : Item) × (found ≡ Some item) × (item.due ≤ ticks)
-    by-found None e = absurd cc
-    by-found (Some item) e = elim (cases_Bool (nat_lt ticks item.due)) [
-      | inl late ↦ absurd (let f : Some (NotDue item.due) ≡ None = rw late at e in cc)
-      | inr now ↦ (item, refl, grind (arith, now))
-    ]
-
--- ---- what the item is
-pub record IsOffer (due : ℕ) (kind : ItemKind) (offer : DueFrame) : Type 0 where
-  pub is : offer_of due kind ≡ offer ∷ []
-  pub time : offer.due ≡ due
-  pub met : (core : Terminal) → met_by core kind ≡ option_map frame_fault (refusal_while core.queue.waiting offer.frame)
-  pub told : (scenario : Scenario) (ticks : ℕ) → with_kind scenario ticks kind ≡ with_frame scenario ticks offer.frame
-
-pub offer-here : (due : ℕ) (kind : ItemKind) → is_frame kind ≡ true → (offer : DueFrame) × IsOffer due kind offer
-offer-here due (Frame octets) e = (record { due = due; frame = octets }, record { is = refl; time = refl; met = λ core. refl; told = λ scenario ticks. refl })
-offer-here due (Add line) e = absurd cc
-offer-here due (Remove line) e = absurd cc
-
-pub record IsOrder (due : ℕ) (kind : ItemKind) (order : DueCommand) : Type 0 where
-  pub is : order_of due kind ≡ order ∷ []
-  pub time : order.due ≡ due
-  pub met : (core : Terminal) → met_by core kind ≡ option_map command_fault (refusal core.lines order.command core.table.source)
-  pub told : (scenario : Scenario) (ticks : ℕ) → with_kind scenario ticks kind ≡ with_command scenario ticks order.command
-
-pub order-here : (due : ℕ) (kind : ItemKind) → is_command kind ≡ true → (order : DueCommand) × IsOrder due kind order
-order-here due (Frame octets) e = absurd cc
-order-here due (Add line) e = (record { due = due; command = add line }, record { is = refl; time = refl; met = λ core. refl; told = λ scenario ticks. refl })
-order-here due (Remove line) e = (record { due = due; command = remove line }, record { is = refl; time = refl; met = λ core. refl; told = λ scenario ticks. refl })
+    elim (cases_Bool (nat_lt ticks due))
+        [ inl late ↦ absurd (let f : Some (NotDue due) ≡ None = rw late at e in cc) | inr now ↦ rw now refl ]
 
 -- ---- an event lands the next item of its kind, which is at place i, or stalls
 pub record IsNext (script : Script) (s next : Counts) (event : Event) (i : ℕ) : Type 0 where
   pub steps : step (walk_plan script) s event ≡ land_due s.ticks (due_found script.items i) s next
   pub why : refusal_in_event script s event ≡ refusal_of_item script i (slice_get script.items i)
 
-pub frame-next : (script : Script) (s : Counts) (i : ℕ) → i ≡ place_of is_frame s.frames script.items → IsNext script s (record s { frames = s.frames + 1 }) Accept i
+pub frame-next : (script : Script) (s : Counts) (i : ℕ) → i ≡ place_of is_frame s.frames script.items →
+    IsNext script s (record s { frames = s.frames + 1 }) Accept i
 frame-next script s i at = record {
-  steps = ap (λ due. land_due s.ticks due s (record s { frames = s.frames + 1 })) (frame-due script.items s.frames ∙ ap (due_found script.items) (sym at));
+  steps = ap (λ due. land_due s.ticks due s (record s { frames = s.frames + 1 }))
+      (frame-due script.items s.frames ∙ ap (due_found script.items) (sym at));
   why = ap (λ n. refusal_of_item script n (slice_get script.items n)) (sym at);
 }
 
-pub command-next : (script : Script) (s : Counts) (i : ℕ) → i ≡ place_of is_command s.commands script.items → IsNext script s (record s { commands = s.commands + 1 }) Command i
+pub command-next : (script : Script) (s : Counts) (i : ℕ) → i ≡ place_of is_command s.commands script.items →
+    IsNext script s (record s { commands = s.commands + 1 }) Command i
 command-next script s i at = record {
-  steps = ap (λ due. land_due s.ticks due s (record s { commands = s.commands + 1 })) (command-due script.items s.commands ∙ ap (due_found script.items) (sym at));
+  steps = ap (λ due. land_due s.ticks due s (record s { commands = s.commands + 1 }))
+      (command-due script.items s.commands ∙ ap (due_found script.items) (sym at));
   why = ap (λ n. refusal_of_item script n (slice_get script.items n)) (sym at);
 }
 
@@ -106,14 +73,19 @@ module _ (script : Script) (s next : Counts) (event : Event) (i : ℕ) (is : IsN
   pub next-stays : (cause : StallCause) → (step (walk_plan script) s event).cause ≡ Some cause →
       (s ≡ counts_after script s event) × (Stalled cause ≡ moved_of script s event)
   next-stays cause e = (
-    sym (ap (λ (done : Step). done.counts) is.steps ∙ land-stays s.ticks (due_found script.items i) s next cause (sym (ap (λ (done : Step). done.cause) is.steps) ∙ e)),
+    sym (ap (λ (done : Step). done.counts) is.steps
+        ∙ land-stays s.ticks (due_found script.items i) s next cause
+        (sym (ap (λ (done : Step). done.cause) is.steps) ∙ e)),
     stalled-moved cause (step (walk_plan script) s event).cause (refusal_in_event script s event) e,
   )
 
-  pub next-moves : (item : Item) → slice_get script.items i ≡ Some item → (step (walk_plan script) s event).cause ≡ None →
-      (next ≡ counts_after script s event) × (answer_of (refusal_at script (record { number = i; item = item })) ≡ moved_of script s event)
+  pub next-moves : (item : Item) → slice_get script.items i ≡ Some item →
+      (step (walk_plan script) s event).cause ≡ None →
+      (next ≡ counts_after script s event) ×
+      (answer_of (refusal_at script (record { number = i; item = item })) ≡ moved_of script s event)
   next-moves item there e = (
-    sym (ap (λ (done : Step). done.counts) is.steps ∙ land-moves s.ticks (due_found script.items i) s next (sym (ap (λ (done : Step). done.cause) is.steps) ∙ e)),
+    sym (ap (λ (done : Step). done.counts) is.steps
+        ∙ land-moves s.ticks (due_found script.items i) s next (sym (ap (λ (done : Step). done.cause) is.steps) ∙ e)),
     ap (λ found. answer_of (refusal_of_item script i found)) (sym there) ∙ ap answer_of (sym is.why)
         ∙ ap (λ cause. answer_by cause (refusal_in_event script s event)) (sym e),
   )

@@ -1,56 +1,62 @@
 -- What an item that lands leaves of a walk.
-use Rattle.std.proofs.Common.{◌≡◌, ℕ, suc, ◌+◌, ◌-◌, ◌<◌, ◌≤◌, nat_lt, Bool, true, false, List, [], ◌∷◌, ◌++◌, length, take, drop, map, slice_get, slice_index_or, Option, Some, None, option_map, inl, inr, sym, ◌∙◌, ap, subst, arith}
-use Rattle.std.specs.List.{flat_map}
-use Rattle.std.proofs.lemmas.Bool.{cases_Bool}
-use Rattle.std.proofs.lemmas.List.{length-append, length-take-le}
-use Rattle.std.proofs.lemmas.Option.{slice_get_within, get_or_from_slice_get, slice_get-get_or}
-use Rattle.std.proofs.Math.Seq.{take-suc}
-use Rattle.std.proofs.lemmas.List.{append-nil}
+use Rattle.std.proofs.Common.{◌≡◌, ℕ, zero, suc, ◌+◌, ◌<◌, ◌≤◌, ◌&&◌, not, nat_lt, Bool, true, false, if◌then◌else◌}
+use Rattle.std.proofs.Common.{List, [], ◌∷◌, length, map, slice_get, Option, Some, None, option_map}
+use Rattle.std.proofs.Common.{inl, inr, refl, sym, ◌∙◌, ap, subst, arith}
+use Rattle.std.specs.Option.{is_some}
+use Rattle.std.proofs.lemmas.Bool.{cases_Bool, ltb-false, lt-ltb, le-ltb}
 use Rattle.session_model.specs.declared.script.Item.{Item}
 use Rattle.session_model.specs.declared.script.ItemKind.{ItemKind}
+use Rattle.session_model.specs.declared.script.ItemKind.TheVariants.{Frame, Add, Remove}
 use Rattle.session_model.specs.declared.script.Script.{Script}
-use Rattle.session_model.specs.Scenario.{Scenario, DueCommand, DueFrame, orders_of, offers_of, scenario_of}
+use Rattle.session_model.specs.declared.table.Command.{Command}
+use Rattle.session_model.specs.declared.table.Command.TheVariants.{Add as add, Remove as remove}
+use Rattle.session_model.specs.declared.packet.Packet.{Packet}
+use Rattle.session_model.specs.declared.walk.StallCause.{StallCause}
+use Rattle.session_model.specs.declared.walk.StallCause.TheVariants.{NotDue, Done as Stall_done}
+use Rattle.session_model.specs.declared.walk.Event.{Event}
+use Rattle.session_model.specs.Scenario.{Scenario, DueCommand, DueFrame, order_of}
 use Rattle.session_model.specs.Source.{Source, refusal}
 use Rattle.session_model.specs.Client.{refusal_while}
-use Rattle.session_model.specs.Journal.{with_items}
-use Rattle.session_model.specs.Counts.{Counts}
+use Rattle.session_model.specs.Counts.{Counts, step}
 use Rattle.session_model.specs.Course.{Course}
-use Rattle.walk_law.specs.Step.{last_packet}
+use Rattle.session_model.specs.Table.{Told}
 use Rattle.report_text.specs.declared.report.Refusal.{Refusal}
 use Rattle.report_text.specs.declared.report.Refusal.TheVariants.{Frame as frame_fault, Command as command_fault}
 use Rattle.report_text.specs.declared.report.Totals.{Totals}
+use Rattle.vc_cell.specs.declared.Container.{Container}
+use Rattle.realign_core.specs.Gather.{Gather}
 use Rattle.source_core.specs.Terminal.{Terminal, SameKind}
 use Rattle.source_core.specs.Given.{Stands as HasMade}
-use Rattle.walk_law.specs.Walk.{IsWalked}
-use Rattle.walk_law.specs.Landed.{Numbered, landed_from, landed_items, landed_scenario, told_before, IsOfferAt, IsOrderAt, is_client, with_if, refusal_at, refused_by, refusals_of, IsPlaced, totals_of, with_frame_told, with_command_told}
+use Rattle.sink_core.specs.Core.{Core}
+use Rattle.walk_law.specs.Step.{last_packet}
+use Rattle.walk_law.specs.Walk.{walk_plan, IsWalked}
+use Rattle.walk_law.specs.Landed.{Numbered, landed_scenario, told_before, is_client, refusal_at, refused_by}
+use Rattle.walk_law.specs.Landed.{refusals_of}
+use Rattle.walk_law.specs.Landed.{IsPlaced, totals_of, with_frame_told, with_command_told}
 use Rattle.walk_law.proofs.PlanLaws.{valid-walks}
 use Rattle.walk_law.proofs.LandLaws.{frame-waits, command-waits, offer-at, order-at}
 use Rattle.walk_law.proofs.SourceLaws.{meets-stream, meets-source}
 use Rattle.walk_law.proofs.ReportLaws.{frame-placed, command-placed, frame-totals, command-totals}
-use Rattle.group_source.specs.Place.{is_frame, is_command, place_of}
-use Rattle.walk_core.specs.declared.moved.StepNote.{StepNote}
+use Rattle.group_source.specs.Inbox.{Inbox}
+use Rattle.group_source.specs.Landed.{Landed, next_number, next_place, there_at, due_at, HasPassed}
 use Rattle.group_source.specs.Lands.{met_by, with_kind}
-use Rattle.walk_core.specs.Landing.{stall_by}
-use Rattle.walk_core.specs.Parts.{Parts, Landing, counts_of, note_of, HasSource, HasSent, HasBack, HasLanded, line_counts, IsWalk}
-use Rattle.session_model.specs.declared.walk.Event.{Event}
-use Rattle.session_model.specs.declared.walk.StallCause.{StallCause}
-use Rattle.session_model.specs.declared.walk.Event.TheVariants.{Accept, Command}
-use Rattle.session_model.specs.Table.{Told}
-use Rattle.session_model.specs.Counts.{step}
-use Rattle.walk_law.specs.Walk.{walk_plan}
+use Rattle.group_source.specs.Place.{is_frame, is_command}
+use Rattle.group_source.specs.Source.{Source as Source_side, SameRest}
+use Rattle.group_source.proofs.PlaceLaws.{place-found}
+use Rattle.group_source.proofs.LandingLaws.{item-there, client-frame, operator-command, placed-same}
+use Rattle.group_source.proofs.LandsLaws.{place_by, numbered, counts_by, next_by, next-counts, next-place, bare-size}
+use Rattle.group_source.proofs.LandsLaws.{bare-due, next-there, offer-here, order-here, Leaves, leaves}
+use Rattle.walk_parts.specs.Ringed.{Ringed}
+use Rattle.walk_parts.specs.Return.{path_of}
+use Rattle.walk_core.specs.declared.moved.StepNote.{StepNote}
 use Rattle.walk_core.specs.declared.moved.Moved.{Moved}
 use Rattle.walk_core.specs.declared.moved.Moved.TheVariants.{Stalled}
-use Rattle.walk_core.specs.Moved.{Walked, moved_of, counts_after}
+use Rattle.walk_core.specs.Landing.{stall_by, landing_of}
+use Rattle.walk_core.specs.Moved.{moved_of, counts_after}
+use Rattle.walk_core.specs.Parts.{Parts, parts_of, counts_of, note_of, HasSource, HasSent, HasBack, HasLanded}
+use Rattle.walk_core.specs.Parts.{line_counts, IsWalk}
 use Rattle.walk_core.proofs.EventLaws.{walked-next}
-use Rattle.group_source.proofs.PlaceLaws.{count_of, count-few, place-next, place-found, offers-size, orders-size}
-use Rattle.walk_core.proofs.CarryLaws.{same-some}
-use Rattle.walk_core.proofs.LandLaws.{offer-here, order-here, item-there, IsNext, frame-next, command-next, answer_of, next-cause, next-stays, next-moves}
-
-take-next : {X : Type 0} (xs : List X) (n : ℕ) (x : X) → slice_get xs n ≡ Some x → take (n + 1) xs ≡ take n xs ++ x ∷ []
-take-next xs n x there =
-    ap (λ k. take k xs) (let e : n + 1 ≡ suc n = omega arith in e)
-    ∙ take-suc xs n x (slice_get_within xs n x there)
-    ∙ ap (λ y. take n xs ++ y ∷ []) (get_or_from_slice_get xs n x x there)
+use Rattle.walk_core.proofs.LandLaws.{IsNext, frame-next, command-next, answer_of, next-cause, next-stays, next-moves}
 
 -- ---- an item that lands, in numbers
 pub record Lands (script : Script) (s next : Counts) (source : Terminal) (i : ℕ) (item : Item)
@@ -62,120 +68,118 @@ pub record Lands (script : Script) (s next : Counts) (source : Terminal) (i : �
   pub totals : totals_of script next ≡ tell (refusal_at script (record { number = i; item = item }))
       (totals_of script s)
 
--- so many of the kind are before it
-landed-before : (is : ItemKind → Bool) (items : List Item) (k i : ℕ) (item : Item) → i ≡ place_of is k items →
-    slice_get items i ≡ Some item → k ≤ i
-landed-before is items k i item at there =
-    let found = place-found is items k item (sym (ap (λ n. slice_get items n) at) ∙ there) in
-    let most = count-few is (take (place_of is k items) items) in
-    let within = slice_get_within items i item there in
-    let size = length-take-le (place_of is k items) items (omega (arith, within, at)) in
-    let count = found.1 in
-    omega (arith, most, size, count, at)
+-- what one more of a kind does to the totals
+abbrev pub tell_by : Bool → Option Refusal → Totals → Totals
+tell_by true = with_frame_told
+tell_by false = with_command_told
 
-module _ (script : Script) (parts : Parts) (landing : Landing) (got : ℕ) (last : Option StepNote)
+module _ (script : Script) (parts : Parts) (landing : Landed) (got : ℕ) (last : Option StepNote)
     (is : IsWalk script parts landing got last) where
   abbrev s : Counts
   s = counts_of parts landing
 
-  frame-lands : (item : Item) → slice_get script.items landing.frame ≡ Some item → item.due ≤ parts.source.ticks →
-      Lands script (counts_of parts landing)
-      (record (counts_of parts landing) { frames = landing.frames + 1 }) parts.source landing.frame item
-      with_frame_told
-  frame-lands item there due =
-      let found = place-found is_frame script.items landing.frames item
-      (sym (ap (λ n. slice_get script.items n) is.landed.frame) ∙ there) in
-      let (offer, that) = offer-here item.due item.kind found.0 in
-      let numbered : Numbered = record { number = landing.frame; item = item } in
-      let here : IsOfferAt script.items landing.frames numbered offer =
-      record {
-        there = there;
-        is = that.is;
-        before = offers-size (take landing.frame script.items)
-            ∙ ap (λ n. count_of is_frame (take n script.items)) is.landed.frame ∙ found.1;
-      } in
-      let same = that.time in
-      let soon : offer.due ≤ parts.source.ticks = omega (arith, same, due) in
-      let (next, earlier) = offer-at script.items landing.frames numbered offer here in
+  frame-lands : (due : ℕ) (octets : List ℕ) →
+      slice_get script.items (place_by true landing script.items) ≡ Some (record { due = due; kind = Frame octets }) →
+      due ≤ parts.source.ticks →
+      Lands script (counts_of parts landing) (next_by true (counts_of parts landing) landing) parts.source
+      (place_by true landing script.items) (record { due = due; kind = Frame octets }) with_frame_told
+  frame-lands due octets there soon =
+      let place : ℕ = place_by true landing script.items in
+      let offer : DueFrame = record { due = due; frame = octets } in
+      let one : Numbered = numbered place due (Frame octets) in
+      let here = offer-here script.items landing.frames place due octets refl there in
+      let next = (offer-at script.items landing.frames one offer here).0 in
       let late = frame-waits script s landing.frames offer is.walked (omega arith) next in
-      let now : offer.due ≡ parts.source.ticks = omega (arith, soon, late) in
-      let landed : slice_get (offers_of script.items) landing.frames ≡ Some
-      (record { due = parts.source.ticks; frame = offer.frame }) =
-      next ∙ ap (λ t. Some (record { due = t; frame = offer.frame })) now in
+      let now : due ≡ parts.source.ticks = omega (arith, soon, late) in
       record {
-        met = that.met parts.source ∙ ap (λ (waiting : List (List ℕ)). option_map frame_fault
-            (refusal_while waiting offer.frame)) is.source.made.stream.waits
-            ∙ sym (meets-stream script s (valid-walks script is.valid) is.walked numbered offer here soon);
-        told = that.told (landed_scenario script s) parts.source.ticks
-            ∙ ap (λ (offers : List DueFrame). with_items (scenario_of script)
-            (take landing.commands (orders_of script.items)) offers)
-            (sym (take-next (offers_of script.items) landing.frames
-            (record { due = parts.source.ticks; frame = offer.frame }) landed));
-        placed = frame-placed script s numbered offer here;
-        totals = frame-totals script s numbered offer here;
+        met = ap (λ (waiting : List (List ℕ)). option_map frame_fault (refusal_while waiting octets))
+            is.source.made.stream.waits
+            ∙ sym (meets-stream script s (valid-walks script is.valid) is.walked one offer here soon);
+        told = ap (λ t. with_kind (landed_scenario script s) t (Frame octets)) (sym now)
+            ∙ (leaves script s landing place due (Frame octets) refl there).scenario;
+        placed = frame-placed script s one offer here;
+        totals = frame-totals script s one offer here;
       }
 
-  command-lands : (item : Item) → slice_get script.items landing.command ≡ Some item → item.due ≤ parts.source.ticks →
-      Lands script (counts_of parts landing)
-      (record (counts_of parts landing) { commands = landing.commands + 1 }) parts.source landing.command item
-      with_command_told
-  command-lands item there due =
-      let found = place-found is_command script.items landing.commands item
-      (sym (ap (λ n. slice_get script.items n) is.landed.command) ∙ there) in
-      let (order, that) = order-here item.due item.kind found.0 in
-      let numbered : Numbered = record { number = landing.command; item = item } in
-      let here : IsOrderAt script.items landing.commands numbered order =
-      record {
-        there = there;
-        is = that.is;
-        before = orders-size (take landing.command script.items)
-            ∙ ap (λ n. count_of is_command (take n script.items)) is.landed.command ∙ found.1;
-      } in
-      let same = that.time in
-      let soon : order.due ≤ parts.source.ticks = omega (arith, same, due) in
-      let (next, earlier) = order-at script.items landing.commands numbered order here in
+  command-lands : (due : ℕ) (kind : ItemKind) (command : Command) →
+      order_of due kind ≡ record { due = due; command = command } ∷ [] →
+      met_by parts.source kind
+      ≡ option_map command_fault (refusal parts.source.lines command parts.source.table.source) →
+      slice_get script.items (place_by false landing script.items) ≡ Some (record { due = due; kind = kind }) →
+      Leaves script (counts_of parts landing) (next_by false (counts_of parts landing) landing)
+      (numbered (place_by false landing script.items) due kind) →
+      due ≤ parts.source.ticks →
+      Lands script (counts_of parts landing) (next_by false (counts_of parts landing) landing) parts.source
+      (place_by false landing script.items) (record { due = due; kind = kind }) with_command_told
+  command-lands due kind command is_order met there with_it soon =
+      let place : ℕ = place_by false landing script.items in
+      let order : DueCommand = record { due = due; command = command } in
+      let one : Numbered = numbered place due kind in
+      let here = order-here script.items landing.commands place due kind order refl is_order there in
+      let next = (order-at script.items landing.commands one order here).0 in
       let late = command-waits script s landing.commands order is.walked (omega arith) next in
-      let now : order.due ≡ parts.source.ticks = omega (arith, soon, late) in
-      let landed : slice_get (orders_of script.items) landing.commands ≡ Some
-      (record { due = parts.source.ticks; command = order.command }) =
-      next ∙ ap (λ t. Some (record { due = t; command = order.command })) now in
+      let now : due ≡ parts.source.ticks = omega (arith, soon, late) in
       record {
-        met = that.met parts.source
-            ∙ ap (λ lines. option_map command_fault (refusal lines order.command parts.source.table.source))
+        met = met
+            ∙ ap (λ lines. option_map command_fault (refusal lines command parts.source.table.source))
             is.source.made.lines
             ∙ ap (λ (source : Source). option_map command_fault
-            (refusal (length script.config.windows) order.command source))
+            (refusal (length script.config.windows) command source))
             (ap (λ (c : Course). c.source) is.source.made.table)
-            ∙ sym (meets-source script s (valid-walks script is.valid) is.walked numbered order here soon);
-        told = that.told (landed_scenario script s) parts.source.ticks
-            ∙ ap (λ (orders : List DueCommand). with_items (scenario_of script) orders
-            (take landing.frames (offers_of script.items)))
-            (sym (take-next (orders_of script.items) landing.commands
-            (record { due = parts.source.ticks; command = order.command }) landed));
-        placed = command-placed script s numbered order here;
-        totals = command-totals script s numbered order here;
+            ∙ sym (meets-source script s (valid-walks script is.valid) is.walked one order here soon);
+        told = ap (λ t. with_kind (landed_scenario script s) t kind) (sym now) ∙ with_it.scenario;
+        placed = command-placed script s one order here;
+        totals = command-totals script s one order here;
       }
 
+  lands-by : (client : Bool) (due : ℕ) (kind : ItemKind) →
+      slice_get script.items (place_by client landing script.items) ≡ Some (record { due = due; kind = kind }) →
+      due ≤ parts.source.ticks →
+      Lands script (counts_of parts landing) (next_by client (counts_of parts landing) landing) parts.source
+      (place_by client landing script.items) (record { due = due; kind = kind }) (tell_by client)
+  lands-by true due (Frame octets) there soon = frame-lands due octets there soon
+  lands-by true due (Add line) there soon =
+      let other : false ≡ true =
+      (place-found is_frame script.items landing.frames (record { due = due; kind = Add line }) there).0 in
+      absurd cc
+  lands-by true due (Remove line) there soon =
+      let other : false ≡ true =
+      (place-found is_frame script.items landing.frames (record { due = due; kind = Remove line }) there).0 in
+      absurd cc
+  lands-by false due (Frame octets) there soon =
+      let other : false ≡ true =
+      (place-found is_command script.items landing.commands (record { due = due; kind = Frame octets }) there).0 in
+      absurd cc
+  lands-by false due (Add line) there soon =
+      command-lands due (Add line) (add line) refl refl there
+      (leaves script s landing (place_by false landing script.items) due (Add line) refl there) soon
+  lands-by false due (Remove line) there soon =
+      command-lands due (Remove line) (remove line) refl refl there
+      (leaves script s landing (place_by false landing script.items) due (Remove line) refl there) soon
+
+  -- what lands next is the script's
+  next-by : (client : Bool) → IsNext script (counts_of parts landing) (next_by client (counts_of parts landing) landing)
+      (landing_of client) (place_by client landing script.items)
+  next-by true = frame-next script (counts_of parts landing) (place_by true landing script.items) refl
+  next-by false = command-next script (counts_of parts landing) (place_by false landing script.items) refl
+
   -- ---- the walk after it, where its source was given the item, and what has landed is so many
-  land-kept : (kind : ItemKind) (source : Terminal) (landed : Landing) →
-      HasLanded script (record (counts_of parts landing) { frames = landed.frames; commands = landed.commands })
-      landed →
-      IsWalked script (record (counts_of parts landing) { frames = landed.frames; commands = landed.commands }) →
+  land-kept : (kind : ItemKind) (source : Terminal) (landed : Landed) →
+      HasLanded script (counts_by (counts_of parts landing) landed) landed →
+      IsWalked script (counts_by (counts_of parts landing) landed) →
       with_kind (landed_scenario script (counts_of parts landing)) parts.source.ticks kind
-      ≡ landed_scenario script (record (counts_of parts landing) {
-        frames = landed.frames;
-        commands = landed.commands;
-      }) →
+      ≡ landed_scenario script (counts_by (counts_of parts landing) landed) →
       HasMade source (with_kind (landed_scenario script (counts_of parts landing)) parts.source.ticks kind)
       (told_before script parts.source.ticks) →
       source.ticks ≡ parts.source.ticks → SameKind source parts.source →
       IsWalk script (record parts { source = source }) landed got last
   land-kept kind source landed has walked told made ticks same =
-      let next : Counts = record (counts_of parts landing) { frames = landed.frames; commands = landed.commands } in
+      let next : Counts = counts_by (counts_of parts landing) landed in
       let e : next ≡ counts_of (record parts { source = source }) landed = ap (λ t. record next { ticks = t })
       (sym ticks) in
       record {
         valid = is.valid;
+        total = is.total;
         walked = subst (IsWalked script) e walked;
         source = subst (λ (c : Counts). HasSource script c source) e (record {
           made = subst (λ (scenario : Scenario). HasMade source scenario (told_before script parts.source.ticks))
@@ -195,345 +199,240 @@ module _ (script : Script) (parts : Parts) (landing : Landing) (got : ℕ) (last
           size = is.sink.size;
         };
         back = subst (λ (c : Counts). HasBack script c parts.back) e
-            (record { ring = is.back.ring; inbox = is.back.inbox; room = is.back.room });
+            (record { ring = is.back.ring; lost = is.back.lost; inbox = is.back.inbox; room = is.back.room });
         landed = subst (λ (c : Counts). HasLanded script c landed) e has;
         counted = is.counted;
         noted = is.noted ∙ ap (λ t. note_of script (last_packet t)) (sym ticks);
       }
 
--- ---- how many refusals there are
-unless : (there : Bool) (item : Numbered) (items : List Numbered) →
-    length (with_if there item items) ≤ suc (length items)
-unless true item items = omega arith
-unless false item items = omega arith
-
-landed-few : (a b i : ℕ) (items : List Item) → length (landed_from a b i items) ≤ length items
-unfolding landed_from
-landed-few a b i [] = omega arith
-landed-few a b i (item ∷ items) =
-    let frames = landed-few (a - 1) b (suc i) items in
-    let commands = landed-few a (b - 1) (suc i) items in
-    let one = unless (nat_lt 0 a) (record { number = i; item = item }) (landed_from (a - 1) b (suc i) items) in
-    let other = unless (nat_lt 0 b) (record { number = i; item = item }) (landed_from a (b - 1) (suc i) items) in
-    elim (cases_Bool (is_client item.kind)) [
-      | inl e ↦ rw e (omega (arith, frames, one))
-      | inr e ↦ rw e (omega (arith, commands, other))
-    ]
-
-list-few : (script : Script) (items : List Numbered) →
-    length (flat_map (λ (item : Numbered). refused_by item.number (refusal_at script item)) items) ≤ length items
-list-few script [] = omega arith
-list-few script (item ∷ items) =
-    let rest = list-few script items in
-    let own : List (ℕ × Refusal) = refused_by item.number (refusal_at script item) in
-    let size = length-append own (flat_map
-    (λ (item : Numbered). refused_by item.number (refusal_at script item)) items) in
-    let one = few-refused item.number (refusal_at script item) in
-    omega (arith, rest, size, one)
-  where
-    few-refused : (number : ℕ) (why : Option Refusal) → length (refused_by number why) ≤ 1
-    few-refused number None = omega arith
-    few-refused number (Some why) = omega arith
-
-pub refusals-few : (script : Script) (s : Counts) → length (refusals_of script s) ≤ length script.items
-refusals-few script s =
-    let a = list-few script (landed_items script s) in
-    let b = landed-few s.frames s.commands 0 script.items in
-    omega (arith, a, b)
-
--- ---- the refusals after an item that is accepted, and room for that of one that is refused
-pub refusals-same : (i : ℕ) (was now : List (ℕ × Refusal)) → IsPlaced i [] was now → was ≡ now
-refusals-same i was now placed = placed.was_so ∙ ap (λ xs. xs ++ placed.back) (sym (append-nil placed.front))
-    ∙ sym placed.is_so
-
-refusals-more : (i : ℕ) (why : Refusal) (was now : List (ℕ × Refusal)) → IsPlaced i ((i, why) ∷ []) was now →
-    length now ≡ length was + 1
-refusals-more i why was now placed =
-    let own : List (ℕ × Refusal) = (i, why) ∷ [] in
-    let old = ap length placed.was_so ∙ length-append placed.front placed.back in
-    let new = ap length placed.is_so ∙ length-append (placed.front ++ own) placed.back in
-    let rest = length-append placed.front own in
-    omega (arith, old, new, rest)
-
 -- ---- the totals, where one has landed more
-abbrev pub one_more : Option Refusal → ℕ → ℕ
-one_more None n = n
-one_more (Some why) n = n + 1
+told-frame : (why : Option Refusal) (was now : Totals) (frames commands a b c d : ℕ) → now ≡ with_frame_told why was →
+    frames ≡ was.frames + a → commands ≡ was.commands + b →
+    c ≡ a + (if is_some why && true then 1 else 0) → d ≡ b + (if is_some why && not true then 1 else 0) →
+    (frames + 1 ≡ now.frames + c) × (commands ≡ now.commands + d)
+told-frame None was now frames commands a b c d told f g e h = rw told (omega (arith, f, e), omega (arith, g, h))
+told-frame (Some why) was now frames commands a b c d told f g e h = rw told (omega (arith, f, e), omega (arith, g, h))
 
-frame-told : (why : Option Refusal) (was now : Totals) (frames commands a b : ℕ) → now ≡ with_frame_told why was →
-    frames ≡ was.frames + a → commands ≡ was.commands + b → was.refused ≡ a + b →
-    (frames + 1 ≡ now.frames + one_more why a) × (commands ≡ now.commands + b) × (now.refused ≡ one_more why a + b)
-frame-told None was now frames commands a b told f c r = rw told (omega arith, c, r)
-frame-told (Some why) was now frames commands a b told f c r = rw told (omega arith, c, omega arith)
+told-command : (why : Option Refusal) (was now : Totals) (frames commands a b c d : ℕ) →
+    now ≡ with_command_told why was →
+    frames ≡ was.frames + a → commands ≡ was.commands + b →
+    c ≡ a + (if is_some why && false then 1 else 0) → d ≡ b + (if is_some why && not false then 1 else 0) →
+    (frames ≡ now.frames + c) × (commands + 1 ≡ now.commands + d)
+told-command None was now frames commands a b c d told f g e h = rw told (omega (arith, f, e), omega (arith, g, h))
+told-command (Some why) was now frames commands a b c d told f g e h = rw told
+    (omega (arith, f, e), omega (arith, g, h))
 
-command-told : (why : Option Refusal) (was now : Totals) (frames commands a b : ℕ) → now ≡ with_command_told why was →
-    frames ≡ was.frames + a → commands ≡ was.commands + b → was.refused ≡ a + b →
-    (frames ≡ now.frames + a) × (commands + 1 ≡ now.commands + one_more why b) × (now.refused ≡ a + one_more why b)
-command-told None was now frames commands a b told f c r = rw told (f, omega arith, r)
-command-told (Some why) was now frames commands a b told f c r = rw told (f, omega arith, omega arith)
-
--- ---- one of the two kinds of items: its event, and which items are of it; the place of the next one, and how many have landed and
--- were refused; then the counts with one more, what it does to the totals, and what has landed with it, by why it is refused, the place
--- after it, the refusals and the room for them
-pub record Side : Type 0 where
-  pub event : Event
-  pub kind : ItemKind → Bool
-  pub place : ℕ
-  pub landed : ℕ
-  pub refused : ℕ
-  pub frames : ℕ
-  pub commands : ℕ
-  pub tell : Option Refusal → Totals → Totals
-  pub after : Option Refusal → ℕ → List (ℕ × Refusal) → ℕ → Landing
-
-abbrev pub frame_side : Landing → Side
-frame_side landing = record {
-  event = Accept;
-  kind = is_frame;
-  place = landing.frame;
-  landed = landing.frames;
-  refused = landing.refused_frames;
-  frames = landing.frames + 1;
-  commands = landing.commands;
-  tell = with_frame_told;
-  after = λ why place refusals room. record landing {
-    refusals = refusals;
-    room = room;
-    frame = place;
-    refused_frames = one_more why landing.refused_frames;
-  };
-}
-
-abbrev pub command_side : Landing → Side
-command_side landing = record {
-  event = Command;
-  kind = is_command;
-  place = landing.command;
-  landed = landing.commands;
-  refused = landing.refused_commands;
-  frames = landing.frames;
-  commands = landing.commands + 1;
-  tell = with_command_told;
-  after = λ why place refusals room. record landing {
-    refusals = refusals;
-    room = room;
-    command = place;
-    refused_commands = one_more why landing.refused_commands;
-  };
-}
-
-abbrev pub next_of : Parts → Landing → Side → Counts
-next_of parts landing side = record (counts_of parts landing) { frames = side.frames; commands = side.commands }
-
-abbrev pub after_of : Side → Option Refusal → ℕ → List (ℕ × Refusal) → ℕ → Landing
-after_of side why place refusals room =
-    record (side.after why place refusals room) { frames = side.frames; commands = side.commands }
-
-pub record IsSide (script : Script) (parts : Parts) (landing : Landing) (side : Side) : Type 0 where
-  pub at : side.place ≡ place_of side.kind side.landed script.items
-  pub fewer : side.refused ≤ side.landed
-  pub is : IsNext script (counts_of parts landing) (next_of parts landing side) side.event side.place
-  pub lands : (item : Item) → slice_get script.items side.place ≡ Some item → item.due ≤ parts.source.ticks →
-      Lands script (counts_of parts landing) (next_of parts landing side) parts.source side.place item side.tell
-  pub has : (why : Option Refusal) (place : ℕ) (refusals : List (ℕ × Refusal)) (room : ℕ) →
-      place ≡ place_of side.kind (side.landed + 1) script.items →
-      refusals ≡ refusals_of script (next_of parts landing side) → length script.items ≤ room →
-      totals_of script (next_of parts landing side) ≡ side.tell why (totals_of script (counts_of parts landing)) →
-      HasLanded script (next_of parts landing side) (after_of side why place refusals room)
-
-pub frame-side : (script : Script) (parts : Parts) (landing : Landing) (got : ℕ) (last : Option StepNote) →
-    IsWalk script parts landing got last → IsSide script parts landing (frame_side landing)
-frame-side script parts landing got last is =
-    let frames = is.landed.frames in
-    record {
-      at = is.landed.frame;
-      fewer = omega (arith, frames);
-      is = frame-next script (counts_of parts landing) landing.frame is.landed.frame;
-      lands = frame-lands script parts landing got last is;
-      has = λ why place refusals room at same most told.
-          let t = frame-told why _ _ landing.frames landing.commands landing.refused_frames
-          landing.refused_commands told is.landed.frames is.landed.commands is.landed.refused in
-          record {
-            frame = at;
-            command = is.landed.command;
-            refusals = same;
-            room = most;
-            frames = t.0;
-            commands = t.1;
-            refused = t.2;
-          };
-    }
-
-pub command-side : (script : Script) (parts : Parts) (landing : Landing) (got : ℕ) (last : Option StepNote) →
-    IsWalk script parts landing got last → IsSide script parts landing (command_side landing)
-command-side script parts landing got last is =
-    let commands = is.landed.commands in
-    record {
-      at = is.landed.command;
-      fewer = omega (arith, commands);
-      is = command-next script (counts_of parts landing) landing.command is.landed.command;
-      lands = command-lands script parts landing got last is;
-      has = λ why place refusals room at same most told.
-          let t = command-told why _ _ landing.frames landing.commands landing.refused_frames
-          landing.refused_commands told is.landed.frames is.landed.commands is.landed.refused in
-          record {
-            frame = is.landed.frame;
-            command = at;
-            refusals = same;
-            room = most;
-            frames = t.0;
-            commands = t.1;
-            refused = t.2;
-          };
-    }
+has-landed : (client : Bool) (script : Script) (parts : Parts) (landing now : Landed) (why : Option Refusal) →
+    HasLanded script (counts_of parts landing) landing → HasPassed landing now client (is_some why) →
+    now.refusals ≡ refusals_of script (next_by client (counts_of parts landing) landing) →
+    totals_of script (next_by client (counts_of parts landing) landing)
+    ≡ tell_by client why (totals_of script (counts_of parts landing)) →
+    HasLanded script (next_by client (counts_of parts landing) landing) now
+has-landed true script parts landing now why has passed same told =
+    let was : Counts = counts_of parts landing in
+    let t = told-frame why (totals_of script was) (totals_of script (next_by true was landing)) landing.frames
+    landing.commands landing.refused_frames landing.refused_commands now.refused_frames now.refused_commands told has.frames
+    has.commands passed.refused_frames passed.refused_commands in
+    record { items = passed.items ∙ has.items; refusals = same; frames = t.0; commands = t.1 }
+has-landed false script parts landing now why has passed same told =
+    let was : Counts = counts_of parts landing in
+    let t = told-command why (totals_of script was) (totals_of script (next_by false was landing)) landing.frames
+    landing.commands landing.refused_frames landing.refused_commands now.refused_frames now.refused_commands told has.frames
+    has.commands passed.refused_frames passed.refused_commands in
+    record { items = passed.items ∙ has.items; refusals = same; frames = t.0; commands = t.1 }
 
 -- ---- what an event gives that lands an item
-pub record Done (script : Script) (old : Walked) (event : Event) (parts : Parts) (landing : Landing) (got : ℕ)
+pub record Done (script : Script) (s : Counts) (event : Event) (parts : Parts) (landing : Landed) (got : ℕ)
     (last : Option StepNote) (answer : Moved) : Type 0 where
   pub kept : IsWalk script parts landing got last
-  pub moved : answer ≡ moved_of old.script old.counts event
+  pub counts : counts_of parts landing ≡ counts_after script s event
+  pub moved : answer ≡ moved_of script s event
 
 -- a source that was given an item more
-pub record IsGiven (source was : Terminal) (kind : ItemKind) : Type 0 where
+pub record IsGiven (now was : Terminal) (kind : ItemKind) : Type 0 where
   pub stands : (scenario : Scenario) (cells : List (Option Told)) → HasMade was scenario cells →
-      HasMade source (with_kind scenario was.ticks kind) cells
-  pub ticks : source.ticks ≡ was.ticks
-  pub same : SameKind source was
+      HasMade now (with_kind scenario was.ticks kind) cells
+  pub ticks : now.ticks ≡ was.ticks
+  pub same : SameKind now was
 
--- an item is there, at place i, where so many of its kind have landed and were refused
-pub record IsThere (items : List Item) (i landed refused : ℕ) : Type 0 where
-  pub within : i < length items
-  pub few : length items ≤ 67108864
-  pub landed_few : landed ≤ i
-  pub refused_few : refused ≤ landed
+none-there : {X : Type 0} (xs : List X) (i : ℕ) → length xs ≤ i → slice_get xs i ≡ None
+none-there [] i low = refl
+none-there (x ∷ xs) zero low = absurd (omega arith)
+none-there (x ∷ xs) (suc i) low = none-there xs i (omega arith)
 
-module _ (script : Script) (parts : Parts) (landing : Landing) (got : ℕ) (last : Option StepNote)
-    (is : IsWalk script parts landing got last)
-    (old : Walked) (view : record { script = script; counts = counts_of parts landing } ≡ old)
-    (side : Side) (turn : IsSide script parts landing side) (items : List Item) (all : items ≡ script.items) where
-  abbrev before : Counts
-  before = counts_of parts landing
+next-none : (place : ℕ) (items : List Item) → there_at place items ≡ None → length items ≤ place
+next-none place items e =
+    elim (cases_Bool (nat_lt place (length items))) [
+      | inl low ↦ absurd (let f : Some place ≡ None = rw low at e in cc)
+      | inr past ↦ ltb-false place (length items) past
+    ]
 
-  abbrev next : Counts
-  next = next_of parts landing side
+module _ (script : Script) (parts : Parts) (landing : Landed) (got : ℕ) (last : Option StepNote)
+    (is : IsWalk script parts landing got last) (client : Bool) where
+  cause-is : (step (walk_plan script) (counts_of parts landing) (landing_of client)).cause
+      ≡ stall_by parts.source.ticks (slice_get script.items (place_by client landing script.items))
+  cause-is = next-cause script (counts_of parts landing) (next_by client (counts_of parts landing) landing)
+      (landing_of client)
+      (place_by client landing script.items) (next-by script parts landing got last is client)
 
-  pub land-stalls : (ticks : ℕ) → ticks ≡ parts.source.ticks → (cause : Option StallCause) →
-      cause ≡ stall_by ticks (slice_get items side.place) →
-      (step (walk_plan old.script) old.counts side.event).cause ≡ cause
-  land-stalls ticks now cause found =
-      sym (ap (λ (w : Walked). (step (walk_plan w.script) w.counts side.event).cause) view)
-      ∙ next-cause script before next side.event side.place turn.is
-      ∙ ap (λ t. stall_by t (slice_get script.items side.place)) (sym now)
-      ∙ ap (λ (xs : List Item). stall_by ticks (slice_get xs side.place)) (sym all) ∙ sym found
+  pub land-none : next_number landing client ≡ None →
+      (step (walk_plan script) (counts_of parts landing) (landing_of client)).cause ≡ Some Stall_done
+  land-none none =
+      let past = next-none (next_place landing client) landing.items none in
+      let place = next-place script.items landing is.landed.items client in
+      let size = bare-size script.items landing is.landed.items in
+      cause-is ∙ ap (stall_by parts.source.ticks)
+      (none-there script.items (place_by client landing script.items) (omega arith))
 
-  pub land-stays : (ticks : ℕ) → ticks ≡ parts.source.ticks → (found : Option StallCause) →
-      found ≡ stall_by ticks (slice_get items side.place) →
-      (cause : StallCause) → found ≡ Some cause →
-      (old.counts ≡ counts_after old.script old.counts side.event)
-      × (Stalled cause ≡ moved_of old.script old.counts side.event)
-  land-stays ticks now found is_found cause e =
-      subst (λ (w : Walked). (w.counts ≡ counts_after w.script w.counts side.event)
-      × (Stalled cause ≡ moved_of w.script w.counts side.event)) view
-      (next-stays script before next side.event side.place turn.is cause
-      (ap (λ (w : Walked). (step (walk_plan w.script) w.counts side.event).cause) view
-      ∙ land-stalls ticks now found is_found ∙ e))
+  pub number-in : (number : ℕ) → next_number landing client ≡ Some number →
+      (number ≡ place_by client landing script.items) × (number < length script.items)
+  number-in number e = next-there script.items landing is.landed.items client number e
 
-  module _ (none : (step (walk_plan old.script) old.counts side.event).cause ≡ None) where
-    none-here : (step (walk_plan script) (counts_of parts landing) side.event).cause ≡ None
-    none-here = ap (λ (w : Walked). (step (walk_plan w.script) w.counts side.event).cause) view ∙ none
+  found-at : (number : ℕ) → next_number landing client ≡ Some number →
+      (item : Item) × (slice_get script.items (place_by client landing script.items) ≡ Some item)
+      × (due_at landing.items number ≡ item.due)
+  found-at number e =
+      let (at, low) = number-in number e in
+      let (item, here) = item-there script.items number low in
+      (item, ap (slice_get script.items) (sym at)
+      ∙ here, bare-due script.items landing is.landed.items number item here)
 
-    here : (item : Item) × (slice_get script.items side.place ≡ Some item) × (item.due ≤ parts.source.ticks)
-    here = item-there parts.source.ticks script.items side.place
-        (sym (next-cause script before next side.event side.place turn.is) ∙ none-here)
+  pub land-early : (number ticks due : ℕ) → next_number landing client ≡ Some number → ticks ≡ parts.source.ticks →
+      due ≡ due_at landing.items number → ticks < due →
+      (step (walk_plan script) (counts_of parts landing) (landing_of client)).cause ≡ Some (NotDue due)
+  land-early number ticks due e now late low =
+      let (item, here, is_due) = found-at number e in
+      let test : nat_lt parts.source.ticks item.due ≡ true = lt-ltb parts.source.ticks item.due (omega arith) in
+      let same : item.due ≡ due = omega arith in
+      cause-is ∙ ap (stall_by parts.source.ticks) here ∙ rw test (ap (λ n. Some (NotDue n)) same)
 
-    pub land-there : IsThere items side.place side.landed side.refused
-    land-there =
-        let (item, there, due) = here in
-        subst (λ xs. IsThere xs side.place side.landed side.refused) (sym all) (record {
-          within = slice_get_within script.items side.place item there;
-          few = is.valid.few;
-          landed_few = landed-before side.kind script.items side.landed side.place item turn.at there;
-          refused_few = turn.fewer;
-        })
+  pub land-due : (number ticks due : ℕ) → next_number landing client ≡ Some number → ticks ≡ parts.source.ticks →
+      due ≡ due_at landing.items number → due ≤ ticks →
+      (step (walk_plan script) (counts_of parts landing) (landing_of client)).cause ≡ None
+  land-due number ticks due e now late low =
+      let (item, here, is_due) = found-at number e in
+      let test : nat_lt parts.source.ticks item.due ≡ false = le-ltb parts.source.ticks item.due (omega arith) in
+      cause-is ∙ ap (stall_by parts.source.ticks) here ∙ rw test refl
 
-    module _ (d : Item) (why : Option Refusal)
-        (met : why ≡ met_by parts.source (slice_index_or items side.place d).kind) where
-      there : slice_get script.items side.place ≡ Some (slice_index_or items side.place d)
-      there = sym (ap (λ (xs : List Item). slice_get xs side.place) all)
-          ∙ slice_get-get_or items side.place d land-there.within
+  pub land-stays : (cause : StallCause) →
+      (step (walk_plan script) (counts_of parts landing) (landing_of client)).cause ≡ Some cause →
+      (counts_of parts landing ≡ counts_after script (counts_of parts landing) (landing_of client))
+      × (Stalled cause ≡ moved_of script (counts_of parts landing) (landing_of client))
+  land-stays cause e = next-stays script (counts_of parts landing) (next_by client (counts_of parts landing) landing)
+      (landing_of client)
+      (place_by client landing script.items) (next-by script parts landing got last is client) cause e
 
-      lands : Lands script (counts_of parts landing) (next_of parts landing side) parts.source side.place
-          (slice_index_or items side.place d) side.tell
-      lands =
-          let (found, at, due) = here in
-          let e = ap (λ (i : Item). i.due) (same-some found (slice_index_or items side.place d) (sym at ∙ there)) in
-          turn.lands (slice_index_or items side.place d) there (omega (arith, due, e))
+  -- the item is of the kind that lands
+  pub land-kind : (number : ℕ) (kind : ItemKind) → next_number landing client ≡ Some number →
+      ((item : Item) → slice_get script.items number ≡ Some item → kind ≡ item.kind) → is_client kind ≡ client
+  land-kind number kind e handed =
+      let (at, low) = number-in number e in
+      let (item, here, due) = found-at number e in
+      ap is_client (handed item (ap (slice_get script.items) at ∙ here)) ∙ by-kind client item here
+    where
+      by-kind : (client : Bool) (item : Item) →
+          slice_get script.items (place_by client landing script.items) ≡ Some item →
+          is_client item.kind ≡ client
+      by-kind true item here = client-frame item.kind (place-found is_frame script.items landing.frames item here).0
+      by-kind false item here = operator-command item.kind
+          (place-found is_command script.items landing.commands item here).0
 
-      same-why : refusal_at script (record { number = side.place; item = slice_index_or items side.place d }) ≡ why
-      same-why = sym lands.met ∙ sym met
+  pub land-ends : (number ticks due : ℕ) (kind : ItemKind) (why : Option Refusal) (source : Terminal) (now : Landed) →
+      next_number landing client ≡ Some number → ticks ≡ parts.source.ticks → due ≡ due_at landing.items number →
+      due ≤ ticks →
+      ((item : Item) → slice_get script.items number ≡ Some item → kind ≡ item.kind) →
+      why ≡ met_by parts.source kind → IsGiven source parts.source kind → HasPassed landing now client (is_some why) →
+      IsPlaced number (refused_by number why) landing.refusals now.refusals →
+      Done script (counts_of parts landing) (landing_of client) (record parts { source = source }) now got last
+      (answer_of why)
+  land-ends number ticks due kind why source now e when late low handed met given passed put =
+      let before : Counts = counts_of parts landing in
+      let next : Counts = next_by client (counts_of parts landing) landing in
+      let place : ℕ = place_by client landing script.items in
+      let (at, inside) = number-in number e in
+      let (item, here, is_due) = found-at number e in
+      let same_kind : kind ≡ item.kind = handed item (ap (slice_get script.items) at ∙ here) in
+      let lands = lands-by script parts landing got last is client item.due item.kind here (omega arith) in
+      let same_why : refusal_at script (record { number = place; item = item }) ≡ why =
+      sym lands.met ∙ sym (met ∙ ap (met_by parts.source) same_kind) in
+      let placed : IsPlaced place (refused_by place why) landing.refusals (refusals_of script next) =
+      subst (λ was. IsPlaced place (refused_by place why) was (refusals_of script next)) (sym is.landed.refusals)
+      (subst (λ found. IsPlaced place (refused_by place found) (refusals_of script before)
+      (refusals_of script next)) same_why
+      lands.placed) in
+      let own : IsPlaced place (refused_by place why) landing.refusals now.refusals =
+      subst (λ n. IsPlaced n (refused_by n why) landing.refusals now.refusals) at put in
+      let refusals = placed-same place (refused_by place why) landing.refusals now.refusals
+      (refusals_of script next) own placed in
+      let has = has-landed client script parts landing now why is.landed passed refusals
+      (lands.totals ∙ ap (λ found. tell_by client found (totals_of script before)) same_why) in
+      let counts = next-counts client before landing now.frames now.commands passed.frames passed.commands in
+      let moves = next-moves script before next (landing_of client) place
+      (next-by script parts landing got last is client) item here
+      (land-due number ticks due e when late low) in
+      let ends : counts_of (record parts { source = source }) now ≡ next =
+      ap (λ t. record (counts_of parts now) { ticks = t }) given.ticks ∙ sym counts in
+      record {
+        kept = land-kept script parts landing got last is kind source now
+            (subst (λ (c : Counts). HasLanded script c now) counts has)
+            (subst (IsWalked script) counts (walked-next script before next (landing_of client) is.walked moves.0))
+            (ap (with_kind (landed_scenario script before) parts.source.ticks) same_kind ∙ lands.told
+            ∙ ap (landed_scenario script) counts)
+            (given.stands (landed_scenario script before) (told_before script parts.source.ticks) is.source.made)
+            given.ticks given.same;
+        counts = ends ∙ moves.0;
+        moved = ap answer_of (sym same_why) ∙ moves.1;
+      }
 
-      placed : IsPlaced side.place (refused_by side.place why) landing.refusals
-          (refusals_of script (next_of parts landing side))
-      placed =
-          subst (λ was. IsPlaced side.place (refused_by side.place why) was (refusals_of script next))
-          (sym is.landed.refusals)
-          (subst (λ found. IsPlaced side.place (refused_by side.place found) (refusals_of script before)
-          (refusals_of script next)) same-why lands.placed)
+-- the rest of the source side is as it was
+pub rest-kept : (script : Script) (was now : Source_side) (sent : List (List Container)) (lines : List Ringed)
+    (rows : Gather) (sink : Core)
+    (ring : List Packet) (landing : Landed) (got : ℕ) (last : Option StepNote) → SameRest was now →
+    IsWalk script (record (parts_of was sent lines rows sink ring) { source = now.core }) landing got last →
+    IsWalk script (parts_of now sent lines rows sink ring) landing got last
+rest-kept script was now sent lines rows sink ring landing got last same is =
+    subst (λ n. IsWalk script (record (parts_of now sent lines rows sink ring) { total = n }) landing got last)
+    (sym same.total)
+    (subst (λ (i : Inbox). IsWalk script
+        (record (parts_of was sent lines rows sink ring) { source = now.core; back = path_of ring i })
+    landing got last) (sym same.inbox) is)
 
-      pub land-room : (own : Refusal) → why ≡ Some own → length landing.refusals < landing.room
-      land-room own e =
-          let more = refusals-more side.place own landing.refusals (refusals_of script next)
-          (subst (λ found. IsPlaced side.place (refused_by side.place found) landing.refusals
-          (refusals_of script next)) e placed) in
-          let most = refusals-few script next in
-          let room = is.landed.room in
-          omega (arith, more, most, room)
+-- and so are the counts
+rest-counts : (was now : Source_side) (sent : List (List Container)) (lines : List Ringed) (rows : Gather) (sink : Core)
+    (ring : List Packet) (landing : Landed) → SameRest was now →
+    counts_of (parts_of now sent lines rows sink ring) landing
+    ≡ counts_of (record (parts_of was sent lines rows sink ring) { source = now.core }) landing
+rest-counts was now sent lines rows sink ring landing same =
+    ap (λ (i : Inbox). counts_of
+    (record (parts_of was sent lines rows sink ring) { source = now.core; back = path_of ring i }) landing) same.inbox
 
-      pub land-ends : (source : Terminal) → IsGiven source parts.source (slice_index_or items side.place d).kind →
-          (place : ℕ) → place ≡ side.place + 1 + place_of side.kind 0 (drop (side.place + 1) items) →
-          (refusals : List (ℕ × Refusal)) (room : ℕ) → room ≡ landing.room →
-          ((now : List (ℕ × Refusal)) → IsPlaced side.place (refused_by side.place why) landing.refusals now →
-          refusals ≡ now) →
-          Done script old side.event (record parts { source = source })
-          (after_of side why place refusals room) got last (answer_of why)
-      land-ends source given place at refusals room same put =
-          let item : Item = slice_index_or items side.place d in
-          let moves = next-moves script before next side.event side.place turn.is item there none-here in
-          let most = is.landed.room in
-          let has = turn.has why place refusals room
-          (at ∙ ap (λ (xs : List Item). side.place + 1 + place_of side.kind 0 (drop (side.place + 1) xs)) all
-          ∙ place-next side.kind script.items side.landed side.place turn.at
-          (slice_get_within script.items side.place item there))
-          (put (refusals_of script next) placed) (omega (arith, most, same))
-          (lands.totals ∙ ap (λ found. side.tell found (totals_of script before)) same-why) in
-          record {
-            kept = land-kept script parts landing got last is item.kind source
-                (after_of side why place refusals room) has
-                (walked-next script before next side.event is.walked moves.0) lands.told
-                (given.stands (landed_scenario script before)
-                (told_before script parts.source.ticks) is.source.made) given.ticks given.same;
-            moved = ap answer_of (sym same-why) ∙ moves.1
-                ∙ ap (λ (w : Walked). moved_of w.script w.counts side.event) view;
-          }
+-- ---- a source side that has landed an item more
+pub record HasTaken (was now : Source_side) (number : ℕ) (kind : ItemKind) (why : Option Refusal) : Type 0 where
+  pub met : why ≡ met_by was.core kind
+  pub given : IsGiven now.core was.core kind
+  pub passed : HasPassed was.landed now.landed (is_client kind) (is_some why)
+  pub placed : IsPlaced number (refused_by number why) was.landed.refusals now.landed.refusals
+  pub rest : SameRest was now
 
--- the next frame is there, where it doesn't stall
-pub frame-there : {script : Script} {parts : Parts} {landing : Landing} {got : ℕ} {last : Option StepNote}
-    {old : Walked} {items : List Item} →
-    IsWalk script parts landing got last → record { script = script; counts = counts_of parts landing } ≡ old →
-    items ≡ script.items →
-    (step (walk_plan old.script) old.counts (frame_side landing).event).cause ≡ None →
-    IsThere items (frame_side landing).place (frame_side landing).landed (frame_side landing).refused
-frame-there {script} {parts} {landing} {got} {last} {old} {items} is view all none =
-    land-there script parts landing got last is old view (frame_side landing)
-    (frame-side script parts landing got last is) items all none
-
--- the next command is there, where it doesn't stall
-pub command-there : {script : Script} {parts : Parts} {landing : Landing} {got : ℕ} {last : Option StepNote}
-    {old : Walked} {items : List Item} →
-    IsWalk script parts landing got last → record { script = script; counts = counts_of parts landing } ≡ old →
-    items ≡ script.items →
-    (step (walk_plan old.script) old.counts (command_side landing).event).cause ≡ None →
-    IsThere items (command_side landing).place (command_side landing).landed (command_side landing).refused
-command-there {script} {parts} {landing} {got} {last} {old} {items} is view all none =
-    land-there script parts landing got last is old view (command_side landing)
-    (command-side script parts landing got last is) items all none
+pub land-taken : (script : Script) (was now : Source_side) (sent : List (List Container)) (lines : List Ringed)
+    (rows : Gather) (sink : Core) (ring : List Packet) (got : ℕ) (last : Option StepNote) →
+    IsWalk script (parts_of was sent lines rows sink ring) was.landed got last → (client : Bool)
+    (number ticks due : ℕ) (kind : ItemKind) (why : Option Refusal) →
+    next_number was.landed client ≡ Some number → ticks ≡ was.core.ticks →
+    due ≡ due_at was.landed.items number → due ≤ ticks →
+    ((item : Item) → slice_get script.items number ≡ Some item → kind ≡ item.kind) →
+    HasTaken was now number kind why →
+    Done script (counts_of (parts_of was sent lines rows sink ring) was.landed) (landing_of client)
+    (parts_of now sent lines rows sink ring) now.landed got last (answer_of why)
+land-taken script was now sent lines rows sink ring got last is client number ticks due kind why next e late low handed
+    has =
+    let parts : Parts = parts_of was sent lines rows sink ring in
+    let same = land-kind script parts was.landed got last is client number kind next handed in
+    let done = land-ends script parts was.landed got last is client number ticks due kind why now.core now.landed
+    next e late low handed has.met has.given
+    (subst (λ b. HasPassed was.landed now.landed b (is_some why)) same has.passed) has.placed in
+    record {
+      kept = rest-kept script was now sent lines rows sink ring now.landed got last has.rest done.kept;
+      counts = rest-counts was now sent lines rows sink ring now.landed has.rest ∙ done.counts;
+      moved = done.moved;
+    }

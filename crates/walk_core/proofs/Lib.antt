@@ -6,7 +6,6 @@ pub mod CarryLaws
 pub mod TickLaws
 pub mod OpenLaws
 pub mod TakeLaws
-pub mod RefuseLaws
 pub mod LandLaws
 pub mod LandSteps
 pub mod TotalLaws

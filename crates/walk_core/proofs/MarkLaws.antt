@@ -20,9 +20,10 @@ use Rattle.sink_core.specs.Given.{received_rows}
 use Rattle.sink_core.proofs.SessionLaws.{session-last}
 use Rattle.gfp_mark.specs.Marks.{first_place}
 use Rattle.walk_core.specs.declared.moved.StepNote.{StepNote}
-use Rattle.walk_core.specs.Parts.{Parts, Landing, counts_of, line_counts, IsWalk}
+use Rattle.group_source.specs.Landed.{Landed}
+use Rattle.walk_core.specs.Parts.{Parts, counts_of, line_counts, IsWalk}
 
-pub mark-is : (script : Script) (parts : Parts) (landing : Landing) (got : ℕ) (last : Option StepNote) (result : Option ℕ) → IsWalk script parts landing got last →
+pub mark-is : (script : Script) (parts : Parts) (landing : Landed) (got : ℕ) (last : Option StepNote) (result : Option ℕ) → IsWalk script parts landing got last →
     ((cells : List (List Cell)) → Stands parts.sink cells → length (segments_of (received_rows parts.sink.size cells parts.sink.taken)).last.octets < 2 ^ 64 →
     result ≡ first_place (segments_of (received_rows parts.sink.size cells parts.sink.taken)).last.octets) →
     result ≡ first_place (segments_of (session_rows script parts.sink.taken)).last.octets

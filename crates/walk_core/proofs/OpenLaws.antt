@@ -1,5 +1,7 @@
 -- A walk of which no event was made.
-use Rattle.std.proofs.Common.{◌≡◌, ◌⊎◌, ℕ, zero, suc, ◌+◌, ◌-◌, ◌<◌, ◌≤◌, min, List, [], ◌∷◌, ◌++◌, All, length, take, drop, map, filter, replicate, slice_get, slice_index_or, Some, None, refl, sym, ◌∙◌, ap, subst, arith, inl, inr}
+use Rattle.std.proofs.Common.{◌≡◌, ◌⊎◌, ℕ, zero, suc, ◌+◌, ◌-◌, ◌<◌, ◌≤◌, min, List, [], ◌∷◌, ◌++◌, All, length, take}
+use Rattle.std.proofs.Common.{drop, map, filter, replicate, slice_get, slice_index_or, Some, None, refl, sym, ◌∙◌, ap}
+use Rattle.std.proofs.Common.{subst, arith, inl, inr}
 use Rattle.std.specs.List.{range_with_len, flat_map}
 use Rattle.std.specs.Global.{Vec, Box}
 use Rattle.std.proofs.lemmas.Bool.{cases_Bool}
@@ -27,20 +29,25 @@ use Rattle.source_core.specs.Given.{Stands as HasMade}
 use Rattle.sink_core.specs.Core.{Core}
 use Rattle.walk_law.specs.Walk.{walk_plan, IsWalked, sent_on, counts_at, cells_on, popped_on, popped_cells}
 use Rattle.walk_law.specs.Rings.{delay_on, back_cell, said_packet}
-use Rattle.walk_law.specs.Landed.{Numbered, landed_from, is_client, landed_scenario, told_before, refused_by, refusal_at, is_accepted_frame, is_accepted_command}
+use Rattle.walk_law.specs.Landed.{Numbered, landed_from, is_client, landed_scenario, told_before, refused_by}
+use Rattle.walk_law.specs.Landed.{refusal_at, is_accepted_frame, is_accepted_command}
 use Rattle.walk_law.specs.Delivered.{delivered_of}
 use Rattle.walk_law.specs.Step.{last_packet}
 use Rattle.walk_law.proofs.PlanLaws.{has-paths, valid-walks}
 use Rattle.walk_law.proofs.WalkLaws.{begins-walked}
-use Rattle.group_source.specs.Place.{is_frame, is_command, place_of}
-use Rattle.walk_parts.specs.Return.{Return}
+use Rattle.session_model.specs.declared.packet.Packet.{Packet}
+use Rattle.group_source.specs.Item.{bare_items}
+use Rattle.group_source.specs.Landed.{Landed, none_landed}
+use Rattle.walk_parts.specs.Return.{Return, path_of}
 use Rattle.walk_parts.specs.Ringed.{Ringed, ring_of, Has}
 use Rattle.walk_core.specs.declared.opening.Opened.{Opened}
 use Rattle.walk_core.specs.Opened.{IsOpened, AreOpened, IsNew}
-use Rattle.walk_core.specs.Parts.{frame_in, HasSource, HasSent, HasLines, HasBack, counts_of, line_counts, calls_on, note_of, IsWalk}
+use Rattle.walk_core.specs.Parts.{parts_of, frame_in, HasSource, HasSent, HasLines, HasBack, counts_of, line_counts}
+use Rattle.walk_core.specs.Parts.{calls_on, note_of, IsWalk}
 
 -- ---- the lines
-get-last : {X : Type 0} (xs : List X) (x : X) (m : ℕ) (y : X) → slice_get (xs ++ x ∷ []) m ≡ Some y → (slice_get xs m ≡ Some y) ⊎ ((m ≡ length xs) × (y ≡ x))
+get-last : {X : Type 0} (xs : List X) (x : X) (m : ℕ) (y : X) → slice_get (xs ++ x ∷ []) m ≡ Some y →
+    (slice_get xs m ≡ Some y) ⊎ ((m ≡ length xs) × (y ≡ x))
 get-last [] x zero y e = inr (refl, let h : y ≡ x = cc in h)
 get-last [] x (suc m) y e = absurd cc
 get-last (z ∷ xs) x zero y e = inl e
@@ -56,23 +63,30 @@ size-more (y ∷ xs) x = let e = size-more xs x in omega (arith, e)
 pub none-opened : (config : Config) → AreOpened config 0 []
 none-opened config = record { size = refl; each = λ m line e. absurd cc }
 
-pub opened-more : (config : Config) (n : ℕ) (lines : List Ringed) (line : Ringed) → AreOpened config n lines → IsOpened config n line → AreOpened config (n + 1) (lines ++ line ∷ [])
+pub opened-more : (config : Config) (n : ℕ) (lines : List Ringed) (line : Ringed) → AreOpened config n lines →
+    IsOpened config n line → AreOpened config (n + 1) (lines ++ line ∷ [])
 opened-more config n lines line are is = record {
   size = size-more lines line ∙ ap (λ k. k + 1) are.size;
   each = λ m other e. elim (get-last lines line m other e) [
     | inl there ↦ are.each m other there
-    | inr last ↦ subst (IsOpened config m) (sym last.1) (subst (λ k. IsOpened config k line) (sym (last.0 ∙ are.size)) is)
+    | inr last ↦ subst (IsOpened config m) (sym last.1)
+        (subst (λ k. IsOpened config k line) (sym (last.0 ∙ are.size)) is)
   ];
 }
 
-calls-opened : (script : Script) (m : ℕ) (line : Ringed) → IsOpened script.config m line → calls_on script m line.carried ≡ opened (delay_on script m) (slice_index_or script.config.windows m []) script.config.ticks
+calls-opened : (script : Script) (m : ℕ) (line : Ringed) → IsOpened script.config m line →
+    calls_on script m line.carried
+    ≡ opened (delay_on script m) (slice_index_or script.config.windows m []) script.config.ticks
 calls-opened script m line is =
     let none : line.carried ≡ 0 = is.has.carried in
     ap (λ x. calls_on script m x) none
-    ∙ ap (λ n. record (calls_on script m 0) { containers = take n (sent_on (scenario_of script) m) }) (let e : min 0 script.config.ticks ≡ 0 = omega arith in e)
-    ∙ ap (λ n. record (opened (delay_on script m) (slice_index_or script.config.windows m []) script.config.ticks) { flushes = n }) (let e : 0 - script.config.ticks ≡ 0 = omega arith in e)
+    ∙ ap (λ n. record (calls_on script m 0) { containers = take n (sent_on (scenario_of script) m) })
+    (let e : min 0 script.config.ticks ≡ 0 = omega arith in e)
+    ∙ ap (λ n. record (opened (delay_on script m) (slice_index_or script.config.windows m []) script.config.ticks)
+    { flushes = n }) (let e : 0 - script.config.ticks ≡ 0 = omega arith in e)
 
-opened-lines : (script : Script) (lines : List Ringed) → AreOpened script.config script.config.lines lines → HasLines script lines
+opened-lines : (script : Script) (lines : List Ringed) → AreOpened script.config script.config.lines lines →
+    HasLines script lines
 opened-lines script lines are = record {
   size = are.size;
   each = λ m line there. let is = are.each m line there in
@@ -82,15 +96,20 @@ opened-lines script lines are = record {
 abbrev no_counts : LineCounts
 no_counts = record { carried = 0; popped = 0 }
 
-counts-none : (lines : List Ringed) → ((m : ℕ) (line : Ringed) → slice_get lines m ≡ Some line → line_counts line ≡ no_counts) → map line_counts lines ≡ replicate (length lines) no_counts
+counts-none : (lines : List Ringed) →
+    ((m : ℕ) (line : Ringed) → slice_get lines m ≡ Some line → line_counts line ≡ no_counts) →
+    map line_counts lines ≡ replicate (length lines) no_counts
 counts-none [] each = refl
 counts-none (line ∷ lines) each =
-    ap (λ x. x ∷ map line_counts lines) (each 0 line refl) ∙ ap (λ rest. no_counts ∷ rest) (counts-none lines (λ m other e. each (suc m) other e))
+    ap (λ x. x ∷ map line_counts lines) (each 0 line refl)
+    ∙ ap (λ rest. no_counts ∷ rest) (counts-none lines (λ m other e. each (suc m) other e))
 
-opened-counts : (config : Config) (n : ℕ) (lines : List Ringed) → AreOpened config n lines → map line_counts lines ≡ replicate n no_counts
+opened-counts : (config : Config) (n : ℕ) (lines : List Ringed) → AreOpened config n lines →
+    map line_counts lines ≡ replicate n no_counts
 opened-counts config n lines are =
     counts-none lines (λ m line e. let is = are.each m line e in
-    ap (λ x. record { carried = x; popped = line.popped }) is.has.carried ∙ ap (λ y. record { carried = 0; popped = y }) is.popped)
+    ap (λ x. record { carried = x; popped = line.popped }) is.has.carried
+    ∙ ap (λ y. record { carried = 0; popped = y }) is.popped)
     ∙ ap (λ k. replicate k no_counts) are.size
 
 -- ---- no cell was popped
@@ -103,10 +122,12 @@ map-none : (f : ℕ → List Cell) → ((k : ℕ) → f k ≡ []) → (ks : List
 map-none f none [] = refl
 map-none f none (k ∷ ks) = ap (λ x. x ∷ map f ks) (none k) ∙ ap (λ rest. [] ∷ rest) (map-none f none ks)
 
-cells-none : (script : Script) (n : ℕ) → popped_cells script (replicate n no_counts) ≡ replicate (length script.config.windows) []
+cells-none : (script : Script) (n : ℕ) →
+    popped_cells script (replicate n no_counts) ≡ replicate (length script.config.windows) []
 cells-none script n =
     map-none (popped_on script (replicate n no_counts))
-    (λ m. ap (λ k. take k (cells_on (scenario_of script) (delay_on script m) m)) (none-popped n m)) (range_with_len 0 (length script.config.windows))
+    (λ m. ap (λ k. take k (cells_on (scenario_of script) (delay_on script m) m)) (none-popped n m))
+    (range_with_len 0 (length script.config.windows))
     ∙ ap (λ k. replicate k []) (length-range_with_len 0 (length script.config.windows))
 
 -- ---- nothing has landed
@@ -120,13 +141,17 @@ none-landed (item ∷ items) i =
     ]
 
 -- ---- the send rings
-sent-long : (sent : List (Vec (Box Container))) (n : ℕ) → All (λ (row : Vec (Box Container)). length row.items ≡ n) sent → (k : ℕ) (frame : List Container) →
+sent-long : (sent : List (Vec (Box Container))) (n : ℕ) →
+    All (λ (row : Vec (Box Container)). length row.items ≡ n) sent → (k : ℕ) (frame : List Container) →
     slice_get (map frame_in sent) k ≡ Some frame → length frame ≡ n
 sent-long [] n all k frame e = absurd cc
-sent-long (row ∷ rows) n all zero frame e = ap length (let h : frame ≡ frame_in row = cc in h) ∙ length-map row.items (λ (b : Box Container). b.value) ∙ all 0 row (omega arith)
-sent-long (row ∷ rows) n all (suc k) frame e = sent-long rows n (λ i d low. all (suc i) d (omega (arith, low))) k frame e
+sent-long (row ∷ rows) n all zero frame e = ap length (let h : frame ≡ frame_in row = cc in h)
+    ∙ length-map row.items (λ (b : Box Container). b.value) ∙ all 0 row (omega arith)
+sent-long (row ∷ rows) n all (suc k) frame e = sent-long rows n
+    (λ i d low. all (suc i) d (omega (arith, low))) k frame e
 
-pub sent-opened : (script : Script) (counts : List LineCounts) (sent : List (Vec (Box Container))) → length sent ≡ 32 → All (λ (row : Vec (Box Container)). length row.items ≡ script.config.lines) sent →
+pub sent-opened : (script : Script) (counts : List LineCounts) (sent : List (Vec (Box Container))) → length sent ≡ 32 →
+    All (λ (row : Vec (Box Container)). length row.items ≡ script.config.lines) sent →
     HasSent script 0 counts (map frame_in sent)
 sent-opened script counts sent places long = record {
   places = length-map sent frame_in ∙ places;
@@ -154,18 +179,18 @@ drop-none (x ∷ xs) = refl
 range-none : {X : Type 0} (f : ℕ → X) (z n : ℕ) → n ≡ 0 → map f (range_with_len z n) ≡ []
 range-none f z n none = ap (λ k. map f (range_with_len z k)) none
 
-refused-none : (script : Script) (items : List Numbered) → items ≡ [] → flat_map (λ item. refused_by item.number (refusal_at script item)) items ≡ []
+refused-none : (script : Script) (items : List Numbered) → items ≡ [] →
+    flat_map (λ item. refused_by item.number (refusal_at script item)) items ≡ []
 refused-none script items none = ap (flat_map (λ item. refused_by item.number (refusal_at script item))) none
 
 -- ---- the walk
 abbrev counts_from : ℕ → List LineCounts → ℕ → ℕ → Counts
-counts_from ticks lines rows backs = record { ticks = ticks; frames = 0; commands = 0; lines = lines; rows = rows; backs = backs }
+counts_from ticks lines rows backs = record
+    { ticks = ticks; frames = 0; commands = 0; lines = lines; rows = rows; backs = backs }
 
-module _ (script : Script) (all : Opened) (is : IsNew script.config all) (valid : IsValid script)
-    (refusals : List (ℕ × Refusal)) (room frame command : ℕ) (none : refusals ≡ []) (wide : length script.items ≤ room)
-    (frame_at : frame ≡ 0 + place_of is_frame 0 (drop 0 script.items)) (command_at : command ≡ 0 + place_of is_command 0 (drop 0 script.items)) where
+module _ (script : Script) (all : Opened) (is : IsNew script all) (valid : IsValid script) where
   abbrev source : Terminal
-  source = all.ends.source
+  source = all.ends.source.core
 
   abbrev sent : List (Vec (Box Container))
   sent = all.paths.sent.items
@@ -180,46 +205,64 @@ module _ (script : Script) (all : Opened) (is : IsNew script.config all) (valid 
   sink = all.ends.sink
 
   abbrev back : Return
-  back = all.returns.back
+  back = path_of all.returns.ring all.ends.source.inbox
+
+  back-is : path_of all.returns.ring all.ends.source.inbox
+      ≡ record { ring = []; lost = script.config.lost; inbox = []; room = script.config.lag + 1; backs = 0 }
+  back-is = ap (λ (ring : List Packet). path_of ring all.ends.source.inbox) is.ring ∙ ap (path_of []) is.source.inbox
 
   paths-size : length (walk_plan script).paths ≡ script.config.lines
   paths-size = has-paths script (valid-walks script valid) ∙ valid.network.windows_each
 
   begin-counts : counts_from source.ticks (map line_counts lines) sink.taken back.backs ≡ begin (walk_plan script)
   begin-counts =
-      ap (λ n. counts_from n (map line_counts lines) sink.taken back.backs) is.source.ticks
-      ∙ ap (λ ls. counts_from 0 ls sink.taken back.backs) (opened-counts script.config script.config.lines lines is.lines ∙ ap (λ k. replicate k no_counts) (sym paths-size))
+      ap (λ n. counts_from n (map line_counts lines) sink.taken back.backs) is.source.core.ticks
+      ∙ ap (λ ls. counts_from 0 ls sink.taken back.backs)
+      (opened-counts script.config script.config.lines lines is.lines
+      ∙ ap (λ k. replicate k no_counts) (sym paths-size))
       ∙ ap (λ n. counts_from 0 (replicate (length (walk_plan script).paths) no_counts) n back.backs) is.sink.taken
-      ∙ ap (λ (b : Return). counts_from 0 (replicate (length (walk_plan script).paths) no_counts) 0 b.backs) is.back
+      ∙ ap (λ (b : Return). counts_from 0 (replicate (length (walk_plan script).paths) no_counts) 0 b.backs) back-is
 
-  pub new-counts : counts_of (record { source = all.ends.source; sent = map frame_in all.paths.sent.items; lines = all.paths.lines.items; rows = all.returns.rows; sink = all.ends.sink; back = all.returns.back })
-      (record { refusals = refusals; room = room; frame = frame; command = command; frames = 0; commands = 0; refused_frames = 0; refused_commands = 0 }) ≡ begin (walk_plan script)
-  new-counts = begin-counts
+  pub new-counts : counts_of
+      (parts_of all.ends.source
+      (map frame_in all.paths.sent.items) all.paths.lines.items all.returns.rows all.ends.sink all.returns.ring)
+      all.ends.source.landed ≡ begin (walk_plan script)
+  new-counts =
+      ap (counts_of (parts_of all.ends.source
+      (map frame_in all.paths.sent.items) all.paths.lines.items all.returns.rows all.ends.sink all.returns.ring)) is.source.landed
+      ∙ begin-counts
 
   cells-are : popped_cells script (map line_counts lines) ≡ replicate script.config.lines []
   cells-are =
-      ap (popped_cells script) (opened-counts script.config script.config.lines lines is.lines) ∙ cells-none script script.config.lines
+      ap (popped_cells script) (opened-counts script.config script.config.lines lines is.lines)
+      ∙ cells-none script script.config.lines
       ∙ ap (λ k. replicate k []) valid.network.windows_each
 
   cells-size : length (popped_cells script (map line_counts lines)) ≡ script.config.lines
   cells-size =
-      length-map (range_with_len 0 (length script.config.windows)) (popped_on script (map line_counts lines)) ∙ length-range_with_len 0 (length script.config.windows)
+      length-map (range_with_len 0 (length script.config.windows)) (popped_on script (map line_counts lines))
+      ∙ length-range_with_len 0 (length script.config.windows)
       ∙ valid.network.windows_each
 
-  pub new-walk : IsWalk script (record { source = all.ends.source; sent = map frame_in all.paths.sent.items; lines = all.paths.lines.items; rows = all.returns.rows; sink = all.ends.sink; back = all.returns.back })
-      (record { refusals = refusals; room = room; frame = frame; command = command; frames = 0; commands = 0; refused_frames = 0; refused_commands = 0 }) 0 None
-  new-walk = record {
+  none-walk : IsWalk script
+      (parts_of all.ends.source
+      (map frame_in all.paths.sent.items) all.paths.lines.items all.returns.rows all.ends.sink all.returns.ring)
+      (none_landed (bare_items script.items)) 0 None
+  none-walk = record {
     valid = valid;
+    total = is.source.total;
     walked = subst (IsWalked script) (sym begin-counts) (begins-walked script);
     source = subst (λ s. HasSource script s source) (sym begin-counts) (record {
       made = subst (HasMade source (landed_scenario script (begin (walk_plan script)))) (sym (none-told script))
-          (is.source.stands (landed_scenario script (begin (walk_plan script)))
-          (record { of_lines = valid.network.windows_each; of_lag = refl; of_size = refl; no_offers = take-none (offers_of script.items); no_orders = take-none (orders_of script.items) }));
-      lines = is.source.lines;
-      lag = is.source.lag;
-      size = is.source.size;
+          (is.source.core.made (landed_scenario script (begin (walk_plan script)))
+          (record { of_lines = valid.network.windows_each; of_lag = refl; of_size = refl; no_offers = take-none
+          (offers_of script.items); no_orders = take-none (orders_of script.items) }));
+      lines = is.source.core.lines;
+      lag = is.source.core.lag;
+      size = is.source.core.size;
     });
-    sent = subst (λ n. HasSent script n (map line_counts lines) (map frame_in sent)) (sym is.source.ticks) (sent-opened script (map line_counts lines) sent is.sent.places is.sent.lines);
+    sent = subst (λ n. HasSent script n (map line_counts lines) (map frame_in sent)) (sym is.source.core.ticks)
+        (sent-opened script (map line_counts lines) sent is.sent.places is.sent.lines);
     lines = opened-lines script lines is.lines;
     sink = record {
       gathers = subst (Gathers rows) (sym cells-are) is.rows.gathers;
@@ -229,34 +272,52 @@ module _ (script : Script) (all : Opened) (is : IsNew script.config all) (valid 
       all = is.sink.lines;
       size = is.sink.size;
     };
-    back = subst (λ s. HasBack script s back) (sym begin-counts) (subst (HasBack script (begin (walk_plan script))) (sym is.back) (record {
-      ring = sym (range-none (said_packet script) 0 (in_return (begin (walk_plan script))) (let e : in_return (begin (walk_plan script)) ≡ 0 = refl in e));
-      inbox = sym (range-none (back_cell script) (used_in script.config.lag 0) (in_inbox (walk_plan script) (begin (walk_plan script))) (let e : 0 - used_in script.config.lag 0 ≡ 0 = omega arith in e));
+    back = subst (λ s. HasBack script s back) (sym begin-counts)
+        (subst (HasBack script (begin (walk_plan script))) (sym back-is) (record {
+      lost = refl;
+      ring = sym (range-none (said_packet script) 0 (in_return (begin (walk_plan script)))
+          (let e : in_return (begin (walk_plan script)) ≡ 0 = refl in e));
+      inbox = sym (range-none (back_cell script) (used_in script.config.lag 0)
+          (in_inbox (walk_plan script) (begin (walk_plan script)))
+          (let e : 0 - used_in script.config.lag 0 ≡ 0 = omega arith in e));
       room = refl;
     }));
     landed = record {
-      frame = frame_at ∙ ap (λ xs. 0 + place_of is_frame 0 xs) (drop-none script.items) ∙ (let e : 0 + place_of is_frame 0 script.items ≡ place_of is_frame 0 script.items = omega arith in e);
-      command = command_at ∙ ap (λ xs. 0 + place_of is_command 0 xs) (drop-none script.items) ∙ (let e : 0 + place_of is_command 0 script.items ≡ place_of is_command 0 script.items = omega arith in e);
-      refusals = none ∙ sym (refused-none script (landed_from 0 0 0 script.items) (none-landed script.items 0));
-      room = wide;
+      items = refl;
+      refusals = sym (refused-none script (landed_from 0 0 0 script.items) (none-landed script.items 0));
       frames = sym (ap (λ xs. length (filter (is_accepted_frame script) xs) + 0) (none-landed script.items 0));
       commands = sym (ap (λ xs. length (filter (is_accepted_command script) xs) + 0) (none-landed script.items 0));
-      refused = ap length (refused-none script (landed_from 0 0 0 script.items) (none-landed script.items 0));
     };
-    counted = sym (ap (λ n. min (length (delivered_of script n)) 18446744073709551615) is.sink.taken ∙ ap (λ xs. min (length xs) 18446744073709551615) (none-delivered script));
-    noted = subst (λ n. None ≡ note_of script (last_packet n)) (sym is.source.ticks) refl;
+    counted = sym (ap (λ n. min (length (delivered_of script n)) 18446744073709551615) is.sink.taken
+        ∙ ap (λ xs. min (length xs) 18446744073709551615) (none-delivered script));
+    noted = subst (λ n. None ≡ note_of script (last_packet n)) (sym is.source.core.ticks) refl;
   }
 
+  pub new-walk : IsWalk script
+      (parts_of all.ends.source
+      (map frame_in all.paths.sent.items) all.paths.lines.items all.returns.rows all.ends.sink all.returns.ring)
+      all.ends.source.landed 0 None
+  new-walk =
+      subst (λ (l : Landed). IsWalk script
+          (parts_of all.ends.source
+          (map frame_in all.paths.sent.items) all.paths.lines.items all.returns.rows all.ends.sink all.returns.ring) l 0 None)
+      (sym is.source.landed) none-walk
+
 -- a line that was opened with the numbers of its place
-pub opened-at : (config : Config) (m : ℕ) (line : Ringed) (delay : ℕ) (windows : List Window) (total : ℕ) → delay ≡ slice_index_or config.delays m 0 → windows ≡ slice_index_or config.windows m [] →
-    total ≡ config.ticks → Has line (opened delay windows total) → ring_of line ≡ config.ring → line.popped ≡ 0 → IsOpened config m line
+pub opened-at : (config : Config) (m : ℕ) (line : Ringed) (delay : ℕ) (windows : List Window) (total : ℕ) →
+    delay ≡ slice_index_or config.delays m 0 → windows ≡ slice_index_or config.windows m [] →
+    total ≡ config.ticks → Has line (opened delay windows total) → ring_of line ≡ config.ring → line.popped ≡ 0 →
+    IsOpened config m line
 opened-at config m line delay windows total a b d has size popped = record {
-  has = subst (Has line) (ap (λ x. opened x windows total) a ∙ ap (λ x. opened (slice_index_or config.delays m 0) x total) b ∙ ap (opened (slice_index_or config.delays m 0) (slice_index_or config.windows m [])) d) has;
+  has = subst (Has line) (ap (λ x. opened x windows total) a
+      ∙ ap (λ x. opened (slice_index_or config.delays m 0) x total) b
+      ∙ ap (opened (slice_index_or config.delays m 0) (slice_index_or config.windows m [])) d) has;
   ring = size;
   popped = popped;
 }
 
-pub index-is : {X : Type 0} (xs : List X) (m : ℕ) (x d : X) → m < length xs → x ≡ slice_index_or xs m x → x ≡ slice_index_or xs m d
+pub index-is : {X : Type 0} (xs : List X) (m : ℕ) (x d : X) → m < length xs → x ≡ slice_index_or xs m x →
+    x ≡ slice_index_or xs m d
 index-is [] m x d low e = absurd (omega (arith, low))
 index-is (y ∷ xs) zero x d low e = e
 index-is (y ∷ xs) (suc m) x d low e = index-is xs m x d (omega (arith, low)) e

@@ -37,7 +37,8 @@ use Rattle.walk_parts.specs.Ringed.{Ringed}
 use Rattle.walk_core.specs.declared.moved.StepNote.{StepNote}
 use Rattle.walk_core.specs.declared.moved.Moved.TheVariants.{Yes, Stalled}
 use Rattle.walk_core.specs.Moved.{answer_by, moved_of, counts_after, delivered_since, GivesRows}
-use Rattle.walk_core.specs.Parts.{Parts, Landing, HasSent, HasBack, counts_of, line_counts, IsWalk}
+use Rattle.group_source.specs.Landed.{Landed}
+use Rattle.walk_core.specs.Parts.{Parts, HasSent, HasBack, counts_of, line_counts, IsWalk}
 use Rattle.walk_core.specs.Take.{take_cause, CanPop, HasPopped, CanTake, HasRow}
 use Rattle.walk_core.proofs.EventLaws.{walk-fits, walked-next}
 use Rattle.walk_core.proofs.SendLaws.{sent-later}
@@ -184,7 +185,7 @@ received : IsReceived row_in
 received = record { whole = λ octets. refl; lost = refl }
 
 -- ---- of a walk
-module _ (script : Script) (parts : Parts) (landing : Landing) (got : ℕ) (last : Option StepNote) (is : IsWalk script parts landing got last) where
+module _ (script : Script) (parts : Parts) (landing : Landed) (got : ℕ) (last : Option StepNote) (is : IsWalk script parts landing got last) where
   abbrev was : Counts
   was = counts_of parts landing
 
@@ -292,13 +293,14 @@ module _ (script : Script) (parts : Parts) (landing : Landing) (got : ℕ) (last
         pub waits-kept : IsWalk script (record parts { lines = lines; rows = rows }) landing got last
         waits-kept = record {
           valid = is.valid;
+          total = is.total;
           walked = walked-next script was _ Take is.walked waits-counts;
           source = record { made = is.source.made; lines = is.source.lines; lag = is.source.lag; size = is.source.size };
           sent = sent;
           lines = popped.lines;
           sink = record { gathers = popped.gathers; taken = stands; passed = row-is; lines = count ∙ is.sink.lines; all = is.sink.all; size = is.sink.size };
-          back = record { ring = is.back.ring; inbox = is.back.inbox; room = is.back.room };
-          landed = record { frame = is.landed.frame; command = is.landed.command; refusals = is.landed.refusals; room = is.landed.room; frames = is.landed.frames; commands = is.landed.commands; refused = is.landed.refused };
+          back = record { ring = is.back.ring; lost = is.back.lost; inbox = is.back.inbox; room = is.back.room };
+          landed = record { items = is.landed.items; refusals = is.landed.refusals; frames = is.landed.frames; commands = is.landed.commands };
           counted = is.counted;
           noted = is.noted;
         }
@@ -362,6 +364,7 @@ module _ (script : Script) (parts : Parts) (landing : Landing) (got : ℕ) (last
             pub taken-kept : IsWalk script (record parts { lines = lines; rows = gather; sink = sink; back = back }) landing count' last
             taken-kept = record {
               valid = is.valid;
+              total = is.total;
               walked = subst (IsWalked script) (sym counts-are) walked-on;
               source = record { made = is.source.made; lines = is.source.lines; lag = is.source.lag; size = is.source.size };
               sent = sent;
@@ -369,10 +372,11 @@ module _ (script : Script) (parts : Parts) (landing : Landing) (got : ℕ) (last
               sink = record { gathers = row.gathers; taken = row.taken; passed = row.passed; lines = row.lines ∙ sym row.all; all = row.all ∙ is.sink.all; size = row.size ∙ is.sink.size };
               back = subst (λ s. HasBack script s back) (sym counts-are) (record {
                 ring = ap (λ (b : Return). b.ring) says ∙ ap (λ ring. ring ++ listed packet) is.back.ring ∙ is_said.ring;
+                lost = ap (λ (b : Return). b.lost) says ∙ is.back.lost;
                 inbox = ap (λ (b : Return). b.inbox) says ∙ is.back.inbox;
                 room = ap (λ (b : Return). b.room) says ∙ is.back.room;
               });
-              landed = record { frame = is.landed.frame; command = is.landed.command; refusals = is.landed.refusals; room = is.landed.room; frames = is.landed.frames; commands = is.landed.commands; refused = is.landed.refused };
+              landed = record { items = is.landed.items; refusals = is.landed.refusals; frames = is.landed.frames; commands = is.landed.commands };
               counted = counted;
               noted = is.noted;
             }

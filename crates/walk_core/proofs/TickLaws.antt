@@ -1,5 +1,8 @@
 -- The first line whose send ring is full, and a tick of a walk.
-use Rattle.std.proofs.Common.{◌≡◌, ℕ, zero, suc, ◌+◌, ◌-◌, ◌*◌, ◌/◌, ◌%◌, ◌==◌, ◌&&◌, ◌<◌, ◌≤◌, min, nat_le, true, false, if◌then◌else◌, List, [], ◌∷◌, length, drop, map, slice_get, slice_set, slice_index_or, Option, Some, None, refl, sym, ◌∙◌, ap, subst, arith, inl, inr}
+use Rattle.std.proofs.Common.{◌≡◌, ℕ, zero, suc, ◌+◌, ◌-◌, ◌*◌, ◌/◌, ◌%◌, ◌==◌, ◌&&◌, ◌<◌, ◌≤◌, min, nat_le, true}
+use Rattle.std.proofs.Common.{false, if◌then◌else◌, List, [], ◌∷◌, length, drop, map, slice_get, slice_set}
+use Rattle.std.proofs.Common.{slice_index_or, Option, Some, None, refl, sym, ◌∙◌, ap, subst, arith, inl, inr, Bool}
+use Rattle.std.proofs.Common.{option_map}
 use Rattle.std.specs.Option.{is_some}
 use Rattle.std.specs.List.{range_with_len}
 use Rattle.std.specs.Global.{Vec, Box}
@@ -18,7 +21,8 @@ use Rattle.session_model.specs.Scenario.{Scenario, scenario_of}
 use Rattle.session_model.specs.Table.{Told}
 use Rattle.session_model.specs.Back.{session_cells, cells_before}
 use Rattle.session_model.specs.Sent.{container_of, frame_of}
-use Rattle.session_model.specs.Counts.{LineCounts, Plan, Counts, Step, in_inbox, used_in, held, full, is_missing, moved, tick, tick_held, tick_full, step}
+use Rattle.session_model.specs.Counts.{LineCounts, Plan, Counts, Step, in_inbox, used_in, held, full, is_missing, moved}
+use Rattle.session_model.specs.Counts.{tick, tick_held, tick_full, step}
 use Rattle.session_model.specs.Course.{Course}
 use Rattle.source_core.specs.Terminal.{Terminal, needed, needed_at, SameKind}
 use Rattle.source_core.specs.Given.{with_cell, Stands as HasMade}
@@ -33,12 +37,24 @@ use Rattle.walk_law.proofs.WalkLaws.{line-fits}
 use Rattle.walk_law.proofs.SourceLaws.{told-frames}
 use Rattle.walk_law.proofs.StepLaws.{last-next, used-now, said-ends, table-now}
 use Rattle.walk_law.proofs.ReturnLaws as return_laws
-use Rattle.walk_parts.specs.Return.{Return}
+use Rattle.session_model.specs.declared.packet.Packet.{Packet}
+use Rattle.session_model.specs.Counts.{dues_of}
+use Rattle.session_model.specs.declared.walk.StallCause.TheVariants.{TxFull}
+use Rattle.std.proofs.lemmas.Bool.{eq-eqb}
+use Rattle.group_source.specs.declared.source.EarlyCause.{EarlyCause}
+use Rattle.group_source.specs.declared.source.EarlyCause.TheVariants.{Done as Early_done, Held as Early_held}
+use Rattle.group_source.specs.Inbox.{Inbox, rest_for}
+use Rattle.group_source.specs.Source.{missing_by}
+use Rattle.group_source.proofs.BareLaws.{bare-dues}
+use Rattle.group_source.proofs.SourceLaws.{missing-some}
+use Rattle.walk_parts.specs.Return.{Return, path_of}
+use Rattle.walk_core.specs.Landing.{early_stall}
 use Rattle.walk_parts.specs.Ringed.{Ringed}
 use Rattle.walk_core.specs.declared.moved.StepNote.{StepNote}
 use Rattle.walk_core.specs.declared.moved.Moved.TheVariants.{Yes, Stalled}
 use Rattle.walk_core.specs.Moved.{answer_by, moved_of, counts_after}
-use Rattle.walk_core.specs.Parts.{Parts, Landing, frame_in, HasSource, HasSent, HasBack, counts_of, line_counts, note_of, IsWalk}
+use Rattle.group_source.specs.Landed.{Landed}
+use Rattle.walk_core.specs.Parts.{Parts, frame_in, HasSource, HasSent, HasBack, counts_of, line_counts, note_of, IsWalk}
 use Rattle.walk_core.proofs.EventLaws.{walk-fits, walked-next}
 use Rattle.walk_core.proofs.CarryLaws.{map-set, frame-at}
 
@@ -59,24 +75,31 @@ le-yes a b low = grind (arith, low)
 le-no : (a b : ℕ) → b < a → nat_le a b ≡ false
 le-no a b low = grind (arith, low)
 
-pub full-here : (total ticks : ℕ) (lines : List Ringed) (m : ℕ) (line : Ringed) → slice_get lines m ≡ Some line → 32 ≤ ticks - min line.carried total → full total ticks m (map line_counts (drop m lines)) ≡ Some m
+pub full-here : (total ticks : ℕ) (lines : List Ringed) (m : ℕ) (line : Ringed) → slice_get lines m ≡ Some line →
+    32 ≤ ticks - min line.carried total → full total ticks m (map line_counts (drop m lines)) ≡ Some m
 unfolding full
 full-here total ticks lines m line there high =
-    ap (λ xs. full total ticks m (map line_counts xs)) (drop-at lines m line there) ∙ rw (le-yes 32 (ticks - min line.carried total) high) refl
+    ap (λ xs. full total ticks m (map line_counts xs)) (drop-at lines m line there)
+    ∙ rw (le-yes 32 (ticks - min line.carried total) high) refl
 
-pub full-next : (total ticks : ℕ) (lines : List Ringed) (m : ℕ) (line : Ringed) → slice_get lines m ≡ Some line → ticks - min line.carried total < 32 →
-    full total ticks (m + 1) (map line_counts (drop (m + 1) lines)) ≡ full total ticks m (map line_counts (drop m lines))
+pub full-next : (total ticks : ℕ) (lines : List Ringed) (m : ℕ) (line : Ringed) → slice_get lines m ≡ Some line →
+    ticks - min line.carried total < 32 →
+    full total ticks (m + 1) (map line_counts (drop (m + 1) lines))
+    ≡ full total ticks m (map line_counts (drop m lines))
 unfolding full
 full-next total ticks lines m line there low =
     ap (λ k. full total ticks k (map line_counts (drop k lines))) (let e : m + 1 ≡ suc m = omega arith in e)
-    ∙ sym (ap (λ xs. full total ticks m (map line_counts xs)) (drop-at lines m line there) ∙ rw (le-no 32 (ticks - min line.carried total) low) refl)
+    ∙ sym (ap (λ xs. full total ticks m (map line_counts xs)) (drop-at lines m line there)
+    ∙ rw (le-no 32 (ticks - min line.carried total) low) refl)
 
-pub full-none : (total ticks : ℕ) (lines : List Ringed) (m : ℕ) → length lines ≤ m → full total ticks m (map line_counts (drop m lines)) ≡ None
+pub full-none : (total ticks : ℕ) (lines : List Ringed) (m : ℕ) → length lines ≤ m →
+    full total ticks m (map line_counts (drop m lines)) ≡ None
 unfolding full
 full-none total ticks lines m past = ap (λ xs. full total ticks m (map line_counts xs)) (drop-past lines m past)
 
 -- ---- the cause of a stall
-missing-here : (plan : Plan) (s : Counts) (packet : ℕ) → s.ticks < plan.ticks → held s.ticks s.frames s.commands 0 plan.items ≡ None → full plan.ticks s.ticks 0 s.lines ≡ None →
+missing-here : (plan : Plan) (s : Counts) (packet : ℕ) → s.ticks < plan.ticks →
+    held s.ticks s.frames s.commands 0 plan.items ≡ None → full plan.ticks s.ticks 0 s.lines ≡ None →
     needed_at plan.lag s.ticks ≡ Some packet → in_inbox plan s ≡ 0 → (tick plan s).cause ≡ Some (BackMissing packet)
 missing-here plan s packet low none_held none_full need none =
     elim (cases_Bool (s.ticks % 16 == 8)) [
@@ -88,9 +111,11 @@ missing-here plan s packet low none_held none_full need none =
             let at = eqb-true (s.ticks % 16) 8 place in
             let since = leb-true plan.lag (s.ticks / 16) late in
             let a : nat_le plan.ticks s.ticks ≡ false = le-no plan.ticks s.ticks low in
-            let b : nat_le (16 * plan.lag + 8) s.ticks ≡ true = le-yes (16 * plan.lag + 8) s.ticks (omega (arith, at, since)) in
+            let b : nat_le (16 * plan.lag + 8) s.ticks ≡ true =
+            le-yes (16 * plan.lag + 8) s.ticks (omega (arith, at, since)) in
             let d : nat_le (in_inbox plan s) 0 ≡ true = le-yes (in_inbox plan s) 0 (omega (arith, none)) in
-            rw (a, none_held, none_full, b, place, d) (ap (λ (k : ℕ). Some (BackMissing k)) (let e : s.ticks / 16 - plan.lag ≡ packet = cc in e))
+            rw (a, none_held, none_full, b, place, d)
+                (ap (λ (k : ℕ). Some (BackMissing k)) (let e : s.ticks / 16 - plan.lag ≡ packet = cc in e))
       ]
     ]
 
@@ -99,7 +124,8 @@ record Goes (plan : Plan) (s : Counts) (step : Step) : Type 0 where
   moves : step ≡ moved (record s { ticks = s.ticks + 1 })
   has_cell : is_missing plan s ≡ false
 
-full-goes : (found : Option ℕ) (plan : Plan) (s : Counts) → None ≡ (tick_full found plan s).cause → Goes plan s (tick_full found plan s)
+full-goes : (found : Option ℕ) (plan : Plan) (s : Counts) → None ≡ (tick_full found plan s).cause →
+    Goes plan s (tick_full found plan s)
 full-goes (Some line) plan s e = absurd cc
 full-goes None plan s e =
     elim (cases_Bool (is_missing plan s)) [
@@ -107,7 +133,8 @@ full-goes None plan s e =
       | inr there ↦ record { moves = rw there refl; has_cell = there }
     ]
 
-held-goes : (found : Option ℕ) (plan : Plan) (s : Counts) → None ≡ (tick_held found plan s).cause → Goes plan s (tick_held found plan s)
+held-goes : (found : Option ℕ) (plan : Plan) (s : Counts) → None ≡ (tick_held found plan s).cause →
+    Goes plan s (tick_held found plan s)
 held-goes (Some item) plan s e = absurd cc
 held-goes None plan s e = full-goes (full plan.ticks s.ticks 0 s.lines) plan s e
 
@@ -121,19 +148,68 @@ tick-goes plan s e =
           (omega (arith, low), rw left (held-goes (held s.ticks s.frames s.commands 0 plan.items) plan s f))
     ]
 
+-- each test of a tick that is made
+slots-none : (found : Option ℕ) (plan : Plan) (s : Counts) → None ≡ (tick_full found plan s).cause → found ≡ None
+slots-none (Some line) plan s e = absurd cc
+slots-none None plan s e = refl
+
+held-none : (found : Option ℕ) (plan : Plan) (s : Counts) → None ≡ (tick_held found plan s).cause →
+    (found ≡ None) × (full plan.ticks s.ticks 0 s.lines ≡ None)
+held-none (Some item) plan s e = absurd cc
+held-none None plan s e = (refl, slots-none (full plan.ticks s.ticks 0 s.lines) plan s e)
+
+record IsFree (plan : Plan) (s : Counts) : Type 0 where
+  left : nat_le plan.ticks s.ticks ≡ false
+  no_item : held s.ticks s.frames s.commands 0 plan.items ≡ None
+  slots : full plan.ticks s.ticks 0 s.lines ≡ None
+
+tick-free : (plan : Plan) (s : Counts) → None ≡ (tick plan s).cause → IsFree plan s
+tick-free plan s e =
+    elim (cases_Bool (nat_le plan.ticks s.ticks)) [
+      | inl done ↦ absurd (let f : None ≡ Some Done = rw done at e in cc)
+      | inr left ↦
+          let f : None ≡ (tick_held (held s.ticks s.frames s.commands 0 plan.items) plan s).cause = rw left at e in
+          let (item, slots) = held-none (held s.ticks s.frames s.commands 0 plan.items) plan s f in
+          record { left = left; no_item = item; slots = slots }
+    ]
+
+-- a return cell that isn't missing
+not-missing : (plan : Plan) (s : Counts) (cells : List BackCell) → length cells ≡ in_inbox plan s →
+    missing_by (needed_at plan.lag s.ticks) cells ≡ None → is_missing plan s ≡ false
+not-missing plan s cells size none =
+    elim (cases_Bool (is_missing plan s)) [
+      | inr there ↦ there
+      | inl misses ↦
+          let at : s.ticks % 16 ≡ 8 = grind (arith, misses) in
+          let since : 16 * plan.lag + 8 ≤ s.ticks = grind (arith, misses) in
+          let empty : in_inbox plan s ≤ 0 = grind (arith, misses) in
+          let place : s.ticks % 16 == 8 ≡ true = eq-eqb (s.ticks % 16) 8 at in
+          let late : nat_le plan.lag (s.ticks / 16) ≡ true =
+          le-yes plan.lag (s.ticks / 16) (omega (arith, at, since)) in
+          let need : needed_at plan.lag s.ticks ≡ Some (s.ticks / 16 - plan.lag) = rw (place, late) refl in
+          absurd (missing-none (s.ticks / 16 - plan.lag) cells (let h = empty in let e = size in omega arith)
+          (ap (λ n. missing_by n cells) (sym need) ∙ none))
+    ]
+  where
+    missing-none : (packet : ℕ) (cells : List BackCell) → length cells ≡ 0 → missing_by (Some packet) cells ≡ None → ⊥
+    missing-none packet [] size none = let e : Some packet ≡ None = none in absurd cc
+    missing-none packet (cell ∷ cells) size none = absurd (omega arith)
+
 -- ---- the return cell of a tick
 -- the tick takes this cell, or none, and leaves this of the return path
 record IsTaken (script : Script) (s : Counts) (back : Return) (cell : Option BackCell) (path : Return) : Type 0 where
   told : told_before script (s.ticks + 1) ≡ with_cell (told_before script s.ticks) cell
   inbox : path.inbox ≡ inbox script (record s { ticks = s.ticks + 1 })
   ring : path.ring ≡ back.ring
+  lost : path.lost ≡ back.lost
   room : path.room ≡ back.room
   backs : path.backs ≡ back.backs
   noted : s.ticks % 16 ≡ 8 → cell ≡ cell_taken script (s.ticks / 16)
   some : is_some cell ≡ is_some (needed_at script.config.lag s.ticks)
 
 -- where the cell that is needed is not missing, it is there
-cell-there : (lag ticks backs : ℕ) → ticks % 16 == 8 ≡ true → lag ≤ ticks / 16 → nat_le (16 * lag + 8) ticks && ticks % 16 == 8 && nat_le (backs - used_in lag ticks) 0 ≡ false →
+cell-there : (lag ticks backs : ℕ) → ticks % 16 == 8 ≡ true → lag ≤ ticks / 16 →
+    nat_le (16 * lag + 8) ticks && ticks % 16 == 8 && nat_le (backs - used_in lag ticks) 0 ≡ false →
     used_in lag ticks < backs
 cell-there lag ticks backs place since e =
     let at = eqb-true (ticks % 16) 8 place in
@@ -142,8 +218,10 @@ cell-there lag ticks backs place since e =
     let h = leb-false (backs - used_in lag ticks) 0 some in
     omega (arith, h)
 
-taken-some : (script : Script) (s : Counts) (back path : Return) (cell : Option BackCell) → CanWalk script → IsWalked script s → s.rows ≤ script.config.ticks → HasBack script s back →
-    is_missing (walk_plan script) s ≡ false → s.ticks % 16 == 8 ≡ true → nat_le script.config.lag (s.ticks / 16) ≡ true →
+taken-some : (script : Script) (s : Counts) (back path : Return) (cell : Option BackCell) → CanWalk script →
+    IsWalked script s → s.rows ≤ script.config.ticks → HasBack script s back →
+    is_missing (walk_plan script) s ≡ false → s.ticks % 16 == 8 ≡ true →
+    nat_le script.config.lag (s.ticks / 16) ≡ true →
     cell ≡ slice_get back.inbox 0 → path ≡ record back { inbox = drop 1 back.inbox } → IsTaken script s back cell path
 taken-some script s back path cell can walked rows has there place late first left =
     let lag = script.config.lag in
@@ -152,44 +230,60 @@ taken-some script s back path cell can walked rows has there place late first le
     let since = leb-true lag (s.ticks / 16) late in
     let need : needed_at lag s.ticks ≡ Some (s.ticks / 16 - lag) = rw (place, late) refl in
     let low = cell-there lag s.ticks s.backs place since there in
-    let more : used_in lag (s.ticks + 1) ≡ used_in lag s.ticks + 1 = return_laws.used-next lag s.ticks ∙ rw (place, late) refl in
+    let more : used_in lag (s.ticks + 1) ≡ used_in lag s.ticks + 1 = return_laws.used-next lag s.ticks
+    ∙ rw (place, late) refl in
     let box = has.inbox ∙ return_laws.inbox-taken script s (s.ticks + 1) low more in
     let is : cell ≡ Some (back_cell script used) = first ∙ ap (λ cells. slice_get cells 0) box in
     let ends = said-ends script s used can walked low in
     record {
-      told = ap (cells_before (scenario_of script)) more ∙ return_laws.cells-next script can used (omega (arith, ends, rows)) ∙ sym (ap (with_cell (told_before script s.ticks)) is);
+      told = ap (cells_before (scenario_of script)) more
+          ∙ return_laws.cells-next script can used (omega (arith, ends, rows))
+          ∙ sym (ap (with_cell (told_before script s.ticks)) is);
       inbox = ap (λ (p : Return). p.inbox) left ∙ ap (drop 1) box;
       ring = ap (λ (p : Return). p.ring) left;
+      lost = ap (λ (p : Return). p.lost) left;
       room = ap (λ (p : Return). p.room) left;
       backs = ap (λ (p : Return). p.backs) left;
       noted = λ place_. is ∙ rw late (ap (λ k. Some (back_cell script k)) (used-now lag s.ticks at since));
       some = ap is_some is ∙ sym (ap is_some need);
     }
 
-taken-none : (script : Script) (s : Counts) (back path : Return) (cell : Option BackCell) → HasBack script s back → used_in script.config.lag (s.ticks + 1) ≡ used_in script.config.lag s.ticks →
-    needed_at script.config.lag s.ticks ≡ None → (s.ticks % 16 ≡ 8 → None ≡ cell_taken script (s.ticks / 16)) → cell ≡ None → path ≡ back → IsTaken script s back cell path
+taken-none : (script : Script) (s : Counts) (back path : Return) (cell : Option BackCell) → HasBack script s back →
+    used_in script.config.lag (s.ticks + 1) ≡ used_in script.config.lag s.ticks →
+    needed_at script.config.lag s.ticks ≡ None → (s.ticks % 16 ≡ 8 → None ≡ cell_taken script (s.ticks / 16)) →
+    cell ≡ None → path ≡ back → IsTaken script s back cell path
 taken-none script s back path cell has same need noted is left = record {
   told = ap (cells_before (scenario_of script)) same ∙ sym (ap (with_cell (told_before script s.ticks)) is);
-  inbox = ap (λ (p : Return). p.inbox) left ∙ has.inbox ∙ ap (λ u. map (back_cell script) (range_with_len u (s.backs - u))) (sym same);
+  inbox = ap (λ (p : Return). p.inbox) left ∙ has.inbox
+      ∙ ap (λ u. map (back_cell script) (range_with_len u (s.backs - u))) (sym same);
   ring = ap (λ (p : Return). p.ring) left;
+  lost = ap (λ (p : Return). p.lost) left;
   room = ap (λ (p : Return). p.room) left;
   backs = ap (λ (p : Return). p.backs) left;
   noted = λ place. is ∙ noted place;
   some = ap is_some is ∙ sym (ap is_some need);
 }
 
-taken : (script : Script) (s : Counts) (back path : Return) (cell : Option BackCell) → CanWalk script → IsWalked script s → s.rows ≤ script.config.ticks → HasBack script s back →
+taken : (script : Script) (s : Counts) (back path : Return) (cell : Option BackCell) → CanWalk script →
+    IsWalked script s → s.rows ≤ script.config.ticks → HasBack script s back →
     is_missing (walk_plan script) s ≡ false →
     cell ≡ (if is_some (needed_at script.config.lag s.ticks) then slice_get back.inbox 0 else None) →
-    path ≡ (if is_some (needed_at script.config.lag s.ticks) then record back { inbox = drop 1 back.inbox } else back) → IsTaken script s back cell path
+    path ≡ (if is_some (needed_at script.config.lag s.ticks) then record back
+    { inbox = drop 1 back.inbox } else back) → IsTaken script s back cell path
 taken script s back path cell can walked rows has there first left =
     let lag = script.config.lag in
     elim (cases_Bool (s.ticks % 16 == 8)) [
-      | inr other ↦ taken-none script s back path cell has (return_laws.used-next lag s.ticks ∙ rw other (let e : used_in lag s.ticks + 0 ≡ used_in lag s.ticks = omega arith in e)) (rw other refl)
+      | inr other ↦ taken-none script s back path cell has
+          (return_laws.used-next lag s.ticks
+          ∙ rw other (let e : used_in lag s.ticks + 0 ≡ used_in lag s.ticks = omega arith in e)) (rw other refl)
           (λ place. absurd (return_laws.not-equal (s.ticks % 16) 8 other place)) (rw other at first) (rw other at left)
       | inl place ↦ elim (cases_Bool (nat_le lag (s.ticks / 16))) [
-        | inl late ↦ taken-some script s back path cell can walked rows has there place late (rw (place, late) at first) (rw (place, late) at left)
-        | inr early ↦ taken-none script s back path cell has (return_laws.used-next lag s.ticks ∙ rw (place, early) (let e : used_in lag s.ticks + 0 ≡ used_in lag s.ticks = omega arith in e)) (rw (place, early) refl)
+        | inl late ↦ taken-some script s back path cell can walked rows has there place late
+            (rw (place, late) at first) (rw (place, late) at left)
+        | inr early ↦ taken-none script s back path cell has
+            (return_laws.used-next lag s.ticks
+            ∙ rw (place, early) (let e : used_in lag s.ticks + 0 ≡ used_in lag s.ticks = omega arith in e))
+            (rw (place, early) refl)
             (λ at. rw early refl) (rw (place, early) at first) (rw (place, early) at left)
       ]
     ]
@@ -198,190 +292,358 @@ taken script s back path cell can walked rows has there first left =
 apart-places : (t n : ℕ) → t < n → n ≤ t + 31 → t % 32 ≡ n % 32 → ⊥
 apart-places t n low high e = omega (arith, low, high, e)
 
-frame-long : (script : Script) (t : ℕ) → length (frame_of (scenario_of script) (session_cells (scenario_of script)) t) ≡ length script.config.windows
+frame-long : (script : Script) (t : ℕ) →
+    length (frame_of (scenario_of script) (session_cells (scenario_of script)) t) ≡ length script.config.windows
 frame-long script t =
-    length-map (range_with_len 0 (length script.config.windows)) (λ line. container_of (scenario_of script) (session_cells (scenario_of script)) line t)
+    length-map (range_with_len 0 (length script.config.windows))
+    (λ line. container_of (scenario_of script) (session_cells (scenario_of script)) line t)
     ∙ length-range_with_len 0 (length script.config.windows)
 
-sent-more : (script : Script) (ticks : ℕ) (counts : List LineCounts) (sent : List (List Container)) (frame : List Container) → HasSent script ticks counts sent →
-    frame ≡ frame_of (scenario_of script) (session_cells (scenario_of script)) ticks → length frame ≡ script.config.lines → HasSent script (ticks + 1) counts (slice_set sent (ticks % 32) frame)
+sent-more : (script : Script) (ticks : ℕ) (counts : List LineCounts) (sent : List (List Container))
+    (frame : List Container) → HasSent script ticks counts sent →
+    frame ≡ frame_of (scenario_of script) (session_cells (scenario_of script)) ticks →
+    length frame ≡ script.config.lines → HasSent script (ticks + 1) counts (slice_set sent (ticks % 32) frame)
 sent-more script ticks counts sent frame has is long = record {
   places = length-slice_set sent (ticks % 32) frame ∙ has.places;
   lines = λ k other e. elim (cases_eq k (ticks % 32)) [
-    | inl same ↦ ap length (set-here sent (ticks % 32) frame other (sym (ap (slice_get (slice_set sent (ticks % 32) frame)) same) ∙ e)) ∙ long
+    | inl same ↦ ap length (set-here sent (ticks % 32) frame other
+        (sym (ap (slice_get (slice_set sent (ticks % 32) frame)) same) ∙ e)) ∙ long
     | inr apart ↦ has.lines k other (sym (slice_get-set_other sent (ticks % 32) k frame apart) ∙ e)
   ];
   frames = λ t m other inside late low high told. elim (cases_lt t ticks) [
     | inl before ↦
         has.frames t m other inside late before (omega (arith, high))
-        (sym (slice_get-set_other sent (ticks % 32) (t % 32) frame (apart-places t ticks before (omega (arith, high)))) ∙ told)
+        (sym (slice_get-set_other sent (ticks % 32) (t % 32) frame (apart-places t ticks before (omega (arith, high))))
+        ∙ told)
     | inr now ↦
         let e : t ≡ ticks = omega (arith, low, now) in
         let windows = ap length is ∙ frame-long script ticks in
-        ap (λ xs. slice_get xs m) (set-here sent (ticks % 32) frame other (sym (ap (λ n. slice_get (slice_set sent (ticks % 32) frame) (n % 32)) e) ∙ told) ∙ is)
+        ap (λ xs. slice_get xs m)
+        (set-here sent (ticks % 32) frame other
+        (sym (ap (λ n. slice_get (slice_set sent (ticks % 32) frame) (n % 32)) e) ∙ told) ∙ is)
         ∙ frame-at script m ticks (omega (arith, inside, windows, long))
         ∙ ap (λ n. Some (sent_at script m n)) (sym e)
   ];
 }
 
 -- ---- the last decision step
-note-next : (script : Script) (ticks : ℕ) (cell : Option BackCell) (last note : Option StepNote) → last ≡ note_of script (last_packet ticks) →
-    (ticks % 16 ≡ 8 → cell ≡ cell_taken script (ticks / 16)) → note ≡ (if ticks % 16 == 8 then Some (record { packet = ticks / 16; back = cell }) else last) →
+note-next : (script : Script) (ticks : ℕ) (cell : Option BackCell) (last note : Option StepNote) →
+    last ≡ note_of script (last_packet ticks) →
+    (ticks % 16 ≡ 8 → cell ≡ cell_taken script (ticks / 16)) →
+    note ≡ (if ticks % 16 == 8 then Some (record { packet = ticks / 16; back = cell }) else last) →
     note ≡ note_of script (last_packet (ticks + 1))
 note-next script ticks cell last note before noted is =
     elim (cases_Bool (ticks % 16 == 8)) [
       | inl place ↦
           let now : note ≡ Some (record { packet = ticks / 16; back = cell }) = rw place at is in
           let next : last_packet (ticks + 1) ≡ Some (ticks / 16) = last-next ticks ∙ rw place refl in
-          now ∙ ap (λ c. Some (record { packet = ticks / 16; back = c })) (noted (eqb-true (ticks % 16) 8 place)) ∙ sym (ap (note_of script) next)
+          now ∙ ap (λ c. Some (record { packet = ticks / 16; back = c })) (noted (eqb-true (ticks % 16) 8 place))
+          ∙ sym (ap (note_of script) next)
       | inr other ↦
           let now : note ≡ last = rw other at is in
           let next : last_packet (ticks + 1) ≡ last_packet ticks = last-next ticks ∙ rw other refl in
           now ∙ before ∙ sym (ap (note_of script) next)
     ]
 
+-- the return path once the source has taken what it needs
+pub path-left : (needs : Bool) (ring : List Packet) (inbox next : Inbox) →
+    next ≡ record inbox { cells = rest_for needs inbox.cells } →
+    path_of ring next ≡ (if needs then record (path_of ring inbox)
+    { inbox = drop 1 inbox.cells } else path_of ring inbox)
+path-left true ring inbox next e = ap (path_of ring) e
+path-left false ring inbox next e = ap (path_of ring) e
+
 -- ---- of a walk
-carried-at : (lines : List Ringed) (k : ℕ) (d : Ringed) → k < length lines → (counts_at (map line_counts lines) k).carried ≡ (slice_index_or lines k d).carried
+carried-at : (lines : List Ringed) (k : ℕ) (d : Ringed) → k < length lines →
+    (counts_at (map line_counts lines) k).carried ≡ (slice_index_or lines k d).carried
 carried-at [] k d low = absurd (omega arith)
 carried-at (x ∷ xs) zero d low = refl
 carried-at (x ∷ xs) (suc k) d low = carried-at xs k d (omega arith)
 
-module _ (script : Script) (parts : Parts) (landing : Landing) (got : ℕ) (last : Option StepNote) (is : IsWalk script parts landing got last) where
-  pub lines-made : (lines : List Ringed) → lines ≡ parts.lines → (k : ℕ) (d : Ringed) → k < length lines → min (slice_index_or lines k d).carried script.config.ticks ≤ parts.source.ticks
+module _ (script : Script) (parts : Parts) (landing : Landed) (got : ℕ) (last : Option StepNote)
+    (is : IsWalk script parts landing got last) where
+  pub lines-made : (lines : List Ringed) → lines ≡ parts.lines → (k : ℕ) (d : Ringed) → k < length lines →
+      min (slice_index_or lines k d).carried script.config.ticks ≤ parts.source.ticks
   lines-made lines same k d low =
       let size = ap length same ∙ is.lines.size in
       let windows = is.valid.network.windows_each in
-      let fits = line-fits script (counts_of parts landing) (valid-walks script is.valid) is.walked k (omega (arith, low, size, windows)) in
+      let fits = line-fits script (counts_of parts landing) (valid-walks script is.valid) is.walked k
+      (omega (arith, low, size, windows)) in
       let sent = fits.sent in
-      let at = ap (λ (ls : List Ringed). (counts_at (map line_counts ls) k).carried) (sym same) ∙ carried-at lines k d low in
+      let at = ap (λ (ls : List Ringed). (counts_at (map line_counts ls) k).carried) (sym same)
+      ∙ carried-at lines k d low in
       subst (λ n. min n script.config.ticks ≤ parts.source.ticks) at sent
 
-  pub missing-cause : (packet : ℕ) → parts.source.ticks < script.config.ticks → held parts.source.ticks landing.frames landing.commands 0 (walk_plan script).items ≡ None →
-      full script.config.ticks parts.source.ticks 0 (map line_counts parts.lines) ≡ None → needed parts.source ≡ Some packet → parts.back.inbox ≡ [] →
+  pub missing-cause : (packet : ℕ) → parts.source.ticks < script.config.ticks →
+      held parts.source.ticks landing.frames landing.commands 0 (walk_plan script).items ≡ None →
+      full script.config.ticks parts.source.ticks 0 (map line_counts parts.lines) ≡ None →
+      needed parts.source ≡ Some packet → parts.back.inbox ≡ [] →
       Some (BackMissing packet) ≡ (step (walk_plan script) (counts_of parts landing) Tick).cause
   missing-cause packet low none_held none_full need none =
-      let size : length (inbox script (counts_of parts landing)) ≡ in_inbox (walk_plan script) (counts_of parts landing) =
-      length-map (range_with_len (used_in script.config.lag parts.source.ticks) (in_inbox (walk_plan script) (counts_of parts landing))) (back_cell script)
-      ∙ length-range_with_len (used_in script.config.lag parts.source.ticks) (in_inbox (walk_plan script) (counts_of parts landing)) in
-      sym (missing-here (walk_plan script) (counts_of parts landing) packet low none_held none_full (ap (λ lag. needed_at lag parts.source.ticks) (sym is.source.lag) ∙ need)
+      let size : length (inbox script (counts_of parts landing))
+      ≡ in_inbox (walk_plan script) (counts_of parts landing) =
+      length-map (range_with_len (used_in script.config.lag parts.source.ticks)
+      (in_inbox (walk_plan script) (counts_of parts landing))) (back_cell script)
+      ∙ length-range_with_len (used_in script.config.lag parts.source.ticks)
+      (in_inbox (walk_plan script) (counts_of parts landing)) in
+      sym (missing-here (walk_plan script) (counts_of parts landing) packet low none_held none_full
+      (ap (λ lag. needed_at lag parts.source.ticks) (sym is.source.lag) ∙ need)
       (sym size ∙ sym (ap length is.back.inbox) ∙ ap length none))
 
-  pub tick-stays : (cause : StallCause) → Some cause ≡ (step (walk_plan script) (counts_of parts landing) Tick).cause →
-      (counts_of parts landing ≡ counts_after script (counts_of parts landing) Tick) × (Stalled cause ≡ moved_of script (counts_of parts landing) Tick)
-  tick-stays cause e =
-      (sym (not-take (stalled-same (walk_plan script) (counts_of parts landing) Tick cause (sym e))), ap (λ o. answer_by o None) e)
+  inbox-size : length parts.back.inbox ≡ in_inbox (walk_plan script) (counts_of parts landing)
+  inbox-size =
+      ap length is.back.inbox
+      ∙ length-map (range_with_len (used_in script.config.lag parts.source.ticks)
+      (in_inbox (walk_plan script) (counts_of parts landing))) (back_cell script)
+      ∙ length-range_with_len (used_in script.config.lag parts.source.ticks)
+      (in_inbox (walk_plan script) (counts_of parts landing))
+
+  bare-held : held parts.source.ticks landing.frames landing.commands 0 (dues_of landing.items)
+      ≡ held parts.source.ticks landing.frames landing.commands 0 (walk_plan script).items
+  bare-held = ap (held parts.source.ticks landing.frames landing.commands 0)
+      (ap dues_of is.landed.items ∙ bare-dues script.items)
+
+  -- why no frame is made, by what the source says
+  pub early-cause : (cause : EarlyCause) →
+      (if nat_le parts.total parts.source.ticks then Some Early_done else option_map Early_held
+      (held parts.source.ticks landing.frames landing.commands 0 (dues_of landing.items))) ≡ Some cause →
+      Some (early_stall cause) ≡ (step (walk_plan script) (counts_of parts landing) Tick).cause
+  early-cause cause e =
+      by-total (nat_le script.config.ticks parts.source.ticks) refl
+      (held parts.source.ticks landing.frames landing.commands 0 (walk_plan script).items) refl
+      (sym (ap (λ n. if nat_le n parts.source.ticks then Some Early_done else option_map Early_held
+      (held parts.source.ticks landing.frames landing.commands 0 (dues_of landing.items))) is.total
+      ∙ ap (λ (h : Option ℕ). if nat_le script.config.ticks parts.source.ticks then Some Early_done else option_map Early_held h) bare-held) ∙ e)
     where
-      not-take : ChangesNothing (walk_plan script) (counts_of parts landing) Tick → (step (walk_plan script) (counts_of parts landing) Tick).counts ≡ counts_of parts landing
+      by-total : (done : Bool) → nat_le script.config.ticks parts.source.ticks ≡ done → (found : Option ℕ) →
+          held parts.source.ticks landing.frames landing.commands 0 (walk_plan script).items ≡ found →
+          (if done then Some Early_done else option_map Early_held found) ≡ Some cause →
+          Some (early_stall cause) ≡ (step (walk_plan script) (counts_of parts landing) Tick).cause
+      by-total true past found is_found e = rw past (let same : Early_done ≡ cause = cc in
+          ap (λ c. Some (early_stall c)) (sym same))
+      by-total false left None is_found e = absurd cc
+      by-total false left (Some item) is_found e = rw (left, is_found) (let same : Early_held item ≡ cause = cc in
+          ap (λ c. Some (early_stall c)) (sym same))
+
+  module _ (free : (if nat_le parts.total parts.source.ticks then Some Early_done else option_map Early_held
+      (held parts.source.ticks landing.frames landing.commands 0 (dues_of landing.items))) ≡ None) where
+    left-none : (nat_le script.config.ticks parts.source.ticks ≡ false) ×
+        (held parts.source.ticks landing.frames landing.commands 0 (walk_plan script).items ≡ None)
+    left-none =
+        by-none (nat_le script.config.ticks parts.source.ticks)
+        (held parts.source.ticks landing.frames landing.commands 0 (walk_plan script).items)
+        (sym (ap (λ n. if nat_le n parts.source.ticks then Some Early_done else option_map Early_held
+        (held parts.source.ticks landing.frames landing.commands 0 (dues_of landing.items))) is.total
+        ∙ ap (λ (h : Option ℕ). if nat_le script.config.ticks parts.source.ticks then Some Early_done else option_map Early_held h) bare-held) ∙ free)
+      where
+        by-none : (done : Bool) (found : Option ℕ) →
+            ◌≡◌ {A = Option EarlyCause} (if done then Some Early_done else option_map Early_held found) None →
+            (done ≡ false) × (found ≡ None)
+        by-none true found e = absurd cc
+        by-none false None e = (refl, refl)
+        by-none false (Some item) e = absurd cc
+
+    pub full-cause : (line : ℕ) →
+        full script.config.ticks parts.source.ticks 0 (map line_counts parts.lines) ≡ Some line →
+        Some (TxFull line) ≡ (step (walk_plan script) (counts_of parts landing) Tick).cause
+    full-cause line found = rw (left-none.0, left-none.1, found) refl
+
+    pub missing-stalls : (packet : ℕ) →
+        full script.config.ticks parts.source.ticks 0 (map line_counts parts.lines) ≡ None →
+        missing_by (needed parts.source) parts.back.inbox ≡ Some packet →
+        Some (BackMissing packet) ≡ (step (walk_plan script) (counts_of parts landing) Tick).cause
+    missing-stalls packet slots misses =
+        let (need, none) = missing-some (needed parts.source) parts.back.inbox packet misses in
+        missing-cause packet (leb-false script.config.ticks parts.source.ticks left-none.0) left-none.1 slots need none
+
+    pub no-cause : full script.config.ticks parts.source.ticks 0 (map line_counts parts.lines) ≡ None →
+        missing_by (needed parts.source) parts.back.inbox ≡ None →
+        None ≡ (step (walk_plan script) (counts_of parts landing) Tick).cause
+    no-cause slots there =
+        let has = not-missing (walk_plan script) (counts_of parts landing) parts.back.inbox inbox-size
+        (ap (λ lag. missing_by (needed_at lag parts.source.ticks) parts.back.inbox) (sym is.source.lag) ∙ there) in
+        rw (left-none.0, left-none.1, slots, has) refl
+
+  pub tick-stays : (cause : StallCause) → Some cause ≡ (step (walk_plan script) (counts_of parts landing) Tick).cause →
+      (counts_of parts landing ≡ counts_after script (counts_of parts landing) Tick) ×
+      (Stalled cause ≡ moved_of script (counts_of parts landing) Tick)
+  tick-stays cause e =
+      (sym (not-take (stalled-same (walk_plan script) (counts_of parts landing) Tick cause (sym e))), ap
+      (λ o. answer_by o None) e)
+    where
+      not-take : ChangesNothing (walk_plan script) (counts_of parts landing) Tick →
+          (step (walk_plan script) (counts_of parts landing) Tick).counts ≡ counts_of parts landing
       not-take (inl same) = same
       not-take (inr take) = absurd (let e = take.0 in cc)
 
   module _ (e : None ≡ (step (walk_plan script) (counts_of parts landing) Tick).cause) where
-    goes : (parts.source.ticks < script.config.ticks) × Goes (walk_plan script) (counts_of parts landing) (tick (walk_plan script) (counts_of parts landing))
+    goes : (parts.source.ticks < script.config.ticks) × Goes (walk_plan script) (counts_of parts landing)
+        (tick (walk_plan script) (counts_of parts landing))
     goes = tick-goes (walk_plan script) (counts_of parts landing) e
 
     pub ticks-few : parts.source.ticks < 4294967295
     ticks-few = let low = goes.0 in let most = is.valid.network.ticks.1 in omega (arith, low, most)
+
+    free : IsFree (walk_plan script) (counts_of parts landing)
+    free = tick-free (walk_plan script) (counts_of parts landing) e
+
+    -- the source has no cause either
+    pub early-free : (if nat_le parts.total parts.source.ticks then Some Early_done else option_map Early_held
+        (held parts.source.ticks landing.frames landing.commands 0 (dues_of landing.items))) ≡ None
+    early-free =
+        ap (λ n. if nat_le n parts.source.ticks then Some Early_done else option_map Early_held
+        (held parts.source.ticks landing.frames landing.commands 0 (dues_of landing.items))) is.total
+        ∙ rw (free.left) (ap (option_map Early_held) (bare-held ∙ free.no_item))
+
+    pub missing-free : missing_by (needed parts.source) parts.back.inbox ≡ None
+    missing-free = by-found (missing_by (needed parts.source) parts.back.inbox) refl
+      where
+        by-found : (found : Option ℕ) → missing_by (needed parts.source) parts.back.inbox ≡ found → found ≡ None
+        by-found None same = refl
+        by-found (Some packet) same = absurd
+            (let f : None ≡ Some (BackMissing packet) = e ∙ sym (missing-stalls early-free packet free.slots same) in cc)
 
     pub tick-moved : Yes ≡ moved_of script (counts_of parts landing) Tick
     tick-moved = ap (λ o. answer_by o None) e
 
     module _ (cell : Option BackCell) (path : Return)
         (first : cell ≡ (if is_some (needed parts.source) then slice_get parts.back.inbox 0 else None))
-        (left : path ≡ (if is_some (needed parts.source) then record parts.back { inbox = drop 1 parts.back.inbox } else parts.back)) where
+        (left : path ≡ (if is_some (needed parts.source) then record parts.back
+            { inbox = drop 1 parts.back.inbox } else parts.back)) where
       is_taken : IsTaken script (counts_of parts landing) parts.back cell path
       is_taken =
           let fits = walk-fits script (counts_of parts landing) is.valid is.walked in
-          taken script (counts_of parts landing) parts.back path cell (valid-walks script is.valid) is.walked fits.rows is.back goes.1.has_cell
-          (subst (λ lag. cell ≡ (if is_some (needed_at lag parts.source.ticks) then slice_get parts.back.inbox 0 else None)) is.source.lag first)
-          (subst (λ lag. path ≡ (if is_some (needed_at lag parts.source.ticks) then record parts.back { inbox = drop 1 parts.back.inbox } else parts.back)) is.source.lag left)
+          taken script (counts_of parts landing) parts.back path cell
+          (valid-walks script is.valid) is.walked fits.rows is.back goes.1.has_cell
+          (subst (λ lag. cell ≡
+          (if is_some (needed_at lag parts.source.ticks) then slice_get parts.back.inbox 0 else None)) is.source.lag first)
+          (subst (λ lag. path ≡
+          (if is_some (needed_at lag parts.source.ticks) then record parts.back
+          { inbox = drop 1 parts.back.inbox } else parts.back)) is.source.lag left)
 
       pub some-needed : is_some cell ≡ is_some (needed parts.source)
       some-needed = is_taken.some ∙ ap (λ lag. is_some (needed_at lag parts.source.ticks)) (sym is.source.lag)
 
-      module _ (source : Terminal) (stands : (scenario : Scenario) (cells : List (Option Told)) → HasMade parts.source scenario cells → HasMade source scenario (with_cell cells cell))
+      module _ (source : Terminal)
+          (stands : (scenario : Scenario) (cells : List (Option Told)) → HasMade parts.source scenario cells →
+          HasMade source scenario (with_cell cells cell))
           (ticks : source.ticks ≡ parts.source.ticks + 1) (kind : SameKind source parts.source)
-          (frame : List Container) (made : (scenario : Scenario) (cells : List (Option Told)) → HasMade parts.source scenario cells → frame ≡ frame_of scenario (with_cell cells cell) parts.source.ticks)
-          (note : Option StepNote) (noted : note ≡ (if parts.source.ticks % 16 == 8 then Some (record { packet = parts.source.ticks / 16; back = cell }) else last)) where
+          (frame : List Container)
+              (made : (scenario : Scenario) (cells : List (Option Told)) → HasMade parts.source scenario cells →
+              frame ≡ frame_of scenario (with_cell cells cell) parts.source.ticks)
+          (note : Option StepNote)
+              (noted : note ≡ (if parts.source.ticks % 16 == 8 then Some
+              (record { packet = parts.source.ticks / 16; back = cell }) else last)) where
         after : Counts
         after = record (counts_of parts landing) { ticks = parts.source.ticks + 1 }
 
         next : Parts
-        next = record parts { source = source; sent = slice_set parts.sent (parts.source.ticks % 32) frame; back = path }
+        next = record parts { source = source; sent = slice_set parts.sent
+            (parts.source.ticks % 32) frame; back = path }
 
-        counts-are : counts_of (record parts { source = source; sent = slice_set parts.sent (parts.source.ticks % 32) frame; back = path }) landing ≡ record (counts_of parts landing) { ticks = parts.source.ticks + 1 }
+        counts-are : counts_of (record parts
+            { source = source; sent = slice_set parts.sent (parts.source.ticks % 32) frame; back = path }) landing
+            ≡ record (counts_of parts landing) { ticks = parts.source.ticks + 1 }
         counts-are =
             ap (λ n. record (counts_of parts landing) { ticks = n; backs = path.backs }) ticks
             ∙ ap (λ n. record (counts_of parts landing) { ticks = parts.source.ticks + 1; backs = n }) is_taken.backs
 
-        pub tick-counts : counts_of (record parts { source = source; sent = slice_set parts.sent (parts.source.ticks % 32) frame; back = path }) landing ≡ counts_after script (counts_of parts landing) Tick
+        pub tick-counts : counts_of
+            (record parts { source = source; sent = slice_set parts.sent
+            (parts.source.ticks % 32) frame; back = path }) landing ≡ counts_after script (counts_of parts landing) Tick
         tick-counts = counts-are ∙ sym (ap (λ (x : Step). x.counts) goes.1.moves)
 
         walked-after : IsWalked script (record (counts_of parts landing) { ticks = parts.source.ticks + 1 })
-        walked-after = walked-next script (counts_of parts landing) _ Tick is.walked (sym (ap (λ (x : Step). x.counts) goes.1.moves))
+        walked-after = walked-next script (counts_of parts landing) _ Tick is.walked
+            (sym (ap (λ (x : Step). x.counts) goes.1.moves))
 
         frame-is : frame ≡ frame_of (scenario_of script) (session_cells (scenario_of script)) parts.source.ticks
         frame-is =
-            made (landed_scenario script (counts_of parts landing)) (told_before script parts.source.ticks) is.source.made
-            ∙ ap (λ cells. frame_of (landed_scenario script (counts_of parts landing)) cells parts.source.ticks) (sym is_taken.told)
-            ∙ told-frames script (record (counts_of parts landing) { ticks = parts.source.ticks + 1 }) (valid-walks script is.valid) walked-after parts.source.ticks (omega arith)
+            made (landed_scenario script (counts_of parts landing))
+            (told_before script parts.source.ticks) is.source.made
+            ∙ ap (λ cells. frame_of (landed_scenario script (counts_of parts landing)) cells parts.source.ticks)
+            (sym is_taken.told)
+            ∙ told-frames script (record (counts_of parts landing) { ticks = parts.source.ticks + 1 })
+            (valid-walks script is.valid) walked-after parts.source.ticks (omega arith)
 
-        pub tick-kept : IsWalk script (record parts { source = source; sent = slice_set parts.sent (parts.source.ticks % 32) frame; back = path }) landing got note
+        pub tick-kept : IsWalk script
+            (record parts { source = source; sent = slice_set parts.sent
+            (parts.source.ticks % 32) frame; back = path }) landing got note
         tick-kept = record {
           valid = is.valid;
+          total = is.total;
           walked = subst (IsWalked script) (sym counts-are) walked-after;
           source = subst (λ s. HasSource script s source) (sym counts-are) (record {
             made = subst (HasMade source (landed_scenario script (counts_of parts landing))) (sym is_taken.told)
-                (stands (landed_scenario script (counts_of parts landing)) (told_before script parts.source.ticks) is.source.made);
+                (stands (landed_scenario script (counts_of parts landing))
+                (told_before script parts.source.ticks) is.source.made);
             lines = kind.lines ∙ is.source.lines;
             lag = kind.lag ∙ is.source.lag;
             size = kind.size ∙ is.source.size;
           });
-          sent = subst (λ n. HasSent script n (map line_counts parts.lines) (slice_set parts.sent (parts.source.ticks % 32) frame)) (sym ticks)
-              (sent-more script parts.source.ticks (map line_counts parts.lines) parts.sent frame is.sent frame-is (ap length frame-is ∙ frame-long script parts.source.ticks ∙ is.valid.network.windows_each));
+          sent = subst (λ n. HasSent script n (map line_counts parts.lines)
+              (slice_set parts.sent (parts.source.ticks % 32) frame)) (sym ticks)
+              (sent-more script parts.source.ticks (map line_counts parts.lines) parts.sent frame is.sent frame-is
+              (ap length frame-is ∙ frame-long script parts.source.ticks ∙ is.valid.network.windows_each));
           lines = is.lines;
           sink = record { gathers = is.sink.gathers; taken = is.sink.taken; passed = is.sink.passed; lines = is.sink.lines; all = is.sink.all; size = is.sink.size };
-          back = subst (λ s. HasBack script s path) (sym counts-are) (record { ring = is_taken.ring ∙ is.back.ring; inbox = is_taken.inbox; room = is_taken.room ∙ is.back.room });
-          landed = record { frame = is.landed.frame; command = is.landed.command; refusals = is.landed.refusals; room = is.landed.room; frames = is.landed.frames; commands = is.landed.commands; refused = is.landed.refused };
+          back = subst (λ s. HasBack script s path) (sym counts-are)
+              (record { ring = is_taken.ring ∙ is.back.ring; lost = is_taken.lost
+              ∙ is.back.lost; inbox = is_taken.inbox; room = is_taken.room ∙ is.back.room });
+          landed = record { items = is.landed.items; refusals = is.landed.refusals; frames = is.landed.frames; commands = is.landed.commands };
           counted = is.counted;
-          noted = subst (λ n. note ≡ note_of script (last_packet n)) (sym ticks) (note-next script parts.source.ticks cell last note is.noted is_taken.noted noted);
+          noted = subst (λ n. note ≡ note_of script (last_packet n)) (sym ticks)
+              (note-next script parts.source.ticks cell last note is.noted is_taken.noted noted);
         }
 
         -- by the rings as they are kept, at a number that is that of the frame
-        module _ (rows : List (Vec (Box Container))) (row : Vec (Box Container)) (own : frame_in row ≡ frame) (same : map frame_in rows ≡ parts.sent) (k : ℕ) (at : k ≡ parts.source.ticks % 32) where
+        module _ (rows : List (Vec (Box Container))) (row : Vec (Box Container)) (own : frame_in row ≡ frame)
+            (same : map frame_in rows ≡ parts.sent) (k : ℕ) (at : k ≡ parts.source.ticks % 32) where
           rows-are : slice_set parts.sent (parts.source.ticks % 32) frame ≡ map frame_in (slice_set rows k row)
           rows-are =
               sym (map-set frame_in rows k row ∙ ap (slice_set (map frame_in rows) k) own
-              ∙ ap (λ j. slice_set (map frame_in rows) j frame) at ∙ ap (λ sent. slice_set sent (parts.source.ticks % 32) frame) same)
+              ∙ ap (λ j. slice_set (map frame_in rows) j frame) at
+              ∙ ap (λ sent. slice_set sent (parts.source.ticks % 32) frame) same)
 
-          pub tick-kept_at : IsWalk script (record parts { source = source; sent = map frame_in (slice_set rows k row); back = path }) landing got note
-          tick-kept_at = subst (λ sent. IsWalk script (record parts { source = source; sent = sent; back = path }) landing got note) rows-are tick-kept
+          pub tick-kept_at : IsWalk script
+              (record parts { source = source; sent = map frame_in
+              (slice_set rows k row); back = path }) landing got note
+          tick-kept_at = subst (λ sent. IsWalk script
+              (record parts { source = source; sent = sent; back = path }) landing got note) rows-are tick-kept
 
 -- ---- the send rings before a frame is put into them
-pub sent-placed : (script : Script) (parts : Parts) (landing : Landing) (got : ℕ) (last : Option StepNote) (sent : List (List Container)) → IsWalk script parts landing got last →
-    HasSent script parts.source.ticks (map line_counts parts.lines) sent → IsWalk script (record parts { sent = sent }) landing got last
+pub sent-placed : (script : Script) (parts : Parts) (landing : Landed) (got : ℕ) (last : Option StepNote)
+    (sent : List (List Container)) → IsWalk script parts landing got last →
+    HasSent script parts.source.ticks (map line_counts parts.lines) sent →
+    IsWalk script (record parts { sent = sent }) landing got last
 sent-placed script parts landing got last sent is has = record {
   valid = is.valid;
+  total = is.total;
   walked = is.walked;
   source = record { made = is.source.made; lines = is.source.lines; lag = is.source.lag; size = is.source.size };
   sent = has;
   lines = is.lines;
   sink = record { gathers = is.sink.gathers; taken = is.sink.taken; passed = is.sink.passed; lines = is.sink.lines; all = is.sink.all; size = is.sink.size };
-  back = record { ring = is.back.ring; inbox = is.back.inbox; room = is.back.room };
-  landed = record { frame = is.landed.frame; command = is.landed.command; refusals = is.landed.refusals; room = is.landed.room; frames = is.landed.frames; commands = is.landed.commands; refused = is.landed.refused };
+  back = record { ring = is.back.ring; lost = is.back.lost; inbox = is.back.inbox; room = is.back.room };
+  landed = record { items = is.landed.items; refusals = is.landed.refusals; frames = is.landed.frames; commands = is.landed.commands };
   counted = is.counted;
   noted = is.noted;
 }
 
 -- by the ticks and the lines as they are read
-pub sent-read : (script : Script) (ticks now : ℕ) (lines own : List Ringed) (was after : List (List Container)) → now ≡ ticks → own ≡ lines →
+pub sent-read : (script : Script) (ticks now : ℕ) (lines own : List Ringed) (was after : List (List Container)) →
+    now ≡ ticks → own ≡ lines →
     (HasSent script now (map line_counts own) was → HasSent script now (map line_counts own) after) →
     HasSent script ticks (map line_counts lines) was → HasSent script ticks (map line_counts lines) after
 sent-read script ticks now lines own was after same_ticks same_lines keeps has =
     subst (λ n. HasSent script n (map line_counts lines) after) same_ticks
     (subst (λ ls. HasSent script now (map line_counts ls) after) same_lines
-    (keeps (subst (λ ls. HasSent script now (map line_counts ls) was) (sym same_lines) (subst (λ n. HasSent script n (map line_counts lines) was) (sym same_ticks) has))))
+    (keeps (subst (λ ls. HasSent script now (map line_counts ls) was) (sym same_lines)
+    (subst (λ n. HasSent script n (map line_counts lines) was) (sym same_ticks) has))))
 
 -- ---- the table
-pub table-after : (script : Script) (parts : Parts) (landing : Landing) (got : ℕ) (last : Option StepNote) → IsWalk script parts landing got last → parts.source.table.source.table ≡ table_in script parts.source.ticks
+pub table-after : (script : Script) (parts : Parts) (landing : Landed) (got : ℕ) (last : Option StepNote) →
+    IsWalk script parts landing got last → parts.source.table.source.table ≡ table_in script parts.source.ticks
 table-after script parts landing got last is =
-    ap (λ (table : Course). table.source.table) is.source.made.table ∙ table-now script (counts_of parts landing) (valid-walks script is.valid) is.walked
+    ap (λ (table : Course). table.source.table) is.source.made.table
+        ∙ table-now script (counts_of parts landing) (valid-walks script is.valid) is.walked

@@ -3,14 +3,12 @@ use Rattle.std.specs.Prelude.{◌≡◌, ℕ, List, [], length, replicate, slice
 use Rattle.std.specs.Global.{Vec, Box}
 use Rattle.vc_cell.specs.declared.Container.{Container}
 use Rattle.vc_cell.specs.declared.Cell.{Cell}
-use Rattle.session_model.specs.Scenario.{Scenario}
 use Rattle.session_model.specs.declared.script.Config.{Config}
+use Rattle.session_model.specs.declared.script.Script.{Script}
+use Rattle.group_source.specs.Source.{IsUnused}
 use Rattle.line_core.specs.Line.{opened}
 use Rattle.realign_core.specs.Gather.{Gather, Stands as Gathers, line_count}
-use Rattle.source_core.specs.Terminal.{Terminal}
-use Rattle.source_core.specs.Given.{IsFresh, Stands as HasMade}
 use Rattle.sink_core.specs.Core.{Core, Stands as HasTaken}
-use Rattle.walk_parts.specs.Return.{empty_return}
 use Rattle.walk_parts.specs.Ringed.{Ringed, ring_of, Has}
 use Rattle.walk_core.specs.declared.opening.Opened.{Opened}
 
@@ -24,14 +22,6 @@ pub record IsOpened (config : Config) (m : ℕ) (line : Ringed) : Type 0 where
 pub record AreOpened (config : Config) (n : ℕ) (lines : List Ringed) : Type 0 where
   pub size : length lines ≡ n
   pub each : (m : ℕ) (line : Ringed) → slice_get lines m ≡ Some line → IsOpened config m line
-
--- the source has made nothing
-pub record IsNewSource (config : Config) (source : Terminal) : Type 0 where
-  pub stands : (scenario : Scenario) → IsFresh scenario config.lines config.lag config.size → HasMade source scenario []
-  pub lines : source.lines ≡ config.lines
-  pub lag : source.lag ≡ config.lag
-  pub size : source.size ≡ config.size
-  pub ticks : source.ticks ≡ 0
 
 -- the sink has taken nothing
 pub record IsNewSink (config : Config) (sink : Core) : Type 0 where
@@ -52,10 +42,10 @@ pub record IsNewGather (count : ℕ) (gather : Gather) : Type 0 where
   pub rows : gather.rows ≡ 0
 
 -- all of these
-pub record IsNew (config : Config) (opened : Opened) : Type 0 where
-  pub source : IsNewSource config opened.ends.source
-  pub sink : IsNewSink config opened.ends.sink
-  pub sent : AreRings config.lines opened.paths.sent.items
-  pub lines : AreOpened config config.lines opened.paths.lines.items
-  pub rows : IsNewGather config.lines opened.returns.rows
-  pub back : opened.returns.back ≡ empty_return config.lag
+pub record IsNew (script : Script) (opened : Opened) : Type 0 where
+  pub source : IsUnused script opened.ends.source
+  pub sink : IsNewSink script.config opened.ends.sink
+  pub sent : AreRings script.config.lines opened.paths.sent.items
+  pub lines : AreOpened script.config script.config.lines opened.paths.lines.items
+  pub rows : IsNewGather script.config.lines opened.returns.rows
+  pub ring : opened.returns.ring ≡ []

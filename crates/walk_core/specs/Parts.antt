@@ -6,7 +6,6 @@ use Rattle.session_model.specs.declared.script.Script.{Script}
 use Rattle.session_model.specs.Valid.{IsValid}
 use Rattle.session_model.specs.Counts.{LineCounts, Counts}
 use Rattle.vc_cell.specs.Held.{held}
-use Rattle.report_text.specs.declared.report.Refusal.{Refusal}
 use Rattle.line_core.specs.Line.{Calls}
 use Rattle.realign_core.specs.Gather.{Gather, Stands as Gathers, line_count}
 use Rattle.source_core.specs.Terminal.{Terminal}
@@ -17,15 +16,19 @@ use Rattle.walk_law.specs.Rings.{sent_at, delay_on, taken_by, return_ring, inbox
 use Rattle.walk_law.specs.Landed.{landed_scenario, told_before, refusals_of, totals_of}
 use Rattle.walk_law.specs.Delivered.{delivered_of}
 use Rattle.walk_law.specs.Step.{last_packet, cell_taken}
-use Rattle.group_source.specs.Place.{is_frame, is_command, place_of}
+use Rattle.group_source.specs.Item.{bare_items}
+use Rattle.group_source.specs.Landed.{Landed}
+use Rattle.group_source.specs.Source.{Source}
+use Rattle.session_model.specs.declared.packet.Packet.{Packet}
 use Rattle.walk_parts.specs.Ringed.{Ringed, ring_of, Has}
-use Rattle.walk_parts.specs.Return.{Return}
+use Rattle.walk_parts.specs.Return.{Return, path_of}
 use Rattle.walk_core.specs.declared.moved.StepNote.{StepNote}
 
--- the terminals; the frames of the send rings, that of number t at place t modulo 32; the lines; the gathered rows; the return
--- path
+-- the source terminal, and how many ticks there are; the frames of the send rings, that of number t at place t modulo 32; the
+-- lines; the gathered rows; the sink terminal; the return path
 pub record Parts : Type 0 where
   pub source : Terminal
+  pub total : ℕ
   pub sent : List (List Container)
   pub lines : List Ringed
   pub rows : Gather
@@ -40,23 +43,22 @@ frame_in row = held row.items
 abbrev pub sent_frames : Vec (Vec (Box Container)) → List (List Container)
 sent_frames sent = map frame_in sent.items
 
--- what has landed: the refusals and the room for them, the places of the next frame and the next command, and how many of each have
--- landed and were refused
-pub record Landing : Type 0 where
-  pub refusals : List (ℕ × Refusal)
-  pub room : ℕ
-  pub frame : ℕ
-  pub command : ℕ
-  pub frames : ℕ
-  pub commands : ℕ
-  pub refused_frames : ℕ
-  pub refused_commands : ℕ
+abbrev pub parts_of : Source → List (List Container) → List Ringed → Gather → Core → List Packet → Parts
+parts_of source sent lines rows sink ring = record {
+  source = source.core;
+  total = source.total;
+  sent = sent;
+  lines = lines;
+  rows = rows;
+  sink = sink;
+  back = path_of ring source.inbox;
+}
 
 abbrev pub line_counts : Ringed → LineCounts
 line_counts line = record { carried = line.carried; popped = line.popped }
 
 -- the counts
-abbrev pub counts_of : Parts → Landing → Counts
+abbrev pub counts_of : Parts → Landed → Counts
 counts_of parts landing = record {
   ticks = parts.source.ticks;
   frames = landing.frames;
@@ -108,17 +110,15 @@ pub record HasSink (script : Script) (s : Counts) (rows : Gather) (sink : Core) 
 
 pub record HasBack (script : Script) (s : Counts) (back : Return) : Type 0 where
   pub ring : back.ring ≡ return_ring script s
+  pub lost : back.lost ≡ script.config.lost
   pub inbox : back.inbox ≡ inbox script s
   pub room : back.room ≡ script.config.lag + 1
 
-pub record HasLanded (script : Script) (s : Counts) (landing : Landing) : Type 0 where
-  pub frame : landing.frame ≡ place_of is_frame s.frames script.items
-  pub command : landing.command ≡ place_of is_command s.commands script.items
+pub record HasLanded (script : Script) (s : Counts) (landing : Landed) : Type 0 where
+  pub items : landing.items ≡ bare_items script.items
   pub refusals : landing.refusals ≡ refusals_of script s
-  pub room : length script.items ≤ landing.room
   pub frames : s.frames ≡ (totals_of script s).frames + landing.refused_frames
   pub commands : s.commands ≡ (totals_of script s).commands + landing.refused_commands
-  pub refused : (totals_of script s).refused ≡ landing.refused_frames + landing.refused_commands
 
 -- the last decision step
 abbrev pub note_of : Script → Option ℕ → Option StepNote
@@ -126,8 +126,9 @@ note_of script None = None
 note_of script (Some packet) = Some (record { packet = packet; back = cell_taken script packet })
 
 -- a walk of a script that can be walked, after some events
-pub record IsWalk (script : Script) (parts : Parts) (landing : Landing) (got : ℕ) (last : Option StepNote) : Type 0 where
+pub record IsWalk (script : Script) (parts : Parts) (landing : Landed) (got : ℕ) (last : Option StepNote) : Type 0 where
   pub valid : IsValid script
+  pub total : parts.total ≡ script.config.ticks
   pub walked : IsWalked script (counts_of parts landing)
   pub source : HasSource script (counts_of parts landing) parts.source
   pub sent : HasSent script parts.source.ticks (map line_counts parts.lines) parts.sent

@@ -3,20 +3,17 @@
 ghost use Rattle.std.specs.Prelude.{◌≡◌, ◌≤◌, [], length, All, IfOk};
 ghost use Rattle.std.specs.Global.{Vec, Box};
 ghost use Rattle.vc_cell.specs.declared.Container.{Container};
-ghost use Rattle.std.specs.Vec.{vec_capacity};
 ghost use Rattle.session_model.specs.Valid.{IsValid, IsNetwork};
-ghost use Rattle.walk_parts.specs.Return.{empty_return};
-ghost use Rattle.walk_core.specs.Opened.{AreOpened, AreRings, IsNewSource, IsNewSink, IsNewGather, IsNew};
+ghost use Rattle.group_source.specs.Source.{IsUnused};
+ghost use Rattle.walk_core.specs.Opened.{AreOpened, AreRings, IsNewSink, IsNewGather, IsNew};
 
-use group_source::blank_boxes;
+use group_source::{GroupSource, blank_boxes};
 use realign_core::RowGather;
-use report_text::Refusal;
 use session_model::{Config, Script};
 use sink_core::SinkCore;
-use source_core::SourceCore;
 use std::alloc::{AllocError, Global};
 use vc_cell::HeldContainer;
-use walk_parts::{ReturnPath, WalkLine};
+use walk_parts::{ReturnRing, WalkLine};
 
 /// The frames that the send rings hold.
 pub(crate) const SENDS: usize = 32;
@@ -24,7 +21,7 @@ pub(crate) const SENDS: usize = 32;
 /// Both terminals.
 #[derive(Drop)]
 pub(crate) struct Ends {
-    pub(crate) source: SourceCore,
+    pub(crate) source: GroupSource,
     pub(crate) sink: SinkCore,
 }
 
@@ -36,11 +33,11 @@ pub(crate) struct Paths {
     pub(crate) lines: Vec<WalkLine>,
 }
 
-/// What comes behind the lines: their gathered rows, and the return path.
+/// What comes behind the lines: their gathered rows, and the return ring.
 #[derive(Drop)]
 pub(crate) struct Returns {
     pub(crate) rows: RowGather,
-    pub(crate) back: ReturnPath,
+    pub(crate) ring: ReturnRing,
 }
 
 /// All that moves in a walk, before any event.
@@ -49,39 +46,32 @@ pub(crate) struct Opened {
     pub(crate) paths: Paths,
     pub(crate) returns: Returns,
     pub(crate) ends: Ends,
-    /// Room for a refusal of each item.
-    pub(crate) refusals: Vec<(u32, Refusal)>,
 }
 
 /// Opens all that moves in a walk of a script. What has the most parts is opened last, so that little is let go where memory is short.
 pub(crate) fn open(alloc: Global, script: &Script) -> Result<Opened, AllocError>
     requires { IsValid script.now }
-    ensures opened { IfOk result (λ opened. IsNew script.now.config opened) }
-    ensures none { IfOk result (λ opened. opened.refusals.items ≡ []) }
-    ensures room { IfOk result (λ opened.
-        length script.now.items ≤ vec_capacity opened.refusals) }
+    ensures { IfOk result (λ opened. IsNew script.now opened) }
 {
-    let refusals = Vec::with_capacity(alloc, script.items.0.len())?;
     let paths = open_paths(alloc, &script.config)?;
     let returns = open_returns(alloc, &script.config)?;
-    let ends = open_ends(alloc, &script.config)?;
+    let ends = open_ends(alloc, script)?;
     Ok(Opened {
         paths,
         returns,
         ends,
-        refusals,
     })
 }
 
 /// Opens the terminals.
-fn open_ends(alloc: Global, config: &Config) -> Result<Ends, AllocError>
-    requires { IsNetwork config.now }
-    ensures source { IfOk result (λ ends. IsNewSource config.now ends.source) }
-    ensures sink { IfOk result (λ ends. IsNewSink config.now ends.sink) }
+fn open_ends(alloc: Global, script: &Script) -> Result<Ends, AllocError>
+    requires { IsValid script.now }
+    ensures source { IfOk result (λ ends. IsUnused script.now ends.source) }
+    ensures sink { IfOk result (λ ends. IsNewSink script.now.config ends.sink) }
 {
     Ok(Ends {
-        source: SourceCore::new(alloc, config.lines, config.lag, config.size)?,
-        sink: SinkCore::new(alloc, config.lines, config.size)?,
+        source: GroupSource::new(alloc, script)?,
+        sink: SinkCore::new(alloc, script.config.lines, script.config.size)?,
     })
 }
 
@@ -102,11 +92,11 @@ fn open_paths(alloc: Global, config: &Config) -> Result<Paths, AllocError>
 fn open_returns(alloc: Global, config: &Config) -> Result<Returns, AllocError>
     requires { IsNetwork config.now }
     ensures rows { IfOk result (λ returns. IsNewGather config.now.lines returns.rows) }
-    ensures back { IfOk result (λ returns. returns.back ≡ empty_return config.now.lag) }
+    ensures ring { IfOk result (λ returns. returns.ring ≡ []) }
 {
     Ok(Returns {
         rows: RowGather::new(alloc, config.lines)?,
-        back: ReturnPath::new(alloc, config.lag)?,
+        ring: ReturnRing::new(alloc)?,
     })
 }
 

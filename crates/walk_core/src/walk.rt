@@ -6,15 +6,11 @@ ghost use Rattle.session_model.specs.declared.walk.Event.TheVariants.{Accept, Co
 ghost use Rattle.session_model.specs.Valid.{IsValid};
 ghost use Rattle.session_model.specs.Counts.{begin, step, full, in_send, run, round, drain, bound, carries_from};
 ghost use Rattle.session_model.specs.Scenario.{Scenario, steps_in};
-ghost use Rattle.session_model.specs.Table.{Told};
-ghost use Rattle.session_model.specs.Sent.{frame_of};
 ghost use Rattle.session_model.specs.Source.{source_at};
 ghost use Rattle.progress_law.specs.Progress.{HasLine};
 ghost use Rattle.walk_law.specs.Landed.{landed_scenario, told_before, refusals_of, totals_of, IsPlaced};
 ghost use Rattle.walk_law.specs.Step.{last_packet, table_in};
-ghost use Rattle.source_core.specs.Terminal.{needed, SameKind};
-ghost use Rattle.source_core.specs.Given.{with_cell, Stands, Stands as HasMade};
-ghost use Rattle.walk_core.specs.Moved.{counts_after, moved_of, delivered_since, GivesRows};
+ghost use Rattle.walk_core.specs.Moved.{answer_by, counts_after, moved_of, delivered_since, GivesRows};
 ghost use Rattle.std.specs.Global.{Vec, Box};
 ghost use Rattle.vc_cell.specs.Held.{held};
 ghost use Rattle.vc_cell.specs.declared.Container.{Container};
@@ -25,9 +21,9 @@ ghost use Rattle.walk_core.specs.Opened.{IsNew};
 ghost use Rattle.walk_core.specs.Waiting.{send_ring, receive_ring};
 ghost use Rattle.line_reader.specs.Told.{cell_of};
 ghost use Rattle.walk_core.specs.Carry.{carry_cause, CanCarry, IsSentOn, IsCarriedAt, HasRoom};
-ghost use Rattle.std.specs.Vec.{vec_capacity};
-ghost use Rattle.group_source.specs.Lands.{met_by, with_kind};
-ghost use Rattle.walk_core.specs.Landing.{stall_by, IsParted};
+ghost use Rattle.session_model.specs.declared.script.Item.{Item};
+ghost use Rattle.group_source.specs.Item.{kind_of};
+ghost use Rattle.walk_core.specs.Landing.{landing_of, early_stall};
 ghost use Rattle.walk_core.specs.Parts.{note_of, line_counts, sent_frames, HasSent, HasLine as HasLineOn};
 ghost use Rattle.walk_core.specs.Take.{take_cause};
 ghost use Rattle.vc_cell.specs.declared.Cell.{Cell};
@@ -38,7 +34,7 @@ ghost use Rattle.gfp_mark.specs.Marks.{first_place};
 use crate::moved::{Moved, StepNote};
 use crate::opening::{Ends, Opened, Paths, Returns, SENDS, open};
 use crate::rows::{ends_packet, pop_lines, take_row};
-use group_source::{held_item, next_command, next_frame};
+use group_source::{EarlyCause, GroupSource, ItemRef, handed};
 use lcas_packet::Packet;
 use lcas_source::SourceTable;
 use line_reader::CellRef;
@@ -46,33 +42,23 @@ use realign_core::RowGather;
 use report_text::{Refusal, Totals};
 use session_model::{Event, Item, ItemKind, Script, StallCause};
 use sink_core::{FrameOut, SinkCore};
-use source_core::SourceCore;
 use std::alloc::{AllocError, Global};
 use std::marker::Model;
 use vc_cell::{BackCell, Container, HeldContainer};
-use walk_parts::{ReturnPath, WalkLine};
+use walk_parts::{ReturnRing, WalkLine};
 
 /// A walk of a script.
 #[derive(Drop)]
 pub struct Walk {
     script: Script,
-    source: SourceCore,
+    source: GroupSource,
     /// The send rings of all lines: each place holds the containers of a frame, of a number modulo 32, each until its line carried it.
     sent: Vec<Vec<Box<HeldContainer>>>,
     lines: Vec<WalkLine>,
     rows: RowGather,
     sink: SinkCore,
-    back: ReturnPath,
-    refusals: Vec<(u32, Refusal)>,
-    /// The places of the next frame and of the next command.
-    frame: usize,
-    command: usize,
-    /// How many frames and commands have landed.
-    frames: u32,
-    commands: u32,
-    /// How many of them were refused.
-    refused_frames: u32,
-    refused_commands: u32,
+    /// The return packets that were said and haven't come.
+    ring: ReturnRing,
     /// How many frames were delivered.
     got: u64,
     /// The last decision step.
@@ -81,23 +67,17 @@ pub struct Walk {
 
 impl Model for Walk {
     ghost use Rattle.std.specs.Prelude.{map};
-    ghost use Rattle.std.specs.Vec.{vec_capacity};
     ghost use Rattle.walk_core.specs.Moved.{Walked};
-    ghost use Rattle.walk_core.specs.Parts.{Parts, Landing, counts_of, sent_frames, IsWalk};
+    ghost use Rattle.walk_core.specs.Parts.{parts_of, counts_of, sent_frames, IsWalk};
 
     ghost Value = { Walked };
 
     ghost view = { λ w. record {
       script = w.script;
-      counts = counts_of
-          (record { source = w.source; sent = sent_frames w.sent; lines = w.lines.items; rows = w.rows; sink = w.sink; back = w.back })
-          (record { refusals = w.refusals.items; room = vec_capacity w.refusals; frame = w.frame; command = w.command; frames = w.frames; commands = w.commands; refused_frames = w.refused_frames; refused_commands = w.refused_commands });
+      counts = counts_of (parts_of w.source (sent_frames w.sent) w.lines.items w.rows w.sink w.ring) w.source.landed;
     } };
 
-    ghost invariant = { λ w. IsWalk w.script
-        (record { source = w.source; sent = sent_frames w.sent; lines = w.lines.items; rows = w.rows; sink = w.sink; back = w.back })
-        (record { refusals = w.refusals.items; room = vec_capacity w.refusals; frame = w.frame; command = w.command; frames = w.frames; commands = w.commands; refused_frames = w.refused_frames; refused_commands = w.refused_commands })
-        w.got w.last };
+    ghost invariant = { λ w. IsWalk w.script (parts_of w.source (sent_frames w.sent) w.lines.items w.rows w.sink w.ring) w.source.landed w.got w.last };
 }
 
 impl Walk {
@@ -172,9 +152,9 @@ impl Walk {
         Totals {
             ticks: self.source.ticks(),
             taken: self.sink.taken(),
-            frames: self.frames - self.refused_frames,
-            commands: self.commands - self.refused_commands,
-            refused: self.refused_frames + self.refused_commands,
+            frames: self.source.landing().accepted(true),
+            commands: self.source.landing().accepted(false),
+            refused: self.source.landing().all_refused(),
             got: self.got,
         }
     }
@@ -192,14 +172,14 @@ impl Walk {
     pub fn landed_frames(&self) -> u32
         ensures { result ≡ self.now.counts.frames }
     {
-        self.frames
+        self.source.landing().landed(true)
     }
 
     /// The items that were refused, in the order of the script.
     pub fn refusals(&self) -> &[(u32, Refusal)]
         ensures { result.now ≡ refusals_of self.now.script self.now.counts }
     {
-        &self.refusals
+        self.source.landing().refusals()
     }
 
     /// The last decision step, where one was made.
@@ -258,23 +238,18 @@ impl Walk {
     /// A walk of a script before any event, of what was opened for it.
     fn from_opened(script: Script, opened: Opened) -> Walk
         requires script { IsValid script }
-        requires opened { IsNew script.config opened }
-        requires none { opened.refusals.items ≡ [] }
-        requires room { length script.items ≤ vec_capacity opened.refusals }
+        requires opened { IsNew script opened }
         ensures script { result.script ≡ script }
         ensures counts { result.counts ≡ begin (walk_plan script) }
     {
-        let frame = next_frame(items_of(&script), 0);
-        let command = next_command(items_of(&script), 0);
         let Opened {
             paths,
             returns,
             ends,
-            refusals,
         } = opened;
         let Ends { source, sink } = ends;
         let Paths { sent, lines } = paths;
-        let Returns { rows, back } = returns;
+        let Returns { rows, ring } = returns;
         Walk {
             script,
             source,
@@ -282,14 +257,7 @@ impl Walk {
             lines,
             rows,
             sink,
-            back,
-            refusals,
-            frame,
-            command,
-            frames: 0,
-            commands: 0,
-            refused_frames: 0,
-            refused_commands: 0,
+            ring,
             got: 0,
             last: None,
         }
@@ -330,10 +298,7 @@ impl Walk {
             ≡ counts_after self.old.script self.old.counts Accept }
         ensures moved { result ≡ moved_of self.old.script self.old.counts Accept }
     {
-        match stall_of(items_of(&self.script), self.frame, self.source.ticks()) {
-            Some(cause) => Moved::Stalled(cause),
-            None => self.land_frame(),
-        }
+        self.land(true)
     }
 
     /// Lands the next command.
@@ -343,56 +308,25 @@ impl Walk {
             ≡ counts_after self.old.script self.old.counts Command }
         ensures moved { result ≡ moved_of self.old.script self.old.counts Command }
     {
-        match stall_of(items_of(&self.script), self.command, self.source.ticks()) {
-            Some(cause) => Moved::Stalled(cause),
-            None => self.land_command(),
-        }
+        self.land(false)
     }
 
-    /// Lands the next frame, which is there and due.
-    fn land_frame(&mut self) -> Moved
-        requires { (step (walk_plan self.old.script) self.old.counts Accept).cause ≡ None }
+    /// Lands the next frame, or the next command, where there is one and it is due.
+    fn land(&mut self, client: bool) -> Moved
         ensures script { self.new.script ≡ self.old.script }
         ensures counts { self.new.counts
-            ≡ counts_after self.old.script self.old.counts Accept }
-        ensures moved { result ≡ moved_of self.old.script self.old.counts Accept }
+            ≡ counts_after self.old.script self.old.counts (landing_of client) }
+        ensures moved { result
+            ≡ moved_of self.old.script self.old.counts (landing_of client) }
     {
-        let i = self.frame;
-        let items = items_of(&self.script);
-        let refusal = refusal_of(&mut self.source, &items[i].kind);
-        self.frames += 1;
-        self.frame = next_frame(items, i + 1);
-        match refusal {
-            None => Moved::Yes,
-            Some(why) => {
-                self.refused_frames += 1;
-                refuse(&mut self.refusals, i as u32, why);
-                Moved::Refused(why)
-            }
+        let Some(number) = self.source.landing().next(client) else {
+            return Moved::Stalled(StallCause::Done);
+        };
+        let due = self.source.landing().due(client, number);
+        if self.source.ticks() < due {
+            return Moved::Stalled(StallCause::NotDue { due });
         }
-    }
-
-    /// Lands the next command, which is there and due.
-    fn land_command(&mut self) -> Moved
-        requires { (step (walk_plan self.old.script) self.old.counts Command).cause ≡ None }
-        ensures script { self.new.script ≡ self.old.script }
-        ensures counts { self.new.counts
-            ≡ counts_after self.old.script self.old.counts Command }
-        ensures moved { result ≡ moved_of self.old.script self.old.counts Command }
-    {
-        let i = self.command;
-        let items = items_of(&self.script);
-        let refusal = refusal_of(&mut self.source, &items[i].kind);
-        self.commands += 1;
-        self.command = next_command(items, i + 1);
-        match refusal {
-            None => Moved::Yes,
-            Some(why) => {
-                self.refused_commands += 1;
-                refuse(&mut self.refusals, i as u32, why);
-                Moved::Refused(why)
-            }
-        }
+        landed(self.source.land(number, item_at(&self.script, number)))
     }
 
     /// Takes the next row, where the lines decide it.
@@ -425,7 +359,7 @@ impl Walk {
         }
         let (packet, got) = take_row(&mut self.sink, &mut self.rows, self.got, out);
         self.got = got;
-        self.back.say(packet);
+        self.ring.say(packet);
         Moved::Yes
     }
 
@@ -436,7 +370,7 @@ impl Walk {
         let row = self.sink.taken();
         if row >= self.script.config.ticks {
             Some(StallCause::Done)
-        } else if ends_packet(row) && self.back.is_full() {
+        } else if ends_packet(row) && self.ring.is_full() {
             Some(StallCause::BackFull)
         } else {
             None
@@ -467,10 +401,9 @@ impl Walk {
             return Moved::Stalled(cause);
         }
         let ticks = self.source.ticks();
-        let back = take_needed(&mut self.back, self.source.needs_back().is_some());
-        self.last = next_note(ticks, back, self.last);
         let place = next_place(&mut self.sent, &self.lines, ticks);
-        make_frame(&mut self.source, back, &mut self.sent[place]);
+        let back = self.source.make(&mut self.sent[place]);
+        self.last = next_note(ticks, back, self.last);
         Moved::Yes
     }
 
@@ -478,19 +411,19 @@ impl Walk {
     fn tick_stall(&self) -> Option<StallCause>
         ensures { result ≡ (step (walk_plan self.now.script) self.now.counts Tick).cause }
     {
-        let ticks = self.source.ticks();
-        if ticks >= self.script.config.ticks {
-            return Some(StallCause::Done);
+        if let Some(cause) = self.source.early_cause() {
+            return Some(stall_early(cause));
         }
-        if let Some(item) = held_item(items_of(&self.script), self.frame, self.command, ticks) {
-            return Some(StallCause::Held { item });
-        }
-        if let Some(line) = first_full(&self.lines, self.script.config.ticks, ticks) {
+        if let Some(line) = first_full(
+            &self.lines,
+            self.script.config.ticks,
+            self.source.ticks(),
+        ) {
             return Some(StallCause::TxFull { line });
         }
-        match self.source.needs_back() {
-            Some(packet) if self.back.is_inbox_empty() => Some(StallCause::BackMissing { packet }),
-            _ => None,
+        match self.source.missing() {
+            Some(packet) => Some(StallCause::BackMissing { packet }),
+            None => None,
         }
     }
 
@@ -519,89 +452,41 @@ impl Walk {
             ≡ counts_after self.old.script self.old.counts Back }
         ensures moved { result ≡ moved_of self.old.script self.old.counts Back }
     {
-        if self.back.is_empty() {
+        if self.ring.is_empty() {
             return Moved::Stalled(StallCause::BackEmpty);
         }
-        self.back.move_one(lost_of(&self.script));
+        self.ring.move_one(&mut self.source);
         Moved::Yes
     }
 }
 
-/// The items of a script.
-fn items_of(script: &Script) -> &[Item]
-    ensures { result.now ≡ script.now.items }
+/// The item of a number, as it is handed in.
+fn item_at(script: &Script, number: u32) -> ItemRef<'_>
+    requires { number < length script.now.items }
+    ensures { (item : Item) → slice_get script.now.items number ≡ Some item →
+        kind_of result ≡ item.kind }
 {
-    &script.items.0
+    handed(&script.items.0[number as usize].kind)
 }
 
-/// The return windows of a script.
-fn lost_of(script: &Script) -> &[(u32, u32)]
-    ensures { result.now ≡ script.now.config.lost }
+/// What an item answers that lands, and is refused or not.
+fn landed(why: Option<Refusal>) -> Moved
+    ensures { result ≡ answer_by None why }
 {
-    &script.config.lost.0
-}
-
-/// Why an item at a place doesn't land.
-fn stall_of(items: &[Item], i: usize, ticks: u32) -> Option<StallCause>
-    ensures { result ≡ stall_by ticks (slice_get items.now i) }
-{
-    if i >= items.len() {
-        return Some(StallCause::Done);
-    }
-    let due = items[i].due;
-    if ticks < due {
-        return Some(StallCause::NotDue { due });
-    }
-    None
-}
-
-/// Gives an item to the source, and answers why it is refused, where it is.
-fn refusal_of(source: &mut SourceCore, kind: &ItemKind) -> Option<Refusal>
-    ensures met { result ≡ met_by source.old kind.now }
-    ensures stands { (scenario : Scenario) (cells : List (Option Told)) →
-        HasMade source.old scenario cells →
-        HasMade source.new (with_kind scenario source.old.ticks kind.now) cells }
-    ensures ticks { source.new.ticks ≡ source.old.ticks }
-    ensures kind { SameKind source.new source.old }
-{
-    match kind {
-        ItemKind::Frame(octets) => source.accept(&octets.0).err().map(Refusal::Frame),
-        ItemKind::Add(line) => source.add(*line).err().map(Refusal::Command),
-        ItemKind::Remove(line) => source.remove(*line).err().map(Refusal::Command),
+    match why {
+        None => Moved::Yes,
+        Some(why) => Moved::Refused(why),
     }
 }
 
-/// Puts a refusal at its place among those of other items.
-fn refuse(refusals: &mut Vec<(u32, Refusal)>, item: u32, why: Refusal)
-    requires room { length refusals.old.items < vec_capacity refusals.old }
-    ensures placed { (now : List (ℕ × Refusal)) →
-        IsPlaced item ((item, why) ∷ []) refusals.old.items now → refusals.new.items ≡ now }
-    ensures room { vec_capacity refusals.new ≡ vec_capacity refusals.old }
+/// Why no frame is made, before the send rings are looked at.
+fn stall_early(cause: EarlyCause) -> StallCause
+    ensures { result ≡ early_stall cause }
 {
-    let place = place_among(refusals, item);
-    let _room_was_reserved = refusals.insert(place, (item, why));
-}
-
-/// The place of an item's refusal among those of other items.
-fn place_among(refusals: &[(u32, Refusal)], item: u32) -> usize
-    ensures within { result ≤ length refusals.now }
-    ensures place { (front back : List (ℕ × Refusal)) → IsParted item front back refusals.now →
-        result ≡ length front }
-{
-    let mut place = refusals.len();
-    while place > 0 && item < refusals[place - 1].0 {
-        place -= 1;
+    match cause {
+        EarlyCause::Done => StallCause::Done,
+        EarlyCause::Held { item } => StallCause::Held { item },
     }
-    place
-}
-
-/// Takes the first return cell out of the inbox, where it is needed.
-fn take_needed(back: &mut ReturnPath, needed: bool) -> Option<BackCell>
-    ensures cell { result ≡ (if needed then slice_get back.old.inbox 0 else None) }
-    ensures path { back.new ≡ (if needed then record back.old { inbox = drop 1 back.old.inbox }
-        else back.old) }
-{
-    if needed { back.take() } else { None }
 }
 
 /// The note of the last decision step after a tick.
@@ -617,22 +502,6 @@ fn next_note(ticks: u32, back: Option<BackCell>, last: Option<StepNote>) -> Opti
     } else {
         last
     }
-}
-
-/// Makes the next frame, a container for each line.
-fn make_frame(source: &mut SourceCore, back: Option<BackCell>, frame: &mut Vec<Box<HeldContainer>>)
-    requires places { length frame.old.items ≡ source.old.lines }
-    requires back { IsSome back ↔ IsSome (needed source.old) }
-    requires few { source.old.ticks < 4294967295 }
-    ensures stands { (scenario : Scenario) (cells : List (Option Told)) →
-        Stands source.old scenario cells → Stands source.new scenario (with_cell cells back) }
-    ensures frame { (scenario : Scenario) (cells : List (Option Told)) →
-        Stands source.old scenario cells →
-        held frame.new.items ≡ frame_of scenario (with_cell cells back) source.old.ticks }
-    ensures ticks { source.new.ticks ≡ source.old.ticks + 1 }
-    ensures kind { SameKind source.new source.old }
-{
-    source.tick_boxed(back, frame);
 }
 
 /// The place of the next frame. It gets the containers of the frame before where each line has carried that, since these lie nearest

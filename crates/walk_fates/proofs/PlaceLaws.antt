@@ -1,5 +1,6 @@
 -- The ruler of a walk, tick by tick and frame by frame.
-use Rattle.std.proofs.Common.{◌≡◌, ℕ, zero, suc, ◌+◌, ◌-◌, ◌^◌, ◌<◌, ◌≤◌, true, false, List, [], ◌∷◌, length, Option, Some, None, is_some, slice_get, refl, sym, ◌∙◌, ap, subst, arith}
+use Rattle.std.proofs.Common.{◌≡◌, ℕ, zero, suc, ◌+◌, ◌-◌, ◌^◌, ◌<◌, ◌≤◌, true, false, List, [], ◌∷◌, length, Option}
+use Rattle.std.proofs.Common.{Some, None, is_some, slice_get, refl, sym, ◌∙◌, ap, subst, arith}
 use Rattle.session_model.specs.declared.script.Script.{Script}
 use Rattle.session_model.specs.Scenario.{DueFrame, scenario_of, offers_of}
 use Rattle.session_model.specs.Counts.{Counts}
@@ -15,11 +16,13 @@ use Rattle.walk_frames.specs.declared.landed.LandedFrame.{LandedFrame}
 use Rattle.walk_frames.specs.Landed.{Cursor, IsAt, IsNext, frames_before_item}
 use Rattle.walk_frames.specs.Places.{place_in, stream_in, Between, IsEarly, IsLate}
 use Rattle.walk_frames.proofs.StreamLaws.{met-start, met-tick, met-end}
-use Rattle.walk_frames.proofs.NextLaws.{due-order, own, next-offer, next-count, next-refused, next-accepted, next-between, next-early, next-late}
+use Rattle.walk_frames.proofs.NextLaws.{due-order, own, next-offer, next-count, next-refused, next-accepted}
+use Rattle.walk_frames.proofs.NextLaws.{next-between, next-early, next-late}
 use Rattle.walk_fates.specs.Places.{Rules}
 
 -- ---- bounds
-pub few-ticks : (script : Script) (s : Counts) → IsValid script → IsWalked script s → (s.ticks ≤ script.config.ticks) × (s.ticks ≤ 1000000)
+pub few-ticks : (script : Script) (s : Counts) → IsValid script → IsWalked script s → (s.ticks ≤ script.config.ticks) ×
+    (s.ticks ≤ 1000000)
 few-ticks script s valid walked =
     let within = counts-within script s (valid-walks script valid) walked in
     let most = valid.network.ticks.1 in
@@ -29,12 +32,15 @@ pub place-few : (script : Script) (row : ℕ) → IsValid script → row ≤ scr
 place-few script row valid low = let most = place-most script row valid low in omega (arith, most)
 
 -- ---- a tick
-pub reach-tick : (script : Script) (frames from t to place : ℕ) (was now : Ruler) → Between script frames from to → from ≤ t → t < to → place ≡ place_in script (t + 1) →
-    now ≡ ruled place was.end was.sent was.waiting → was ≡ ruler_of (stream_in script t frames) → now ≡ ruler_of (stream_in script (t + 1) frames)
+pub reach-tick : (script : Script) (frames from t to place : ℕ) (was now : Ruler) → Between script frames from to →
+    from ≤ t → t < to → place ≡ place_in script (t + 1) →
+    now ≡ ruled place was.end was.sent was.waiting → was ≡ ruler_of (stream_in script t frames) →
+    now ≡ ruler_of (stream_in script (t + 1) frames)
 reach-tick script frames from t to place was now between low high is made ruler =
     made
     ∙ ap (λ (r : Ruler). ruled place r.end r.sent r.waiting) ruler
-    ∙ ap (λ at. ruled at (ruler_of (stream_in script t frames)).end (ruler_of (stream_in script t frames)).sent (ruler_of (stream_in script t frames)).waiting) is
+    ∙ ap (λ at. ruled at (ruler_of (stream_in script t frames)).end (ruler_of (stream_in script t frames)).sent
+    (ruler_of (stream_in script t frames)).waiting) is
     ∙ sym (reached-ruled (place_in script (t + 1)) (stream_in script t frames))
     ∙ ap ruler_of (met-tick script frames from t to between low high)
 
@@ -53,10 +59,13 @@ inside (y ∷ xs) zero x there = omega arith
 inside (y ∷ xs) (suc k) x there = let rest = inside xs k x there in omega (arith, rest)
 
 -- a frame that isn't due before a tick: none from there on is
-pub next-waits : (script : Script) (was now : Cursor) (found : LandedFrame) (ticks : ℕ) → IsValid script → IsNext script was now found → ticks ≤ found.due →
+pub next-waits : (script : Script) (was now : Cursor) (found : LandedFrame) (ticks : ℕ) → IsValid script →
+    IsNext script was now found → ticks ≤ found.due →
     IsLate script (frames_before_item script was.item) ticks
 next-waits script was now found ticks valid next waits j offer far there =
-    let order : found.due ≤ offer.due = due-order script (frames_before_item script was.item) j (own script was now found next) offer valid far (next-offer script was now found next) there in
+    let order : found.due ≤ offer.due =
+    due-order script (frames_before_item script was.item) j (own script was now found next) offer valid far
+    (next-offer script was now found next) there in
     omega (arith, order, waits)
 
 -- the frames so far are ruled, and those after them aren't due before the last of them
@@ -64,11 +73,13 @@ pub record IsRuled (script : Script) (s : Counts) (ruler : Ruler) (cursor : Curs
   pub at : IsAt script s cursor
   pub early : IsEarly script (frames_before_item script cursor.item) ticks
   pub late : IsLate script (frames_before_item script cursor.item) ticks
-  pub before : (j : ℕ) (offer : DueFrame) → j < frames_before_item script cursor.item → slice_get (offers_of script.items) j ≡ Some offer → offer.due < s.ticks
+  pub before : (j : ℕ) (offer : DueFrame) → j < frames_before_item script cursor.item →
+      slice_get (offers_of script.items) j ≡ Some offer → offer.due < s.ticks
   pub low : ticks ≤ s.ticks
   pub ruled : ruler ≡ ruler_of (stream_in script ticks (frames_before_item script cursor.item))
 
-pub ruled-first : (script : Script) (s : Counts) (ruler : Ruler) (cursor : Cursor) → IsAt script s cursor → cursor.item ≡ 0 → ruler ≡ new_ruler → IsRuled script s ruler cursor 0
+pub ruled-first : (script : Script) (s : Counts) (ruler : Ruler) (cursor : Cursor) → IsAt script s cursor →
+    cursor.item ≡ 0 → ruler ≡ new_ruler → IsRuled script s ruler cursor 0
 ruled-first script s ruler cursor at first new =
     let none : frames_before_item script cursor.item ≡ 0 = ap (frames_before_item script) first in
     record {
@@ -77,50 +88,63 @@ ruled-first script s ruler cursor at first new =
       late = λ j offer far there. omega arith;
       before = λ j offer low there. absurd (omega (arith, none, low));
       low = omega arith;
-      ruled = new ∙ sym (met-start (scenario_of script) (session_of script)) ∙ ap (λ n. ruler_of (stream_in script 0 n)) (sym none);
+      ruled = new ∙ sym (met-start (scenario_of script) (session_of script))
+          ∙ ap (λ n. ruler_of (stream_in script 0 n)) (sym none);
     }
 
-module _ (script : Script) (s : Counts) (ruler : Ruler) (was now : Cursor) (ticks : ℕ) (found : LandedFrame) (is : IsRuled script s ruler was ticks) (next : IsNext script was now found) where
+module _ (script : Script) (s : Counts) (ruler : Ruler) (was now : Cursor) (ticks : ℕ) (found : LandedFrame)
+    (is : IsRuled script s ruler was ticks) (next : IsNext script was now found) where
   abbrev count : ℕ
   count = frames_before_item script was.item
 
   pub next-due : ticks ≤ found.due
   next-due = is.late count (own script was now found next) (omega arith) (next-offer script was now found next)
 
-  pub next-fewer : length (offers_of script.items) - frames_before_item script now.item < length (offers_of script.items) - frames_before_item script was.item
+  pub next-fewer : length (offers_of script.items) - frames_before_item script now.item < length
+      (offers_of script.items) - frames_before_item script was.item
   next-fewer =
-      let there = inside (offers_of script.items) count (own script was now found next) (next-offer script was now found next) in
+      let there = inside (offers_of script.items) count (own script was now found next)
+      (next-offer script was now found next) in
       let more = next-count script was now found next in
       omega (arith, there, more)
 
   module _ (at : IsAt script s now) (due : found.due < s.ticks) (reached : Ruler)
-      (reaches : (frames : ℕ) → Between script frames ticks found.due → ruler ≡ ruler_of (stream_in script ticks frames) → reached ≡ ruler_of (stream_in script found.due frames)) where
-    reached-is : reached ≡ ruler_of (stream_in script found.due count)
-    reached-is = reaches count (next-between script was now found next ticks at.valid is.early) is.ruled
+      (reaches : (frames : ℕ) → Between script frames ticks found.due →
+      ruler ≡ ruler_of (stream_in script ticks frames) → reached ≡ ruler_of (stream_in script found.due frames))
+    where
+      reached-is : reached ≡ ruler_of (stream_in script found.due count)
+      reached-is = reaches count (next-between script was now found next ticks at.valid is.early) is.ruled
 
-    ruled-next : (r : Ruler) → r ≡ ruler_of (stream_in script found.due (count + 1)) → IsRuled script s r now found.due
-    ruled-next r made =
-        let more = next-count script was now found next in
-        record {
-          at = at;
-          early = subst (λ n. IsEarly script n found.due) (sym more) (next-early script was now found next at.valid);
-          late = subst (λ n. IsLate script n found.due) (sym more) (next-late script was now found next at.valid);
-          before = λ j offer low there. (let early = next-early script was now found next at.valid j offer (omega (arith, low, more)) there in omega (arith, early, due));
-          low = omega (arith, due);
-          ruled = made ∙ ap (λ n. ruler_of (stream_in script found.due n)) (sym more);
-        }
+      ruled-next : (r : Ruler) → r ≡ ruler_of (stream_in script found.due (count + 1)) → IsRuled script s r now found.due
+      ruled-next r made =
+          let more = next-count script was now found next in
+          record {
+            at = at;
+            early = subst (λ n. IsEarly script n found.due) (sym more) (next-early script was now found next at.valid);
+            late = subst (λ n. IsLate script n found.due) (sym more) (next-late script was now found next at.valid);
+            before = λ j offer low there. (let early =
+                next-early script was now found next at.valid j offer (omega (arith, low, more)) there in omega
+                (arith, early, due));
+            low = omega (arith, due);
+            ruled = made ∙ ap (λ n. ruler_of (stream_in script found.due n)) (sym more);
+          }
 
-    pub ruled-refused : (refusal : Refusal) → found.refusal ≡ Some refusal → IsRuled script s reached now found.due
-    ruled-refused refusal refused = ruled-next reached (reached-is ∙ sym (next-refused script was now found next refusal refused))
+      pub ruled-refused : (refusal : Refusal) → found.refusal ≡ Some refusal → IsRuled script s reached now found.due
+      ruled-refused refusal refused =
+          ruled-next reached (reached-is ∙ sym (next-refused script was now found next refusal refused))
 
-    pub ruled-accepted : (r : Ruler) → found.refusal ≡ None → r ≡ with_waiting reached found.length → IsRuled script s r now found.due
-    ruled-accepted r none made =
-        ruled-next r (made ∙ ap (λ (r : Ruler). with_waiting r found.length) reached-is ∙ sym (next-accepted script was now found next none))
+      pub ruled-accepted : (r : Ruler) → found.refusal ≡ None → r ≡ with_waiting reached found.length →
+          IsRuled script s r now found.due
+      ruled-accepted r none made =
+          ruled-next r (made ∙ ap (λ (r : Ruler). with_waiting r found.length) reached-is
+          ∙ sym (next-accepted script was now found next none))
 
 -- ---- the end
-pub ruled-end : (script : Script) (s : Counts) (ruler : Ruler) (cursor : Cursor) (ticks : ℕ) (reached : Ruler) → IsRuled script s ruler cursor ticks →
+pub ruled-end : (script : Script) (s : Counts) (ruler : Ruler) (cursor : Cursor) (ticks : ℕ) (reached : Ruler) →
+    IsRuled script s ruler cursor ticks →
     IsLate script (frames_before_item script cursor.item) s.ticks →
-    ((frames : ℕ) → Between script frames ticks s.ticks → ruler ≡ ruler_of (stream_in script ticks frames) → reached ≡ ruler_of (stream_in script s.ticks frames)) →
+    ((frames : ℕ) → Between script frames ticks s.ticks → ruler ≡ ruler_of (stream_in script ticks frames) →
+    reached ≡ ruler_of (stream_in script s.ticks frames)) →
     Rules script s.ticks reached
 ruled-end script s ruler cursor ticks reached is late reaches =
     let count = frames_before_item script cursor.item in

@@ -1,5 +1,7 @@
 -- What is seen of a walk: one packet more, and one row more.
-use Rattle.std.proofs.Common.{◌≡◌, ℕ, zero, suc, ◌+◌, ◌-◌, ◌^◌, ◌<◌, ◌≤◌, Bool, true, false, List, [], ◌∷◌, ◌++◌, map, length, All, Option, Some, None, is_none, is_some, not, slice_index_or, refl, sym, ◌∙◌, ap, ap₂, subst, arith, inl, inr, length-append}
+use Rattle.std.proofs.Common.{◌≡◌, ℕ, zero, suc, ◌+◌, ◌-◌, ◌^◌, ◌<◌, ◌≤◌, Bool, true, false, List, [], ◌∷◌, ◌++◌, map}
+use Rattle.std.proofs.Common.{length, All, Option, Some, None, is_none, is_some, not, slice_index_or, refl, sym, ◌∙◌}
+use Rattle.std.proofs.Common.{ap, ap₂, subst, arith, inl, inr, length-append}
 use Rattle.std.specs.List.{range_with_len}
 use Rattle.std.specs.Option.{option_map, ForSome}
 use Rattle.std.proofs.lemmas.Bool.{cases_Bool, cases_lt}
@@ -38,7 +40,8 @@ use Rattle.walk_fates.specs.Seen.{Sees}
 use Rattle.walk_fates.specs.declared.seen.SeenRows.{SeenRows}
 
 -- ---- bounds
-pub few-rows : (script : Script) (s : Counts) → IsValid script → IsWalked script s → (s.rows ≤ s.ticks) × (s.ticks ≤ script.config.ticks) × (s.ticks ≤ 1000000)
+pub few-rows : (script : Script) (s : Counts) → IsValid script → IsWalked script s → (s.rows ≤ s.ticks) ×
+    (s.ticks ≤ script.config.ticks) × (s.ticks ≤ 1000000)
 few-rows script s valid walked =
     let within = counts-within script s (valid-walks script valid) walked in
     let most = valid.network.ticks.1 in
@@ -48,14 +51,18 @@ pub windows-apart : (script : Script) → IsValid script → All (AreWindows 0) 
 windows-apart script valid k d low = (valid.network.windows k d low).apart
 
 -- ---- packets
-list-next : (f : ℕ → List ℕ) (all : List (List ℕ)) (last : List ℕ) (n : ℕ) → length all ≡ n → ((k : ℕ) → k < n → slice_index_or all k [] ≡ f k) → last ≡ f n →
+list-next : (f : ℕ → List ℕ) (all : List (List ℕ)) (last : List ℕ) (n : ℕ) → length all ≡ n →
+    ((k : ℕ) → k < n → slice_index_or all k [] ≡ f k) → last ≡ f n →
     (k : ℕ) → k < n + 1 → slice_index_or (all ++ last ∷ []) k [] ≡ f k
 list-next f all last n size before is k low = elim (cases_lt k n) [
   | inl front ↦ front-of all k (omega (arith, size, front)) ∙ before k front
-  | inr here ↦ (let e : k ≡ length all = omega (arith, size, here, low) in ap (λ i. slice_index_or (all ++ last ∷ []) i []) e ∙ last-of all ∙ is ∙ ap f (let e : n ≡ k = omega (arith, here, low) in e))
+  | inr here ↦ (let e : k ≡ length all =
+      omega (arith, size, here, low) in ap (λ i. slice_index_or (all ++ last ∷ []) i []) e ∙ last-of all ∙ is
+      ∙ ap f (let e : n ≡ k = omega (arith, here, low) in e))
 ]
   where
-    front-of : (all : List (List ℕ)) (k : ℕ) → k < length all → slice_index_or (all ++ last ∷ []) k [] ≡ slice_index_or all k []
+    front-of : (all : List (List ℕ)) (k : ℕ) → k < length all →
+        slice_index_or (all ++ last ∷ []) k [] ≡ slice_index_or all k []
     front-of [] k low = absurd (omega arith)
     front-of (x ∷ xs) zero low = refl
     front-of (x ∷ xs) (suc k) low = front-of xs k (omega arith)
@@ -64,17 +71,27 @@ list-next f all last n size before is k low = elim (cases_lt k n) [
     last-of [] = refl
     last-of (x ∷ xs) = last-of xs
 
-pub packets-next : (script : Script) (before ticks : ℕ) (packets : PacketList) (lines : List ℕ) (next : PacketList) → Governs script before packets →
-    steps_in ticks ≡ steps_in before + 1 → lines ≡ active (table_in script ticks) → next ≡ record { size = packets.size; active = packets.active ++ lines ∷ [] } →
+pub packets-next : (script : Script) (before ticks : ℕ) (packets : PacketList) (lines : List ℕ) (next : PacketList) →
+    Governs script before packets →
+    steps_in ticks ≡ steps_in before + 1 → lines ≡ active (table_in script ticks) →
+    next ≡ record { size = packets.size; active = packets.active ++ lines ∷ [] } →
     Governs script ticks next
 packets-next script before ticks packets lines next governs step is made =
     let are = governs.are in
     let steps : length packets.active + 1 ≡ steps_in ticks = omega (arith, governs.steps, step) in
     let table = λ (k : ℕ). active (table_of (scenario_of script) (session_of script) k) in
-    let count : length (packets.active ++ lines ∷ []) ≡ length packets.active + 1 = length-append packets.active (lines ∷ []) in
-    let here : lines ≡ table (length packets.active) = is ∙ ap (λ n. active (table-after n)) (let e : steps_in ticks ≡ suc (length packets.active) = omega (arith, steps) in e) in
+    let count : length (packets.active ++ lines ∷ []) ≡ length packets.active + 1 =
+    length-append packets.active (lines ∷ []) in
+    let here : lines ≡ table (length packets.active) = is
+    ∙ ap (λ n. active (table-after n))
+    (let e : steps_in ticks ≡ suc (length packets.active) = omega (arith, steps) in e) in
     subst (Governs script ticks) (sym made) (record {
-      are = record { size = are.size; lines = λ k low. list-next table packets.active lines (length packets.active) refl are.lines here k (omega (arith, low, count)) };
+      are = record {
+        size = are.size;
+        lines =
+            λ k low. list-next table packets.active lines (length packets.active) refl are.lines here k
+            (omega (arith, low, count));
+      };
       steps = omega (arith, count, steps);
     })
   where
@@ -82,18 +99,24 @@ packets-next script before ticks packets lines next governs step is made =
     table-after n = (after (scenario_of script) (session_of script) n).table
 
 -- ---- rows
-pub causes-next : (script : Script) (n : ℕ) → map (row_cause (scenario_of script) (session_of script)) (range_with_len 0 (n + 1))
-    ≡ map (row_cause (scenario_of script) (session_of script)) (range_with_len 0 n) ++ row_cause (scenario_of script) (session_of script) n ∷ []
+pub causes-next : (script : Script) (n : ℕ) →
+    map (row_cause (scenario_of script) (session_of script)) (range_with_len 0 (n + 1))
+    ≡ map (row_cause (scenario_of script) (session_of script)) (range_with_len 0 n) ++ row_cause (scenario_of script)
+    (session_of script) n ∷ []
 causes-next script n = map-range_with_len_more (row_cause (scenario_of script) (session_of script)) 0 n n (omega arith)
 
-pub rows-next : (script : Script) (n : ℕ) → session_rows script (n + 1) ≡ session_rows script n ++ row_of (scenario_of script) (session_of script) n ∷ []
+pub rows-next : (script : Script) (n : ℕ) →
+    session_rows script (n + 1) ≡ session_rows script n ++ row_of (scenario_of script) (session_of script) n ∷ []
 unfolding rows_of
 rows-next script n = ap (session_rows script) (let e : n + 1 ≡ suc n = omega arith in e)
 
-pub whole-cause : (script : Script) (t : ℕ) (cause : Option Cause) → cause ≡ row_cause (scenario_of script) (session_of script) t → is_whole_row (scenario_of script) (session_of script) t ≡ is_none cause
+pub whole-cause : (script : Script) (t : ℕ) (cause : Option Cause) →
+    cause ≡ row_cause (scenario_of script) (session_of script) t →
+    is_whole_row (scenario_of script) (session_of script) t ≡ is_none cause
 whole-cause script t None is = (cause-whole (scenario_of script) (session_of script) t).0 (sym is)
 whole-cause script t (Some cause) is = elim (cases_Bool (is_whole_row (scenario_of script) (session_of script) t)) [
-  | inl whole ↦ absurd (let wrong : Some cause ≡ None = is ∙ (cause-whole (scenario_of script) (session_of script) t).1 whole in cc)
+  | inl whole ↦ absurd (let wrong : Some cause ≡ None = is
+      ∙ (cause-whole (scenario_of script) (session_of script) t).1 whole in cc)
   | inr cut ↦ cut
 ]
 
@@ -103,26 +126,37 @@ none-is None false is = absurd (let wrong : false ≡ true = is in cc)
 none-is (Some cause) true is = absurd (let wrong : true ≡ false = is in cc)
 none-is (Some cause) false is = refl
 
-confirms-by : (base : ℕ) (found : Option Confirmed) → option_map (λ place. base + place) (option_map (λ (found : Confirmed). found.place) found) ≡ option_map (λ (found : Confirmed). base + found.place) found
+confirms-by : (base : ℕ) (found : Option Confirmed) →
+    option_map (λ place. base + place) (option_map (λ (found : Confirmed). found.place) found) ≡ option_map
+    (λ (found : Confirmed). base + found.place) found
 confirms-by base None = refl
 confirms-by base (Some found) = refl
 
-pub row-tells : (script : Script) (s : Counts) (rows end : ℕ) (confirmed : Option ℕ) → rows ≡ s.rows → end ≡ place_of (scenario_of script) (session_of script) s.rows →
-    confirmed ≡ first_place (segments_of (session_rows script s.rows)).last.octets → Tells (session_rows script rows) end confirmed
+pub row-tells : (script : Script) (s : Counts) (rows end : ℕ) (confirmed : Option ℕ) → rows ≡ s.rows →
+    end ≡ place_of (scenario_of script) (session_of script) s.rows →
+    confirmed ≡ first_place (segments_of (session_rows script s.rows)).last.octets →
+    Tells (session_rows script rows) end confirmed
 row-tells script s rows end confirmed is ends told = record {
-  ends = ends ∙ sym (rows-length (scenario_of script) (session_of script) s.rows s.rows (omega arith)) ∙ ap (λ n. length (octets_of_rows (session_rows script n))) (sym is);
-  confirms = ap (option_map (λ place. (segments_of (session_rows script rows)).last.base + place)) (told ∙ ap (λ n. first_place (segments_of (session_rows script n)).last.octets) (sym is))
-      ∙ confirms-by (segments_of (session_rows script rows)).last.base (hunt true 0 (segments_of (session_rows script rows)).last.octets);
+  ends = ends ∙ sym (rows-length (scenario_of script) (session_of script) s.rows s.rows (omega arith))
+      ∙ ap (λ n. length (octets_of_rows (session_rows script n))) (sym is);
+  confirms = ap (option_map (λ place. (segments_of (session_rows script rows)).last.base + place))
+      (told ∙ ap (λ n. first_place (segments_of (session_rows script n)).last.octets) (sym is))
+      ∙ confirms-by (segments_of (session_rows script rows)).last.base
+      (hunt true 0 (segments_of (session_rows script rows)).last.octets);
 }
 
-few-by : (octets : List ℕ) (found : Option Confirmed) → hunt true 0 octets ≡ found → length octets < 2 ^ 63 → ForSome (option_map (λ (found : Confirmed). found.place) found) (λ place. place < 2 ^ 63)
+few-by : (octets : List ℕ) (found : Option Confirmed) → hunt true 0 octets ≡ found → length octets < 2 ^ 63 →
+    ForSome (option_map (λ (found : Confirmed). found.place) found) (λ place. place < 2 ^ 63)
 few-by octets None is low place there = absurd (let e : None ≡ Some place = there in cc)
-few-by octets (Some found) is low place there = let within = confirmed-within octets found is in let e : found.place ≡ place = cc in omega (arith, within, low, e)
+few-by octets (Some found) is low place there = let within = confirmed-within octets found is in
+    let e : found.place ≡ place = cc in omega (arith, within, low, e)
 
-pub place-low : (script : Script) (rows : ℕ) → IsValid script → rows ≤ script.config.ticks → place_of (scenario_of script) (session_of script) rows < 2 ^ 63
+pub place-low : (script : Script) (rows : ℕ) → IsValid script → rows ≤ script.config.ticks →
+    place_of (scenario_of script) (session_of script) rows < 2 ^ 63
 place-low script rows valid low = let most = place-most script rows valid low in omega (arith, most)
 
-pub mark-low : (script : Script) (rows : ℕ) (confirmed : Option ℕ) → IsValid script → rows ≤ script.config.ticks → confirmed ≡ first_place (segments_of (session_rows script rows)).last.octets →
+pub mark-low : (script : Script) (rows : ℕ) (confirmed : Option ℕ) → IsValid script → rows ≤ script.config.ticks →
+    confirmed ≡ first_place (segments_of (session_rows script rows)).last.octets →
     ForSome confirmed (λ place. place < 2 ^ 63)
 mark-low script rows confirmed valid low told =
     let stands = Stands-all (session_rows script rows) in
@@ -133,16 +167,20 @@ mark-low script rows confirmed valid low told =
     subst (λ found. ForSome found (λ place. place < 2 ^ 63)) (sym told) (few-by last (hunt true 0 last) refl few)
 
 -- ---- how many
-pub causes-size : (script : Script) (n : ℕ) → length (map (row_cause (scenario_of script) (session_of script)) (range_with_len 0 n)) ≡ n
+pub causes-size : (script : Script) (n : ℕ) →
+    length (map (row_cause (scenario_of script) (session_of script)) (range_with_len 0 n)) ≡ n
 causes-size script n = length-map-range_with_len (row_cause (scenario_of script) (session_of script)) 0 n
 
 pub rows-size : (script : Script) (n : ℕ) → length (session_rows script n) ≡ n
 unfolding rows_of
 rows-size script zero = refl
-rows-size script (suc n) = let before = rows-size script n in let more = length-append (session_rows script n) (row_of (scenario_of script) (session_of script) n ∷ []) in omega (arith, before, more)
+rows-size script (suc n) = let before = rows-size script n in
+    let more = length-append (session_rows script n) (row_of (scenario_of script) (session_of script) n ∷ []) in
+    omega (arith, before, more)
 
 -- ---- before any row
-pub nothing-governs : (script : Script) (size : ℕ) (packets : PacketList) → script.config.size ≡ size → packets ≡ record { size = size; active = [] } → Governs script 0 packets
+pub nothing-governs : (script : Script) (size : ℕ) (packets : PacketList) → script.config.size ≡ size →
+    packets ≡ record { size = size; active = [] } → Governs script 0 packets
 nothing-governs script size packets is made = subst (Governs script 0) (sym made) (record {
   are = record { size = sym is; lines = λ k low. absurd (omega (arith, low)) };
   steps = refl;
@@ -152,7 +190,9 @@ pub no-rows : (script : Script) → session_rows script 0 ≡ []
 unfolding rows_of
 no-rows script = refl
 
-pub sees-nothing : (script : Script) (size : ℕ) (seen : SeenRows) → script.config.size ≡ size → seen.packets ≡ record { size = size; active = [] } → Stands seen.segments [] → AreRuns seen.runs [] → Sees script 0 0 seen
+pub sees-nothing : (script : Script) (size : ℕ) (seen : SeenRows) → script.config.size ≡ size →
+    seen.packets ≡ record { size = size; active = [] } → Stands seen.segments [] → AreRuns seen.runs [] →
+    Sees script 0 0 seen
 sees-nothing script size seen is made segments runs = record {
   packets = nothing-governs script size seen.packets is made;
   segments = subst (Stands seen.segments) (sym (no-rows script)) segments;
@@ -160,9 +200,11 @@ sees-nothing script size seen is made segments runs = record {
 }
 
 -- ---- one row more
-pub one-row : (script : Script) (ticks row rows : ℕ) (seen : SeenRows) → row + 1 ≡ rows → Governs script ticks seen.packets →
+pub one-row : (script : Script) (ticks row rows : ℕ) (seen : SeenRows) → row + 1 ≡ rows →
+    Governs script ticks seen.packets →
     Stands seen.segments (session_rows script row ++ row_of (scenario_of script) (session_of script) row ∷ []) →
-    AreRuns seen.runs (map (row_cause (scenario_of script) (session_of script)) (range_with_len 0 row) ++ row_cause (scenario_of script) (session_of script) row ∷ []) → Sees script ticks rows seen
+    AreRuns seen.runs (map (row_cause (scenario_of script) (session_of script)) (range_with_len 0 row) ++ row_cause
+    (scenario_of script) (session_of script) row ∷ []) → Sees script ticks rows seen
 one-row script ticks row rows seen next packets segments runs = subst (λ n. Sees script ticks n seen) next (record {
   packets = packets;
   segments = subst (Stands seen.segments) (sym (rows-next script row)) segments;
@@ -170,17 +212,20 @@ one-row script ticks row rows seen next packets segments runs = subst (λ n. See
 })
 
 -- ---- a decision step, or none
-pub sees-step : (script : Script) (before ticks rows : ℕ) (seen next : SeenRows) (packets : PacketList) (lines : List ℕ) → Sees script before rows seen →
+pub sees-step : (script : Script) (before ticks rows : ℕ) (seen next : SeenRows) (packets : PacketList)
+    (lines : List ℕ) → Sees script before rows seen →
     steps_in ticks ≡ steps_in before + 1 → lines ≡ active (table_in script ticks) →
     packets ≡ record { size = seen.packets.size; active = seen.packets.active ++ lines ∷ [] } →
     next ≡ record { packets = packets; segments = seen.segments; runs = seen.runs } → Sees script ticks rows next
-sees-step script before ticks rows seen next packets lines sees step is made so = subst (Sees script ticks rows) (sym so) (record {
-  packets = packets-next script before ticks seen.packets lines packets sees.packets step is made;
-  segments = sees.segments;
-  runs = sees.runs;
-})
+sees-step script before ticks rows seen next packets lines sees step is made so =
+    subst (Sees script ticks rows) (sym so) (record {
+      packets = packets-next script before ticks seen.packets lines packets sees.packets step is made;
+      segments = sees.segments;
+      runs = sees.runs;
+    })
 
-pub sees-same : (script : Script) (before ticks rows : ℕ) (seen next : SeenRows) → Sees script before rows seen → steps_in ticks ≡ steps_in before → next ≡ seen → Sees script ticks rows next
+pub sees-same : (script : Script) (before ticks rows : ℕ) (seen next : SeenRows) → Sees script before rows seen →
+    steps_in ticks ≡ steps_in before → next ≡ seen → Sees script ticks rows next
 sees-same script before ticks rows seen next sees step so = subst (Sees script ticks rows) (sym so) (record {
   packets = record { are = sees.packets.are; steps = sees.packets.steps ∙ sym step };
   segments = sees.segments;

@@ -9,7 +9,8 @@ use Rattle.walk_law.specs.Promise.{session_pieces}
 use Rattle.fate_law.specs.declared.RowSegment.{RowSegment}
 use Rattle.report_text.specs.declared.report.Refusal.{Refusal}
 use Rattle.fate_law.specs.declared.Fate.{Fate}
-use Rattle.fate_law.specs.SessionFates.{End, refused, accepted, Ended, fate_at, is_refused, has_got, has_waited, count_of}
+use Rattle.fate_law.specs.SessionFates.{End, refused, accepted, Ended, fate_at, is_refused, has_got, has_waited}
+use Rattle.fate_law.specs.SessionFates.{count_of}
 use Rattle.fate_law.specs.FateText.{segment_text}
 use Rattle.fate_core.specs.Totals.{counted}
 use Rattle.walk_fates.specs.Places.{Rules}
@@ -49,4 +50,5 @@ end_by fate (Some why) i = refused why
 -- one more item of such an end
 abbrev pub counted_end : EndedCount → End → EndedCount
 counted_end count (refused why) = record { frames = count.frames; refused = count.refused + 1; totals = count.totals }
-counted_end count (accepted fate) = record { frames = count.frames + 1; refused = count.refused; totals = counted count.totals fate }
+counted_end count (accepted fate) =
+    record { frames = count.frames + 1; refused = count.refused; totals = counted count.totals fate }

@@ -1,5 +1,6 @@
-//! What became of each frame of a walk: it is seen after each turn what packets and rows came of it (`see_since`), then where the pieces of its
-//! accepted frames lie (`place_frames`), and then the text is written (`write_fates`). No turn is made here. Begin with `SeenWalk`.
+//! What became of each frame of a walk: it is seen after each turn what packets and rows came of it
+//! (`see_since`), then where the pieces of its accepted frames lie (`place_frames`), and then the text is
+//! written (`write_fates`). No turn is made here. Begin with `SeenWalk`.
 #![tactic(auto)]
 
 mod lines;

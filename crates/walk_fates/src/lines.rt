@@ -1,4 +1,5 @@
-//! The text of fates: a line for each run of spoiled rows, each segment but the first, and each client item that landed, and one of totals.
+//! The text of fates: a line for each run of spoiled rows, each segment but the first, and each client item
+//! that landed, and one of totals.
 ghost use Rattle.std.specs.Prelude.{◌≡◌, ℕ, ◌+◌, ◌<◌, ◌++◌, List, Contains, slice_get, OnOk, OnErr};
 ghost use Rattle.std.specs.List.{flat_map};
 ghost use Rattle.outside_io.specs.Start.{Start};

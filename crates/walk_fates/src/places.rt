@@ -1,5 +1,5 @@
-//! Where the pieces of a walk's accepted frames lie, which is known once the walk was made: by when they landed, and by how far the stream was
-//! made in each tick.
+//! Where the pieces of a walk's accepted frames lie, which is known once the walk was made: by when they
+//! landed, and by how far the stream was made in each tick.
 ghost use Rattle.std.specs.Prelude.{◌≡◌, ℕ, ◌+◌, ◌^◌, ◌≤◌, ◌<◌, IfOk, IfSome, IfNone};
 ghost use Rattle.session_model.specs.Valid.{IsValid};
 ghost use Rattle.walk_law.specs.Walk.{IsWalked};

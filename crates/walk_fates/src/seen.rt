@@ -1,5 +1,5 @@
-//! What is seen of a walk after each turn: which lines carry payload under the packet that was begun, whether the row that was taken is whole
-//! and why not, and what is confirmed after it.
+//! What is seen of a walk after each turn: which lines carry payload under the packet that was begun, whether
+//! the row that was taken is whole and why not, and what is confirmed after it.
 ghost use Rattle.std.specs.Prelude.{◌≡◌, ◌+◌, ◌≤◌, OnOk};
 ghost use Rattle.std.specs.Bool.{OnTrue, OnFalse};
 ghost use Rattle.session_model.specs.declared.script.Script.{Script};

@@ -1,5 +1,7 @@
 -- What the next frame that has landed does to the stream.
-use Rattle.std.proofs.Common.{◌≡◌, ℕ, zero, suc, ◌+◌, ◌<◌, ◌≤◌, List, [], ◌∷◌, ◌++◌, length, take, get_or, Option, Some, None, option_map, slice_get, refl, sym, ◌∙◌, ap, ap₂, subst, arith, inl, inr, length-append}
+use Rattle.std.proofs.Common.{◌≡◌, ℕ, zero, suc, ◌+◌, ◌<◌, ◌≤◌, List, [], ◌∷◌, ◌++◌, length, take, get_or, Option, Some}
+use Rattle.std.proofs.Common.{None, option_map, slice_get, refl, sym, ◌∙◌, ap, ap₂, subst, arith, inl, inr}
+use Rattle.std.proofs.Common.{length-append}
 use Rattle.std.proofs.lemmas.Bool.{cases_lt}
 use Rattle.session_model.specs.declared.refusal.AcceptFault.{AcceptFault}
 use Rattle.session_model.specs.declared.script.Script.{Script}
@@ -19,13 +21,15 @@ use Rattle.walk_frames.specs.Places.{stream_in, Between, IsEarly, IsLate}
 use Rattle.walk_frames.proofs.LandedFrameLaws.{offers-next, take-one}
 use Rattle.walk_frames.proofs.StreamLaws.{met-next, ruler-refused, ruler-accepted}
 
-get-inside : (xs : List DueFrame) (k : ℕ) (x : DueFrame) → slice_get xs k ≡ Some x → (k < length xs) × ((d : DueFrame) → get_or xs k d ≡ x)
+get-inside : (xs : List DueFrame) (k : ℕ) (x : DueFrame) → slice_get xs k ≡ Some x → (k < length xs) ×
+    ((d : DueFrame) → get_or xs k d ≡ x)
 get-inside [] k x there = absurd cc
 get-inside (y ∷ xs) zero x there = (omega arith, λ d. let same : y ≡ x = cc in same)
 get-inside (y ∷ xs) (suc k) x there = let rest = get-inside xs k x there in (omega (arith, rest.0), rest.1)
 
 -- frames are due in their order
-pub due-order : (script : Script) (i j : ℕ) (a b : DueFrame) → IsValid script → i ≤ j → slice_get (offers_of script.items) i ≡ Some a → slice_get (offers_of script.items) j ≡ Some b → a.due ≤ b.due
+pub due-order : (script : Script) (i j : ℕ) (a b : DueFrame) → IsValid script → i ≤ j →
+    slice_get (offers_of script.items) i ≡ Some a → slice_get (offers_of script.items) j ≡ Some b → a.due ≤ b.due
 due-order script i j a b valid low here there =
     let one = get-inside (offers_of script.items) i a here in
     let two = get-inside (offers_of script.items) j b there in
@@ -42,10 +46,13 @@ module _ (script : Script) (was now : Cursor) (found : LandedFrame) (next : IsNe
   own = record { due = found.due; frame = next.octets }
 
   offer-is : offer_of next.item.due next.item.kind ≡ own ∷ []
-  offer-is = ap (offer_of next.item.due) next.kind ∙ ap (λ due. record { due = due; frame = next.octets } ∷ []) (sym next.due)
+  offer-is = ap (offer_of next.item.due) next.kind
+      ∙ ap (λ due. record { due = due; frame = next.octets } ∷ []) (sym next.due)
 
-  at : (slice_get (offers_of script.items) count ≡ Some own) × (offers_of (take found.number script.items) ≡ take count (offers_of script.items))
-  at = offer-at script.items count (record { number = found.number; item = next.item }) own (record { there = next.there; is = offer-is; before = next.before })
+  at : (slice_get (offers_of script.items) count ≡ Some own) ×
+      (offers_of (take found.number script.items) ≡ take count (offers_of script.items))
+  at = offer-at script.items count (record { number = found.number; item = next.item }) own
+      (record { there = next.there; is = offer-is; before = next.before })
 
   pub next-offer : slice_get (offers_of script.items) count ≡ Some own
   next-offer = at.0
@@ -61,36 +68,50 @@ module _ (script : Script) (was now : Cursor) (found : LandedFrame) (next : IsNe
 
   pub next-stream : stream_in script found.due (count + 1) ≡ offered (stream_in script found.due count) next.octets
   next-stream =
-      ap (stream_met (scenario_of script) (session_of script) found.due) (take-one (offers_of script.items) count own at.0)
+      ap (stream_met (scenario_of script) (session_of script) found.due)
+      (take-one (offers_of script.items) count own at.0)
       ∙ met-next (scenario_of script) (session_of script) (take count (offers_of script.items)) own
 
   -- why it is refused, where it is
-  pub next-refusal : found.refusal ≡ option_map frame_fault (frame_refusal next.octets (stream_in script found.due count))
+  pub next-refusal : found.refusal ≡ option_map frame_fault
+      (frame_refusal next.octets (stream_in script found.due count))
   next-refusal =
       next.refusal
-      ∙ ap (kind_refusal (scenario_of script) (session_of script) next.item.due (take found.number script.items)) next.kind
-      ∙ ap₂ (λ due offers. option_map frame_fault (frame_refusal next.octets (stream_met (scenario_of script) (session_of script) due offers))) (sym next.due) at.1
+      ∙ ap (kind_refusal (scenario_of script) (session_of script) next.item.due (take found.number script.items))
+      next.kind
+      ∙ ap₂ (λ due offers. option_map frame_fault
+      (frame_refusal next.octets (stream_met (scenario_of script) (session_of script) due offers)))
+      (sym next.due) at.1
 
-  refused-by : (why : Option AcceptFault) → frame_refusal next.octets (stream_in script found.due count) ≡ why → (refusal : Refusal) → option_map frame_fault why ≡ Some refusal →
+  refused-by : (why : Option AcceptFault) → frame_refusal next.octets (stream_in script found.due count) ≡ why →
+      (refusal : Refusal) → option_map frame_fault why ≡ Some refusal →
       offered (stream_in script found.due count) next.octets ≡ stream_in script found.due count
   refused-by None is refusal there = absurd (let e : None ≡ Some refusal = there in cc)
   refused-by (Some why) is refusal there = ruler-refused (stream_in script found.due count) next.octets why is
 
-  pub next-refused : (refusal : Refusal) → found.refusal ≡ Some refusal → ruler_of (stream_in script found.due (count + 1)) ≡ ruler_of (stream_in script found.due count)
+  pub next-refused : (refusal : Refusal) → found.refusal ≡ Some refusal →
+      ruler_of (stream_in script found.due (count + 1)) ≡ ruler_of (stream_in script found.due count)
   next-refused refusal is =
-      ap ruler_of (next-stream ∙ refused-by (frame_refusal next.octets (stream_in script found.due count)) refl refusal (sym next-refusal ∙ is))
+      ap ruler_of (next-stream ∙ refused-by (frame_refusal next.octets (stream_in script found.due count)) refl refusal
+      (sym next-refusal ∙ is))
 
-  accepted-by : (why : Option AcceptFault) → frame_refusal next.octets (stream_in script found.due count) ≡ why → option_map frame_fault why ≡ None → frame_refusal next.octets (stream_in script found.due count) ≡ None
+  accepted-by : (why : Option AcceptFault) → frame_refusal next.octets (stream_in script found.due count) ≡ why →
+      option_map frame_fault why ≡ None → frame_refusal next.octets (stream_in script found.due count) ≡ None
   accepted-by None is none = is
   accepted-by (Some why) is none = absurd (let e : Some (frame_fault why) ≡ None = none in cc)
 
-  pub next-accepted : found.refusal ≡ None → ruler_of (stream_in script found.due (count + 1)) ≡ with_waiting (ruler_of (stream_in script found.due count)) found.length
+  pub next-accepted : found.refusal ≡ None →
+      ruler_of (stream_in script found.due (count + 1)) ≡ with_waiting (ruler_of (stream_in script found.due count))
+      found.length
   next-accepted none =
-      let accepted = accepted-by (frame_refusal next.octets (stream_in script found.due count)) refl (sym next-refusal ∙ none) in
-      ap ruler_of next-stream ∙ ruler-accepted (stream_in script found.due count) next.octets accepted ∙ ap (with_waiting (ruler_of (stream_in script found.due count))) (sym next.length_is)
+      let accepted = accepted-by (frame_refusal next.octets (stream_in script found.due count)) refl
+      (sym next-refusal ∙ none) in
+      ap ruler_of next-stream ∙ ruler-accepted (stream_in script found.due count) next.octets accepted
+      ∙ ap (with_waiting (ruler_of (stream_in script found.due count))) (sym next.length_is)
 
   pub next-between : (from : ℕ) → IsValid script → IsEarly script count from → Between script count from found.due
-  next-between from valid early = record { early = early; late = λ j offer far there. due-order script count j own offer valid far at.0 there }
+  next-between from valid early =
+      record { early = early; late = λ j offer far there. due-order script count j own offer valid far at.0 there }
 
   pub next-early : IsValid script → IsEarly script (count + 1) found.due
   next-early valid j offer low there = due-order script j count offer own valid (omega (arith, low)) there at.0

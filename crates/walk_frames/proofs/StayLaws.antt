@@ -1,5 +1,7 @@
 -- What became of a frame is known by the pieces that the rows reach: those after them change nothing.
-use Rattle.std.proofs.Common.{◌≡◌, ℕ, zero, suc, ◌+◌, ◌-◌, ◌<◌, ◌≤◌, nat_le, nat_lt, ◌&&◌, ◌||◌, Bool, true, false, if◌then◌else◌, List, [], ◌∷◌, ◌++◌, length, get_or, All, Option, Some, None, slice_get, refl, sym, ◌∙◌, ap, ap₂, subst, arith, inl, inr, length-take}
+use Rattle.std.proofs.Common.{◌≡◌, ℕ, zero, suc, ◌+◌, ◌-◌, ◌<◌, ◌≤◌, nat_le, nat_lt, ◌&&◌, ◌||◌, Bool, true, false}
+use Rattle.std.proofs.Common.{if◌then◌else◌, List, [], ◌∷◌, ◌++◌, length, get_or, All, Option, Some, None, slice_get}
+use Rattle.std.proofs.Common.{refl, sym, ◌∙◌, ap, ap₂, subst, arith, inl, inr, length-take}
 use Rattle.std.specs.List.{list_any, list_all}
 use Rattle.std.proofs.lemmas.Bool.{cases_lt, lt-leb, lt-ltb, le-ltb}
 use Rattle.session_model.specs.declared.script.Script.{Script}
@@ -16,11 +18,13 @@ use Rattle.walk_law.specs.Delivered.{session_rows}
 use Rattle.walk_law.specs.Promise.{session_pieces}
 use Rattle.fate_law.specs.declared.Fate.{Fate}
 use Rattle.fate_law.specs.declared.Fate.TheVariants.{Waits, Cut, Unconfirmed, Hunting, Unsettled, Got}
-use Rattle.fate_law.specs.Fates.{row_at, spoiled_after, is_settled_by, fate_after, fate_in, fate_among, carried_fate, fate_of}
+use Rattle.fate_law.specs.Fates.{row_at, spoiled_after, is_settled_by, fate_after, fate_in, fate_among, carried_fate}
+use Rattle.fate_law.specs.Fates.{fate_of}
 use Rattle.fate_law.specs.SessionFates.{fate_if, fate_at}
 
 -- ---- lists
-any-none : (test : Extent → Bool) (xs : List Extent) → ((k : ℕ) (e : Extent) → slice_get xs k ≡ Some e → test e ≡ false) → list_any test xs ≡ false
+any-none : (test : Extent → Bool) (xs : List Extent) →
+    ((k : ℕ) (e : Extent) → slice_get xs k ≡ Some e → test e ≡ false) → list_any test xs ≡ false
 any-none test [] none = refl
 any-none test (x ∷ xs) none = ap₂ ◌||◌ (none 0 x refl) (any-none test xs (λ k e there. none (suc k) e there))
 
@@ -28,7 +32,8 @@ or-false : (b : Bool) → (false || b) ≡ b
 or-false true = refl
 or-false false = refl
 
-any-front : (test : Extent → Bool) (xs ys : List Extent) → list_any test ys ≡ false → list_any test (xs ++ ys) ≡ list_any test xs
+any-front : (test : Extent → Bool) (xs ys : List Extent) → list_any test ys ≡ false →
+    list_any test (xs ++ ys) ≡ list_any test xs
 any-front test [] ys none = none
 any-front test (x ∷ xs) ys none = ap (λ b. test x || b) (any-front test xs ys none)
 
@@ -53,11 +58,14 @@ get-all P (x ∷ xs) zero e all there = subst P (let s : x ≡ e = cc in s) (all
 get-all P (x ∷ xs) (suc i) e all there = get-all P xs i e (λ k d low. all (suc k) d (omega (arith, low))) there
 
 -- ---- a frame of the first pieces
-module _ (all more : List Extent) (e : Extent) (later : (k : ℕ) (other : Extent) → slice_get more k ≡ Some other → e.from ≤ other.from) where
+module _ (all more : List Extent) (e : Extent)
+    (later : (k : ℕ) (other : Extent) → slice_get more k ≡ Some other → e.from ≤ other.from) where
   settled-stays : (place : ℕ) → list_any (is_settled_by place e) (all ++ more) ≡ list_any (is_settled_by place e) all
   settled-stays place =
       any-front (is_settled_by place e) all more
-      (any-none (is_settled_by place e) more (λ k other there. let none = le-ltb other.from e.from (later k other there) in rw none (and-false (nat_le place other.from))))
+      (any-none (is_settled_by place e) more
+      (λ k other there. let none = le-ltb other.from e.from (later k other there) in
+      rw none (and-false (nat_le place other.from))))
     where
       and-false : (b : Bool) → (b && false) ≡ false
       and-false true = refl
@@ -65,19 +73,26 @@ module _ (all more : List Extent) (e : Extent) (later : (k : ℕ) (other : Exten
 
   after-stays : (mark : Option ℕ) (r q : ℕ) → fate_after mark (all ++ more) e r q ≡ fate_after mark all e r q
   after-stays None r q = refl
-  after-stays (Some place) r q = ap (λ settled. if nat_le place e.from then (if settled then Got r q else Unsettled r q) else Hunting r q) (settled-stays place)
+  after-stays (Some place) r q = ap
+      (λ settled. if nat_le place e.from then (if settled then Got r q else Unsettled r q) else Hunting r q)
+      (settled-stays place)
 
-  in-stays : (first : Bool) (segment : Segment) (r q : ℕ) → fate_in first segment (all ++ more) e r q ≡ fate_in first segment all e r q
+  in-stays : (first : Bool) (segment : Segment) (r q : ℕ) →
+      fate_in first segment (all ++ more) e r q ≡ fate_in first segment all e r q
   in-stays true segment r q = refl
   in-stays false segment r q = after-stays (confirmed_in segment) r q
 
-  among-stays : (other : Fate) (segments : List Segment) (r q : ℕ) → fate_among other segments (all ++ more) e r q ≡ fate_among other segments all e r q
+  among-stays : (other : Fate) (segments : List Segment) (r q : ℕ) →
+      fate_among other segments (all ++ more) e r q ≡ fate_among other segments all e r q
   unfolding fate_among
   among-stays other [] r q = refl
-  among-stays other (segment ∷ segments) r q = ap₂ (λ a b. if lies_in segment e then a else b) (in-stays segment.first segment r q) (among-stays other segments r q)
+  among-stays other (segment ∷ segments) r q =
+      ap₂ (λ a b. if lies_in segment e then a else b) (in-stays segment.first segment r q)
+      (among-stays other segments r q)
 
 -- ---- all frames
-pub fate-stays : (front more : List Piece) (rows : List StreamRow) (i : ℕ) → length (octets_of_rows rows) ≤ length (stream_of front) → fate_at (front ++ more) rows i ≡ fate_at front rows i
+pub fate-stays : (front more : List Piece) (rows : List StreamRow) (i : ℕ) →
+    length (octets_of_rows rows) ≤ length (stream_of front) → fate_at (front ++ more) rows i ≡ fate_at front rows i
 fate-stays front more rows i reach =
     elim (cases_lt i (length first)) [ inl here ↦ inside here (slice_get first i) refl | inr far ↦ outside far ]
   where
@@ -90,39 +105,53 @@ fate-stays front more rows i reach =
     parts : extents 0 (front ++ more) ≡ first ++ second
     parts = extents-append 0 front more
 
-    inside : i < length first → (found : Option Extent) → slice_get first i ≡ found → fate_at (front ++ more) rows i ≡ fate_at front rows i
-    inside here None is = ap (fate_if (fate_of (front ++ more) rows)) (ap (λ l. slice_get l i) parts ∙ get-front first second i here ∙ is) ∙ sym (ap (fate_if (fate_of front rows)) is)
+    inside : i < length first → (found : Option Extent) → slice_get first i ≡ found →
+        fate_at (front ++ more) rows i ≡ fate_at front rows i
+    inside here None is = ap (fate_if (fate_of (front ++ more) rows))
+        (ap (λ l. slice_get l i) parts ∙ get-front first second i here ∙ is)
+        ∙ sym (ap (fate_if (fate_of front rows)) is)
     inside here (Some e) is =
         let between = get-all (IsBetween 0 (0 + length (stream_of front))) first i e (extents-between 0 front) is in
         let later = λ (k : ℕ) (other : Extent) (there : slice_get second k ≡ Some other).
-        let far = get-all (IsBetween (0 + length (stream_of front)) (0 + length (stream_of front) + length (stream_of more))) second k other (extents-between (0 + length (stream_of front)) more) there in
+        let far = get-all (IsBetween (0 + length (stream_of front))
+        (0 + length (stream_of front) + length (stream_of more))) second k other
+        (extents-between (0 + length (stream_of front)) more) there in
         let low : e.from ≤ other.from = omega (arith, far.lower, between.upper, between.size) in low in
         ap (fate_if (fate_of (front ++ more) rows)) (ap (λ l. slice_get l i) parts ∙ get-front first second i here ∙ is)
         ∙ ap (λ fate. if is_carried (length (octets_of_rows rows)) e then fate else Waits)
-        (ap (λ all. fate_among (Cut (row_at rows e.from) (row_at rows (e.to - 1)) (spoiled_after rows (row_at rows e.from))) (segments rows) all e (row_at rows e.from) (row_at rows (e.to - 1))) parts
+        (ap (λ all. fate_among (Cut (row_at rows e.from) (row_at rows (e.to - 1))
+        (spoiled_after rows (row_at rows e.from))) (segments rows) all e (row_at rows e.from)
+        (row_at rows (e.to - 1))) parts
         ∙ among-stays first second e later _ (segments rows) (row_at rows e.from) (row_at rows (e.to - 1)))
         ∙ sym (ap (fate_if (fate_of front rows)) is)
 
-    waits : (k : ℕ) (found : Option Extent) → slice_get second k ≡ found → fate_if (fate_of (front ++ more) rows) found ≡ Waits
+    waits : (k : ℕ) (found : Option Extent) → slice_get second k ≡ found →
+        fate_if (fate_of (front ++ more) rows) found ≡ Waits
     waits k None is = refl
     waits k (Some e) is =
-        let far = get-all (IsBetween (0 + length (stream_of front)) (0 + length (stream_of front) + length (stream_of more))) second k e (extents-between (0 + length (stream_of front)) more) is in
+        let far = get-all (IsBetween (0 + length (stream_of front))
+        (0 + length (stream_of front) + length (stream_of more))) second k e
+        (extents-between (0 + length (stream_of front)) more) is in
         let beyond = lt-leb e.to (length (octets_of_rows rows)) (omega (arith, far.lower, far.size, reach)) in
         rw beyond refl
 
     outside : length first ≤ i → fate_at (front ++ more) rows i ≡ fate_at front rows i
     outside far =
         let behind = get-behind first second i far in
-        ap (fate_if (fate_of (front ++ more) rows)) (ap (λ l. slice_get l i) parts ∙ behind.1) ∙ waits behind.0 (slice_get second behind.0) refl
+        ap (fate_if (fate_of (front ++ more) rows)) (ap (λ l. slice_get l i) parts ∙ behind.1)
+        ∙ waits behind.0 (slice_get second behind.0) refl
         ∙ sym (ap (fate_if (fate_of front rows)) (get-beyond first i far))
 
 -- ---- of a session
 pub session-fate : (script : Script) (ticks rows i : ℕ) → rows ≤ ticks → ticks ≤ script.config.ticks →
-    fate_at (session_pieces script) (session_rows script rows) i ≡ fate_at (stream_before (scenario_of script) (session_of script) ticks).pieces (session_rows script rows) i
+    fate_at (session_pieces script) (session_rows script rows) i ≡ fate_at
+    (stream_before (scenario_of script) (session_of script) ticks).pieces (session_rows script rows) i
 session-fate script ticks rows i low high =
     let begins = pieces-begin (scenario_of script) (session_of script) ticks script.config.ticks high in
     ap (λ pieces. fate_at pieces (session_rows script rows) i) begins.1
-    ∙ fate-stays (stream_before (scenario_of script) (session_of script) ticks).pieces begins.0 (session_rows script rows) i
+    ∙ fate-stays (stream_before (scenario_of script) (session_of script) ticks).pieces begins.0
+    (session_rows script rows) i
     (let octets = ap length (rows-octets (scenario_of script) (session_of script) rows ticks low) in
-    let part = length-take (place_of (scenario_of script) (session_of script) rows) (stream_of (stream_before (scenario_of script) (session_of script) ticks).pieces) in
+    let part = length-take (place_of (scenario_of script) (session_of script) rows)
+    (stream_of (stream_before (scenario_of script) (session_of script) ticks).pieces) in
     omega (arith, octets, part))

@@ -13,15 +13,18 @@ place_in script row = place_of (scenario_of script) (session_of script) row
 
 -- the stream in a number of ticks, after the first frames
 abbrev pub stream_in : Script → ℕ → ℕ → Stream
-stream_in script ticks frames = stream_met (scenario_of script) (session_of script) ticks (take frames (offers_of script.items))
+stream_in script ticks frames =
+    stream_met (scenario_of script) (session_of script) ticks (take frames (offers_of script.items))
 
 -- the first frames are due by a tick
 abbrev pub IsEarly : Script → ℕ → ℕ → Type 0
-IsEarly script frames from = (j : ℕ) (offer : DueFrame) → j < frames → slice_get (offers_of script.items) j ≡ Some offer → offer.due ≤ from
+IsEarly script frames from = (j : ℕ) (offer : DueFrame) → j < frames →
+    slice_get (offers_of script.items) j ≡ Some offer → offer.due ≤ from
 
 -- those after them aren't due before another
 abbrev pub IsLate : Script → ℕ → ℕ → Type 0
-IsLate script frames to = (j : ℕ) (offer : DueFrame) → frames ≤ j → slice_get (offers_of script.items) j ≡ Some offer → to ≤ offer.due
+IsLate script frames to = (j : ℕ) (offer : DueFrame) → frames ≤ j → slice_get (offers_of script.items) j ≡ Some offer →
+    to ≤ offer.due
 
 pub record Between (script : Script) (frames from to : ℕ) : Type 0 where
   pub early : IsEarly script frames from

@@ -1,4 +1,5 @@
-//! The client's items that have landed in a walk, one after another in item order, each with why it is refused where it is.
+//! The client's items that have landed in a walk, one after another in item order, each with why it is
+//! refused where it is.
 ghost use Rattle.std.specs.Prelude.{◌≡◌, ℕ, ◌+◌, ◌<◌, List, ◌++◌, length, drop, All, Option, IfSome, IfNone};
 ghost use Rattle.report_text.specs.declared.report.Refusal.{Refusal as RefusalData};
 ghost use Rattle.session_model.specs.Valid.{IsValid};

@@ -1,6 +1,7 @@
-//! The client's frames in a walk that was made: which of them have landed, and why others are refused; the stream that they make tick by tick;
-//! and that what became of a frame is known by the pieces that the taken rows reach. It holds nothing of a walk, and says of no frame what
-//! became of it. Begin with `FrameCursor`; `stream_law` and `stay_law` are laws of definitions alone.
+//! The client's frames in a walk that was made: which of them have landed, and why others are refused; the
+//! stream that they make tick by tick; and that what became of a frame is known by the pieces that the taken
+//! rows reach. It holds nothing of a walk, and says of no frame what became of it. Begin with `FrameCursor`;
+//! `stream_law` and `stay_law` are laws of definitions alone.
 #![tactic(auto)]
 
 ghost use Rattle.std.specs.Prelude.{◌≡◌, ℕ, ◌+◌, ◌<◌, ◌≤◌, ◌++◌, ◌∷◌, [], List, length, Option, Some, None};
@@ -31,7 +32,8 @@ pub fn stream_law()
         ruler_of (offered stream octets) ≡ with_waiting (ruler_of stream) (length octets) }
 {}
 
-/// What became of a frame in some rows is the same by the pieces of the ticks that were made and by those of the whole session.
+/// What became of a frame in some rows is the same by the pieces of the ticks that were made and by those of
+/// the whole session.
 pub fn stay_law()
     ensures { (script : Script) (ticks rows i : ℕ) → rows ≤ ticks → ticks ≤ script.config.ticks →
         fate_at (session_pieces script) (session_rows script rows) i

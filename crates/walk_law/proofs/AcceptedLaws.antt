@@ -1,5 +1,7 @@
 -- The frames that a session accepts are those of the items that aren't refused.
-use Rattle.std.proofs.Common.{◌≡◌, ℕ, zero, suc, ◌<◌, ◌≤◌, true, false, inl, inr, List, [], ◌∷◌, ◌++◌, map, filter, fold, take, length, All, Option, Some, None, option_map, refl, sym, ◌∙◌, ap, ap₂, arith, append_assoc, length-append}
+use Rattle.std.proofs.Common.{◌≡◌, ℕ, zero, suc, ◌<◌, ◌≤◌, true, false, inl, inr, List, [], ◌∷◌, ◌++◌, map, filter}
+use Rattle.std.proofs.Common.{fold, take, length, All, Option, Some, None, option_map, refl, sym, ◌∙◌, ap, ap₂, arith}
+use Rattle.std.proofs.Common.{append_assoc, length-append}
 use Rattle.std.specs.List.{flat_map}
 use Rattle.std.proofs.lemmas.Bool.{cases_Bool}
 use Rattle.std.proofs.lemmas.Bool.Decides.{nat_tests}
@@ -39,24 +41,30 @@ module _ (scenario : Scenario) (cells : List (Option Told)) where
   unfoldable pub judged : List DueFrame → List DueFrame → List (List ℕ)
   judged before [] = []
   judged before (offer ∷ offers) =
-      kept (frame_refusal offer.frame (stream_met scenario cells offer.due before)) offer.frame ++ judged (before ++ offer ∷ []) offers
+      kept (frame_refusal offer.frame (stream_met scenario cells offer.due before)) offer.frame ++ judged
+      (before ++ offer ∷ []) offers
 
-  pub judged-append : (before xs ys : List DueFrame) → judged before (xs ++ ys) ≡ judged before xs ++ judged (before ++ xs) ys
+  pub judged-append : (before xs ys : List DueFrame) →
+      judged before (xs ++ ys) ≡ judged before xs ++ judged (before ++ xs) ys
   unfolding judged
   judged-append before [] ys = ap (λ l. judged l ys) (sym (append-nil before))
   judged-append before (x ∷ xs) ys =
       let own : List (List ℕ) = kept (frame_refusal x.frame (stream_met scenario cells x.due before)) x.frame in
-      ap (λ l. own ++ l) (judged-append (before ++ x ∷ []) xs ys ∙ ap (λ l. judged (before ++ x ∷ []) xs ++ judged l ys) (append_assoc before (x ∷ []) xs))
+      ap (λ l. own ++ l) (judged-append (before ++ x ∷ []) xs ys
+      ∙ ap (λ l. judged (before ++ x ∷ []) xs ++ judged l ys) (append_assoc before (x ∷ []) xs))
       ∙ sym (append_assoc own (judged (before ++ x ∷ []) xs) (judged (before ++ x ∷ xs) ys))
 
   -- ---- those that land in one number of ticks
   due-of : (t : ℕ) (offer : DueFrame) → comes_at t offer ≡ true → offer.due ≡ t
   due-of t offer comes = grind (arith, nat_tests, comes)
 
-  accepted-on : (t : ℕ) (before earlier offers : List DueFrame) → filter (comes_at t) before ≡ [] → filter (comes_at t) earlier ≡ earlier →
+  accepted-on : (t : ℕ) (before earlier offers : List DueFrame) → filter (comes_at t) before ≡ [] →
+      filter (comes_at t) earlier ≡ earlier →
       All (λ (offer : DueFrame). comes_at t offer ≡ true) offers →
       judged (before ++ earlier) offers
-      ≡ map (λ (offer : DueFrame). offer.frame) (accepted_offers (fold offered (stream_before scenario cells t) (map (λ (offer : DueFrame). offer.frame) earlier)) offers)
+      ≡ map (λ (offer : DueFrame). offer.frame)
+      (accepted_offers (fold offered (stream_before scenario cells t)
+      (map (λ (offer : DueFrame). offer.frame) earlier)) offers)
   unfolding judged
   accepted-on t before earlier [] none all come = refl
   accepted-on t before earlier (offer ∷ offers) none all come =
@@ -69,16 +77,20 @@ module _ (scenario : Scenario) (cells : List (Option Told)) where
       ap (λ t. stream_met scenario cells t (before ++ earlier)) due
       ∙ ap (λ l. fold offered start (map frame_of l)) (filter-append (comes_at t) before earlier ∙ ap₂ ◌++◌ none all) in
       let more : fold offered start (map frame_of (earlier ++ offer ∷ [])) ≡ offered state offer.frame =
-      ap (fold offered start) (map-append frame_of earlier (offer ∷ [])) ∙ fold-append offered start (map frame_of earlier) (offer.frame ∷ []) in
+      ap (fold offered start) (map-append frame_of earlier (offer ∷ []))
+      ∙ fold-append offered start (map frame_of earlier) (offer.frame ∷ []) in
       let longer : filter (comes_at t) (earlier ++ offer ∷ []) ≡ earlier ++ offer ∷ [] =
       filter-append (comes_at t) earlier (offer ∷ []) ∙ ap₂ ◌++◌ all (filter-keep (comes_at t) offer [] here) in
-      let rest = accepted-on t before (earlier ++ offer ∷ []) offers none longer (λ k d inside. come (suc k) d (omega arith)) in
+      let rest = accepted-on t before (earlier ++ offer ∷ []) offers none longer
+      (λ k d inside. come (suc k) d (omega arith)) in
       ap₂ (λ (stream : Stream) l. kept (frame_refusal offer.frame stream) offer.frame ++ l) met
-      (ap (λ l. judged l offers) (append_assoc before earlier (offer ∷ [])) ∙ rest ∙ ap (λ (stream : Stream). map frame_of (accepted_offers stream offers)) more)
+      (ap (λ l. judged l offers) (append_assoc before earlier (offer ∷ [])) ∙ rest
+      ∙ ap (λ (stream : Stream). map frame_of (accepted_offers stream offers)) more)
       ∙ kept-map (frame_refusal offer.frame state) offer (accepted_offers (offered state offer.frame) offers)
     where
       kept-map : (why : Option AcceptFault) (offer : DueFrame) (offers : List DueFrame) →
-          kept why offer.frame ++ map (λ (offer : DueFrame). offer.frame) offers ≡ map (λ (offer : DueFrame). offer.frame) (kept_by why offer offers)
+          kept why offer.frame ++ map (λ (offer : DueFrame). offer.frame) offers ≡ map
+          (λ (offer : DueFrame). offer.frame) (kept_by why offer offers)
       kept-map None offer offers = refl
       kept-map (Some why) offer offers = refl
 
@@ -110,14 +122,17 @@ module _ (scenario : Scenario) (cells : List (Option Told)) where
       judged-append [] before now
       ∙ ap₂ ◌++◌ (landed-judged n)
       (ap (λ l. judged l now) (sym (append-nil before))
-      ∙ accepted-on n before [] now (none-yet scenario.offers n n (omega arith)) refl (filter_passes (comes_at n) scenario.offers))
-      ∙ sym (map-append frame_of (offers_before scenario cells n) (accepted_offers (stream_before scenario cells n) now))
+      ∙ accepted-on n before [] now (none-yet scenario.offers n n (omega arith)) refl
+      (filter_passes (comes_at n) scenario.offers))
+      ∙ sym (map-append frame_of (offers_before scenario cells n)
+      (accepted_offers (stream_before scenario cells n) now))
 
 -- ---- the items of a script
 abbrev pub offers_by : Item → List DueFrame
 offers_by item = offer_of item.due item.kind
 
-frame-kept : (why : Option AcceptFault) (octets : List ℕ) → frame_by (option_map frame_fault why) (Frame octets) ≡ kept why octets
+frame-kept : (why : Option AcceptFault) (octets : List ℕ) →
+    frame_by (option_map frame_fault why) (Frame octets) ≡ kept why octets
 frame-kept None octets = refl
 frame-kept (Some why) octets = refl
 
@@ -129,17 +144,21 @@ pub no-frame-remove : (why : Option Refusal) (line : ℕ) → frame_by why (Remo
 no-frame-remove None line = refl
 no-frame-remove (Some why) line = refl
 
-pub kind-judged : (scenario : Scenario) (cells : List (Option Told)) (due : ℕ) (front : List Item) (kind : ItemKind) (more : List DueFrame) →
-    frame_by (kind_refusal scenario cells due front kind) kind ++ judged scenario cells (offers_of front ++ offer_of due kind) more
+pub kind-judged : (scenario : Scenario) (cells : List (Option Told)) (due : ℕ) (front : List Item) (kind : ItemKind)
+    (more : List DueFrame) →
+    frame_by (kind_refusal scenario cells due front kind) kind ++ judged scenario cells
+    (offers_of front ++ offer_of due kind) more
     ≡ judged scenario cells (offers_of front) (offer_of due kind ++ more)
 unfolding judged
 kind-judged scenario cells due front (Frame octets) more =
     ap (λ l. l ++ judged scenario cells (offers_of front ++ record { due = due; frame = octets } ∷ []) more)
     (frame-kept (frame_refusal octets (stream_met scenario cells due (offers_of front))) octets)
 kind-judged scenario cells due front (Add line) more =
-    ap₂ (λ l (before : List DueFrame). l ++ judged scenario cells before more) (no-frame-add (kind_refusal scenario cells due front (Add line)) line) (append-nil (offers_of front))
+    ap₂ (λ l (before : List DueFrame). l ++ judged scenario cells before more)
+    (no-frame-add (kind_refusal scenario cells due front (Add line)) line) (append-nil (offers_of front))
 kind-judged scenario cells due front (Remove line) more =
-    ap₂ (λ l (before : List DueFrame). l ++ judged scenario cells before more) (no-frame-remove (kind_refusal scenario cells due front (Remove line)) line) (append-nil (offers_of front))
+    ap₂ (λ l (before : List DueFrame). l ++ judged scenario cells before more)
+    (no-frame-remove (kind_refusal scenario cells due front (Remove line)) line) (append-nil (offers_of front))
 
 pub items-judged : (script : Script) (rest front : List Item) → script.items ≡ front ++ rest →
     flat_map (λ (item : Numbered). frame_by (refusal_at script item) item.item.kind) (numbered (length front) rest)
@@ -149,34 +168,44 @@ items-judged script [] front parts = refl
 items-judged script (item ∷ rest) front parts =
     let scenario : Scenario = scenario_of script in
     let cells : List (Option Told) = session_cells (scenario_of script) in
-    let first : take (length front) script.items ≡ front = ap (take (length front)) parts ∙ take_at front (item ∷ rest) (length front) refl in
+    let first : take (length front) script.items ≡ front = ap (take (length front)) parts
+    ∙ take_at front (item ∷ rest) (length front) refl in
     let size : suc (length front) ≡ length (front ++ item ∷ []) = let e = length-append front (item ∷ []) in omega arith in
     let next = items-judged script rest (front ++ item ∷ []) (parts ∙ sym (append_assoc front (item ∷ []) rest)) in
-    let offers : offers_of (front ++ item ∷ []) ≡ offers_of front ++ offers_by item = flat_map-append offers_by front (item ∷ []) ∙ ap (λ l. offers_of front ++ l) (append-nil (offers_by item)) in
+    let offers : offers_of (front ++ item ∷ []) ≡ offers_of front ++ offers_by item =
+    flat_map-append offers_by front (item ∷ [])
+    ∙ ap (λ l. offers_of front ++ l) (append-nil (offers_by item)) in
     ap₂ ◌++◌ (ap (λ earlier. frame_by (kind_refusal scenario cells item.due earlier item.kind) item.kind) first)
-    (ap (λ n. flat_map (λ (item : Numbered). frame_by (refusal_at script item) item.item.kind) (numbered n rest)) size ∙ next
+    (ap (λ n. flat_map (λ (item : Numbered). frame_by (refusal_at script item) item.item.kind) (numbered n rest)) size
+    ∙ next
     ∙ ap (λ before. judged scenario cells before (offers_of rest)) offers)
     ∙ kind-judged scenario cells item.due front item.kind (offers_of rest)
 
 -- ---- all of them land
-kind-comes : (ticks due : ℕ) (kind : ItemKind) → due < ticks → filter (is_come ticks) (offer_of due kind) ≡ offer_of due kind
+kind-comes : (ticks due : ℕ) (kind : ItemKind) → due < ticks →
+    filter (is_come ticks) (offer_of due kind) ≡ offer_of due kind
 kind-comes ticks due (Frame octets) low =
     filter-keep (is_come ticks) (record { due = due; frame = octets }) [] (grind (arith, low))
 kind-comes ticks due (Add line) low = refl
 kind-comes ticks due (Remove line) low = refl
 
-all-come : (ticks : ℕ) (items : List Item) → All (IsItem ticks) items → filter (is_come ticks) (offers_of items) ≡ offers_of items
+all-come : (ticks : ℕ) (items : List Item) → All (IsItem ticks) items →
+    filter (is_come ticks) (offers_of items) ≡ offers_of items
 all-come ticks [] each = refl
 all-come ticks (item ∷ items) each =
     filter-append (is_come ticks) (offers_by item) (offers_of items)
-    ∙ ap₂ ◌++◌ (kind-comes ticks item.due item.kind (each 0 item (omega arith)).0) (all-come ticks items (λ k d inside. each (suc k) d (omega arith)))
+    ∙ ap₂ ◌++◌ (kind-comes ticks item.due item.kind (each 0 item (omega arith)).0)
+    (all-come ticks items (λ k d inside. each (suc k) d (omega arith)))
 
-pub frames-accepted : (script : Script) → IsValid script → frames_before (scenario_of script) (session_cells (scenario_of script)) script.config.ticks ≡ accepted_frames script
+pub frames-accepted : (script : Script) → IsValid script →
+    frames_before (scenario_of script) (session_cells (scenario_of script)) script.config.ticks ≡ accepted_frames script
 unfolding numbered
 frames-accepted script valid =
     let scenario : Scenario = scenario_of script in
     let cells : List (Option Told) = session_cells (scenario_of script) in
     let sorted = offers_rise script.items valid.items.frames in
     sym (landed-judged scenario cells script.config.ticks)
-    ∙ ap (judged scenario cells []) (offers_land scenario.offers script.config.ticks sorted ∙ all-come script.config.ticks script.items valid.items.each)
+    ∙ ap (judged scenario cells [])
+    (offers_land scenario.offers script.config.ticks sorted
+    ∙ all-come script.config.ticks script.items valid.items.each)
     ∙ sym (items-judged script script.items [] refl)

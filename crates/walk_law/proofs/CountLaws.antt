@@ -1,6 +1,8 @@
 -- How many frames rows can give: no more than they have octets.
 use Rattle.std.specs.Prelude.{IfSome}
-use Rattle.std.proofs.Common.{◌≡◌, ℕ, zero, suc, ◌+◌, ◌-◌, ◌*◌, ◌/◌, ◌≤◌, nat_le, nat_lt, Bool, true, false, not, if◌then◌else◌, inl, inr, List, [], ◌∷◌, map, filter, drop, length, sum_by, Option, Some, None, arith, length-append, length-drop}
+use Rattle.std.proofs.Common.{◌≡◌, ℕ, zero, suc, ◌+◌, ◌-◌, ◌*◌, ◌/◌, ◌≤◌, nat_le, nat_lt, Bool, true, false, not}
+use Rattle.std.proofs.Common.{if◌then◌else◌, inl, inr, List, [], ◌∷◌, map, filter, drop, length, sum_by, Option, Some}
+use Rattle.std.proofs.Common.{None, arith, length-append, length-drop}
 use Rattle.std.specs.List.{flat_map}
 use Rattle.std.proofs.Math.Nat.{mul-le-mul_left, mul-le-mul_right}
 use Rattle.std.proofs.lemmas.Bool.{leb-true, cases_Bool}
@@ -11,10 +13,13 @@ use Rattle.session_model.specs.Core.{head}
 use Rattle.session_model.specs.Piece.{joined}
 use Rattle.session_model.specs.Scramble.{descrambled_octets}
 use Rattle.session_model.specs.Hunt.{header_with, Confirmed, confirm_by, confirm_with, hunt_by, hunt_within, hunt_with}
-use Rattle.session_model.specs.Run.{Followed, follow_by, follow_within, follow_with, Run, Delineated, run_then, delineate_by, delineate_within, delineate}
-use Rattle.session_model.specs.Outcome.{Outcome, delivery, dropping, client_outcome, outcomes_after_with, descrambled_areas, run_outcomes_with, outcomes}
+use Rattle.session_model.specs.Run.{Followed, follow_by, follow_within, follow_with, Run, Delineated, run_then}
+use Rattle.session_model.specs.Run.{delineate_by, delineate_within, delineate}
+use Rattle.session_model.specs.Outcome.{Outcome, delivery, dropping, client_outcome, outcomes_after_with}
+use Rattle.session_model.specs.Outcome.{descrambled_areas, run_outcomes_with, outcomes}
 use Rattle.session_model.specs.Delivery.{frame_in}
-use Rattle.session_model.specs.Segment.{StreamRow, Segment, Segments, row_by, segments_on, segments_of, segments, segment_frames, deliver, octets_of_rows}
+use Rattle.session_model.specs.Segment.{StreamRow, Segment, Segments, row_by, segments_on, segments_of, segments}
+use Rattle.session_model.specs.Segment.{segment_frames, deliver, octets_of_rows}
 use Rattle.session_model.specs.Scenario.{Scenario, scenario_of}
 use Rattle.session_model.specs.Table.{Told, is_normal}
 use Rattle.session_model.specs.Source.{table_of}
@@ -31,33 +36,43 @@ use Rattle.walk_law.specs.Delivered.{delivered_of}
 abbrev Shorter : List ℕ → Option Confirmed → Type 0
 Shorter octets found = IfSome found (λ (c : Confirmed). length c.octets ≤ length octets)
 
-shorter-drop : (m : ℕ) (octets : List ℕ) (found : Option Confirmed) → Shorter (drop m octets) found → Shorter octets found
+shorter-drop : (m : ℕ) (octets : List ℕ) (found : Option Confirmed) → Shorter (drop m octets) found →
+    Shorter octets found
 shorter-drop m octets None h = tt
 shorter-drop m octets (Some found) h = let e = length-drop m octets in omega arith
 
-confirm_by-shorter : (header : Option ℕ) (refused : Bool) (p : ℕ) (octets : List ℕ) (f : Bool → ℕ → List ℕ → Option Confirmed) →
-    ((r : Bool) (p : ℕ) (more : List ℕ) → Shorter more (f r p more)) → Shorter octets (confirm_by header refused p octets f)
-confirm_by-shorter None refused p octets f each = shorter-drop 1 octets (f true (p + 1) (drop 1 octets)) (each true (p + 1) (drop 1 octets))
+confirm_by-shorter : (header : Option ℕ) (refused : Bool) (p : ℕ) (octets : List ℕ)
+    (f : Bool → ℕ → List ℕ → Option Confirmed) →
+    ((r : Bool) (p : ℕ) (more : List ℕ) → Shorter more (f r p more)) →
+    Shorter octets (confirm_by header refused p octets f)
+confirm_by-shorter None refused p octets f each =
+    shorter-drop 1 octets (f true (p + 1) (drop 1 octets)) (each true (p + 1) (drop 1 octets))
 confirm_by-shorter (Some pli) refused p octets f each = omega arith
 
 confirm-shorter : (refused : Bool) (p : ℕ) (octets : List ℕ) (f : Bool → ℕ → List ℕ → Option Confirmed) →
-    ((r : Bool) (p : ℕ) (more : List ℕ) → Shorter more (f r p more)) → Shorter octets (confirm_with head refused p octets f)
+    ((r : Bool) (p : ℕ) (more : List ℕ) → Shorter more (f r p more)) →
+    Shorter octets (confirm_with head refused p octets f)
 confirm-shorter refused p octets f each =
     elim (cases_Bool (nat_le 4 (length octets))) [
       | inl e ↦ rw e (confirm_by-shorter (header_with head octets) refused p octets f each)
       | inr e ↦ rw e tt
     ]
 
-hunt_by-shorter : (header : Option ℕ) (refused : Bool) (p : ℕ) (octets : List ℕ) (f : Bool → ℕ → List ℕ → Option Confirmed) →
-    ((r : Bool) (p : ℕ) (more : List ℕ) → Shorter more (f r p more)) → Shorter octets (hunt_by head header refused p octets f)
-hunt_by-shorter None refused p octets f each = shorter-drop 1 octets (f refused (p + 1) (drop 1 octets)) (each refused (p + 1) (drop 1 octets))
+hunt_by-shorter : (header : Option ℕ) (refused : Bool) (p : ℕ) (octets : List ℕ)
+    (f : Bool → ℕ → List ℕ → Option Confirmed) →
+    ((r : Bool) (p : ℕ) (more : List ℕ) → Shorter more (f r p more)) →
+    Shorter octets (hunt_by head header refused p octets f)
+hunt_by-shorter None refused p octets f each =
+    shorter-drop 1 octets (f refused (p + 1) (drop 1 octets)) (each refused (p + 1) (drop 1 octets))
 hunt_by-shorter (Some pli) refused p octets f each =
-    shorter-drop (4 + pli) octets (confirm_with head refused (p + (4 + pli)) (drop (4 + pli) octets) f) (confirm-shorter refused (p + (4 + pli)) (drop (4 + pli) octets) f each)
+    shorter-drop (4 + pli) octets (confirm_with head refused (p + (4 + pli)) (drop (4 + pli) octets) f)
+    (confirm-shorter refused (p + (4 + pli)) (drop (4 + pli) octets) f each)
 
 hunt-shorter : (k : ℕ) (refused : Bool) (p : ℕ) (octets : List ℕ) → Shorter octets (hunt_within head k refused p octets)
 unfolding hunt_within
 hunt-shorter zero refused p octets = tt
-hunt-shorter (suc k) refused p octets = hunt_by-shorter (header_with head octets) refused p octets (hunt_within head k) (hunt-shorter k)
+hunt-shorter (suc k) refused p octets =
+    hunt_by-shorter (header_with head octets) refused p octets (hunt_within head k) (hunt-shorter k)
 
 -- ---- each area of a run has a header of four octets
 abbrev left_of : Option (List ℕ) → ℕ
@@ -68,7 +83,8 @@ if-left : (long : Bool) (octets : List ℕ) → left_of (if long then Some (drop
 if-left true octets = let e = length-drop 1 octets in omega arith
 if-left false octets = omega arith
 
-follow_by-few : (header : Option ℕ) (octets : List ℕ) (f : List ℕ → Followed) → ((more : List ℕ) → length (f more).areas + left_of (f more).after ≤ length more) →
+follow_by-few : (header : Option ℕ) (octets : List ℕ) (f : List ℕ → Followed) →
+    ((more : List ℕ) → length (f more).areas + left_of (f more).after ≤ length more) →
     length (follow_by header octets f).areas + left_of (follow_by header octets f).after ≤ length octets
 follow_by-few None octets f each = let left = if-left (nat_le 4 (length octets)) octets in omega arith
 follow_by-few (Some pli) octets f each =
@@ -81,16 +97,19 @@ follow_by-few (Some pli) octets f each =
       | inr e ↦ rw e (omega arith)
     ]
 
-follow-few : (steps : ℕ) (octets : List ℕ) → length (follow_within head steps octets).areas + left_of (follow_within head steps octets).after ≤ length octets
+follow-few : (steps : ℕ) (octets : List ℕ) →
+    length (follow_within head steps octets).areas + left_of (follow_within head steps octets).after ≤ length octets
 unfolding follow_within
 follow-few zero octets = omega arith
-follow-few (suc steps) octets = follow_by-few (header_with head octets) octets (follow_within head steps) (follow-few steps)
+follow-few (suc steps) octets =
+    follow_by-few (header_with head octets) octets (follow_within head steps) (follow-few steps)
 
 -- ---- the runs of a segment
 abbrev areas_in : List Run → ℕ
 areas_in runs = sum_by (λ (run : Run). length run.areas) runs
 
-run_then-few : (run : Run) (after : Option (List ℕ)) (f : List ℕ → Delineated) → ((more : List ℕ) → areas_in (f more).runs ≤ length more) →
+run_then-few : (run : Run) (after : Option (List ℕ)) (f : List ℕ → Delineated) →
+    ((more : List ℕ) → areas_in (f more).runs ≤ length more) →
     areas_in (run_then run after f).runs ≤ length run.areas + left_of after
 run_then-few run None f each = let e = sum_by-cons (λ (run : Run). length run.areas) run [] in omega arith
 run_then-few run (Some octets) f each =
@@ -98,7 +117,8 @@ run_then-few run (Some octets) f each =
     let rest = each octets in
     omega arith
 
-delineate_by-few : (found : Option Confirmed) (octets : List ℕ) (f : List ℕ → Delineated) → Shorter octets found → ((more : List ℕ) → areas_in (f more).runs ≤ length more) →
+delineate_by-few : (found : Option Confirmed) (octets : List ℕ) (f : List ℕ → Delineated) → Shorter octets found →
+    ((more : List ℕ) → areas_in (f more).runs ≤ length more) →
     areas_in (delineate_by (follow_with head) found f).runs ≤ length octets
 delineate_by-few None octets f shorter each = omega arith
 delineate_by-few (Some found) octets f shorter each =
@@ -107,18 +127,22 @@ delineate_by-few (Some found) octets f shorter each =
     let most = run_then-few (record { settled = not found.refused; areas = followed.areas }) followed.after f each in
     omega arith
 
-delineate-few : (steps : ℕ) (refused : Bool) (octets : List ℕ) → areas_in (delineate_within head head steps refused octets).runs ≤ length octets
+delineate-few : (steps : ℕ) (refused : Bool) (octets : List ℕ) →
+    areas_in (delineate_within head head steps refused octets).runs ≤ length octets
 unfolding delineate_within
 delineate-few zero refused octets = omega arith
 delineate-few (suc steps) refused octets =
-    delineate_by-few (hunt_with head refused 0 octets) octets (delineate_within head head steps true) (hunt-shorter (length octets) refused 0 octets) (delineate-few steps true)
+    delineate_by-few (hunt_with head refused 0 octets) octets (delineate_within head head steps true)
+    (hunt-shorter (length octets) refused 0 octets) (delineate-few steps true)
 
 -- ---- outcomes and frames
-areas-few : (longest : ℕ) (settled : Bool) (before : ℕ) (areas : List (List ℕ)) → length (outcomes_after_with (client_outcome longest) settled before areas) ≤ length areas
+areas-few : (longest : ℕ) (settled : Bool) (before : ℕ) (areas : List (List ℕ)) →
+    length (outcomes_after_with (client_outcome longest) settled before areas) ≤ length areas
 unfolding outcomes_after_with
 areas-few longest settled before [] = omega arith
 areas-few longest settled before ([] ∷ areas) = let rest = areas-few longest settled (before + 0) areas in omega arith
-areas-few longest settled before ((o ∷ area) ∷ areas) = let rest = areas-few longest settled (before + length (o ∷ area)) areas in omega arith
+areas-few longest settled before ((o ∷ area) ∷ areas) =
+    let rest = areas-few longest settled (before + length (o ∷ area)) areas in omega arith
 
 run-few : (longest : ℕ) (run : Run) → length (run_outcomes_with (client_outcome longest) run) ≤ length run.areas
 run-few longest run =
@@ -127,12 +151,14 @@ run-few longest run =
     let sizes = length-map run.areas length in
     omega arith
 
-runs-few : (longest : ℕ) (runs : List Run) → length (flat_map (run_outcomes_with (client_outcome longest)) runs) ≤ areas_in runs
+runs-few : (longest : ℕ) (runs : List Run) →
+    length (flat_map (run_outcomes_with (client_outcome longest)) runs) ≤ areas_in runs
 runs-few longest [] = omega arith
 runs-few longest (run ∷ runs) =
     let own = run-few longest run in
     let rest = runs-few longest runs in
-    let sum = length-append (run_outcomes_with (client_outcome longest) run) (flat_map (run_outcomes_with (client_outcome longest)) runs) in
+    let sum = length-append (run_outcomes_with (client_outcome longest) run)
+    (flat_map (run_outcomes_with (client_outcome longest)) runs) in
     let e = sum_by-cons (λ (run : Run). length run.areas) run runs in
     omega arith
 
@@ -164,14 +190,16 @@ all-few longest (segment ∷ all) =
 abbrev come_in : Segments → ℕ
 come_in come = octets_in come.ended + length come.last.octets
 
-row-held : (whole : Bool) (come : Segments) (octets : List ℕ) → come_in (row_by whole come octets) ≤ come_in come + length octets
+row-held : (whole : Bool) (come : Segments) (octets : List ℕ) →
+    come_in (row_by whole come octets) ≤ come_in come + length octets
 row-held true come octets = let sum = length-append come.last.octets octets in omega arith
 row-held false come octets =
     let sum = sum_by-append (λ (segment : Segment). length segment.octets) come.ended (come.last ∷ []) in
     let one = sum_by-cons (λ (segment : Segment). length segment.octets) come.last [] in
     omega arith
 
-rows-held : (rows : List StreamRow) (come : Segments) → come_in (segments_on come rows) ≤ come_in come + length (octets_of_rows rows)
+rows-held : (rows : List StreamRow) (come : Segments) →
+    come_in (segments_on come rows) ≤ come_in come + length (octets_of_rows rows)
 unfolding segments_on
 rows-held [] come = omega arith
 rows-held (row ∷ rows) come =
@@ -190,7 +218,8 @@ deliver-few longest rows =
     omega arith
 
 -- ---- a session
-width-few : (scenario : Scenario) (cells : List (Option Told)) (t : ℕ) → width scenario cells t ≤ length scenario.windows
+width-few : (scenario : Scenario) (cells : List (Option Told)) (t : ℕ) →
+    width scenario cells t ≤ length scenario.windows
 width-few scenario cells t =
     elim (cases_Bool (nat_lt t 24)) [
       | inl e ↦ rw e (omega arith)
@@ -204,7 +233,8 @@ width-few scenario cells t =
           rw e (omega arith)
     ]
 
-pub place-few : (scenario : Scenario) (cells : List (Option Told)) (t : ℕ) → place_of scenario cells t ≤ t * (scenario.size * length scenario.windows)
+pub place-few : (scenario : Scenario) (cells : List (Option Told)) (t : ℕ) →
+    place_of scenario cells t ≤ t * (scenario.size * length scenario.windows)
 unfolding place_of
 place-few scenario cells zero = omega arith
 place-few scenario cells (suc t) =
@@ -237,7 +267,8 @@ place-most script rows valid low =
     let most = product-few rows script.config.size (length script.config.windows) (omega arith) size (omega arith) in
     omega (arith, place, most)
 
-pub delivered-few : (script : Script) (rows : ℕ) → IsValid script → rows ≤ script.config.ticks → length (delivered_of script rows) ≤ 299520000000
+pub delivered-few : (script : Script) (rows : ℕ) → IsValid script → rows ≤ script.config.ticks →
+    length (delivered_of script rows) ≤ 299520000000
 delivered-few script rows valid low =
     let scenario : Scenario = scenario_of script in
     let cells : List (Option Told) = session_cells scenario in

@@ -1,5 +1,7 @@
 -- Two scripts that meet what is asked of one.
-use Rattle.std.proofs.Common.{◌≡◌, ◌⊎◌, ℕ, zero, suc, ◌+◌, ◌*◌, ◌<◌, ◌≤◌, true, false, inl, inr, List, [], ◌∷◌, map, length, replicate, slice_get, slice_index_or, All, Option, Some, None, refl, sym, ◌∙◌, ap, subst, arith}
+use Rattle.std.proofs.Common.{◌≡◌, ◌⊎◌, ℕ, zero, suc, ◌+◌, ◌*◌, ◌<◌, ◌≤◌, true, false, inl, inr, List, [], ◌∷◌, map}
+use Rattle.std.proofs.Common.{length, replicate, slice_get, slice_index_or, All, Option, Some, None, refl, sym, ◌∙◌, ap}
+use Rattle.std.proofs.Common.{subst, arith}
 use Rattle.std.specs.List.{range_with_len}
 use Rattle.std.specs.List.Sorted.{IsNonDecreasing}
 use Rattle.std.proofs.lemmas.Bool.{le-leb, lt-ltb, false_from_ne_true}
@@ -60,7 +62,8 @@ EndsBy ticks window = window.end ≤ ticks
 abbrev IsShort : Window → Type 0
 IsShort window = window.slip ≤ 2047
 
-one_failure : (ticks : ℕ) (window : Window) → window.slip + window.first < window.end → EndsBy ticks window → IsShort window →
+one_failure : (ticks : ℕ) (window : Window) → window.slip + window.first < window.end → EndsBy ticks window →
+    IsShort window →
     HasFailures ticks (window ∷ [])
 unfolding AreWindows
 one_failure ticks window sign ends short = record {
@@ -77,7 +80,8 @@ no_failure ticks = record { few = omega arith; apart = tt; ends = All-nil (EndsB
 -- ---- lines without delay
 plain_network : (windows : List (List Window)) (ring lag ticks : ℕ) → IsWithin 1 128 (length windows) →
     All (HasFailures ticks) windows → IsWithin 1 2048 ring → IsWithin 1 512 lag → IsWithin 1 1000000 ticks →
-    FitsRing (plain windows ring lag ticks) → FitsLag (plain windows ring lag ticks) → IsNetwork (plain windows ring lag ticks)
+    FitsRing (plain windows ring lag ticks) → FitsLag (plain windows ring lag ticks) →
+    IsNetwork (plain windows ring lag ticks)
 unfolding AreApart
 plain_network windows ring lag ticks lines failures some_ring some_lag some_ticks fits_ring fits_lag = record {
   lines = lines;

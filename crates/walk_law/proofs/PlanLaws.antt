@@ -1,5 +1,6 @@
 -- The plan of a script's walk, and its lines.
-use Rattle.std.proofs.Common.{◌≡◌, ℕ, zero, suc, ◌+◌, ◌<◌, ◌≤◌, List, [], ◌∷◌, map, length, slice_get, slice_index_or, Some, refl, sym, ◌∙◌, ap, subst, arith}
+use Rattle.std.proofs.Common.{◌≡◌, ℕ, zero, suc, ◌+◌, ◌<◌, ◌≤◌, List, [], ◌∷◌, map, length, slice_get, slice_index_or}
+use Rattle.std.proofs.Common.{Some, refl, sym, ◌∙◌, ap, subst, arith}
 use Rattle.std.specs.List.{range_with_len}
 use Rattle.vc_cell.specs.declared.Container.{Container}
 use Rattle.session_model.specs.declared.window.Window.{Window}
@@ -19,7 +20,8 @@ use Rattle.terminal_law.proofs.CellLaws.{is-line}
 use Rattle.walk_law.specs.Walk.{sent_on, sent_of, walk_plan, CanWalk}
 
 -- ---- lines
-slip-least : (lists : List (List Window)) (line : ℕ) (d : List Window) → line < length lists → slip_of (slice_index_or lists line d) ≤ greatest_slip lists
+slip-least : (lists : List (List Window)) (line : ℕ) (d : List Window) → line < length lists →
+    slip_of (slice_index_or lists line d) ≤ greatest_slip lists
 slip-least [] line d inside = absurd (omega arith)
 slip-least (windows ∷ lists) zero d inside = omega arith
 slip-least (windows ∷ lists) (suc line) d inside = let rest = slip-least lists line d (omega arith) in omega arith
@@ -35,8 +37,10 @@ has-lines script can =
     }
 
 -- ---- the plan
-sent-by : (total : ℕ) (sent : ℕ → List Container) (lists : List (List Window)) (delays : List ℕ) (from : ℕ) → length delays ≡ length lists →
-    ((m : ℕ) (own : List Window) → slice_get lists m ≡ Some own → IsLine own (sent (from + m))) → ((m : ℕ) → length (sent m) ≡ total) →
+sent-by : (total : ℕ) (sent : ℕ → List Container) (lists : List (List Window)) (delays : List ℕ) (from : ℕ) →
+    length delays ≡ length lists →
+    ((m : ℕ) (own : List Window) → slice_get lists m ≡ Some own → IsLine own (sent (from + m))) →
+    ((m : ℕ) → length (sent m) ≡ total) →
     AreSentBy total lists delays (map sent (range_with_len from (length lists)))
 unfolding AreSentBy
 sent-by total sent [] [] from size line long = tt
@@ -46,13 +50,16 @@ sent-by total sent (windows ∷ lists) (delay ∷ delays) from size line long = 
   subst (λ m. IsLine windows (sent m)) (let e : from + 0 ≡ from = omega arith in e) (line 0 windows refl),
   long from,
   sent-by total sent lists delays (from + 1) (omega arith)
-      (λ m own here. subst (λ k. IsLine own (sent k)) (let e : from + suc m ≡ from + 1 + m = omega arith in e) (line (suc m) own here)) long,
+      (λ m own here. subst (λ k. IsLine own (sent k)) (let e : from + suc m ≡ from + 1 + m = omega arith in e)
+      (line (suc m) own here)) long,
 )
 
-own-at : (lists : List (List Window)) (m : ℕ) (own : List Window) → slice_get lists m ≡ Some own → (m < length lists) × (slice_index_or lists m [] ≡ own)
+own-at : (lists : List (List Window)) (m : ℕ) (own : List Window) → slice_get lists m ≡ Some own → (m < length lists) ×
+    (slice_index_or lists m [] ≡ own)
 own-at [] m own here = absurd cc
 own-at (windows ∷ lists) zero own here = (omega arith, cc)
-own-at (windows ∷ lists) (suc m) own here = let rest = own-at lists m own here in (let low = rest.0 in omega arith, rest.1)
+own-at (windows ∷ lists) (suc m) own here = let rest = own-at lists m own here in
+    (let low = rest.0 in omega arith, rest.1)
 
 pub has-plan : (script : Script) → CanWalk script → IsPlan (walk_plan script)
 has-plan script can =
@@ -66,7 +73,8 @@ has-plan script can =
           let (low, same) = own-at script.config.windows m own here in
           let e : m ≡ 0 + m = omega arith in
           subst (λ k. IsLine own (sent_on scenario k)) e
-          (subst (λ windows. IsLine windows (sent_on scenario m)) same (is-line scenario (session_cells scenario) (has-lines script can) m low)))
+          (subst (λ windows. IsLine windows (sent_on scenario m)) same
+          (is-line scenario (session_cells scenario) (has-lines script can) m low)))
           (λ m. containers-size scenario (session_cells scenario) m scenario.ticks);
       frames = can.frames;
       commands = can.commands;
@@ -76,7 +84,8 @@ has-plan script can =
     })
 
 -- ---- the path of a line
-path-at : (sent : ℕ → List Container) (lists : List (List Window)) (delays : List ℕ) (from m : ℕ) → length delays ≡ length lists → m < length lists →
+path-at : (sent : ℕ → List Container) (lists : List (List Window)) (delays : List ℕ) (from m : ℕ) →
+    length delays ≡ length lists → m < length lists →
     slice_get (paths_of lists delays (map sent (range_with_len from (length lists)))) m
     ≡ Some (path_of (carried (slice_index_or lists m [])) (slice_index_or delays m 0) (sent (from + m)))
 path-at sent [] delays from m size inside = absurd (omega arith)
@@ -85,21 +94,27 @@ path-at sent (windows ∷ lists) (delay ∷ delays) from zero size inside =
     let e : from ≡ from + 0 = omega arith in ap (λ k. Some (path_of (carried windows) delay (sent k))) e
 path-at sent (windows ∷ lists) (delay ∷ delays) from (suc m) size inside =
     path-at sent lists delays (from + 1) m (omega arith) (omega arith)
-    ∙ (let e : from + 1 + m ≡ from + suc m = omega arith in ap (λ k. Some (path_of (carried (slice_index_or lists m [])) (slice_index_or delays m 0) (sent k))) e)
+    ∙ (let e : from + 1 + m ≡ from + suc m =
+    omega arith in ap (λ k. Some (path_of (carried (slice_index_or lists m [])) (slice_index_or delays m 0)
+    (sent k))) e)
 
 pub line-path : (script : Script) → CanWalk script → (line : ℕ) → line < length script.config.windows →
     slice_get (walk_plan script).paths line
-    ≡ Some (path_of (carried (slice_index_or script.config.windows line [])) (slice_index_or script.config.delays line 0) (sent_on (scenario_of script) line))
+    ≡ Some (path_of (carried (slice_index_or script.config.windows line []))
+    (slice_index_or script.config.delays line 0) (sent_on (scenario_of script) line))
 line-path script can line inside =
     path-at (sent_on (scenario_of script)) script.config.windows script.config.delays 0 line can.delays inside
     ∙ (let e : 0 + line ≡ line = omega arith in
-    ap (λ k. Some (path_of (carried (slice_index_or script.config.windows line [])) (slice_index_or script.config.delays line 0) (sent_on (scenario_of script) k))) e)
+    ap (λ k. Some (path_of (carried (slice_index_or script.config.windows line []))
+    (slice_index_or script.config.delays line 0) (sent_on (scenario_of script) k))) e)
 
-paths-size : (sent : ℕ → List Container) (lists : List (List Window)) (delays : List ℕ) (from : ℕ) → length delays ≡ length lists →
+paths-size : (sent : ℕ → List Container) (lists : List (List Window)) (delays : List ℕ) (from : ℕ) →
+    length delays ≡ length lists →
     length (paths_of lists delays (map sent (range_with_len from (length lists)))) ≡ length lists
 paths-size sent [] delays from size = refl
 paths-size sent (windows ∷ lists) [] from size = absurd (omega arith)
-paths-size sent (windows ∷ lists) (delay ∷ delays) from size = ap suc (paths-size sent lists delays (from + 1) (omega arith))
+paths-size sent (windows ∷ lists) (delay ∷ delays) from size =
+    ap suc (paths-size sent lists delays (from + 1) (omega arith))
 
 pub has-paths : (script : Script) → CanWalk script → length (walk_plan script).paths ≡ length script.config.windows
 has-paths script can = paths-size (sent_on (scenario_of script)) script.config.windows script.config.delays 0 can.delays

@@ -1,6 +1,8 @@
--- When what is confirmed after a break is sure to be the place of a piece: where each row that isn't whole ends at one; so
+-- When what is confirmed after a break is sure to be the place of a piece: where each row that isn't whole ends at one;
+-- so
 -- where no frame is sent before such rows have ended.
-use Rattle.std.proofs.Common.{◌≡◌, ℕ, zero, suc, ◌+◌, ◌*◌, ◌<◌, ◌≤◌, nat_le, true, false, inl, inr, List, [], ◌∷◌, ◌++◌, map, filter, length, All, Option, refl, sym, ◌∙◌, ap, ap₂, subst, arith, append_assoc}
+use Rattle.std.proofs.Common.{◌≡◌, ℕ, zero, suc, ◌+◌, ◌*◌, ◌<◌, ◌≤◌, nat_le, true, false, inl, inr, List, [], ◌∷◌, ◌++◌}
+use Rattle.std.proofs.Common.{map, filter, length, All, Option, refl, sym, ◌∙◌, ap, ap₂, subst, arith, append_assoc}
 use Rattle.std.proofs.lemmas.Bool.{lt-leb, cases_lt}
 use Rattle.std.proofs.lemmas.List.Elements.{All-head, All-tail}
 use Rattle.session_model.specs.declared.script.Script.{Script}

@@ -1,5 +1,8 @@
 -- What an item that lands adds to the refusals and the totals.
-use Rattle.std.proofs.Common.{◌≡◌, ℕ, zero, suc, ◌+◌, ◌-◌, ◌<◌, ◌≤◌, nat_lt, ◌&&◌, not, Bool, true, false, if◌then◌else◌, inl, inr, List, [], ◌∷◌, ◌++◌, filter, take, length, slice_get, All, Option, Some, None, is_none, refl, sym, ◌∙◌, ap, subst, arith, append_assoc, length-append}
+use Rattle.std.proofs.Common.{◌≡◌, ℕ, zero, suc, ◌+◌, ◌-◌, ◌<◌, ◌≤◌, nat_lt, ◌&&◌, not, Bool, true, false}
+use Rattle.std.proofs.Common.{if◌then◌else◌, inl, inr, List, [], ◌∷◌, ◌++◌, filter, take, length, slice_get, All}
+use Rattle.std.proofs.Common.{Option, Some, None, is_none, refl, sym, ◌∙◌, ap, subst, arith, append_assoc}
+use Rattle.std.proofs.Common.{length-append}
 use Rattle.std.proofs.lemmas.Bool.{cases_Bool}
 use Rattle.std.proofs.lemmas.List.Concat.{flat_map-append}
 use Rattle.std.proofs.lemmas.List.Elements.{All-cons, All-append, filter-append}
@@ -13,7 +16,9 @@ use Rattle.session_model.specs.Counts.{Counts}
 use Rattle.report_text.specs.declared.report.Refusal.{Refusal}
 use Rattle.report_text.specs.declared.report.Totals.{Totals}
 use Rattle.walk_law.specs.Delivered.{delivered_of}
-use Rattle.walk_law.specs.Landed.{Numbered, is_client, with_if, landed_from, landed_items, IsOfferAt, IsOrderAt, refusal_at, refused_by, refusals_among, refusals_of, IsPlaced, is_accepted_frame, is_accepted_command, totals_of, with_frame_told, with_command_told}
+use Rattle.walk_law.specs.Landed.{Numbered, is_client, with_if, landed_from, landed_items, IsOfferAt, IsOrderAt}
+use Rattle.walk_law.specs.Landed.{refusal_at, refused_by, refusals_among, refusals_of, IsPlaced, is_accepted_frame}
+use Rattle.walk_law.specs.Landed.{is_accepted_command, totals_of, with_frame_told, with_command_told}
 
 -- ---- an item among those that have landed
 pub record IsInserted (item : Numbered) (was now : List Numbered) : Type 0 where
@@ -29,7 +34,8 @@ client-offer due (Frame octets) offer is = refl
 client-offer due (Add line) offer is = absurd cc
 client-offer due (Remove line) offer is = absurd cc
 
-operator-order : (due : ℕ) (kind : ItemKind) (order : DueCommand) → order_of due kind ≡ order ∷ [] → is_client kind ≡ false
+operator-order : (due : ℕ) (kind : ItemKind) (order : DueCommand) → order_of due kind ≡ order ∷ [] →
+    is_client kind ≡ false
 operator-order due (Frame octets) order is = absurd cc
 operator-order due (Add line) order is = refl
 operator-order due (Remove line) order is = refl
@@ -51,18 +57,22 @@ unfolding landed_from
 above a b i [] = λ k d inside. absurd (omega arith)
 above a b i (item ∷ items) =
     elim (cases_Bool (is_client item.kind)) [
-      | inl e ↦ rw e (above-if (nat_lt 0 a) i (record { number = i; item = item }) (landed_from (a - 1) b (suc i) items) (omega arith)
+      | inl e ↦ rw e (above-if (nat_lt 0 a) i (record { number = i; item = item }) (landed_from (a - 1) b (suc i) items)
+          (omega arith)
           (λ k d inside. let more = above (a - 1) b (suc i) items k d inside in omega arith))
-      | inr e ↦ rw e (above-if (nat_lt 0 b) i (record { number = i; item = item }) (landed_from a (b - 1) (suc i) items) (omega arith)
+      | inr e ↦ rw e (above-if (nat_lt 0 b) i (record { number = i; item = item }) (landed_from a (b - 1) (suc i) items)
+          (omega arith)
           (λ k d inside. let more = above a (b - 1) (suc i) items k d inside in omega arith))
     ]
   where
-    above-if : (there : Bool) (i : ℕ) (item : Numbered) (items : List Numbered) → i ≤ item.number → All (λ (other : Numbered). i ≤ other.number) items →
+    above-if : (there : Bool) (i : ℕ) (item : Numbered) (items : List Numbered) → i ≤ item.number →
+        All (λ (other : Numbered). i ≤ other.number) items →
         All (λ (other : Numbered). i ≤ other.number) (with_if there item items)
     above-if true i item items here rest = All-cons (λ (other : Numbered). i ≤ other.number) item items here rest
     above-if false i item items here rest = rest
 
-put-if : (there : Bool) (first item : Numbered) (was now : List Numbered) → first.number < item.number → IsInserted item was now → IsInserted item (with_if there first was) (with_if there first now)
+put-if : (there : Bool) (first item : Numbered) (was now : List Numbered) → first.number < item.number →
+    IsInserted item was now → IsInserted item (with_if there first was) (with_if there first now)
 put-if true first item was now low put = record {
   front = first ∷ put.front;
   back = put.back;
@@ -73,7 +83,8 @@ put-if true first item was now low put = record {
 }
 put-if false first item was now low put = put
 
-put-here : (item : Numbered) (items : List Numbered) → All (λ (other : Numbered). suc item.number ≤ other.number) items → IsInserted item items (item ∷ items)
+put-here : (item : Numbered) (items : List Numbered) →
+    All (λ (other : Numbered). suc item.number ≤ other.number) items → IsInserted item items (item ∷ items)
 put-here item items high = record {
   front = [];
   back = items;
@@ -83,16 +94,20 @@ put-here item items high = record {
   after = λ k d inside. let more = high k d inside in omega arith;
 }
 
-offer-put : (items : List Item) (a b i k : ℕ) (item : Item) (offer : DueFrame) → slice_get items k ≡ Some item → offer_of item.due item.kind ≡ offer ∷ [] →
-    length (offers_of (take k items)) ≡ a → IsInserted (record { number = i + k; item = item }) (landed_from a b i items) (landed_from (suc a) b i items)
+offer-put : (items : List Item) (a b i k : ℕ) (item : Item) (offer : DueFrame) → slice_get items k ≡ Some item →
+    offer_of item.due item.kind ≡ offer ∷ [] →
+    length (offers_of (take k items)) ≡ a →
+    IsInserted (record { number = i + k; item = item }) (landed_from a b i items) (landed_from (suc a) b i items)
 unfolding landed_from
 offer-put [] a b i k item offer there is before = absurd cc
 offer-put (first ∷ items) a b i zero item offer there is before =
     let same : first ≡ item = cc in
-    let client : is_client first.kind ≡ true = subst (λ (item : Item). is_client item.kind ≡ true) (sym same) (client-offer item.due item.kind offer is) in
+    let client : is_client first.kind ≡ true =
+    subst (λ (item : Item). is_client item.kind ≡ true) (sym same) (client-offer item.due item.kind offer is) in
     let none : a ≡ 0 = sym before in
     let here : i + 0 ≡ i = omega arith in
-    rw (client, none, here, sym same) (put-here (record { number = i; item = first }) (landed_from 0 b (suc i) items) (above 0 b (suc i) items))
+    rw (client, none, here, sym same)
+    (put-here (record { number = i; item = first }) (landed_from 0 b (suc i) items) (above 0 b (suc i) items))
 offer-put (first ∷ items) a b i (suc k) item offer there is before =
     let next : i + suc k ≡ suc i + k = omega arith in
     let one = offers-size first.due first.kind in
@@ -105,26 +120,36 @@ offer-put (first ∷ items) a b i (suc k) item offer there is before =
           let back : suc (a - 1) ≡ a = omega arith in
           let full : nat_lt 0 (suc a) ≡ true = grind (arith, (let h : 0 < suc a = omega arith in h)) in
           let less_one : suc a - 1 ≡ a = omega arith in
-          rw (e, some, next, full, less_one) (put-if true (record { number = i; item = first }) (record { number = suc i + k; item = item }) (landed_from (a - 1) b (suc i) items) (landed_from a b (suc i) items) (omega arith)
-          (subst (λ n. IsInserted (record { number = suc i + k; item = item }) (landed_from (a - 1) b (suc i) items) (landed_from n b (suc i) items)) back
+          rw (e, some, next, full, less_one)
+          (put-if true (record { number = i; item = first }) (record { number = suc i + k; item = item })
+          (landed_from (a - 1) b (suc i) items) (landed_from a b (suc i) items) (omega arith)
+          (subst (λ n. IsInserted (record { number = suc i + k; item = item }) (landed_from (a - 1) b (suc i) items)
+          (landed_from n b (suc i) items)) back
           (offer-put items (a - 1) b (suc i) k item offer there is less)))
       | inr e ↦
           let size : length (offer_of first.due first.kind) ≡ 0 = one ∙ ap (λ c. if c then 1 else 0) e in
           let less : length (offers_of (take k items)) ≡ a = omega arith in
-          rw (e, next) (put-if (nat_lt 0 b) (record { number = i; item = first }) (record { number = suc i + k; item = item }) (landed_from a (b - 1) (suc i) items) (landed_from (suc a) (b - 1) (suc i) items) (omega arith)
+          rw (e, next) (put-if (nat_lt 0 b) (record { number = i; item = first })
+          (record { number = suc i + k; item = item }) (landed_from a (b - 1) (suc i) items)
+          (landed_from (suc a) (b - 1) (suc i) items) (omega arith)
           (offer-put items a (b - 1) (suc i) k item offer there is less))
     ]
 
-order-put : (items : List Item) (a b i k : ℕ) (item : Item) (order : DueCommand) → slice_get items k ≡ Some item → order_of item.due item.kind ≡ order ∷ [] →
-    length (orders_of (take k items)) ≡ b → IsInserted (record { number = i + k; item = item }) (landed_from a b i items) (landed_from a (suc b) i items)
+order-put : (items : List Item) (a b i k : ℕ) (item : Item) (order : DueCommand) → slice_get items k ≡ Some item →
+    order_of item.due item.kind ≡ order ∷ [] →
+    length (orders_of (take k items)) ≡ b →
+    IsInserted (record { number = i + k; item = item }) (landed_from a b i items) (landed_from a (suc b) i items)
 unfolding landed_from
 order-put [] a b i k item order there is before = absurd cc
 order-put (first ∷ items) a b i zero item order there is before =
     let same : first ≡ item = cc in
-    let operator : is_client first.kind ≡ false = subst (λ (item : Item). is_client item.kind ≡ false) (sym same) (operator-order item.due item.kind order is) in
+    let operator : is_client first.kind ≡ false =
+    subst (λ (item : Item). is_client item.kind ≡ false) (sym same) (operator-order item.due item.kind order is)
+    in
     let none : b ≡ 0 = sym before in
     let here : i + 0 ≡ i = omega arith in
-    rw (operator, none, here, sym same) (put-here (record { number = i; item = first }) (landed_from a 0 (suc i) items) (above a 0 (suc i) items))
+    rw (operator, none, here, sym same)
+    (put-here (record { number = i; item = first }) (landed_from a 0 (suc i) items) (above a 0 (suc i) items))
 order-put (first ∷ items) a b i (suc k) item order there is before =
     let next : i + suc k ≡ suc i + k = omega arith in
     let one = orders-size first.due first.kind in
@@ -137,46 +162,60 @@ order-put (first ∷ items) a b i (suc k) item order there is before =
           let back : suc (b - 1) ≡ b = omega arith in
           let full : nat_lt 0 (suc b) ≡ true = grind (arith, (let h : 0 < suc b = omega arith in h)) in
           let less_one : suc b - 1 ≡ b = omega arith in
-          rw (e, some, next, full, less_one) (put-if true (record { number = i; item = first }) (record { number = suc i + k; item = item }) (landed_from a (b - 1) (suc i) items) (landed_from a b (suc i) items) (omega arith)
-          (subst (λ n. IsInserted (record { number = suc i + k; item = item }) (landed_from a (b - 1) (suc i) items) (landed_from a n (suc i) items)) back
+          rw (e, some, next, full, less_one)
+          (put-if true (record { number = i; item = first }) (record { number = suc i + k; item = item })
+          (landed_from a (b - 1) (suc i) items) (landed_from a b (suc i) items) (omega arith)
+          (subst (λ n. IsInserted (record { number = suc i + k; item = item }) (landed_from a (b - 1) (suc i) items)
+          (landed_from a n (suc i) items)) back
           (order-put items a (b - 1) (suc i) k item order there is less)))
       | inl e ↦
           let size : length (order_of first.due first.kind) ≡ 0 = one ∙ ap (λ c. if c then 0 else 1) e in
           let less : length (orders_of (take k items)) ≡ b = omega arith in
-          rw (e, next) (put-if (nat_lt 0 a) (record { number = i; item = first }) (record { number = suc i + k; item = item }) (landed_from (a - 1) b (suc i) items) (landed_from (a - 1) (suc b) (suc i) items) (omega arith)
+          rw (e, next) (put-if (nat_lt 0 a) (record { number = i; item = first })
+          (record { number = suc i + k; item = item }) (landed_from (a - 1) b (suc i) items)
+          (landed_from (a - 1) (suc b) (suc i) items) (omega arith)
           (order-put items (a - 1) b (suc i) k item order there is less))
     ]
 
-pub landed-frame : (script : Script) (s : Counts) (item : Numbered) (offer : DueFrame) → IsOfferAt script.items s.frames item offer →
+pub landed-frame : (script : Script) (s : Counts) (item : Numbered) (offer : DueFrame) →
+    IsOfferAt script.items s.frames item offer →
     IsInserted item (landed_items script s) (landed_items script (record s { frames = s.frames + 1 }))
 landed-frame script s item offer at =
     let e : suc s.frames ≡ s.frames + 1 = omega arith in
     let n : 0 + item.number ≡ item.number = omega arith in
-    subst (λ (found : Numbered). IsInserted found (landed_items script s) (landed_items script (record s { frames = s.frames + 1 })))
+    subst (λ (found : Numbered). IsInserted found (landed_items script s)
+    (landed_items script (record s { frames = s.frames + 1 })))
     (ap (λ number. record { number = number; item = item.item }) n)
-    (subst (λ a. IsInserted (record { number = 0 + item.number; item = item.item }) (landed_from s.frames s.commands 0 script.items) (landed_from a s.commands 0 script.items)) e
+    (subst (λ a. IsInserted (record { number = 0 + item.number; item = item.item })
+    (landed_from s.frames s.commands 0 script.items) (landed_from a s.commands 0 script.items)) e
     (offer-put script.items s.frames s.commands 0 item.number item.item offer at.there at.is at.before))
 
-pub landed-command : (script : Script) (s : Counts) (item : Numbered) (order : DueCommand) → IsOrderAt script.items s.commands item order →
+pub landed-command : (script : Script) (s : Counts) (item : Numbered) (order : DueCommand) →
+    IsOrderAt script.items s.commands item order →
     IsInserted item (landed_items script s) (landed_items script (record s { commands = s.commands + 1 }))
 landed-command script s item order at =
     let e : suc s.commands ≡ s.commands + 1 = omega arith in
     let n : 0 + item.number ≡ item.number = omega arith in
-    subst (λ (found : Numbered). IsInserted found (landed_items script s) (landed_items script (record s { commands = s.commands + 1 })))
+    subst (λ (found : Numbered). IsInserted found (landed_items script s)
+    (landed_items script (record s { commands = s.commands + 1 })))
     (ap (λ number. record { number = number; item = item.item }) n)
-    (subst (λ b. IsInserted (record { number = 0 + item.number; item = item.item }) (landed_from s.frames s.commands 0 script.items) (landed_from s.frames b 0 script.items)) e
+    (subst (λ b. IsInserted (record { number = 0 + item.number; item = item.item })
+    (landed_from s.frames s.commands 0 script.items) (landed_from s.frames b 0 script.items)) e
     (order-put script.items s.frames s.commands 0 item.number item.item order at.there at.is at.before))
 
 -- ---- refusals
-refused-within : (P : ℕ → Type 0) (number : ℕ) (why : Option Refusal) → P number → All (λ (refused : ℕ × Refusal). P refused.0) (refused_by number why)
+refused-within : (P : ℕ → Type 0) (number : ℕ) (why : Option Refusal) → P number →
+    All (λ (refused : ℕ × Refusal). P refused.0) (refused_by number why)
 refused-within P number None here = λ k d inside. absurd (omega arith)
-refused-within P number (Some why) here = All-cons (λ (refused : ℕ × Refusal). P refused.0) (number, why) [] here (λ k d inside. absurd (omega arith))
+refused-within P number (Some why) here =
+    All-cons (λ (refused : ℕ × Refusal). P refused.0) (number, why) [] here (λ k d inside. absurd (omega arith))
 
 -- of items those that are refused, whatever refuses them
 abbrev pub refusals_by : (Numbered → Option Refusal) → List Numbered → List (ℕ × Refusal)
 refusals_by why items = flat_map (λ item. refused_by item.number (why item)) items
 
-list-within : (P : ℕ → Type 0) (why : Numbered → Option Refusal) (items : List Numbered) → All (λ (other : Numbered). P other.number) items →
+list-within : (P : ℕ → Type 0) (why : Numbered → Option Refusal) (items : List Numbered) →
+    All (λ (other : Numbered). P other.number) items →
     All (λ (refused : ℕ × Refusal). P refused.0) (refusals_by why items)
 list-within P why [] all = λ k d inside. absurd (omega arith)
 list-within P why (item ∷ items) all =
@@ -193,20 +232,27 @@ placed why item was now put =
       back = refusals_by why put.back;
       was_so = ap (refusals_by why) put.was_so ∙ flat_map-append f put.front put.back;
       is_so = ap (refusals_by why) put.is_so ∙ flat_map-append f put.front (item ∷ put.back)
-          ∙ sym (append_assoc (refusals_by why put.front) (refused_by item.number (why item)) (refusals_by why put.back));
+          ∙ sym (append_assoc (refusals_by why put.front) (refused_by item.number (why item))
+          (refusals_by why put.back));
       before = list-within (λ number. number < item.number) why put.front put.before;
       after = list-within (λ number. item.number < number) why put.back put.after;
     }
 
-pub frame-placed : (script : Script) (s : Counts) (item : Numbered) (offer : DueFrame) → IsOfferAt script.items s.frames item offer →
-    IsPlaced item.number (refused_by item.number (refusal_at script item)) (refusals_of script s) (refusals_of script (record s { frames = s.frames + 1 }))
+pub frame-placed : (script : Script) (s : Counts) (item : Numbered) (offer : DueFrame) →
+    IsOfferAt script.items s.frames item offer →
+    IsPlaced item.number (refused_by item.number (refusal_at script item)) (refusals_of script s)
+    (refusals_of script (record s { frames = s.frames + 1 }))
 frame-placed script s item offer at =
-    placed (refusal_at script) item (landed_items script s) (landed_items script (record s { frames = s.frames + 1 })) (landed-frame script s item offer at)
+    placed (refusal_at script) item (landed_items script s) (landed_items script (record s { frames = s.frames + 1 }))
+    (landed-frame script s item offer at)
 
-pub command-placed : (script : Script) (s : Counts) (item : Numbered) (order : DueCommand) → IsOrderAt script.items s.commands item order →
-    IsPlaced item.number (refused_by item.number (refusal_at script item)) (refusals_of script s) (refusals_of script (record s { commands = s.commands + 1 }))
+pub command-placed : (script : Script) (s : Counts) (item : Numbered) (order : DueCommand) →
+    IsOrderAt script.items s.commands item order →
+    IsPlaced item.number (refused_by item.number (refusal_at script item)) (refusals_of script s)
+    (refusals_of script (record s { commands = s.commands + 1 }))
 command-placed script s item order at =
-    placed (refusal_at script) item (landed_items script s) (landed_items script (record s { commands = s.commands + 1 })) (landed-command script s item order at)
+    placed (refusal_at script) item (landed_items script s)
+    (landed_items script (record s { commands = s.commands + 1 })) (landed-command script s item order at)
 
 -- ---- totals
 pub one-more : (p : Numbered → Bool) (item : Numbered) (was now : List Numbered) → IsInserted item was now →
@@ -217,15 +263,19 @@ one-more p item was now put =
     let old : length (filter p was) ≡ length (filter p put.front) + length (filter p put.back) =
     ap (λ l. length (filter p l)) put.was_so ∙ ap length a ∙ length-append (filter p put.front) (filter p put.back) in
     let new : length (filter p now) ≡ length (filter p put.front) + length (filter p (item ∷ put.back)) =
-    ap (λ l. length (filter p l)) put.is_so ∙ ap length b ∙ length-append (filter p put.front) (filter p (item ∷ put.back)) in
-    let here : length (filter p (item ∷ put.back)) ≡ length (filter p put.back) + (if p item then 1 else 0) = one-here p item put.back in
+    ap (λ l. length (filter p l)) put.is_so ∙ ap length b
+    ∙ length-append (filter p put.front) (filter p (item ∷ put.back)) in
+    let here : length (filter p (item ∷ put.back)) ≡ length (filter p put.back) + (if p item then 1 else 0) =
+    one-here p item put.back in
     omega arith
   where
-    one-here : (p : Numbered → Bool) (item : Numbered) (items : List Numbered) → length (filter p (item ∷ items)) ≡ length (filter p items) + (if p item then 1 else 0)
+    one-here : (p : Numbered → Bool) (item : Numbered) (items : List Numbered) →
+        length (filter p (item ∷ items)) ≡ length (filter p items) + (if p item then 1 else 0)
     one-here p item items = elim (cases_Bool (p item)) [ inl e ↦ rw e (omega arith) | inr e ↦ rw e (omega arith) ]
 
 more-refused : (script : Script) (item : Numbered) (was now : List Numbered) → IsInserted item was now →
-    length (refusals_among script now) ≡ length (refusals_among script was) + length (refused_by item.number (refusal_at script item))
+    length (refusals_among script now) ≡ length (refusals_among script was) + length
+    (refused_by item.number (refusal_at script item))
 more-refused script item was now put =
     let place = placed (refusal_at script) item was now put in
     let own : List (ℕ × Refusal) = refused_by item.number (refusal_at script item) in
@@ -245,50 +295,66 @@ totals_by script s frames commands refused = record {
 }
 
 frame-told : (script : Script) (s : Counts) (why : Option Refusal) (number frames commands refused : ℕ) →
-    totals_by script s (frames + (if is_none why then 1 else 0)) (commands + 0) (refused + length (refused_by number why)) ≡ with_frame_told why (totals_by script s frames commands refused)
+    totals_by script s (frames + (if is_none why then 1 else 0)) (commands + 0)
+    (refused + length (refused_by number why)) ≡ with_frame_told why (totals_by script s frames commands refused)
 frame-told script s None number frames commands refused =
     let a : commands + 0 ≡ commands = omega arith in let b : refused + 0 ≡ refused = omega arith in rw (a, b) refl
 frame-told script s (Some why) number frames commands refused =
     let a : commands + 0 ≡ commands = omega arith in let b : frames + 0 ≡ frames = omega arith in rw (a, b) refl
 
 command-told : (script : Script) (s : Counts) (why : Option Refusal) (number frames commands refused : ℕ) →
-    totals_by script s (frames + 0) (commands + (if is_none why then 1 else 0)) (refused + length (refused_by number why)) ≡ with_command_told why (totals_by script s frames commands refused)
+    totals_by script s (frames + 0) (commands + (if is_none why then 1 else 0))
+    (refused + length (refused_by number why)) ≡ with_command_told why (totals_by script s frames commands refused)
 command-told script s None number frames commands refused =
     let a : frames + 0 ≡ frames = omega arith in let b : refused + 0 ≡ refused = omega arith in rw (a, b) refl
 command-told script s (Some why) number frames commands refused =
     let a : frames + 0 ≡ frames = omega arith in let b : commands + 0 ≡ commands = omega arith in rw (a, b) refl
 
-counted : (script : Script) (s : Counts) (a b c d e f : ℕ) → a ≡ b → c ≡ d → e ≡ f → totals_by script s a c e ≡ totals_by script s b d f
+counted : (script : Script) (s : Counts) (a b c d e f : ℕ) → a ≡ b → c ≡ d → e ≡ f →
+    totals_by script s a c e ≡ totals_by script s b d f
 counted script s a b c d e f one two three = rw (one, two, three) refl
 
-pub frame-totals : (script : Script) (s : Counts) (item : Numbered) (offer : DueFrame) → IsOfferAt script.items s.frames item offer →
-    totals_of script (record s { frames = s.frames + 1 }) ≡ with_frame_told (refusal_at script item) (totals_of script s)
+pub frame-totals : (script : Script) (s : Counts) (item : Numbered) (offer : DueFrame) →
+    IsOfferAt script.items s.frames item offer →
+    totals_of script (record s { frames = s.frames + 1 }) ≡ with_frame_told (refusal_at script item)
+    (totals_of script s)
 frame-totals script s item offer at =
     let was : List Numbered = landed_items script s in
     let now : List Numbered = landed_items script (record s { frames = s.frames + 1 }) in
     let put = landed-frame script s item offer at in
     let why : Option Refusal = refusal_at script item in
     let client = client-offer item.item.due item.item.kind offer at.is in
-    counted script s (length (filter (is_accepted_frame script) now)) (length (filter (is_accepted_frame script) was) + (if is_none why then 1 else 0))
+    counted script s (length (filter (is_accepted_frame script) now))
+    (length (filter (is_accepted_frame script) was) + (if is_none why then 1 else 0))
     (length (filter (is_accepted_command script) now)) (length (filter (is_accepted_command script) was) + 0)
     (length (refusals_among script now)) (length (refusals_among script was) + length (refused_by item.number why))
-    (one-more (is_accepted_frame script) item was now put ∙ ap (λ c. length (filter (is_accepted_frame script) was) + (if c && is_none why then 1 else 0)) client)
-    (one-more (is_accepted_command script) item was now put ∙ ap (λ c. length (filter (is_accepted_command script) was) + (if not c && is_none why then 1 else 0)) client)
+    (one-more (is_accepted_frame script) item was now put
+    ∙ ap (λ c. length (filter (is_accepted_frame script) was) + (if c && is_none why then 1 else 0)) client)
+    (one-more (is_accepted_command script) item was now put
+    ∙ ap (λ c. length (filter (is_accepted_command script) was) + (if not c && is_none why then 1 else 0)) client)
     (more-refused script item was now put)
-    ∙ frame-told script s why item.number (length (filter (is_accepted_frame script) was)) (length (filter (is_accepted_command script) was)) (length (refusals_among script was))
+    ∙ frame-told script s why item.number (length (filter (is_accepted_frame script) was))
+    (length (filter (is_accepted_command script) was)) (length (refusals_among script was))
 
-pub command-totals : (script : Script) (s : Counts) (item : Numbered) (order : DueCommand) → IsOrderAt script.items s.commands item order →
-    totals_of script (record s { commands = s.commands + 1 }) ≡ with_command_told (refusal_at script item) (totals_of script s)
+pub command-totals : (script : Script) (s : Counts) (item : Numbered) (order : DueCommand) →
+    IsOrderAt script.items s.commands item order →
+    totals_of script (record s { commands = s.commands + 1 }) ≡ with_command_told (refusal_at script item)
+    (totals_of script s)
 command-totals script s item order at =
     let was : List Numbered = landed_items script s in
     let now : List Numbered = landed_items script (record s { commands = s.commands + 1 }) in
     let put = landed-command script s item order at in
     let why : Option Refusal = refusal_at script item in
     let operator = operator-order item.item.due item.item.kind order at.is in
-    counted script s (length (filter (is_accepted_frame script) now)) (length (filter (is_accepted_frame script) was) + 0)
-    (length (filter (is_accepted_command script) now)) (length (filter (is_accepted_command script) was) + (if is_none why then 1 else 0))
+    counted script s (length (filter (is_accepted_frame script) now))
+    (length (filter (is_accepted_frame script) was) + 0)
+    (length (filter (is_accepted_command script) now))
+    (length (filter (is_accepted_command script) was) + (if is_none why then 1 else 0))
     (length (refusals_among script now)) (length (refusals_among script was) + length (refused_by item.number why))
-    (one-more (is_accepted_frame script) item was now put ∙ ap (λ c. length (filter (is_accepted_frame script) was) + (if c && is_none why then 1 else 0)) operator)
-    (one-more (is_accepted_command script) item was now put ∙ ap (λ c. length (filter (is_accepted_command script) was) + (if not c && is_none why then 1 else 0)) operator)
+    (one-more (is_accepted_frame script) item was now put
+    ∙ ap (λ c. length (filter (is_accepted_frame script) was) + (if c && is_none why then 1 else 0)) operator)
+    (one-more (is_accepted_command script) item was now put
+    ∙ ap (λ c. length (filter (is_accepted_command script) was) + (if not c && is_none why then 1 else 0)) operator)
     (more-refused script item was now put)
-    ∙ command-told script s why item.number (length (filter (is_accepted_frame script) was)) (length (filter (is_accepted_command script) was)) (length (refusals_among script was))
+    ∙ command-told script s why item.number (length (filter (is_accepted_frame script) was))
+    (length (filter (is_accepted_command script) was)) (length (refusals_among script was))

@@ -1,6 +1,8 @@
 -- The return path of a walk.
 use Rattle.std.specs.Prelude.{IsSome}
-use Rattle.std.proofs.Common.{◌≡◌, ℕ, suc, ◌+◌, ◌-◌, ◌*◌, ◌/◌, ◌%◌, ◌==◌, ◌<◌, ◌≤◌, ◌&&◌, nat_le, nat_lt, if◌then◌else◌, false, inl, inr, List, [], ◌∷◌, ◌++◌, map, drop, length, slice_get, slice_index_or, Some, option_map, refl, sym, ◌∙◌, ap, subst, arith}
+use Rattle.std.proofs.Common.{◌≡◌, ℕ, suc, ◌+◌, ◌-◌, ◌*◌, ◌/◌, ◌%◌, ◌==◌, ◌<◌, ◌≤◌, ◌&&◌, nat_le, nat_lt, if◌then◌else◌}
+use Rattle.std.proofs.Common.{false, inl, inr, List, [], ◌∷◌, ◌++◌, map, drop, length, slice_get, slice_index_or, Some}
+use Rattle.std.proofs.Common.{option_map, refl, sym, ◌∙◌, ap, subst, arith}
 use Rattle.std.specs.List.{range_with_len}
 use Rattle.std.proofs.lemmas.Bool.{leb-true, leb-false, ltb-true, ltb-false, eqb-true, cases_Bool, cases_lt}
 use Rattle.std.proofs.lemmas.List.{append-nil, take-append-drop, take_all}
@@ -32,30 +34,35 @@ use Rattle.walk_law.proofs.WalkLaws.{cells-decide}
 use Rattle.walk_law.proofs.WaitLaws.{popped-decides}
 
 -- ---- all cells of the lines
-line-at : (f : ℕ → List Cell) (n line : ℕ) (own : List Cell) → slice_get (map f (range_with_len 0 n)) line ≡ Some own → (line < n) × (f line ≡ own)
+line-at : (f : ℕ → List Cell) (n line : ℕ) (own : List Cell) → slice_get (map f (range_with_len 0 n)) line ≡ Some own →
+    (line < n) × (f line ≡ own)
 line-at f n line own here =
     let size = length-map-range_with_len f 0 n in
     let within = slice_get_within (map f (range_with_len 0 n)) line own here in
     let low : line < n = omega arith in
     let there : slice_get (map f (range_with_len 0 n)) line ≡ Some (f line) =
-    slice_get-map f (range_with_len 0 n) line ∙ ap (option_map f) (range-at 0 n line low ∙ ap Some (let e : 0 + line ≡ line = omega arith in e)) in
+    slice_get-map f (range_with_len 0 n) line
+    ∙ ap (option_map f) (range-at 0 n line low ∙ ap Some (let e : 0 + line ≡ line = omega arith in e)) in
     (low, cc)
 
 at-line : (f : ℕ → List Cell) (n line : ℕ) → line < n → slice_get (map f (range_with_len 0 n)) line ≡ Some (f line)
 at-line f n line low =
-    slice_get-map f (range_with_len 0 n) line ∙ ap (option_map f) (range-at 0 n line low ∙ ap Some (let e : 0 + line ≡ line = omega arith in e))
+    slice_get-map f (range_with_len 0 n) line
+    ∙ ap (option_map f) (range-at 0 n line low ∙ ap Some (let e : 0 + line ≡ line = omega arith in e))
 
 pub all-longer : (script : Script) (lines : List LineCounts) → IsLonger (popped_cells script lines) (all_lines script)
 all-longer script lines =
     let n : ℕ = length script.config.windows in
     record {
-      size = length-map-range_with_len (line_cells script) 0 n ∙ sym (length-map-range_with_len (popped_on script lines) 0 n);
+      size = length-map-range_with_len (line_cells script) 0 n
+          ∙ sym (length-map-range_with_len (popped_on script lines) 0 n);
       each = λ line own here.
           let (low, same) = line-at (popped_on script lines) n line own here in
           let y : ℕ = (counts_at lines line).popped in (
             drop y (line_cells script line),
             at-line (line_cells script) n line low
-                ∙ ap Some (sym (take-append-drop y (line_cells script line)) ∙ ap (λ l. l ++ drop y (line_cells script line)) same),
+                ∙ ap Some (sym (take-append-drop y (line_cells script line))
+                ∙ ap (λ l. l ++ drop y (line_cells script line)) same),
           );
     }
 
@@ -63,22 +70,26 @@ module _ (script : Script) (can : CanWalk script) where
   size : (line : ℕ) → length (sent_on (scenario_of script) line) ≡ script.config.ticks
   size line = containers-size (scenario_of script) (session_cells (scenario_of script)) line script.config.ticks
 
-  line-decides : (line t : ℕ) → line < length script.config.windows → t < script.config.ticks → IsSome (verdict (line_cells script line) t)
+  line-decides : (line t : ℕ) → line < length script.config.windows → t < script.config.ticks →
+      IsSome (verdict (line_cells script line) t)
   line-decides line t inside low =
-      let path = is_path (slice_index_or script.config.windows line []) (sent_on (scenario_of script) line) (delay_on script line)
+      let path = is_path (slice_index_or script.config.windows line []) (sent_on (scenario_of script) line)
+      (delay_on script line)
       (is-line (scenario_of script) (session_cells (scenario_of script)) (has-lines script can) line inside) in
       let y : ℕ = length (line_cells script line) in
       let all = size line in
       let ended = path.ended in
       let past : t < (path_on script line).decided y = omega arith in
-      subst (λ own. IsSome (verdict own t)) (take_all y (line_cells script line) (omega arith)) ((popped-decides script line y t low).1 past)
+      subst (λ own. IsSome (verdict own t)) (take_all y (line_cells script line) (omega arith))
+      ((popped-decides script line y t low).1 past)
 
   pub all-decided : (t : ℕ) → t < script.config.ticks → AreDecidedAt (all_lines script) t
   all-decided t low line own here =
       let (inside, same) = line-at (line_cells script) (length script.config.windows) line own here in
       subst (λ own. IsSome (verdict own t)) same (line-decides line t inside low)
 
-  line-comes : (line : ℕ) → ComesOfLine (scenario_of script) (session_cells (scenario_of script)) line script.config.ticks (line_cells script line)
+  line-comes : (line : ℕ) → ComesOfLine (scenario_of script) (session_cells (scenario_of script)) line
+      script.config.ticks (line_cells script line)
   line-comes line =
       let delay : ℕ = delay_on script line in
       record {
@@ -86,43 +97,53 @@ module _ (script : Script) (can : CanWalk script) where
         carries = script.config.ticks + delay + 1;
         later = [];
         taken = omega arith;
-        first = ap (λ n. cells (carried_by (scenario_of script) line) delay n (sent_on (scenario_of script) line) (n + delay + 1)) (sym (size line))
+        first = ap (λ n. cells (carried_by (scenario_of script) line) delay n (sent_on (scenario_of script) line)
+            (n + delay + 1)) (sym (size line))
             ∙ sym (append-nil (line_cells script line));
       }
 
-  pub all-come : ComeOfLines (scenario_of script) (session_cells (scenario_of script)) script.config.ticks (all_lines script)
+  pub all-come : ComeOfLines (scenario_of script) (session_cells (scenario_of script)) script.config.ticks
+      (all_lines script)
   all-come = record {
     made = omega arith;
     lines = length-map-range_with_len (line_cells script) 0 (length script.config.windows);
     each = λ line own here.
         let (inside, same) = line-at (line_cells script) (length script.config.windows) line own here in
-        subst (λ own. ComesOfLine (scenario_of script) (session_cells (scenario_of script)) line script.config.ticks own) same (line-comes line);
+        subst (λ own. ComesOfLine (scenario_of script) (session_cells (scenario_of script)) line script.config.ticks
+        own) same (line-comes line);
   }
 
-  pub cell-told : (k : ℕ) → 16 * k + 23 < script.config.ticks → told_in (back_cell script k) ≡ return_cell (scenario_of script) (session_cells (scenario_of script)) k
+  pub cell-told : (k : ℕ) → 16 * k + 23 < script.config.ticks →
+      told_in (back_cell script k) ≡ return_cell (scenario_of script) (session_cells (scenario_of script)) k
   cell-told k low =
-      back-told (scenario_of script) (session_cells (scenario_of script)) script.config.ticks (all_lines script) k (has-lines script can) all-come low (all-decided (16 * k + 23) low)
+      back-told (scenario_of script) (session_cells (scenario_of script)) script.config.ticks (all_lines script) k
+      (has-lines script can) all-come low (all-decided (16 * k + 23) low)
 
-  pub packet-is : (k : ℕ) → 16 * k + 23 < script.config.ticks → said_packet script k ≡ packet_by (scenario_of script) (session_cells (scenario_of script)) k
+  pub packet-is : (k : ℕ) → 16 * k + 23 < script.config.ticks →
+      said_packet script k ≡ packet_by (scenario_of script) (session_cells (scenario_of script)) k
   packet-is k low =
-      packet-told (scenario_of script) (session_cells (scenario_of script)) script.config.ticks (all_lines script) k (has-lines script can) all-come low (all-decided (16 * k + 23) low)
+      packet-told (scenario_of script) (session_cells (scenario_of script)) script.config.ticks (all_lines script) k
+      (has-lines script can) all-come low (all-decided (16 * k + 23) low)
 
   few-packets : (ticks k : ℕ) → 16 * k + 23 < ticks → k < (ticks - 8) / 16
   few-packets ticks k low = omega arith
 
   pub cells-next : (k : ℕ) → 16 * k + 23 < script.config.ticks →
-      cells_before (scenario_of script) (k + 1) ≡ cells_before (scenario_of script) k ++ told_in (back_cell script k) ∷ []
+      cells_before (scenario_of script) (k + 1) ≡ cells_before (scenario_of script) k ++ told_in
+      (back_cell script k) ∷ []
   cells-next k low =
       let e : k + 1 ≡ suc k = omega arith in
       let fits_lag = can.lag in
       let lag : 0 < script.config.lag = omega arith in
       ap (cells_before (scenario_of script)) e
-      ∙ next-cell (scenario_of script) script.config.ticks k (all_lines script) (has-lines script can) lag (few-packets script.config.ticks k low) all-come (all-decided (16 * k + 23) low)
+      ∙ next-cell (scenario_of script) script.config.ticks k (all_lines script) (has-lines script can) lag
+      (few-packets script.config.ticks k low) all-come (all-decided (16 * k + 23) low)
 
 pub packet-said : (script : Script) (s : Counts) (k : ℕ) → CanWalk script → IsWalked script s → 16 * k + 23 < s.rows →
     return_at (popped_cells script s.lines) k ≡ said_packet script k
 packet-said script s k can walked low =
-    sym (returns_stay (popped_cells script s.lines) (all_lines script) k (all-longer script s.lines) (cells-decide script s can walked (16 * k + 23) low))
+    sym (returns_stay (popped_cells script s.lines) (all_lines script) k (all-longer script s.lines)
+    (cells-decide script s can walked (16 * k + 23) low))
 
 -- ---- numbers
 pub not-equal : (a b : ℕ) → (a == b) ≡ false → a ≡ b → ⊥
@@ -146,7 +167,8 @@ packets-next t =
       ]
     ]
 
-pub used-next : (lag t : ℕ) → used_in lag (t + 1) ≡ used_in lag t + (if t % 16 == 8 && nat_le lag (t / 16) then 1 else 0)
+pub used-next : (lag t : ℕ) → used_in lag (t + 1) ≡ used_in lag t +
+    (if t % 16 == 8 && nat_le lag (t / 16) then 1 else 0)
 used-next lag t =
     elim (cases_Bool (t % 16 == 8)) [
       | inl place ↦ let g = eqb-true (t % 16) 8 place in elim (cases_Bool (nat_le lag (t / 16))) [
@@ -165,17 +187,20 @@ used-next lag t =
     ]
 
 -- ---- rings of numbers
-ring-more : {X : Type 0} (f : ℕ → X) (z n m : ℕ) → z ≤ n → m ≡ n + 1 → map f (range_with_len z (m - z)) ≡ map f (range_with_len z (n - z)) ++ f n ∷ []
+ring-more : {X : Type 0} (f : ℕ → X) (z n m : ℕ) → z ≤ n → m ≡ n + 1 →
+    map f (range_with_len z (m - z)) ≡ map f (range_with_len z (n - z)) ++ f n ∷ []
 ring-more f z n m low next =
     let e : m - z ≡ (n - z) + 1 = omega arith in
     ap (λ k. map f (range_with_len z k)) e ∙ map-range_with_len_more f z (n - z) n (omega arith)
 
-ring-less : {X : Type 0} (f : ℕ → X) (z w n : ℕ) → z < n → w ≡ z + 1 → map f (range_with_len z (n - z)) ≡ f z ∷ map f (range_with_len w (n - w))
+ring-less : {X : Type 0} (f : ℕ → X) (z w n : ℕ) → z < n → w ≡ z + 1 →
+    map f (range_with_len z (n - z)) ≡ f z ∷ map f (range_with_len w (n - w))
 ring-less f z w n low next =
     let e : n - z ≡ suc (n - w) = omega arith in
     ap (λ k. map f (range_with_len z k)) e ∙ ap (λ k. f z ∷ map f (range_with_len k (n - w))) (sym next)
 
-pub ring-says : (script : Script) (s : Counts) (rows : ℕ) → s.backs ≤ packets_in s.rows → packets_in rows ≡ packets_in s.rows + 1 →
+pub ring-says : (script : Script) (s : Counts) (rows : ℕ) → s.backs ≤ packets_in s.rows →
+    packets_in rows ≡ packets_in s.rows + 1 →
     return_ring script (record s { rows = rows }) ≡ return_ring script s ++ said_packet script (packets_in s.rows) ∷ []
 ring-says script s rows low next = ring-more (said_packet script) s.backs (packets_in s.rows) (packets_in rows) low next
 
@@ -185,9 +210,11 @@ ring-goes script s low = ring-less (said_packet script) s.backs (s.backs + 1) (p
 
 pub inbox-comes : (script : Script) (s : Counts) → used_in script.config.lag s.ticks ≤ s.backs →
     inbox script (record s { backs = s.backs + 1 }) ≡ inbox script s ++ back_cell script s.backs ∷ []
-inbox-comes script s low = ring-more (back_cell script) (used_in script.config.lag s.ticks) s.backs (s.backs + 1) low refl
+inbox-comes script s low = ring-more (back_cell script) (used_in script.config.lag s.ticks) s.backs
+    (s.backs + 1) low refl
 
 pub inbox-taken : (script : Script) (s : Counts) (ticks : ℕ) → used_in script.config.lag s.ticks < s.backs →
     used_in script.config.lag ticks ≡ used_in script.config.lag s.ticks + 1 →
     inbox script s ≡ back_cell script (used_in script.config.lag s.ticks) ∷ inbox script (record s { ticks = ticks })
-inbox-taken script s ticks low next = ring-less (back_cell script) (used_in script.config.lag s.ticks) (used_in script.config.lag ticks) s.backs low next
+inbox-taken script s ticks low next =
+    ring-less (back_cell script) (used_in script.config.lag s.ticks) (used_in script.config.lag ticks) s.backs low next

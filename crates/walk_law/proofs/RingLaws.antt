@@ -1,5 +1,6 @@
 -- The rings of a line by its numbers.
-use Rattle.std.proofs.Common.{◌≡◌, ℕ, zero, suc, ◌+◌, ◌-◌, ◌<◌, ◌≤◌, min, List, [], ◌∷◌, ◌++◌, take, drop, length, slice_get, Some, refl, sym, ◌∙◌, ap, subst, arith}
+use Rattle.std.proofs.Common.{◌≡◌, ℕ, zero, suc, ◌+◌, ◌-◌, ◌<◌, ◌≤◌, min, List, [], ◌∷◌, ◌++◌, take, drop, length}
+use Rattle.std.proofs.Common.{slice_get, Some, refl, sym, ◌∙◌, ap, subst, arith}
 use Rattle.std.proofs.lemmas.List.{drop-append-le, length-drop, length-take}
 use Rattle.std.proofs.lemmas.List.FromFn.{take-map-range_with_len}
 use Rattle.std.proofs.lemmas.Option.{slice_get_within}
@@ -31,18 +32,22 @@ drop-next (y ∷ ys) (suc i) x e = drop-next ys i x e
 tail-same : {X : Type 0} (x : X) (xs ys : List X) → x ∷ xs ≡ x ∷ ys → xs ≡ ys
 tail-same x xs ys e = ap (drop 1) e
 
-first-of_drop : {X : Type 0} (xs : List X) (y : ℕ) (x : X) (rest : List X) → drop y xs ≡ x ∷ rest → slice_get xs y ≡ Some x
+first-of_drop : {X : Type 0} (xs : List X) (y : ℕ) (x : X) (rest : List X) → drop y xs ≡ x ∷ rest →
+    slice_get xs y ≡ Some x
 first-of_drop xs y x rest e =
-    ap (slice_get xs) (let same : y ≡ y + 0 = omega arith in same) ∙ sym (slice_get-drop xs y 0) ∙ ap (λ l. slice_get l 0) e
+    ap (slice_get xs) (let same : y ≡ y + 0 = omega arith in same) ∙ sym (slice_get-drop xs y 0)
+    ∙ ap (λ l. slice_get l 0) e
 
-each-size : (P : LinePath → LineCounts → Type 0) (paths : List LinePath) (lines : List LineCounts) → Each P paths lines → length lines ≡ length paths
+each-size : (P : LinePath → LineCounts → Type 0) (paths : List LinePath) (lines : List LineCounts) →
+    Each P paths lines → length lines ≡ length paths
 unfolding Each
 each-size P [] [] all = refl
 each-size P [] (line ∷ lines) all = absurd all
 each-size P (path ∷ paths) [] all = absurd all
 each-size P (path ∷ paths) (line ∷ lines) all = ap suc (each-size P paths lines all.1)
 
-pub lines-size : (script : Script) (s : Counts) → CanWalk script → IsWalked script s → length s.lines ≡ length script.config.windows
+pub lines-size : (script : Script) (s : Counts) → CanWalk script → IsWalked script s →
+    length s.lines ≡ length script.config.windows
 lines-size script s can walked =
     each-size _ (walk_plan script).paths s.lines (fits script s can walked).lines ∙ has-paths script can
 
@@ -53,25 +58,33 @@ module _ (script : Script) (line : ℕ) where
   size : length (sent_on (scenario_of script) line) ≡ script.config.ticks
   size = containers-size (scenario_of script) (session_cells (scenario_of script)) line script.config.ticks
 
-  at : (t : ℕ) → t < script.config.ticks → slice_get (sent_on (scenario_of script) line) t ≡ Some (sent_at script line t)
+  at : (t : ℕ) → t < script.config.ticks →
+      slice_get (sent_on (scenario_of script) line) t ≡ Some (sent_at script line t)
   at t low = container-at (scenario_of script) (session_cells (scenario_of script)) line script.config.ticks t low
 
-  first-sent : (n : ℕ) → n ≤ script.config.ticks → take n (sent_on (scenario_of script) line) ≡ containers_of (scenario_of script) (session_cells (scenario_of script)) line n
-  first-sent n low = take-map-range_with_len (container_of (scenario_of script) (session_cells (scenario_of script)) line) 0 script.config.ticks n low
+  first-sent : (n : ℕ) → n ≤ script.config.ticks →
+      take n (sent_on (scenario_of script) line) ≡ containers_of (scenario_of script)
+      (session_cells (scenario_of script)) line n
+  first-sent n low = take-map-range_with_len
+      (container_of (scenario_of script) (session_cells (scenario_of script)) line) 0 script.config.ticks n low
 
   -- ---- containers
-  pub taken-cells : (x : ℕ) → cells (carried_by (scenario_of script) line) (delay_on script line) script.config.ticks (taken_by script line x) x ≡ cells_by script line x
+  pub taken-cells : (x : ℕ) → cells (carried_by (scenario_of script) line) (delay_on script line) script.config.ticks
+      (taken_by script line x) x ≡ cells_by script line x
   taken-cells x =
       let m : ℕ = min x script.config.ticks in
-      ap (λ l. cells (carried_by (scenario_of script) line) (delay_on script line) script.config.ticks l x) (first-sent m (omega arith))
-      ∙ given-whole (scenario_of script) (session_cells (scenario_of script)) line m (delay_on script line) x (omega arith) (omega arith)
+      ap (λ l. cells (carried_by (scenario_of script) line) (delay_on script line) script.config.ticks l x)
+      (first-sent m (omega arith))
+      ∙ given-whole (scenario_of script) (session_cells (scenario_of script)) line m (delay_on script line) x
+      (omega arith) (omega arith)
 
   made-size : (n : ℕ) → n ≤ script.config.ticks → length (take n (sent_on (scenario_of script) line)) ≡ n
   made-size n low = let e = length-take n (sent_on (scenario_of script) line) in let all = size in omega arith
 
   pub send-size : (n x : ℕ) → n ≤ script.config.ticks → length (send_by script line n x) ≡ n - min x script.config.ticks
   send-size n x low =
-      length-drop (min x script.config.ticks) (take n (sent_on (scenario_of script) line)) ∙ ap (λ k. k - min x script.config.ticks) (made-size n low)
+      length-drop (min x script.config.ticks) (take n (sent_on (scenario_of script) line))
+      ∙ ap (λ k. k - min x script.config.ticks) (made-size n low)
 
   pub send-made : (n x : ℕ) → n < script.config.ticks → min x script.config.ticks ≤ n →
       send_by script line (n + 1) x ≡ send_by script line n x ++ sent_at script line n ∷ []
@@ -83,17 +96,20 @@ module _ (script : Script) (line : ℕ) where
       ∙ ap (drop m) (take-next (sent_on (scenario_of script) line) n (sent_at script line n) (at n low))
       ∙ drop-append-le m (take n (sent_on (scenario_of script) line)) (sent_at script line n ∷ []) (omega arith)
 
-  pub send-next : (n x : ℕ) → n ≤ script.config.ticks → x < n → send_by script line n x ≡ sent_at script line x ∷ send_by script line n (x + 1)
+  pub send-next : (n x : ℕ) → n ≤ script.config.ticks → x < n →
+      send_by script line n x ≡ sent_at script line x ∷ send_by script line n (x + 1)
   send-next n x low inside =
       let one : min x script.config.ticks ≡ x = omega arith in
       let two : suc x ≡ min (x + 1) script.config.ticks = omega arith in
       let there : slice_get (take n (sent_on (scenario_of script) line)) x ≡ Some (sent_at script line x) =
-      ap (λ l. slice_get l x) (first-sent n low) ∙ container-at (scenario_of script) (session_cells (scenario_of script)) line n x inside in
+      ap (λ l. slice_get l x) (first-sent n low)
+      ∙ container-at (scenario_of script) (session_cells (scenario_of script)) line n x inside in
       ap (λ k. drop k (take n (sent_on (scenario_of script) line))) one
       ∙ drop-next (take n (sent_on (scenario_of script) line)) x (sent_at script line x) there
       ∙ ap (λ k. sent_at script line x ∷ drop k (take n (sent_on (scenario_of script) line))) two
 
-  pub taken-next : (x : ℕ) → x < script.config.ticks → taken_by script line (x + 1) ≡ taken_by script line x ++ sent_at script line x ∷ []
+  pub taken-next : (x : ℕ) → x < script.config.ticks →
+      taken_by script line (x + 1) ≡ taken_by script line x ++ sent_at script line x ∷ []
   taken-next x low =
       let one : x ≡ min x script.config.ticks = omega arith in
       let two : min (x + 1) script.config.ticks ≡ suc x = omega arith in
@@ -104,31 +120,42 @@ module _ (script : Script) (line : ℕ) where
   -- ---- cells
   given-cells : (x : ℕ) → length (cells_by script line x) ≡ (path_on script line).given x
   given-cells x =
-      ap (λ n. length (cells (carried_by (scenario_of script) line) (delay_on script line) n (sent_on (scenario_of script) line) x)) (sym size)
+      ap (λ n. length (cells (carried_by (scenario_of script) line) (delay_on script line) n
+      (sent_on (scenario_of script) line) x)) (sym size)
 
   pub receive-size : (x y : ℕ) → length (receive_by script line x y) ≡ (path_on script line).given x - y
   receive-size x y = length-drop y (cells_by script line x) ∙ ap (λ n. n - y) (given-cells x)
 
-  pub receive-gives : (x y : ℕ) (out : List Cell) → y ≤ (path_on script line).given x → cells_by script line (x + 1) ≡ cells_by script line x ++ out →
+  pub receive-gives : (x y : ℕ) (out : List Cell) → y ≤ (path_on script line).given x →
+      cells_by script line (x + 1) ≡ cells_by script line x ++ out →
       receive_by script line (x + 1) y ≡ receive_by script line x y ++ out
   receive-gives x y out low e =
       let long = given-cells x in
       ap (drop y) e ∙ drop-append-le y (cells_by script line x) out (subst (λ n. y ≤ n) (sym long) low)
 
-  pub receive-pops : (x y : ℕ) (cell : Cell) (rest : List Cell) → receive_by script line x y ≡ cell ∷ rest → receive_by script line x (y + 1) ≡ rest
+  pub receive-pops : (x y : ℕ) (cell : Cell) (rest : List Cell) → receive_by script line x y ≡ cell ∷ rest →
+      receive_by script line x (y + 1) ≡ rest
   receive-pops x y cell rest e =
       let there = first-of_drop (cells_by script line x) y cell rest e in
       let more : y + 1 ≡ suc y = omega arith in
       ap (λ k. drop k (cells_by script line x)) more
-      ∙ tail-same cell (drop (suc y) (cells_by script line x)) rest (sym (drop-next (cells_by script line x) y cell there) ∙ e)
+      ∙ tail-same cell (drop (suc y) (cells_by script line x)) rest
+      (sym (drop-next (cells_by script line x) y cell there) ∙ e)
 
-  all-cells : (x : ℕ) → x ≤ script.config.ticks + delay_on script line + 1 → (more : List Cell) × (line_cells script line ≡ cells_by script line x ++ more)
+  all-cells : (x : ℕ) → x ≤ script.config.ticks + delay_on script line + 1 → (more : List Cell) ×
+      (line_cells script line ≡ cells_by script line x ++ more)
   all-cells x low =
       let all = size in
-      let (more, e) = cells-part (carried_by (scenario_of script) line) (delay_on script line) (sent_on (scenario_of script) line) x (length (sent_on (scenario_of script) line) + delay_on script line + 1) (omega arith) in
-      (more, e ∙ ap (λ n. cells (carried_by (scenario_of script) line) (delay_on script line) n (sent_on (scenario_of script) line) x ++ more) all)
+      let (more, e) = cells-part (carried_by (scenario_of script) line) (delay_on script line)
+      (sent_on (scenario_of script) line) x
+      (length (sent_on (scenario_of script) line) + delay_on script line + 1) (omega arith) in (
+        more,
+        e ∙ ap (λ n. cells (carried_by (scenario_of script) line) (delay_on script line) n
+            (sent_on (scenario_of script) line) x ++ more) all,
+      )
 
-  pub popped-next : (x y : ℕ) (cell : Cell) (rest : List Cell) → x ≤ script.config.ticks + delay_on script line + 1 → receive_by script line x y ≡ cell ∷ rest →
+  pub popped-next : (x y : ℕ) (cell : Cell) (rest : List Cell) → x ≤ script.config.ticks + delay_on script line + 1 →
+      receive_by script line x y ≡ cell ∷ rest →
       take (y + 1) (line_cells script line) ≡ take y (line_cells script line) ++ cell ∷ []
   popped-next x y cell rest low e =
       let (more, all) = all-cells x low in
@@ -136,4 +163,5 @@ module _ (script : Script) (line : ℕ) where
       let inside = slice_get_within (cells_by script line x) y cell there in
       let next : y + 1 ≡ suc y = omega arith in
       ap (λ k. take k (line_cells script line)) next
-      ∙ take-next (line_cells script line) y cell (ap (λ l. slice_get l y) all ∙ slice_get-append (cells_by script line x) more y inside ∙ there)
+      ∙ take-next (line_cells script line) y cell
+      (ap (λ l. slice_get l y) all ∙ slice_get-append (cells_by script line x) more y inside ∙ there)

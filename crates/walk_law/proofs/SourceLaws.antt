@@ -1,11 +1,13 @@
 -- What the source of a walk was told is the session's.
-use Rattle.std.proofs.Common.{◌≡◌, ℕ, suc, ◌-◌, ◌/◌, ◌<◌, ◌≤◌, List, [], ◌∷◌, fold, take, length, Option, option_map, refl, sym, ◌∙◌, ap, arith}
+use Rattle.std.proofs.Common.{◌≡◌, ℕ, suc, ◌-◌, ◌/◌, ◌<◌, ◌≤◌, List, [], ◌∷◌, fold, take, length, Option, option_map}
+use Rattle.std.proofs.Common.{refl, sym, ◌∙◌, ap, arith}
 use Rattle.session_model.specs.declared.script.Item.{Item}
 use Rattle.session_model.specs.declared.script.ItemKind.{ItemKind}
 use Rattle.session_model.specs.declared.script.ItemKind.TheVariants.{Frame, Add, Remove}
 use Rattle.session_model.specs.declared.script.Script.{Script}
 use Rattle.session_model.specs.declared.table.Command.TheVariants.{Add as add, Remove as remove}
-use Rattle.session_model.specs.Scenario.{Scenario, DueCommand, DueFrame, order_of, offer_of, orders_of, offers_of, scenario_of, steps_in, packets, orders_at, frames_at}
+use Rattle.session_model.specs.Scenario.{Scenario, DueCommand, DueFrame, order_of, offer_of, orders_of, offers_of}
+use Rattle.session_model.specs.Scenario.{scenario_of, steps_in, packets, orders_at, frames_at}
 use Rattle.session_model.specs.Table.{Told}
 use Rattle.session_model.specs.Source.{Source, asked_all, refusal, after, source_at}
 use Rattle.session_model.specs.Client.{Stream, frame_refusal, offered, stream_before}
@@ -16,7 +18,8 @@ use Rattle.report_text.specs.declared.report.Refusal.TheVariants.{Frame as frame
 use Rattle.session_law.proofs.SessionLaws.{Agree-first}
 use Rattle.terminal_law.proofs.CourseLaws.{session-agree}
 use Rattle.walk_law.specs.Walk.{CanWalk, IsWalked}
-use Rattle.walk_law.specs.Landed.{Numbered, landed_scenario, told_before, IsOfferAt, IsOrderAt, stream_met, source_met, kind_refusal, refusal_at}
+use Rattle.walk_law.specs.Landed.{Numbered, landed_scenario, told_before, IsOfferAt, IsOrderAt, stream_met, source_met}
+use Rattle.walk_law.specs.Landed.{kind_refusal, refusal_at}
 use Rattle.walk_law.proofs.WalkLaws.{fits}
 use Rattle.walk_law.proofs.LandLaws.{frame-waits, command-waits, frames-landed, orders-landed, offer-at, order-at}
 use Rattle.session_law.proofs.AlikeLaws.{Alike, Alike-sooner, alike-after, alike-stream, alike-frame}
@@ -28,23 +31,30 @@ few-used rows ticks backs used low most taken = omega arith
 same-first : {X : Type 0} (x y : X) → x ∷ [] ≡ y ∷ [] → x ≡ y
 same-first x y e = cc
 
-offer-refusal : (scenario : Scenario) (cells : List (Option Told)) (due : ℕ) (earlier : List Item) (kind : ItemKind) (offer : DueFrame) → offer_of due kind ≡ offer ∷ [] →
-    kind_refusal scenario cells due earlier kind ≡ option_map frame_fault (frame_refusal offer.frame (stream_met scenario cells offer.due (offers_of earlier)))
+offer-refusal : (scenario : Scenario) (cells : List (Option Told)) (due : ℕ) (earlier : List Item) (kind : ItemKind)
+    (offer : DueFrame) → offer_of due kind ≡ offer ∷ [] →
+    kind_refusal scenario cells due earlier kind ≡ option_map frame_fault
+    (frame_refusal offer.frame (stream_met scenario cells offer.due (offers_of earlier)))
 offer-refusal scenario cells due earlier (Frame octets) offer is =
-    ap (λ (o : DueFrame). option_map frame_fault (frame_refusal o.frame (stream_met scenario cells o.due (offers_of earlier))))
+    ap (λ (o : DueFrame). option_map frame_fault
+    (frame_refusal o.frame (stream_met scenario cells o.due (offers_of earlier))))
     (same-first (record { due = due; frame = octets }) offer is)
 offer-refusal scenario cells due earlier (Add line) offer is = absurd cc
 offer-refusal scenario cells due earlier (Remove line) offer is = absurd cc
 
-order-refusal : (scenario : Scenario) (cells : List (Option Told)) (due : ℕ) (earlier : List Item) (kind : ItemKind) (order : DueCommand) → order_of due kind ≡ order ∷ [] →
+order-refusal : (scenario : Scenario) (cells : List (Option Told)) (due : ℕ) (earlier : List Item) (kind : ItemKind)
+    (order : DueCommand) → order_of due kind ≡ order ∷ [] →
     kind_refusal scenario cells due earlier kind
-    ≡ option_map command_fault (refusal (length scenario.windows) order.command (source_met scenario cells order.due (orders_of earlier)))
+    ≡ option_map command_fault (refusal (length scenario.windows) order.command
+    (source_met scenario cells order.due (orders_of earlier)))
 order-refusal scenario cells due earlier (Frame octets) order is = absurd cc
 order-refusal scenario cells due earlier (Add line) order is =
-    ap (λ (o : DueCommand). option_map command_fault (refusal (length scenario.windows) o.command (source_met scenario cells o.due (orders_of earlier))))
+    ap (λ (o : DueCommand). option_map command_fault
+    (refusal (length scenario.windows) o.command (source_met scenario cells o.due (orders_of earlier))))
     (same-first (record { due = due; command = add line }) order is)
 order-refusal scenario cells due earlier (Remove line) order is =
-    ap (λ (o : DueCommand). option_map command_fault (refusal (length scenario.windows) o.command (source_met scenario cells o.due (orders_of earlier))))
+    ap (λ (o : DueCommand). option_map command_fault
+    (refusal (length scenario.windows) o.command (source_met scenario cells o.due (orders_of earlier))))
     (same-first (record { due = due; command = remove line }) order is)
 
 module _ (script : Script) (s : Counts) (can : CanWalk script) (walked : IsWalked script s) where
@@ -63,47 +73,65 @@ module _ (script : Script) (s : Counts) (can : CanWalk script) (walked : IsWalke
     size = refl;
     orders = λ j low. orders-landed script s j walked (omega arith);
     cells = Agree-first (scenario_of script) (told_before script s.ticks) session (steps_in s.ticks)
-        (session-agree (scenario_of script) (used_in script.config.lag s.ticks) (used_in script.config.lag s.ticks) few (omega arith));
+        (session-agree (scenario_of script) (used_in script.config.lag s.ticks) (used_in script.config.lag s.ticks) few
+        (omega arith));
     offers = λ u low. frames-landed script s u walked low;
   }
 
-  pub told-tables : (j : ℕ) → j ≤ steps_in s.ticks → after (landed_scenario script s) (told_before script s.ticks) j ≡ after (scenario_of script) session j
-  told-tables j low = alike-after (landed_scenario script s) (told_before script s.ticks) (scenario_of script) session s.ticks j told-alike low
+  pub told-tables : (j : ℕ) → j ≤ steps_in s.ticks →
+      after (landed_scenario script s) (told_before script s.ticks) j ≡ after (scenario_of script) session j
+  told-tables j low = alike-after (landed_scenario script s) (told_before script s.ticks)
+      (scenario_of script) session s.ticks j told-alike low
 
-  pub told-streams : (t : ℕ) → t ≤ s.ticks → stream_before (landed_scenario script s) (told_before script s.ticks) t ≡ stream_before (scenario_of script) session t
+  pub told-streams : (t : ℕ) → t ≤ s.ticks →
+      stream_before (landed_scenario script s) (told_before script s.ticks) t ≡ stream_before
+      (scenario_of script) session t
   told-streams t low =
       alike-stream (landed_scenario script s) (told_before script s.ticks) (scenario_of script) session t
-      (Alike-sooner (landed_scenario script s) (told_before script s.ticks) (scenario_of script) session t s.ticks low told-alike)
+      (Alike-sooner (landed_scenario script s) (told_before script s.ticks) (scenario_of script) session t s.ticks low
+      told-alike)
 
-  pub told-frames : (t : ℕ) → t < s.ticks → frame_of (landed_scenario script s) (told_before script s.ticks) t ≡ frame_of (scenario_of script) session t
+  pub told-frames : (t : ℕ) → t < s.ticks →
+      frame_of (landed_scenario script s) (told_before script s.ticks) t ≡ frame_of (scenario_of script) session t
   told-frames t low =
       alike-frame (landed_scenario script s) (told_before script s.ticks) (scenario_of script) session t
-      (Alike-sooner (landed_scenario script s) (told_before script s.ticks) (scenario_of script) session (suc t) s.ticks (omega arith) told-alike)
+      (Alike-sooner (landed_scenario script s) (told_before script s.ticks) (scenario_of script) session (suc t) s.ticks
+      (omega arith) told-alike)
 
   -- ---- the next item
-  pub meets-stream : (item : Numbered) (offer : DueFrame) → IsOfferAt script.items s.frames item offer → offer.due ≤ s.ticks →
+  pub meets-stream : (item : Numbered) (offer : DueFrame) → IsOfferAt script.items s.frames item offer →
+      offer.due ≤ s.ticks →
       refusal_at script item
-      ≡ option_map frame_fault (frame_refusal offer.frame (fold offered (stream_before (landed_scenario script s) (told_before script s.ticks) s.ticks) (frames_at (landed_scenario script s) s.ticks)))
+      ≡ option_map frame_fault (frame_refusal offer.frame
+      (fold offered (stream_before (landed_scenario script s) (told_before script s.ticks) s.ticks)
+      (frames_at (landed_scenario script s) s.ticks)))
   meets-stream item offer at due =
       let (there, earlier) = offer-at script.items s.frames item offer at in
       let late = frame-waits script s s.frames offer walked (omega arith) there in
       let now : offer.due ≡ s.ticks = omega arith in
       let answer = λ (stream : Stream). option_map frame_fault (frame_refusal offer.frame stream) in
-      offer-refusal (scenario_of script) session item.item.due (take item.number script.items) item.item.kind offer at.is
+      offer-refusal (scenario_of script) session item.item.due (take item.number script.items) item.item.kind offer
+      at.is
       ∙ ap (λ (offers : List DueFrame). answer (stream_met (scenario_of script) session offer.due offers)) earlier
       ∙ ap (λ t. answer (stream_met (scenario_of script) session t (take s.frames (offers_of script.items)))) now
-      ∙ ap (λ (stream : Stream). answer (fold offered stream (frames_at (landed_scenario script s) s.ticks))) (sym (told-streams s.ticks (omega arith)))
+      ∙ ap (λ (stream : Stream). answer (fold offered stream (frames_at (landed_scenario script s) s.ticks)))
+      (sym (told-streams s.ticks (omega arith)))
 
-  pub meets-source : (item : Numbered) (order : DueCommand) → IsOrderAt script.items s.commands item order → order.due ≤ s.ticks →
+  pub meets-source : (item : Numbered) (order : DueCommand) → IsOrderAt script.items s.commands item order →
+      order.due ≤ s.ticks →
       refusal_at script item
-      ≡ option_map command_fault (refusal (length script.config.windows) order.command (source_at (landed_scenario script s) (told_before script s.ticks) (steps_in s.ticks)))
+      ≡ option_map command_fault (refusal (length script.config.windows) order.command
+      (source_at (landed_scenario script s) (told_before script s.ticks) (steps_in s.ticks)))
   meets-source item order at due =
       let (there, earlier) = order-at script.items s.commands item order at in
       let late = command-waits script s s.commands order walked (omega arith) there in
       let now : order.due ≡ s.ticks = omega arith in
-      let answer = λ (source : Source). option_map command_fault (refusal (length script.config.windows) order.command source) in
-      order-refusal (scenario_of script) session item.item.due (take item.number script.items) item.item.kind order at.is
+      let answer = λ (source : Source). option_map command_fault
+      (refusal (length script.config.windows) order.command source) in
+      order-refusal (scenario_of script) session item.item.due (take item.number script.items) item.item.kind order
+      at.is
       ∙ ap (λ (orders : List DueCommand). answer (source_met (scenario_of script) session order.due orders)) earlier
       ∙ ap (λ t. answer (source_met (scenario_of script) session t (take s.commands (orders_of script.items)))) now
-      ∙ ap (λ (source : Source). answer (asked_all (length script.config.windows) (orders_at (landed_scenario script s) (steps_in s.ticks)) source))
+      ∙ ap (λ (source : Source). answer
+      (asked_all (length script.config.windows) (orders_at (landed_scenario script s) (steps_in s.ticks)) source))
       (sym (told-tables (steps_in s.ticks) (omega arith)))

@@ -1,5 +1,6 @@
 -- The last decision step of a walk.
-use Rattle.std.proofs.Common.{◌≡◌, ℕ, suc, ◌+◌, ◌-◌, ◌*◌, ◌/◌, ◌%◌, ◌==◌, ◌<◌, ◌≤◌, nat_lt, if◌then◌else◌, true, inl, inr, Some, refl, ◌∙◌, ap, arith}
+use Rattle.std.proofs.Common.{◌≡◌, ℕ, suc, ◌+◌, ◌-◌, ◌*◌, ◌/◌, ◌%◌, ◌==◌, ◌<◌, ◌≤◌, nat_lt, if◌then◌else◌, true, inl}
+use Rattle.std.proofs.Common.{inr, Some, refl, ◌∙◌, ap, arith}
 use Rattle.std.proofs.lemmas.Bool.{eqb-true, lt-ltb, cases_Bool, cases_lt}
 use Rattle.session_model.specs.declared.script.Script.{Script}
 use Rattle.session_model.specs.Scenario.{steps_in, packets_in, orders_at}
@@ -44,11 +45,14 @@ packet-now t late place = omega arith
 ends : (rows backs k : ℕ) → backs ≤ (rows - 8) / 16 → k < backs → 16 * k + 23 < rows
 ends rows backs k most low = omega arith
 
-pub said-ends : (script : Script) (s : Counts) (k : ℕ) → CanWalk script → IsWalked script s → k < s.backs → 16 * k + 23 < s.rows
+pub said-ends : (script : Script) (s : Counts) (k : ℕ) → CanWalk script → IsWalked script s → k < s.backs →
+    16 * k + 23 < s.rows
 said-ends script s k can walked low = ends s.rows s.backs k (fits script s can walked).backs low
 
 pub table-now : (script : Script) (s : Counts) → CanWalk script → IsWalked script s →
-    (source_at (landed_scenario script s) (told_before script s.ticks) (steps_in s.ticks)).table ≡ table_in script s.ticks
+    (source_at (landed_scenario script s) (told_before script s.ticks) (steps_in s.ticks)).table
+    ≡ table_in script s.ticks
 table-now script s can walked =
-    asked_all-table _ (orders_at (landed_scenario script s) (steps_in s.ticks)) (after (landed_scenario script s) (told_before script s.ticks) (steps_in s.ticks))
+    asked_all-table _ (orders_at (landed_scenario script s) (steps_in s.ticks))
+    (after (landed_scenario script s) (told_before script s.ticks) (steps_in s.ticks))
     ∙ ap (λ (source : Source). source.table) (told-tables script s can walked (steps_in s.ticks) (omega arith))

@@ -1,6 +1,8 @@
 -- For which line a Take waits.
 use Rattle.std.specs.Prelude.{IsSome, ◌↔◌}
-use Rattle.std.proofs.Common.{◌≡◌, ℕ, zero, suc, ◌+◌, ◌<◌, ◌≤◌, nat_le, Bool, true, false, inl, inr, List, [], ◌∷◌, map, take, length, slice_get, slice_index_or, Option, Some, None, is_none, refl, sym, ◌∙◌, ap, ap₂, subst, arith}
+use Rattle.std.proofs.Common.{◌≡◌, ℕ, zero, suc, ◌+◌, ◌<◌, ◌≤◌, nat_le, Bool, true, false, inl, inr, List, [], ◌∷◌, map}
+use Rattle.std.proofs.Common.{take, length, slice_get, slice_index_or, Option, Some, None, is_none, refl, sym, ◌∙◌, ap}
+use Rattle.std.proofs.Common.{ap₂, subst, arith}
 use Rattle.std.specs.List.{range_with_len, position_from}
 use Rattle.std.proofs.lemmas.Bool.{leb-true, leb-false, cases_Bool, cases_lt}
 use Rattle.std.proofs.lemmas.Option.{slice_get_within}
@@ -22,7 +24,8 @@ pub popped-decides : (script : Script) (line y t : ℕ) → t < script.config.ti
     IsSome (verdict (take y (line_cells script line)) t) ↔ (t < (path_on script line).decided y)
 popped-decides script line y t low =
     let size = containers-size (scenario_of script) (session_cells (scenario_of script)) line script.config.ticks in
-    is_decided (carried_by (scenario_of script) line) (sent_on (scenario_of script) line) (delay_on script line) y t (omega arith)
+    is_decided (carried_by (scenario_of script) line) (sent_on (scenario_of script) line) (delay_on script line) y t
+    (omega arith)
 
 -- ---- line by line
 unfoldable cells_from : (ℕ → List Cell) → ℕ → List LineCounts → List (List Cell)
@@ -43,19 +46,23 @@ map-from f all from (line ∷ lines) same =
     ap₂ (λ own rest. own ∷ rest) (subst (λ m. f m ≡ take line.popped (all m)) here (same 0 (omega arith)))
     (ap (λ m. map f (range_with_len m (length lines))) next
     ∙ map-from f all (suc from) lines
-    (λ k low. subst (λ m. f m ≡ take (slice_index_or lines k no_counts).popped (all m)) (let e : from + suc k ≡ suc from + k = omega arith in e) (same (suc k) (omega arith))))
+    (λ k low. subst (λ m. f m ≡ take (slice_index_or lines k no_counts).popped (all m))
+    (let e : from + suc k ≡ suc from + k = omega arith in e) (same (suc k) (omega arith))))
 
 popped-list : (script : Script) (lines : List LineCounts) → length lines ≡ length script.config.windows →
     popped_cells script lines ≡ cells_from (line_cells script) 0 lines
 popped-list script lines size =
     ap (λ n. map (popped_on script lines) (range_with_len 0 n)) (sym size)
     ∙ map-from (popped_on script lines) (line_cells script) 0 lines
-    (λ k low. let e : 0 + k ≡ k = omega arith in subst (λ m. popped_on script lines m ≡ take (slice_index_or lines k no_counts).popped (line_cells script m)) (sym e) refl)
+    (λ k low. let e : 0 + k ≡ k = omega arith in
+    subst (λ m. popped_on script lines m ≡ take (slice_index_or lines k no_counts).popped (line_cells script m))
+    (sym e) refl)
 
 -- the paths from one on say which numbers the cells decide
 unfoldable Decide : ℕ → (ℕ → List Cell) → ℕ → List LinePath → Type 0
 Decide t all m [] = Unit {0}
-Decide t all m (path ∷ paths) = ((y : ℕ) → IsSome (verdict (take y (all m)) t) ↔ (t < path.decided y)) × Decide t all (suc m) paths
+Decide t all m (path ∷ paths) = ((y : ℕ) → IsSome (verdict (take y (all m)) t) ↔ (t < path.decided y)) ×
+    Decide t all (suc m) paths
 
 is-open : (v : Option (Option Container)) → (IsSome v → ⊥) → is_none v ≡ true
 is-open None h = refl
@@ -68,8 +75,10 @@ is-told None h = absurd (let e : false ≡ true = h in cc)
 abbrev is_open : ℕ → List Cell → Bool
 is_open t own = is_none (verdict own t)
 
-first-waits : (t : ℕ) (all : ℕ → List Cell) (m : ℕ) (paths : List LinePath) (lines : List LineCounts) → length lines ≡ length paths → Decide t all m paths →
-    position_from (is_open t) m (cells_from all m (pop_lines t m paths lines).lines) ≡ (pop_lines t m paths lines).waiting
+first-waits : (t : ℕ) (all : ℕ → List Cell) (m : ℕ) (paths : List LinePath) (lines : List LineCounts) →
+    length lines ≡ length paths → Decide t all m paths →
+    position_from (is_open t) m (cells_from all m (pop_lines t m paths lines).lines) ≡
+    (pop_lines t m paths lines).waiting
 unfolding Decide cells_from pop_lines
 first-waits t all m [] [] size decide = refl
 first-waits t all m [] (line ∷ lines) size decide = absurd (omega arith)
@@ -87,12 +96,14 @@ first-waits t all m (path ∷ paths) (line ∷ lines) size decide =
           let past : t < path.decided y = leb-false (path.decided y) t e in
           let told : is_none (verdict (take (popped_line path t line).popped (all m)) t) ≡ false =
           is-told (verdict (take y (all m)) t) ((decide.0 y).1 past) in
-          rw (e, told) (ap (λ k. position_from (is_open t) k (cells_from all (suc m) (pop_lines t (suc m) paths lines).lines)) next
+          rw (e, told) (ap (λ k. position_from (is_open t) k
+          (cells_from all (suc m) (pop_lines t (suc m) paths lines).lines)) next
           ∙ first-waits t all (suc m) paths lines (omega arith) decide.1)
     ]
 
 decide-from : (t : ℕ) (all : ℕ → List Cell) (m : ℕ) (paths : List LinePath) →
-    ((k : ℕ) (path : LinePath) → slice_get paths k ≡ Some path → (y : ℕ) → IsSome (verdict (take y (all (m + k))) t) ↔ (t < path.decided y)) →
+    ((k : ℕ) (path : LinePath) → slice_get paths k ≡ Some path → (y : ℕ) →
+    IsSome (verdict (take y (all (m + k))) t) ↔ (t < path.decided y)) →
     Decide t all m paths
 unfolding Decide
 decide-from t all m [] each = tt
@@ -100,10 +111,12 @@ decide-from t all m (path ∷ paths) each =
     let here : m + 0 ≡ m = omega arith in (
       λ y. subst (λ i. IsSome (verdict (take y (all i)) t) ↔ (t < path.decided y)) here (each 0 path refl y),
       decide-from t all (suc m) paths
-          (λ k other there y. let e : m + suc k ≡ suc m + k = omega arith in subst (λ i. IsSome (verdict (take y (all i)) t) ↔ (t < other.decided y)) e (each (suc k) other there y)),
+          (λ k other there y. let e : m + suc k ≡ suc m + k = omega arith in
+          subst (λ i. IsSome (verdict (take y (all i)) t) ↔ (t < other.decided y)) e (each (suc k) other there y)),
     )
 
-pop-size : (t m : ℕ) (paths : List LinePath) (lines : List LineCounts) → length lines ≡ length paths → length (pop_lines t m paths lines).lines ≡ length lines
+pop-size : (t m : ℕ) (paths : List LinePath) (lines : List LineCounts) → length lines ≡ length paths →
+    length (pop_lines t m paths lines).lines ≡ length lines
 unfolding pop_lines
 pop-size t m [] lines size = refl
 pop-size t m (path ∷ paths) [] size = refl
@@ -116,8 +129,10 @@ pop-size t m (path ∷ paths) (line ∷ lines) size =
 some-same : (a b : LinePath) → Some a ≡ Some b → a ≡ b
 some-same a b e = cc
 
-pub take-waits : (script : Script) (lines : List LineCounts) (t : ℕ) → CanWalk script → length lines ≡ length script.config.windows → t < script.config.ticks →
-    first_open (popped_cells script (pop_lines t 0 (walk_plan script).paths lines).lines) t ≡ (pop_lines t 0 (walk_plan script).paths lines).waiting
+pub take-waits : (script : Script) (lines : List LineCounts) (t : ℕ) → CanWalk script →
+    length lines ≡ length script.config.windows → t < script.config.ticks →
+    first_open (popped_cells script (pop_lines t 0 (walk_plan script).paths lines).lines) t ≡
+    (pop_lines t 0 (walk_plan script).paths lines).waiting
 take-waits script lines t can size low =
     let paths : List LinePath = (walk_plan script).paths in
     let count = has-paths script can in
@@ -126,17 +141,22 @@ take-waits script lines t can size low =
     ∙ first-waits t (line_cells script) 0 paths lines (size ∙ sym count)
     (decide-from t (line_cells script) 0 paths (λ k path there y.
     let inside = slice_get_within paths k path there in
-    let same : path_on script k ≡ path = some-same (path_on script k) path (sym (line-path script can k (omega arith)) ∙ there) in
+    let same : path_on script k ≡ path =
+    some-same (path_on script k) path (sym (line-path script can k (omega arith)) ∙ there) in
     let e : 0 + k ≡ k = omega arith in
     subst (λ i. IsSome (verdict (take y (line_cells script i)) t) ↔ (t < path.decided y)) (sym e)
-    (subst (λ p. IsSome (verdict (take y (line_cells script k)) t) ↔ (t < p.decided y)) same (popped-decides script k y t low))))
+    (subst (λ p. IsSome (verdict (take y (line_cells script k)) t) ↔ (t < p.decided y)) same
+    (popped-decides script k y t low))))
 
 -- ---- the first line whose cells don't decide a row, where those before it do
-told-line : (script : Script) (lines : List LineCounts) (i t : ℕ) → t < script.config.ticks → t < (path_on script i).decided (counts_at lines i).popped →
+told-line : (script : Script) (lines : List LineCounts) (i t : ℕ) → t < script.config.ticks →
+    t < (path_on script i).decided (counts_at lines i).popped →
     is_none (verdict (popped_on script lines i) t) ≡ false
-told-line script lines i t low past = is-told (verdict (popped_on script lines i) t) ((popped-decides script i (counts_at lines i).popped t low).1 past)
+told-line script lines i t low past =
+    is-told (verdict (popped_on script lines i) t) ((popped-decides script i (counts_at lines i).popped t low).1 past)
 
-position-at : (test : List Cell → Bool) (f : ℕ → List Cell) (from n m : ℕ) → m < n → ((i : ℕ) → i < m → test (f (from + i)) ≡ false) → test (f (from + m)) ≡ true →
+position-at : (test : List Cell → Bool) (f : ℕ → List Cell) (from n m : ℕ) → m < n →
+    ((i : ℕ) → i < m → test (f (from + i)) ≡ false) → test (f (from + m)) ≡ true →
     position_from test from (map f (range_with_len from n)) ≡ Some (from + m)
 position-at test f from zero m inside before here = absurd (omega arith)
 position-at test f from (suc n) zero inside before here =
@@ -145,20 +165,24 @@ position-at test f from (suc n) (suc m) inside before here =
     let e : from + 0 ≡ from = omega arith in
     let first : test (f from) ≡ false = subst (λ i. test (f i) ≡ false) e (before 0 (omega arith)) in
     rw first (position-at test f (from + 1) n m (omega arith)
-    (λ i low. subst (λ k. test (f k) ≡ false) (let g : from + suc i ≡ from + 1 + i = omega arith in g) (before (suc i) (omega arith)))
+    (λ i low. subst (λ k. test (f k) ≡ false) (let g : from + suc i ≡ from + 1 + i = omega arith in g)
+    (before (suc i) (omega arith)))
     (subst (λ k. test (f k) ≡ true) (let g : from + suc m ≡ from + 1 + m = omega arith in g) here)
     ∙ ap Some (let g : from + 1 + m ≡ from + suc m = omega arith in g))
 
-position-none : (test : List Cell → Bool) (f : ℕ → List Cell) (from n : ℕ) → ((i : ℕ) → i < n → test (f (from + i)) ≡ false) →
+position-none : (test : List Cell → Bool) (f : ℕ → List Cell) (from n : ℕ) →
+    ((i : ℕ) → i < n → test (f (from + i)) ≡ false) →
     position_from test from (map f (range_with_len from n)) ≡ None
 position-none test f from zero before = refl
 position-none test f from (suc n) before =
     let e : from + 0 ≡ from = omega arith in
     let first : test (f from) ≡ false = subst (λ i. test (f i) ≡ false) e (before 0 (omega arith)) in
     rw first (position-none test f (from + 1) n
-    (λ i low. subst (λ k. test (f k) ≡ false) (let g : from + suc i ≡ from + 1 + i = omega arith in g) (before (suc i) (omega arith))))
+    (λ i low. subst (λ k. test (f k) ≡ false) (let g : from + suc i ≡ from + 1 + i = omega arith in g)
+    (before (suc i) (omega arith))))
 
-position-least : (test : List Cell → Bool) (f : ℕ → List Cell) (from n k : ℕ) → position_from test from (map f (range_with_len from n)) ≡ Some k → from ≤ k
+position-least : (test : List Cell → Bool) (f : ℕ → List Cell) (from n k : ℕ) →
+    position_from test from (map f (range_with_len from n)) ≡ Some k → from ≤ k
 position-least test f from zero k is = absurd cc
 position-least test f from (suc n) k is =
     elim (cases_Bool (test (f from))) [
@@ -167,7 +191,8 @@ position-least test f from (suc n) k is =
     ]
 
 -- a position beyond those at which the test fails isn't among them
-position-past : (test : List Cell → Bool) (f : ℕ → List Cell) (from n m k : ℕ) → m < n → ((i : ℕ) → i ≤ m → test (f (from + i)) ≡ false) →
+position-past : (test : List Cell → Bool) (f : ℕ → List Cell) (from n m k : ℕ) → m < n →
+    ((i : ℕ) → i ≤ m → test (f (from + i)) ≡ false) →
     position_from test from (map f (range_with_len from n)) ≡ Some k → from + m < k
 position-past test f from zero m k inside before is = absurd (omega arith)
 position-past test f from (suc n) zero k inside before is =
@@ -179,11 +204,15 @@ position-past test f from (suc n) (suc m) k inside before is =
     let e : from + 0 ≡ from = omega arith in
     let first : test (f from) ≡ false = subst (λ i. test (f i) ≡ false) e (before 0 (omega arith)) in
     let rest = position-past test f (from + 1) n m k (omega arith)
-    (λ i low. subst (λ k. test (f k) ≡ false) (let g : from + suc i ≡ from + 1 + i = omega arith in g) (before (suc i) (omega arith))) (rw first at is) in
+    (λ i low. subst (λ k. test (f k) ≡ false) (let g : from + suc i ≡ from + 1 + i = omega arith in g)
+    (before (suc i) (omega arith))) (rw first at is) in
     omega arith
 
-pub first-open : (script : Script) (lines : List LineCounts) (m t : ℕ) → length lines ≡ length script.config.windows → m < length lines → t < script.config.ticks →
-    AreDecidedBefore script lines m t → (first_open (popped_cells script lines) t ≡ Some m) ↔ ((path_on script m).decided (counts_at lines m).popped ≤ t)
+pub first-open : (script : Script) (lines : List LineCounts) (m t : ℕ) → length lines ≡ length script.config.windows →
+    m < length lines → t < script.config.ticks →
+    AreDecidedBefore script lines m t →
+    (first_open (popped_cells script lines) t ≡ Some m) ↔
+    ((path_on script m).decided (counts_at lines m).popped ≤ t)
 first-open script lines m t size inside low before =
     let n : ℕ = length script.config.windows in
     let y : ℕ = (counts_at lines m).popped in
@@ -193,20 +222,26 @@ first-open script lines m t size inside low before =
         | inl past ↦
             let beyond = position-past (is_open t) (popped_on script lines) 0 n m m (omega arith)
             (λ i under. elim (cases_lt i m) [
-              | inl less ↦ subst (λ k. is_open t (popped_on script lines k) ≡ false) (let g : i ≡ 0 + i = omega arith in g) (told i less)
-              | inr more ↦ subst (λ k. is_open t (popped_on script lines k) ≡ false) (let g : m ≡ 0 + i = omega arith in g) (told-line script lines m t low past)
+              | inl less ↦ subst (λ k. is_open t (popped_on script lines k) ≡ false)
+                  (let g : i ≡ 0 + i = omega arith in g) (told i less)
+              | inr more ↦ subst (λ k. is_open t (popped_on script lines k) ≡ false)
+                  (let g : m ≡ 0 + i = omega arith in g) (told-line script lines m t low past)
             ]) is in
             absurd (omega arith)
       ],
       λ late. position-at (is_open t) (popped_on script lines) 0 n m (omega arith)
-          (λ i under. subst (λ k. is_open t (popped_on script lines k) ≡ false) (let g : i ≡ 0 + i = omega arith in g) (told i under))
+          (λ i under. subst (λ k. is_open t (popped_on script lines k) ≡ false) (let g : i ≡ 0 + i = omega arith in g)
+          (told i under))
           (subst (λ k. is_open t (popped_on script lines k) ≡ true) (let g : m ≡ 0 + m = omega arith in g)
-          (is-open (verdict (popped_on script lines m) t) (λ some. let past = (popped-decides script m y t low).0 some in omega arith)))
+          (is-open (verdict (popped_on script lines m) t)
+          (λ some. let past = (popped-decides script m y t low).0 some in omega arith)))
           ∙ ap Some (let g : 0 + m ≡ m = omega arith in g),
     )
 
-pub none-open : (script : Script) (lines : List LineCounts) (t : ℕ) → length lines ≡ length script.config.windows → t < script.config.ticks →
+pub none-open : (script : Script) (lines : List LineCounts) (t : ℕ) → length lines ≡ length script.config.windows →
+    t < script.config.ticks →
     AreDecidedBefore script lines (length lines) t → first_open (popped_cells script lines) t ≡ None
 none-open script lines t size low before =
     position-none (is_open t) (popped_on script lines) 0 (length script.config.windows)
-    (λ i under. subst (λ k. is_open t (popped_on script lines k) ≡ false) (let g : i ≡ 0 + i = omega arith in g) (told-line script lines i t low (before i (omega arith))))
+    (λ i under. subst (λ k. is_open t (popped_on script lines k) ≡ false) (let g : i ≡ 0 + i = omega arith in g)
+    (told-line script lines i t low (before i (omega arith))))

@@ -1,7 +1,9 @@
 -- What the counts of a walk say of the cells that were popped.
 use Rattle.std.specs.Prelude.{IsSome, ◌↔◌, nat_le, is_none, false, true}
 use Rattle.std.proofs.lemmas.Bool.{cases_lt, le-leb, lt-leb}
-use Rattle.std.proofs.Common.{inl, inr, ◌≡◌, ℕ, zero, suc, ◌+◌, ◌-◌, ◌*◌, ◌/◌, ◌<◌, ◌≤◌, if◌then◌else◌, List, [], ◌∷◌, ◌++◌, map, take, drop, length, slice_get, slice_index_or, Option, Some, None, option_map, refl, sym, ◌∙◌, ap, subst, arith}
+use Rattle.std.proofs.Common.{inl, inr, ◌≡◌, ℕ, zero, suc, ◌+◌, ◌-◌, ◌*◌, ◌/◌, ◌<◌, ◌≤◌, if◌then◌else◌, List, [], ◌∷◌}
+use Rattle.std.proofs.Common.{◌++◌, map, take, drop, length, slice_get, slice_index_or, Option, Some, None, option_map}
+use Rattle.std.proofs.Common.{refl, sym, ◌∙◌, ap, subst, arith}
 use Rattle.std.specs.List.{range_with_len}
 use Rattle.std.proofs.lemmas.List.{take-append-drop, take-append-le}
 use Rattle.std.proofs.lemmas.List.FromFn.{length-map-range_with_len, map-range_with_len_more}
@@ -39,20 +41,24 @@ use Rattle.terminal_law.proofs.CellLaws.{given-whole}
 use Rattle.terminal_law.proofs.RowLaws.{row-told}
 use Rattle.terminal_law.proofs.CourseLaws.{session-agree, come-same}
 use Rattle.terminal_law.proofs.LoopLaws.{frame-same, source-same, stream-same, next-cell}
-use Rattle.walk_law.specs.Walk.{sent_on, walk_plan, CanWalk, IsWalked, counts_at, cells_on, popped_on, popped_cells, path_on}
+use Rattle.walk_law.specs.Walk.{sent_on, walk_plan, CanWalk, IsWalked, counts_at, cells_on, popped_on, popped_cells}
+use Rattle.walk_law.specs.Walk.{path_on}
 use Rattle.walk_law.proofs.PlanLaws.{has-lines, has-plan, line-path}
 
-each-there : (P : LinePath → LineCounts → Type 0) (paths : List LinePath) (lines : List LineCounts) (m : ℕ) (path : LinePath) (d : LineCounts) → Each P paths lines →
+each-there : (P : LinePath → LineCounts → Type 0) (paths : List LinePath) (lines : List LineCounts) (m : ℕ)
+    (path : LinePath) (d : LineCounts) → Each P paths lines →
     slice_get paths m ≡ Some path → P path (slice_index_or lines m d)
 unfolding Each
 each-there P [] [] m path d all here = absurd cc
 each-there P [] (line ∷ lines) m path d all here = absurd all
 each-there P (first ∷ paths) [] m path d all here = absurd all
-each-there P (first ∷ paths) (line ∷ lines) zero path d all here = let e : first ≡ path = cc in subst (λ path. P path line) e all.0
+each-there P (first ∷ paths) (line ∷ lines) zero path d all here = let e : first ≡ path = cc in
+    subst (λ path. P path line) e all.0
 each-there P (first ∷ paths) (line ∷ lines) (suc m) path d all here = each-there P paths lines m path d all.1 here
 
 -- the first cells that all carries give are those of some carries, where these give as many
-first-given : (carries : ℕ → Carried) (delay : ℕ) (containers : List Container) (x y : ℕ) → x ≤ length containers + delay + 1 →
+first-given : (carries : ℕ → Carried) (delay : ℕ) (containers : List Container) (x y : ℕ) →
+    x ≤ length containers + delay + 1 →
     y ≤ length (cells carries delay (length containers) containers x) →
     take y (all_cells carries delay containers) ≡ take y (cells carries delay (length containers) containers x)
 first-given carries delay containers x y low fits =
@@ -68,25 +74,30 @@ open-or None d t same = elim (cases_lt t d) [
 open-or (Some told) d t same = let low = same.0 refl in sym (lt-leb d t low)
 
 pub line-open : (script : Script) (lines : List LineCounts) (line t : ℕ) → t < script.config.ticks →
-    is_none (verdict (popped_on script lines line) t) ≡ nat_le ((path_on script line).decided (counts_at lines line).popped) t
+    is_none (verdict (popped_on script lines line) t) ≡ nat_le
+    ((path_on script line).decided (counts_at lines line).popped) t
 line-open script lines line t low =
     let scenario : Scenario = scenario_of script in
     let delay : ℕ = slice_index_or script.config.delays line 0 in
     let y : ℕ = (counts_at lines line).popped in
-    let size : length (sent_on scenario line) ≡ script.config.ticks = containers-size scenario (session_cells scenario) line scenario.ticks in
+    let size : length (sent_on scenario line) ≡ script.config.ticks =
+    containers-size scenario (session_cells scenario) line scenario.ticks in
     open-or (verdict (popped_on script lines line) t) ((path_on script line).decided y) t
     (is_decided (carried_by scenario line) (sent_on scenario line) delay y t (omega arith))
 
 -- the first cells of a line are those that its carries give
-pub line-first : (script : Script) (line carries popped : ℕ) → carries ≤ script.config.ticks + (path_on script line).delay + 1 →
+pub line-first : (script : Script) (line carries popped : ℕ) →
+    carries ≤ script.config.ticks + (path_on script line).delay + 1 →
     popped ≤ (path_on script line).given carries →
     take popped (cells_on (scenario_of script) (path_on script line).delay line)
-    ≡ take popped (given (scenario_of script) (session_cells (scenario_of script)) line script.config.ticks (path_on script line).delay carries)
+    ≡ take popped (given (scenario_of script) (session_cells (scenario_of script)) line script.config.ticks
+    (path_on script line).delay carries)
 line-first script line carries popped low fits =
     let scenario : Scenario = scenario_of script in
     let containers : List Container = sent_on scenario line in
     let delay : ℕ = slice_index_or script.config.delays line 0 in
-    let size : length containers ≡ script.config.ticks = containers-size scenario (session_cells scenario) line scenario.ticks in
+    let size : length containers ≡ script.config.ticks =
+    containers-size scenario (session_cells scenario) line scenario.ticks in
     first-given (carried_by scenario line) delay containers carries popped (omega arith) fits
     ∙ ap (λ n. take popped (cells (carried_by scenario line) delay n containers carries)) size
 
@@ -104,12 +115,15 @@ module _ (script : Script) (s : Counts) (can : CanWalk script) (walked : IsWalke
   delay_of line = slice_index_or script.config.delays line 0
 
   pub line-fits : (line : ℕ) → line < length script.config.windows →
-      LineFits script.config.ticks script.config.ring s.ticks s.rows (path_of (carried_by scenario line) (delay_of line) (sent_on scenario line)) (counts_at s.lines line)
+      LineFits script.config.ticks script.config.ring s.ticks s.rows
+      (path_of (carried_by scenario line) (delay_of line) (sent_on scenario line)) (counts_at s.lines line)
   line-fits line inside =
       each-there (LineFits script.config.ticks script.config.ring s.ticks s.rows) (walk_plan script).paths s.lines line
-      (path_of (carried_by scenario line) (delay_of line) (sent_on scenario line)) (record { carried = 0; popped = 0 }) fits.lines (line-path script can line inside)
+      (path_of (carried_by scenario line) (delay_of line) (sent_on scenario line))
+      (record { carried = 0; popped = 0 }) fits.lines (line-path script can line inside)
 
-  popped-comes : (line : ℕ) → line < length script.config.windows → ComesOfLine scenario session line s.ticks (popped_on script s.lines line)
+  popped-comes : (line : ℕ) → line < length script.config.windows →
+      ComesOfLine scenario session line s.ticks (popped_on script s.lines line)
   popped-comes line inside =
       let is = line-fits line inside in
       let ticks = fits.ticks in
@@ -122,25 +136,32 @@ module _ (script : Script) (s : Counts) (can : CanWalk script) (walked : IsWalke
       let most = is.carries in
       let taken = is.sent in
       let now : given scenario session line s.ticks (delay_of line) x ≡ own =
-      given-whole scenario session line s.ticks (delay_of line) x ticks taken ∙ ap (λ n. cells carries (delay_of line) n containers x) (sym size) in
+      given-whole scenario session line s.ticks (delay_of line) x ticks taken
+      ∙ ap (λ n. cells carries (delay_of line) n containers x) (sym size) in
       record {
         delay = delay_of line;
         carries = x;
         later = drop y own;
         taken = taken;
-        first = now ∙ sym (take-append-drop y own) ∙ ap (λ l. l ++ drop y own) (sym (first-given carries (delay_of line) containers x y (omega arith) is.pops));
+        first = now ∙ sym (take-append-drop y own)
+            ∙ ap (λ l. l ++ drop y own) (sym
+            (first-given carries (delay_of line) containers x y (omega arith) is.pops));
       }
 
-  popped-decided : (line t : ℕ) → line < length script.config.windows → t < s.rows → IsSome (verdict (popped_on script s.lines line) t)
+  popped-decided : (line t : ℕ) → line < length script.config.windows → t < s.rows →
+      IsSome (verdict (popped_on script s.lines line) t)
   popped-decided line t inside low =
       let is = line-fits line inside in
       let rows = fits.rows in
       let decides = is.decides in
-      let size : length (sent_on scenario line) ≡ script.config.ticks = containers-size scenario session line scenario.ticks in
-      (is_decided (carried_by scenario line) (sent_on scenario line) (delay_of line) (counts_at s.lines line).popped t (omega arith)).1 (omega arith)
+      let size : length (sent_on scenario line) ≡ script.config.ticks =
+      containers-size scenario session line scenario.ticks in
+      (is_decided (carried_by scenario line) (sent_on scenario line) (delay_of line) (counts_at s.lines line).popped t
+      (omega arith)).1 (omega arith)
 
   -- ---- all lines
-  popped-at : (line : ℕ) (own : List Cell) → slice_get (popped_cells script s.lines) line ≡ Some own → (line < length script.config.windows) × (popped_on script s.lines line ≡ own)
+  popped-at : (line : ℕ) (own : List Cell) → slice_get (popped_cells script s.lines) line ≡ Some own →
+      (line < length script.config.windows) × (popped_on script s.lines line ≡ own)
   popped-at line own here =
       let lines : ℕ = length script.config.windows in
       let size = length-map-range_with_len (popped_on script s.lines) 0 lines in
@@ -148,7 +169,8 @@ module _ (script : Script) (s : Counts) (can : CanWalk script) (walked : IsWalke
       let low : line < lines = omega arith in
       let there : slice_get (popped_cells script s.lines) line ≡ Some (popped_on script s.lines line) =
       slice_get-map (popped_on script s.lines) (range_with_len 0 lines) line
-      ∙ ap (option_map (popped_on script s.lines)) (range-at 0 lines line low ∙ ap Some (let e : 0 + line ≡ line = omega arith in e)) in
+      ∙ ap (option_map (popped_on script s.lines))
+      (range-at 0 lines line low ∙ ap Some (let e : 0 + line ≡ line = omega arith in e)) in
       (low, cc)
 
   pub cells-come : ComeOfLines scenario session s.ticks (popped_cells script s.lines)
@@ -166,10 +188,12 @@ module _ (script : Script) (s : Counts) (can : CanWalk script) (walked : IsWalke
       subst (λ own. IsSome (verdict own t)) same (popped-decided line t inside low)
 
   pub rows-are : (t : ℕ) → t < s.rows →
-      row_at script.config.size (popped_cells script s.lines) t ≡ (if is_whole_row scenario session t then Some (payload_of scenario session t) else None)
+      row_at script.config.size (popped_cells script s.lines) t ≡
+      (if is_whole_row scenario session t then Some (payload_of scenario session t) else None)
   rows-are t low =
       let rows = fits.rows in
-      row-told scenario session s.ticks (popped_cells script s.lines) t (has-lines script can) cells-come (omega arith) (cells-decide t low)
+      row-told scenario session s.ticks (popped_cells script s.lines) t (has-lines script can) cells-come (omega arith)
+      (cells-decide t low)
 
   -- ---- the return path
   pub lag : 0 < scenario.lag
@@ -181,18 +205,22 @@ module _ (script : Script) (s : Counts) (can : CanWalk script) (walked : IsWalke
   ends : (rows n : ℕ) → n < (rows - 8) / 16 → 16 * n + 23 < rows
   ends rows n low = omega arith
 
-  pub frames-are : (t : ℕ) → t < s.ticks → frame_of scenario (cells_before scenario s.backs) t ≡ frame_of scenario session t
+  pub frames-are : (t : ℕ) → t < s.ticks →
+      frame_of scenario (cells_before scenario s.backs) t ≡ frame_of scenario session t
   frames-are t low =
       let used = fits.used in
-      frame-same scenario s.backs s.ticks t (few-packets s.rows script.config.ticks s.backs fits.rows fits.backs) (omega arith) low
+      frame-same scenario s.backs s.ticks t (few-packets s.rows script.config.ticks s.backs fits.rows fits.backs)
+      (omega arith) low
 
   few : s.backs ≤ packets scenario
   few = few-packets s.rows script.config.ticks s.backs fits.rows fits.backs
 
-  pub sources-are : (j : ℕ) → j ≤ steps_in s.ticks → after scenario (cells_before scenario s.backs) j ≡ after scenario session j
+  pub sources-are : (j : ℕ) → j ≤ steps_in s.ticks →
+      after scenario (cells_before scenario s.backs) j ≡ after scenario session j
   sources-are j low = let used = fits.used in source-same scenario s.backs s.ticks j few (omega arith) low
 
-  pub streams-are : (t : ℕ) → t ≤ s.ticks → stream_before scenario (cells_before scenario s.backs) t ≡ stream_before scenario session t
+  pub streams-are : (t : ℕ) → t ≤ s.ticks →
+      stream_before scenario (cells_before scenario s.backs) t ≡ stream_before scenario session t
   streams-are t low = let used = fits.used in stream-same scenario s.backs s.ticks t few (omega arith) low
 
   told-first : (n : ℕ) → n ≤ s.backs → told_of scenario (popped_cells script s.lines) n ≡ cells_before scenario n
@@ -207,7 +235,8 @@ module _ (script : Script) (s : Counts) (can : CanWalk script) (walked : IsWalke
       ap (λ k. map f (range_with_len 0 k)) e
       ∙ map-range_with_len_more f 0 n n (omega arith)
       ∙ ap (λ l. l ++ f n ∷ []) (told-first n (omega arith))
-      ∙ sym (next-cell scenario s.ticks n popped (has-lines script can) lag (few-packets s.rows script.config.ticks (suc n) fits.rows inside) cells-come
+      ∙ sym (next-cell scenario s.ticks n popped (has-lines script can) lag
+      (few-packets s.rows script.config.ticks (suc n) fits.rows inside) cells-come
       (cells-decide (16 * n + 23) (ends s.rows n inside)))
 
   pub backs-are : told_of scenario (popped_cells script s.lines) s.backs ≡ cells_before scenario s.backs
@@ -222,7 +251,8 @@ module _ (script : Script) (s : Counts) (can : CanWalk script) (walked : IsWalke
         most = most;
         used = omega arith;
         come = subst (λ returns. ComeOfLines scenario returns s.ticks (popped_cells script s.lines)) (sym backs-are)
-            (come-same scenario session (cells_before scenario s.backs) s.ticks s.backs (popped_cells script s.lines) (omega arith) (sym agree) cells-come);
+            (come-same scenario session (cells_before scenario s.backs) s.ticks s.backs (popped_cells script s.lines)
+            (omega arith) (sym agree) cells-come);
         decided = λ k low.
             let backs = fits.backs in
             cells-decide (16 * k + 23) (ends s.rows k (omega arith));
@@ -232,11 +262,15 @@ module _ (script : Script) (s : Counts) (can : CanWalk script) (walked : IsWalke
 pub begins-walked : (script : Script) → IsWalked script (begin (walk_plan script))
 begins-walked script = ([], sym (run-none (walk_plan script) (begin (walk_plan script))))
 
-pub steps-walked : (script : Script) (s : Counts) (event : Event) → IsWalked script s → IsWalked script (step (walk_plan script) s event).counts
+pub steps-walked : (script : Script) (s : Counts) (event : Event) → IsWalked script s →
+    IsWalked script (step (walk_plan script) s event).counts
 unfolding run
 steps-walked script s event walked =
-    Leads-then (walk_plan script) (begin (walk_plan script)) s (step (walk_plan script) s event).counts walked (event ∷ [], refl)
+    Leads-then (walk_plan script) (begin (walk_plan script)) s (step (walk_plan script) s event).counts walked
+    (event ∷ [], refl)
 
-pub drains-walked : (script : Script) (s : Counts) (k : ℕ) → IsWalked script s → IsWalked script (drain k (walk_plan script) s)
+pub drains-walked : (script : Script) (s : Counts) (k : ℕ) → IsWalked script s →
+    IsWalked script (drain k (walk_plan script) s)
 drains-walked script s k walked =
-    Leads-then (walk_plan script) (begin (walk_plan script)) s (drain k (walk_plan script) s) walked (Leads-drain k (walk_plan script) s)
+    Leads-then (walk_plan script) (begin (walk_plan script)) s (drain k (walk_plan script) s) walked
+    (Leads-drain k (walk_plan script) s)

@@ -1,5 +1,7 @@
 -- Which rows are whole, and what is delivered while they are.
-use Rattle.std.proofs.Common.{◌≡◌, ℕ, suc, ◌+◌, ◌-◌, ◌*◌, ◌/◌, ◌<◌, ◌≤◌, nat_le, nat_lt, ◌&&◌, Bool, true, false, inl, inr, List, [], ◌∷◌, length, slice_index_or, All, Option, refl, sym, ◌∙◌, ap, ap₂, subst, arith}
+use Rattle.std.proofs.Common.{◌≡◌, ℕ, suc, ◌+◌, ◌-◌, ◌*◌, ◌/◌, ◌<◌, ◌≤◌, nat_le, nat_lt, ◌&&◌, Bool, true, false, inl}
+use Rattle.std.proofs.Common.{inr, List, [], ◌∷◌, length, slice_index_or, All, Option, refl, sym, ◌∙◌, ap, ap₂, subst}
+use Rattle.std.proofs.Common.{arith}
 use Rattle.std.specs.List.{list_all}
 use Rattle.std.proofs.lemmas.Bool.{lt-leb, ltb-false, cases_Bool, cases_lt}
 use Rattle.std.proofs.lemmas.List.{get_or_past}
@@ -31,7 +33,8 @@ use Rattle.walk_law.specs.Delivered.{delivered_of}
 use Rattle.walk_law.specs.Promise.{session_pieces, place_after, IsClear, row_from, AreWholeBefore, ConfirmsTrue}
 
 -- ---- one line
-clear-carried : (windows : List Window) (from end n : ℕ) → IsClear windows from end → from ≤ n → n < end → carried windows n ≡ Whole
+clear-carried : (windows : List Window) (from end n : ℕ) → IsClear windows from end → from ≤ n → n < end →
+    carried windows n ≡ Whole
 unfolding carried
 clear-carried [] from end n clear low high = refl
 clear-carried (window ∷ windows) from end n clear low high =
@@ -40,11 +43,13 @@ clear-carried (window ∷ windows) from end n clear low high =
       | inl later ↦ let e : nat_le window.first n ≡ false = lt-leb window.first n (omega arith) in rw e rest
       | inr sooner ↦
           let e : (nat_le window.first n && nat_lt n window.end) ≡ false =
-          ap (λ b. nat_le window.first n && b) (grind (arith, (let h : window.end ≤ n = omega arith in h))) ∙ and_false (nat_le window.first n) in
+          ap (λ b. nat_le window.first n && b) (grind (arith, (let h : window.end ≤ n = omega arith in h)))
+          ∙ and_false (nat_le window.first n) in
           rw e rest
     ]
 
-pub clear-whole : (windows : List Window) (from end : ℕ) → IsClear windows from end → AreWhole (carried windows) from end
+pub clear-whole : (windows : List Window) (from end : ℕ) → IsClear windows from end →
+    AreWhole (carried windows) from end
 clear-whole windows from end clear n low high = clear-carried windows from end n clear low high
 
 -- ---- a row
@@ -52,11 +57,13 @@ all-true : (test : ℕ → Bool) (xs : List ℕ) → ((x : ℕ) → test x ≡ t
 all-true test [] each = refl
 all-true test (x ∷ xs) each = rw (each x, all-true test xs each) refl
 
-sooner-whole : (carries : ℕ → Carried) (a from b end : ℕ) → a ≤ from → end ≤ b → AreWhole carries a b → AreWhole carries from end
+sooner-whole : (carries : ℕ → Carried) (a from b end : ℕ) → a ≤ from → end ≤ b → AreWhole carries a b →
+    AreWhole carries from end
 sooner-whole carries a from b end low high whole n above below = whole n (omega arith) (omega arith)
 
 module _ (script : Script) (some : 0 < length script.config.windows) (t : ℕ)
-    (clear : (line : ℕ) → line < length script.config.windows → IsClear (slice_index_or script.config.windows line []) (row_from t) (t + 1)) where
+    (clear : (line : ℕ) → line < length script.config.windows →
+    IsClear (slice_index_or script.config.windows line []) (row_from t) (t + 1)) where
   abbrev scenario : Scenario
   scenario = scenario_of script
 
@@ -65,7 +72,8 @@ module _ (script : Script) (some : 0 < length script.config.windows) (t : ℕ)
       elim (cases_lt line (length script.config.windows)) [
         | inl inside ↦ clear line inside
         | inr beyond ↦
-            subst (λ windows. IsClear windows (row_from t) (t + 1)) (sym (get_or_past script.config.windows line [] beyond)) (λ k d inside. absurd (omega arith))
+            subst (λ windows. IsClear windows (row_from t) (t + 1))
+            (sym (get_or_past script.config.windows line [] beyond)) (λ k d inside. absurd (omega arith))
       ]
 
   line-whole : (line : ℕ) → AreWhole (carried_by scenario line) (row_from t) (t + 1)
@@ -75,12 +83,16 @@ module _ (script : Script) (some : 0 < length script.config.windows) (t : ℕ)
   line-read line late =
       let k : ℕ = (t - 24) / 16 in
       (readable-whole (carried_by scenario line) k).1
-      (sooner-whole (carried_by scenario line) (row_from t) (16 * k) (t + 1) (16 * k + 24) (omega arith) (omega arith) (line-whole line))
+      (sooner-whole (carried_by scenario line) (row_from t) (16 * k) (t + 1) (16 * k + 24) (omega arith) (omega arith)
+      (line-whole line))
 
   line-good : (line : ℕ) → 24 ≤ t → is_good (carried_by scenario line) t ≡ true
   line-good line late =
-      (good-whole (carried_by scenario line) t).1
-      (omega arith, sooner-whole (carried_by scenario line) (row_from t) (16 * ((t - 2) / 16)) (t + 1) (t + 1) (omega arith) (omega arith) (line-whole line))
+      (good-whole (carried_by scenario line) t).1 (
+        omega arith,
+        sooner-whole (carried_by scenario line) (row_from t) (16 * ((t - 2) / 16)) (t + 1) (t + 1)
+            (omega arith) (omega arith) (line-whole line),
+      )
 
   pub row-whole : is_whole_row scenario (session_cells scenario) t ≡ true
   row-whole =
@@ -92,21 +104,28 @@ module _ (script : Script) (some : 0 < length script.config.windows) (t : ℕ)
             let heard : is_heard scenario k ≡ true = (heard-line scenario k).1 (0, some, line-read 0 high) in
             let each : (line : ℕ) → (is_read scenario line k && is_good (carried_by scenario line) t) ≡ true =
             λ line. ap₂ (λ a b. a && b) (line-read line high) (line-good line high) in
-            rw (late, heard) (all-true (λ line. is_read scenario line k && is_good (carried_by scenario line) t) (active (table_of scenario (session_cells scenario) k)) each)
+            rw (late, heard) (all-true (λ line. is_read scenario line k && is_good (carried_by scenario line) t)
+            (active (table_of scenario (session_cells scenario) k)) each)
       ]
 
 -- ---- the rows before the first that isn't whole
-pub delivered-before : (script : Script) (rows : ℕ) → IsValid script → rows ≤ script.config.ticks → AreWholeBefore script rows →
+pub delivered-before : (script : Script) (rows : ℕ) → IsValid script → rows ≤ script.config.ticks →
+    AreWholeBefore script rows →
     delivered_of script rows ≡ frames_by (place_after script rows) (session_pieces script)
 delivered-before script rows valid low whole =
     let scenario : Scenario = scenario_of script in
     let cells : List (Option Told) = session_cells scenario in
     let pieces : List Piece = session_pieces script in
     let opens = pieces-open scenario cells script.config.ticks in
-    let all : All (IsSentPiece 9600) (idle ∷ idle ∷ opens.0) = subst (All (IsSentPiece 9600)) opens.1 (pieces-sent scenario cells script.config.ticks (are_octets script valid)) in
+    let all : All (IsSentPiece 9600) (idle ∷ idle ∷ opens.0) =
+    subst (All (IsSentPiece 9600)) opens.1
+    (pieces-sent scenario cells script.config.ticks (are_octets script valid)) in
     let sent : All (IsSentPiece 9600) opens.0 = λ k d inside. all (suc (suc k)) d (omega arith) in
-    let carry : CarriesStream (rows_of scenario cells rows) (idle ∷ idle ∷ opens.0) = subst (CarriesStream (rows_of scenario cells rows)) opens.1 (rows-carry scenario cells rows script.config.ticks low) in
-    deliver-whole 9600 opens.0 (rows_of scenario cells rows) (omega arith) sent carry (rows-whole scenario cells rows whole)
+    let carry : CarriesStream (rows_of scenario cells rows) (idle ∷ idle ∷ opens.0) =
+    subst (CarriesStream (rows_of scenario cells rows)) opens.1
+    (rows-carry scenario cells rows script.config.ticks low) in
+    deliver-whole 9600 opens.0 (rows_of scenario cells rows) (omega arith) sent carry
+    (rows-whole scenario cells rows whole)
     ∙ ap₂ frames_by (rows-length scenario cells rows script.config.ticks low) (sym opens.1)
 
 -- whole rows have one segment, so nothing is confirmed after a break
@@ -116,5 +135,6 @@ whole-starts script rows whole =
     let cells : List (Option Told) = session_cells scenario in
     let pieces : List Piece = session_pieces script in
     let only : Segment = record { first = true; base = 0; octets = octets_of_rows (rows_of scenario cells rows) } in
-    subst (All (StartsTrue pieces)) (sym (only_segment (rows_of scenario cells rows) (rows-whole scenario cells rows whole)))
+    subst (All (StartsTrue pieces))
+    (sym (only_segment (rows_of scenario cells rows) (rows-whole scenario cells rows whole)))
     (All-cons (StartsTrue pieces) only [] (λ later. absurd cc) (All-nil (StartsTrue pieces)))

@@ -16,7 +16,8 @@ session_rows script rows = rows_of (scenario_of script) (session_of script) rows
 abbrev pub delivered_of : Script → ℕ → List (List ℕ)
 delivered_of script rows = deliver longest_frame (session_rows script rows)
 
--- what a sink makes of a row that it reads: the row with its octets, where it is whole, and else one that isn't whole, of any octets
+-- what a sink makes of a row that it reads: the row with its octets, where it is whole, and else one that isn't whole,
+-- of any octets
 pub record IsReceived (receive : Option (List ℕ) → StreamRow) : Type 0 where
   pub whole : (octets : List ℕ) → receive (Some octets) ≡ whole_row octets
   pub lost : (receive None).whole ≡ false

@@ -1,12 +1,16 @@
--- The items of a script that have landed: which they are, why those are refused that are, and what a walk counts of all that.
-use Rattle.std.specs.Prelude.{◌≡◌, ℕ, suc, ◌+◌, ◌-◌, ◌<◌, ◌&&◌, not, nat_lt, Bool, true, false, if◌then◌else◌, List, [], ◌∷◌, ◌++◌, map, filter, fold, length, take, slice_get, All, Option, Some, None, option_map, is_none}
+-- The items of a script that have landed: which they are, why those are refused that are, and what a walk counts of all
+-- that.
+use Rattle.std.specs.Prelude.{◌≡◌, ℕ, suc, ◌+◌, ◌-◌, ◌<◌, ◌&&◌, not, nat_lt, Bool, true, false, if◌then◌else◌, List, []}
+use Rattle.std.specs.Prelude.{◌∷◌, ◌++◌, map, filter, fold, length, take, slice_get, All, Option, Some, None}
+use Rattle.std.specs.Prelude.{option_map, is_none}
 use Rattle.std.specs.List.{flat_map}
 use Rattle.session_model.specs.declared.script.Item.{Item}
 use Rattle.session_model.specs.declared.script.ItemKind.{ItemKind}
 use Rattle.session_model.specs.declared.script.ItemKind.TheVariants.{Frame, Add, Remove}
 use Rattle.session_model.specs.declared.script.Script.{Script}
 use Rattle.session_model.specs.declared.table.Command.TheVariants.{Add as add, Remove as remove}
-use Rattle.session_model.specs.Scenario.{DueCommand, DueFrame, Scenario, order_of, offer_of, orders_of, offers_of, scenario_of, steps_in, lands_at, comes_at}
+use Rattle.session_model.specs.Scenario.{DueCommand, DueFrame, Scenario, order_of, offer_of, orders_of, offers_of}
+use Rattle.session_model.specs.Scenario.{scenario_of, steps_in, lands_at, comes_at}
 use Rattle.session_model.specs.Journal.{with_items}
 use Rattle.session_model.specs.Table.{Told}
 use Rattle.session_model.specs.Source.{Source, after, asked_all, refusal}
@@ -38,7 +42,8 @@ with_if false item items = items
 unfoldable pub landed_from : ℕ → ℕ → ℕ → List Item → List Numbered
 landed_from a b i [] = []
 landed_from a b i (item ∷ items) =
-    if is_client item.kind then with_if (nat_lt 0 a) (record { number = i; item = item }) (landed_from (a - 1) b (suc i) items)
+    if is_client item.kind then with_if (nat_lt 0 a) (record { number = i; item = item })
+    (landed_from (a - 1) b (suc i) items)
     else with_if (nat_lt 0 b) (record { number = i; item = item }) (landed_from a (b - 1) (suc i) items)
 
 -- those of a walk, in item order
@@ -82,9 +87,11 @@ abbrev pub kind_refusal : Scenario → List (Option Told) → ℕ → List Item 
 kind_refusal scenario cells due earlier (Frame octets) =
     option_map frame_fault (frame_refusal octets (stream_met scenario cells due (offers_of earlier)))
 kind_refusal scenario cells due earlier (Add line) =
-    option_map command_fault (refusal (length scenario.windows) (add line) (source_met scenario cells due (orders_of earlier)))
+    option_map command_fault (refusal (length scenario.windows) (add line)
+    (source_met scenario cells due (orders_of earlier)))
 kind_refusal scenario cells due earlier (Remove line) =
-    option_map command_fault (refusal (length scenario.windows) (remove line) (source_met scenario cells due (orders_of earlier)))
+    option_map command_fault (refusal (length scenario.windows) (remove line)
+    (source_met scenario cells due (orders_of earlier)))
 
 -- why an item of a script is
 abbrev pub refusal_at : Script → Numbered → Option Refusal
@@ -119,7 +126,8 @@ is_accepted_frame script item = is_client item.item.kind && is_none (refusal_at 
 abbrev pub is_accepted_command : Script → Numbered → Bool
 is_accepted_command script item = not (is_client item.item.kind) && is_none (refusal_at script item)
 
--- how many ticks were made and rows taken; of items how many frames and commands are accepted, and how many items are refused; how
+-- how many ticks were made and rows taken; of items how many frames and commands are accepted, and how many items are
+-- refused; how
 -- many frames were delivered
 abbrev pub totals_among : Script → ℕ → ℕ → List Numbered → Totals
 totals_among script ticks rows items = record {

@@ -1,5 +1,6 @@
 -- What is promised of a script, in the words of whoever wrote it.
-use Rattle.std.specs.Prelude.{◌≡◌, ◌⊎◌, ℕ, suc, ◌+◌, ◌-◌, ◌*◌, ◌/◌, ◌<◌, ◌≤◌, true, List, [], ◌∷◌, All, Option, Some, None}
+use Rattle.std.specs.Prelude.{◌≡◌, ◌⊎◌, ℕ, suc, ◌+◌, ◌-◌, ◌*◌, ◌/◌, ◌<◌, ◌≤◌, true, List, [], ◌∷◌, All, Option, Some}
+use Rattle.std.specs.Prelude.{None}
 use Rattle.std.specs.List.{flat_map}
 use Rattle.session_model.specs.declared.window.Window.{Window}
 use Rattle.session_model.specs.declared.script.Item.{Item}
@@ -81,7 +82,8 @@ ConfirmsTrue script rows = TrueStarts (session_pieces script) (session_rows scri
 abbrev pub drained : Script → Counts → Counts
 drained script s = drain (bound (walk_plan script)) (walk_plan script) s
 
--- a line carries payload by the table that some packet from one number up to another says: the table of a walk that has made that
+-- a line carries payload by the table that some packet from one number up to another says: the table of a walk that has
+-- made that
 -- packet's decision step, in frame 16 k + 8, and not the next one's
 pub record InUseBy (script : Script) (line first last : ℕ) : Type 0 where
   pub packet : ℕ

@@ -1,4 +1,5 @@
--- The report of a walk: a line for each frame that was delivered, one for each item that was refused, and a line of totals.
+-- The report of a walk: a line for each frame that was delivered, one for each item that was refused, and a line of
+-- totals.
 use Rattle.std.specs.Prelude.{ℕ, List, ◌++◌}
 use Rattle.std.specs.List.{flat_map}
 use Rattle.session_model.specs.declared.script.Script.{Script}
@@ -15,7 +16,8 @@ refused_texts refusals = flat_map (λ (refused : ℕ × Refusal). refused_text r
 -- after some ticks and rows, where these items have landed
 abbrev pub report_among : Script → ℕ → ℕ → List Numbered → List ℕ
 report_among script ticks rows items =
-    got_texts (delivered_of script rows) ++ refused_texts (refusals_among script items) ++ total_text (totals_among script ticks rows items)
+    got_texts (delivered_of script rows) ++ refused_texts (refusals_among script items) ++ total_text
+    (totals_among script ticks rows items)
 
 -- by the counts of a walk
 abbrev pub report_of : Script → Counts → List ℕ

@@ -37,11 +37,13 @@ taken_by script line carries = take (min carries script.config.ticks) (sent_on (
 -- the cells that they give
 abbrev pub cells_by : Script → ℕ → ℕ → List Cell
 cells_by script line carries =
-    cells (carried_by (scenario_of script) line) (delay_on script line) script.config.ticks (sent_on (scenario_of script) line) carries
+    cells (carried_by (scenario_of script) line) (delay_on script line) script.config.ticks
+    (sent_on (scenario_of script) line) carries
 
 -- the containers of some ticks that they don't take
 abbrev pub send_by : Script → ℕ → ℕ → ℕ → List Container
-send_by script line ticks carries = drop (min carries script.config.ticks) (take ticks (sent_on (scenario_of script) line))
+send_by script line ticks carries =
+    drop (min carries script.config.ticks) (take ticks (sent_on (scenario_of script) line))
 
 -- the cells that they give but those that were popped
 abbrev pub receive_by : Script → ℕ → ℕ → ℕ → List Cell
@@ -65,4 +67,5 @@ return_ring script s = map (said_packet script) (range_with_len s.backs (in_retu
 
 -- the return cells that have come and that no decision step has taken
 abbrev pub inbox : Script → Counts → List BackCell
-inbox script s = map (back_cell script) (range_with_len (used_in script.config.lag s.ticks) (in_inbox (walk_plan script) s))
+inbox script s = map (back_cell script)
+    (range_with_len (used_in script.config.lag s.ticks) (in_inbox (walk_plan script) s))

@@ -35,7 +35,8 @@ sent_of scenario = map (sent_on scenario) (range_with_len 0 (length scenario.win
 abbrev pub walk_plan : Script → Plan
 walk_plan script = plan_of script.config script.items (sent_of (scenario_of script))
 
--- ---- what is asked of a script: one line at least and at most 128, each with a delay, and with windows in order and apart; due ticks
+-- ---- what is asked of a script: one line at least and at most 128, each with a delay, and with windows in order and
+-- apart; due ticks
 -- that never fall; and rings that fit. A valid script has all that
 pub record CanWalk (script : Script) : Type 0 where
   pub some : 0 < length script.config.windows
@@ -73,4 +74,5 @@ popped_cells script lines = map (popped_on script lines) (range_with_len 0 (leng
 -- ---- a line in numbers: how many cells its carries give, and how many numbers its first cells decide
 abbrev pub path_on : Script → ℕ → LinePath
 path_on script line =
-    path_of (carried_by (scenario_of script) line) (slice_index_or script.config.delays line 0) (sent_on (scenario_of script) line)
+    path_of (carried_by (scenario_of script) line) (slice_index_or script.config.delays line 0)
+    (sent_on (scenario_of script) line)

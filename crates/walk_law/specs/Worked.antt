@@ -34,7 +34,8 @@ plain windows ring lag ticks = record {
   size = vc3_size;
 }
 
--- one line; 41 ticks; a frame that is too short, a line that there isn't, and a line that is added twice and removed twice
+-- one line; 41 ticks; a frame that is too short, a line that there isn't, and a line that is added twice and removed
+-- twice
 abbrev pub eight_items : List Item
 eight_items =
     item 0 (Frame (replicate 63 0)) ∷ item 0 (Add 1) ∷ item 0 (Frame (replicate 64 1)) ∷ item 0 (Add 0) ∷ item 5 (Add 0)
@@ -69,7 +70,8 @@ first_refusals = (0, frame_fault (Length 63)) ∷ (1, command_fault (UnknownLine
 
 abbrev pub all_refusals : List (ℕ × Refusal)
 all_refusals =
-    (0, frame_fault (Length 63)) ∷ (1, command_fault (UnknownLine 1)) ∷ (4, command_fault AlreadyIn) ∷ (6, command_fault NotIn) ∷ []
+    (0, frame_fault (Length 63)) ∷ (1, command_fault (UnknownLine 1)) ∷ (4, command_fault AlreadyIn) ∷
+    (6, command_fault NotIn) ∷ []
 
 abbrev pub first_totals : Totals
 first_totals = record { ticks = 0; taken = 0; frames = 0; commands = 1; refused = 2; got = 0 }
@@ -82,7 +84,8 @@ two_frames = replicate 64 1 ∷ replicate 64 2 ∷ []
 
 abbrev pub worked_report : List ℕ
 worked_report =
-    codes "refused 0 length 63\n" ++ codes "refused 1 unknown\n" ++ codes "refused 4 already in\n" ++ codes "refused 6 not in\n"
+    codes "refused 0 length 63\n" ++ codes "refused 1 unknown\n" ++ codes "refused 4 already in\n" ++ codes
+    "refused 6 not in\n"
     ++ codes "total ticks 41 taken 41 frames 2 commands 2 refused 4 got 0\n"
 
 -- ---- a frame that is delivered

@@ -1,12 +1,15 @@
-//! The law that a walk of a script is a course of its session: whatever events were tried in whatever order, the cells that the sink
-//! has popped by the counts decide the rows that the counts say were taken, and these rows and the return packets that came to the
-//! source are the session's. There is no code here. Begin at `walk_law`; `ring_law`, `take_law` and `return_law` say what the rings hold
-//! by the counts, and `landing_law`, `source_law` and `report_law` what has landed. `delivery_law`, `clear_law`, `failure_law`,
-//! `start_law`, `drain_law`, `member_law` and `answer_law` are what is promised of a script, and `met_law` shows scripts that meet what
-//! they ask.
+//! The law that a walk of a script is a course of its session: whatever events were tried in whatever order,
+//! the cells that the sink has popped by the counts decide the rows that the counts say were taken, and these
+//! rows and the return packets that came to the source are the session's. There is no code here. Begin at
+//! `walk_law`; `ring_law`, `take_law` and `return_law` say what the rings hold by the counts, and
+//! `landing_law`, `source_law` and `report_law` what has landed. `delivery_law`, `clear_law`, `failure_law`,
+//! `start_law`, `drain_law`, `member_law` and `answer_law` are what is promised of a script, and `met_law`
+//! shows scripts that meet what they ask.
 #![tactic(auto)]
 
-ghost use Rattle.std.specs.Prelude.{◌≡◌, ◌↔◌, ℕ, suc, Bool, true, false, ◌+◌, ◌-◌, ◌*◌, ◌/◌, ◌%◌, ◌<◌, ◌≤◌, ◌==◌, ◌&&◌, nat_le, nat_lt, min, if◌then◌else◌, List, [], ◌∷◌, ◌++◌, map, fold, length, take, drop, slice_get, slice_index_or, All, Option, Some, None, is_none, option_map};
+ghost use Rattle.std.specs.Prelude.{◌≡◌, ◌↔◌, ℕ, suc, Bool, true, false, ◌+◌, ◌-◌, ◌*◌, ◌/◌, ◌%◌, ◌<◌, ◌≤◌, ◌==◌, ◌&&◌};
+ghost use Rattle.std.specs.Prelude.{nat_le, nat_lt, min, if◌then◌else◌, List, [], ◌∷◌, ◌++◌, map, fold, length, take};
+ghost use Rattle.std.specs.Prelude.{drop, slice_get, slice_index_or, All, Option, Some, None, is_none, option_map};
 ghost use Rattle.std.specs.List.{range_with_len};
 ghost use Rattle.vc_cell.specs.declared.Cell.{Cell};
 ghost use Rattle.session_model.specs.declared.window.Window.{Window};
@@ -18,7 +21,8 @@ ghost use Rattle.report_text.specs.declared.report.Refusal.TheVariants.{Frame as
 ghost use Rattle.session_model.specs.Path.{cells};
 ghost use Rattle.session_model.specs.Number.{verdict};
 ghost use Rattle.session_model.specs.Valid.{IsValid};
-ghost use Rattle.session_model.specs.Scenario.{DueCommand, DueFrame, orders_of, offers_of, scenario_of, carried_by, steps_in, orders_at, frames_at, packets_in};
+ghost use Rattle.session_model.specs.Scenario.{DueCommand, DueFrame, orders_of, offers_of, scenario_of, carried_by};
+ghost use Rattle.session_model.specs.Scenario.{steps_in, orders_at, frames_at, packets_in};
 ghost use Rattle.session_model.specs.Source.{refusal, after, source_at, told_at};
 ghost use Rattle.session_model.specs.Client.{frame_refusal, offered, stream_before};
 ghost use Rattle.session_model.specs.Back.{return_cell};
@@ -32,21 +36,30 @@ ghost use Rattle.session_model.specs.Payload.{payload_of};
 ghost use Rattle.session_model.specs.Rows.{row_at, first_open, return_at};
 ghost use Rattle.session_model.specs.SessionRows.{is_whole_row};
 ghost use Rattle.session_model.specs.Sent.{frame_of};
-ghost use Rattle.session_model.specs.Counts.{dues_of, frame_dues, command_dues, LineCounts, Counts, in_inbox, used_in, pop_lines, step, begin, drain, walked};
+ghost use Rattle.session_model.specs.Counts.{dues_of, frame_dues, command_dues, LineCounts, Counts, in_inbox, used_in};
+ghost use Rattle.session_model.specs.Counts.{pop_lines, step, begin, drain, walked};
 ghost use Rattle.line_law.specs.StableRows.{IsLonger, AreDecidedAt};
 ghost use Rattle.progress_law.specs.Progress.{IsPlan, LineFits, SomeProgress};
 ghost use Rattle.session_law.specs.Feedback.{Takes, Acknowledges, TellsOf, SameLines, WasSaid};
 ghost use Rattle.session_law.specs.Use.{AddsUndamaged, AddsAmongSilent};
 ghost use Rattle.terminal_law.specs.Lines.{HasLines, ComeOfLines};
 ghost use Rattle.terminal_law.specs.Course.{packet_by, told_of, IsCourse};
-ghost use Rattle.walk_law.specs.Walk.{session_of, told_first, walk_plan, CanWalk, IsWalked, counts_at, popped_on, popped_cells, path_on};
-ghost use Rattle.walk_law.specs.Rings.{delay_on, line_cells, AreDecidedBefore, sent_at, taken_by, cells_by, send_by, receive_by, all_lines, said_packet, back_cell, return_ring, inbox};
+ghost use Rattle.walk_law.specs.Walk.{session_of, told_first, walk_plan, CanWalk, IsWalked, counts_at, popped_on};
+ghost use Rattle.walk_law.specs.Walk.{popped_cells, path_on};
+ghost use Rattle.walk_law.specs.Rings.{delay_on, line_cells, AreDecidedBefore, sent_at, taken_by, cells_by, send_by};
+ghost use Rattle.walk_law.specs.Rings.{receive_by, all_lines, said_packet, back_cell, return_ring, inbox};
 ghost use Rattle.walk_law.specs.Delivered.{session_rows, delivered_of, IsReceived};
 ghost use Rattle.walk_law.specs.Step.{last_packet, table_in};
 ghost use Rattle.walk_law.specs.Report.{report_of, final_report};
-ghost use Rattle.walk_law.specs.Worked.{worked_script, three_landed, at_the_end, first_refusals, all_refusals, first_totals, all_totals, two_frames, worked_report, delivering_script, one_frame, failing_script, seen_rows, seen_whole, whole_rows, silent_script};
-ghost use Rattle.walk_law.specs.Promise.{numbered, accepted_frames, session_pieces, session_extents, session_waiting, place_after, HasNoFailure, IsClear, row_from, AreWholeBefore, ConfirmsTrue, drained, InUseBy};
-ghost use Rattle.walk_law.specs.Landed.{Numbered, landed_items, landed_scenario, told_before, IsOfferAt, IsOrderAt, refusal_at, refused_by, refusals_of, IsPlaced, totals_of, with_frame_told, with_command_told};
+ghost use Rattle.walk_law.specs.Worked.{worked_script, three_landed, at_the_end, first_refusals, all_refusals};
+ghost use Rattle.walk_law.specs.Worked.{first_totals, all_totals, two_frames, worked_report, delivering_script};
+ghost use Rattle.walk_law.specs.Worked.{one_frame, failing_script, seen_rows, seen_whole, whole_rows, silent_script};
+ghost use Rattle.walk_law.specs.Promise.{numbered, accepted_frames, session_pieces, session_extents, session_waiting};
+ghost use Rattle.walk_law.specs.Promise.{place_after, HasNoFailure, IsClear, row_from, AreWholeBefore, ConfirmsTrue};
+ghost use Rattle.walk_law.specs.Promise.{drained, InUseBy};
+ghost use Rattle.walk_law.specs.Landed.{Numbered, landed_items, landed_scenario, told_before, IsOfferAt, IsOrderAt};
+ghost use Rattle.walk_law.specs.Landed.{refusal_at, refused_by, refusals_of, IsPlaced, totals_of, with_frame_told};
+ghost use Rattle.walk_law.specs.Landed.{with_command_told};
 ghost use Rattle.session_model.specs.Limits.{longest_frame};
 
 /// A script whose rings fit has a plan of its walk, whose lines are what the session sends on them.
@@ -58,8 +71,9 @@ pub fn plan_law()
         length (walk_plan script).paths ≡ length script.config.windows }
 {}
 
-/// A line of a script's walk in numbers, beside its cells: the first cells of all that it gives are those that some carries give, where
-/// these give as many; and where the sink has popped some, a row is open exactly where the numbers that these cells decide don't reach it.
+/// A line of a script's walk in numbers, beside its cells: the first cells of all that it gives are those
+/// that some carries give, where these give as many; and where the sink has popped some, a row is open
+/// exactly where the numbers that these cells decide don't reach it.
 pub fn line_law()
     ensures path { (script : Script) (line : ℕ) → CanWalk script →
         line < length script.config.windows →
@@ -73,8 +87,8 @@ pub fn line_law()
         ≡ nat_le ((path_on script line).decided (counts_at lines line).popped) t }
 {}
 
-/// The rings of a line by its numbers: after any list of events these are within their bounds; and one tick, one carry or one cell
-/// that is popped changes the rings by just that.
+/// The rings of a line by its numbers: after any list of events these are within their bounds; and one tick,
+/// one carry or one cell that is popped changes the rings by just that.
 pub fn ring_law()
     ensures lines { (script : Script) (s : Counts) → CanWalk script → IsWalked script s →
         length s.lines ≡ length script.config.windows }
@@ -108,7 +122,8 @@ pub fn ring_law()
         take (y + 1) (line_cells script line) ≡ take y (line_cells script line) ++ cell ∷ [] }
 {}
 
-/// For which line the next row waits: the first whose cells don't decide it; and a Take that pops cells line by line stops there.
+/// For which line the next row waits: the first whose cells don't decide it; and a Take that pops cells line
+/// by line stops there.
 pub fn take_law()
     ensures open { (script : Script) (lines : List LineCounts) (m t : ℕ) → CanWalk script →
         length lines ≡ length script.config.windows → m < length lines → t < script.config.ticks →
@@ -124,10 +139,11 @@ pub fn take_law()
         ≡ (pop_lines t 0 (walk_plan script).paths lines).waiting }
 {}
 
-/// Each event leads from a walk to a walk, and so do a drain and the event lines of a script. After any list of events: the frames made by the return cells that have come are the session's, and so are the source's table and
-/// the client's stream; the cells that were popped come of
-/// them, and decide all rows that were taken; each of these rows is whole exactly where the session's is, with its octets; and the
-/// return cells that have come are the session's first.
+/// Each event leads from a walk to a walk, and so do a drain and the event lines of a script. After any list
+/// of events: the frames made by the return cells that have come are the session's, and so are the source's
+/// table and the client's stream; the cells that were popped come of them, and decide all rows that were
+/// taken; each of these rows is whole exactly where the session's is, with its octets; and the return cells
+/// that have come are the session's first.
 pub fn walk_law()
     ensures begins { (script : Script) → IsWalked script (begin (walk_plan script)) }
     ensures steps { (script : Script) (s : Counts) (event : Event) → IsWalked script s →
@@ -164,8 +180,9 @@ pub fn walk_law()
         ≡ told_first script s.backs }
 {}
 
-/// What has landed. No item waits whose due tick is past, since a tick is held by one; so up to the ticks made the session of the items
-/// that have landed is the script's own. An item that lands is put in its place among those that have, and so is its refusal.
+/// What has landed. No item waits whose due tick is past, since a tick is held by one; so up to the ticks
+/// made the session of the items that have landed is the script's own. An item that lands is put in its place
+/// among those that have, and so is its refusal.
 pub fn landing_law()
     ensures frame_dues { (items : List Item) →
         frame_dues (dues_of items) ≡ map (λ (offer : DueFrame). offer.due) (offers_of items) }
@@ -188,8 +205,9 @@ pub fn landing_law()
         × (orders_of (take item.number items) ≡ take b (orders_of items)) }
 {}
 
-/// What the source was told. After any list of events, the items that have landed and the return cells that were taken lead to the
-/// tables, the stream and the containers of the session; and an item that lands meets what it meets in the session.
+/// What the source was told. After any list of events, the items that have landed and the return cells that
+/// were taken lead to the tables, the stream and the containers of the session; and an item that lands meets
+/// what it meets in the session.
 pub fn source_law()
     ensures tables { (script : Script) (s : Counts) (j : ℕ) → CanWalk script → IsWalked script s →
         j ≤ steps_in s.ticks → after (landed_scenario script s) (told_before script s.ticks) j
@@ -246,8 +264,9 @@ pub fn report_law()
         ≡ with_command_told (refusal_at script item) (totals_of script s) }
 {}
 
-/// The return path. What the sink says by the cells that were popped is what it says by all cells, and tells the source the return
-/// cells of the session; and one row, one return packet or one decision step changes the rings by just that.
+/// The return path. What the sink says by the cells that were popped is what it says by all cells, and tells
+/// the source the return cells of the session; and one row, one return packet or one decision step changes
+/// the rings by just that.
 pub fn return_law()
     ensures longer { (script : Script) (lines : List LineCounts) →
         IsLonger (popped_cells script lines) (all_lines script) }
@@ -285,8 +304,9 @@ pub fn return_law()
         ∷ inbox script (record s { ticks = ticks }) }
 {}
 
-/// The frames of the rows that were taken: what a sink makes of them by the cells that were popped is what the rows of the session
-/// give, more rows add frames and change none of those before, and no valid script gives more than its lines carry octets.
+/// The frames of the rows that were taken: what a sink makes of them by the cells that were popped is what
+/// the rows of the session give, more rows add frames and change none of those before, and no valid script
+/// gives more than its lines carry octets.
 pub fn frames_law()
     ensures received { (script : Script) (s : Counts) (n : ℕ)
         (receive : Option (List ℕ) → StreamRow) → CanWalk script → IsWalked script s → IsReceived receive → n ≤ s.rows →
@@ -299,9 +319,9 @@ pub fn frames_law()
         ++ drop (length (delivered_of script n)) (delivered_of script (n + more)) }
 {}
 
-/// Without a failure no frame is lost, whatever lines are added and removed and whatever events are tried in whatever order: the frames
-/// delivered are the accepted ones whose piece ends in the rows that were taken, the first ones in item order; and after a drain all
-/// that the ticks carry.
+/// Without a failure no frame is lost, whatever lines are added and removed and whatever events are tried in
+/// whatever order: the frames delivered are the accepted ones whose piece ends in the rows that were taken,
+/// the first ones in item order; and after a drain all that the ticks carry.
 pub fn delivery_law()
     ensures carried { (script : Script) (rows : ℕ) → IsValid script → HasNoFailure script →
         rows ≤ script.config.ticks →
@@ -317,8 +337,8 @@ pub fn delivery_law()
         ≡ frames_by (place_after script script.config.ticks) (session_pieces script) }
 {}
 
-/// Which rows a failure leaves whole; and while it has spoiled none, no frame is lost: just those are delivered whose last octet the rows
-/// carry.
+/// Which rows a failure leaves whole; and while it has spoiled none, no frame is lost: just those are
+/// delivered whose last octet the rows carry.
 pub fn clear_law()
     ensures clear { (windows : List Window) (from end : ℕ) → IsClear windows from end →
         AreWhole (carried windows) from end }
@@ -333,9 +353,10 @@ pub fn clear_law()
         delivered_of script rows ≡ frames_by (place_after script rows) (session_pieces script) }
 {}
 
-/// With failures: where each place that is confirmed first after a break is that of a piece, the frames delivered are those of the
-/// pieces that the taken rows carry whole and that aren't lost, in order and each once; a frame is lost in the four ways alone. The
-/// frames of the pieces, and then those that still wait, are the accepted frames of the script in item order.
+/// With failures: where each place that is confirmed first after a break is that of a piece, the frames
+/// delivered are those of the pieces that the taken rows carry whole and that aren't lost, in order and each
+/// once; a frame is lost in the four ways alone. The frames of the pieces, and then those that still wait,
+/// are the accepted frames of the script in item order.
 pub fn failure_law()
     ensures kept { (script : Script) (rows : ℕ) → IsValid script → rows ≤ script.config.ticks →
         ConfirmsTrue script rows →
@@ -352,8 +373,9 @@ pub fn failure_law()
         (session_extents script) }
 {}
 
-/// When what is confirmed first after each break is sure to be the place of a piece: where each row that isn't whole ends at such a
-/// place; so where no frame has come before the last row that isn't whole has ended, since the stream has only idles there.
+/// When what is confirmed first after each break is sure to be the place of a piece: where each row that
+/// isn't whole ends at such a place; so where no frame has come before the last row that isn't whole has
+/// ended, since the stream has only idles there.
 pub fn start_law()
     ensures aligned { (script : Script) (rows : ℕ) → IsValid script →
         rows ≤ script.config.ticks → ((t : ℕ) → t < rows →
@@ -368,9 +390,10 @@ pub fn start_law()
         ConfirmsTrue script rows }
 {}
 
-/// A walk is never stuck, and takes no row before its tick: where rows are left, some event moves or a Take pops a cell; the inbox never
-/// holds more return cells than the lag; and rounds end with all rows taken, within a bound. Then all ticks are made and all items have
-/// landed, and the report is one and the same, whatever was tried before.
+/// A walk is never stuck, and takes no row before its tick: where rows are left, some event moves or a Take
+/// pops a cell; the inbox never holds more return cells than the lag; and rounds end with all rows taken,
+/// within a bound. Then all ticks are made and all items have landed, and the report is one and the same,
+/// whatever was tried before.
 pub fn drain_law()
     ensures moves { (script : Script) (s : Counts) → CanWalk script → IsWalked script s →
         s.rows < script.config.ticks → SomeProgress (walk_plan script) s }
@@ -390,9 +413,9 @@ pub fn drain_law()
         report_of script (drained script s) ≡ final_report script }
 {}
 
-/// How soon a line that is added carries payload, where no return packet is lost and no further command carried out in between: fifteen
-/// packets and the lag later, where each line in ADD can be read meanwhile; and at most as long again later, where it can be read and no
-/// other line in ADD can.
+/// How soon a line that is added carries payload, where no return packet is lost and no further command
+/// carried out in between: fifteen packets and the lag later, where each line in ADD can be read meanwhile;
+/// and at most as long again later, where it can be read and no other line in ADD can.
 pub fn member_law()
     ensures undamaged { (script : Script) (first line : ℕ) →
         AddsUndamaged (scenario_of script) first line →
@@ -402,8 +425,9 @@ pub fn member_law()
         InUseBy script line first (first + 30 + 2 * script.config.lag) }
 {}
 
-/// A return packet that a decision step takes answers the very change that is out, by its one bit exactly as by the whole count of
-/// changes; then each line still has the SQ that it had in the packet that was read; and each status acted on was said of that line.
+/// A return packet that a decision step takes answers the very change that is out, by its one bit exactly as
+/// by the whole count of changes; then each line still has the SQ that it had in the packet that was read;
+/// and each status acted on was said of that line.
 pub fn answer_law()
     ensures whole_count { (script : Script) (j k : ℕ) (told : Told) →
         Takes (scenario_of script) (session_of script) j k told →
@@ -418,8 +442,9 @@ pub fn answer_law()
         WasSaid (scenario_of script) (session_of script) j sq ok }
 {}
 
-/// Scripts that meet what is asked above. In one, whose only line fails, what is confirmed after each break is the place of a piece, and
-/// the line was added undamaged before that; in the other a line is added beside one of which nothing arrives.
+/// Scripts that meet what is asked above. In one, whose only line fails, what is confirmed after each break
+/// is the place of a piece, and the line was added undamaged before that; in the other a line is added beside
+/// one of which nothing arrives.
 pub fn met_law()
     ensures failing { IsValid failing_script }
     ensures starts { ConfirmsTrue failing_script failing_script.config.ticks }
@@ -428,8 +453,8 @@ pub fn met_law()
     ensures others_silent { AddsAmongSilent (scenario_of silent_script) 1 1 }
 {}
 
-/// Worked scripts, computed: what is refused, counted, accepted and reported; a frame that is delivered; and which rows a failure of
-/// three containers spoils.
+/// Worked scripts, computed: what is refused, counted, accepted and reported; a frame that is delivered; and
+/// which rows a failure of three containers spoils.
 pub fn worked_law()
     ensures first_refusals { refusals_of worked_script three_landed ≡ first_refusals }
     ensures first_totals { totals_of worked_script three_landed ≡ first_totals }

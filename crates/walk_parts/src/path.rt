@@ -1,10 +1,10 @@
-//! The return path of a walk: the return ring, and the inbox of the source.
+//! The return path of a walk: the return ring before the inbox of the source.
 
-ghost use Rattle.std.specs.Prelude.{◌≡◌, ◌+◌, ◌<◌, ◌≤◌, ◌↔◌, [], length, drop, slice_get, IfOk, IsTrue};
-ghost use Rattle.walk_parts.specs.Return.{empty_return, come, listed, and_said, and_moved};
+ghost use Rattle.std.specs.Prelude.{◌≡◌, ◌+◌, ◌<◌, ◌≤◌, ◌↔◌, [], ◌++◌, length, IfOk, IsTrue};
+ghost use Rattle.walk_parts.specs.Return.{listed, path_of, and_moved};
 
 use circular_buffer::HeapCircularBuffer;
-use group_source::is_lost;
+use group_source::GroupSource;
 use lcas_packet::Packet;
 use std::alloc::{AllocError, Global};
 use std::marker::Model;
@@ -13,99 +13,68 @@ use vc_cell::BackCell;
 /// The return packets that a return ring holds.
 const RETURNS: usize = 4;
 
-/// The return packets that the sink has said and that haven't come, at most four, and the return cells that have come and weren't
-/// taken. Only its making takes memory.
+/// The return packets that the sink has said and that haven't come, at most four. Only its making takes memory.
 #[derive(Drop)]
-pub struct ReturnPath {
-    ring: HeapCircularBuffer<Packet>,
-    inbox: HeapCircularBuffer<BackCell>,
-    backs: u32,
+pub struct ReturnRing {
+    packets: HeapCircularBuffer<Packet>,
 }
 
-impl Model for ReturnPath {
-    ghost use Rattle.std.specs.Prelude.{◌≡◌, ◌≤◌, length};
-    ghost use Rattle.walk_parts.specs.Return.{Return};
+impl Model for ReturnRing {
+    ghost use Rattle.std.specs.Prelude.{◌≡◌, ◌≤◌, List, length};
+    ghost use Rattle.session_model.specs.declared.packet.Packet.{Packet};
 
-    ghost Value = { Return };
+    ghost Value = { List Packet };
 
-    ghost view = { λ path. record { ring = path.ring.items; inbox = path.inbox.items; room = path.inbox.capacity; backs = path.backs } };
+    ghost view = { λ ring. ring.packets.items };
 
-    ghost invariant = { λ path. (path.ring.capacity ≡ 4) × (length path.ring.items ≤ 4) × (length path.inbox.items ≤ path.inbox.capacity) };
+    ghost invariant = { λ ring. (ring.packets.capacity ≡ 4) × (length ring.packets.items ≤ 4) };
 }
 
-impl ReturnPath {
-    /// A return path on which nothing was said, whose inbox has room for one return cell more than the lag.
-    pub fn new(alloc: Global, lag: u16) -> Result<ReturnPath, AllocError>
-        ensures { IfOk result (λ path. path ≡ empty_return lag) }
+impl ReturnRing {
+    /// A return ring in which nothing waits.
+    pub fn new(alloc: Global) -> Result<ReturnRing, AllocError>
+        ensures { IfOk result (λ ring. ring ≡ []) }
     {
-        Ok(ReturnPath {
-            ring: HeapCircularBuffer::with_capacity(alloc, RETURNS)?,
-            inbox: HeapCircularBuffer::with_capacity(alloc, usize::from(lag) + 1)?,
-            backs: 0,
+        Ok(ReturnRing {
+            packets: HeapCircularBuffer::with_capacity(alloc, RETURNS)?,
         })
     }
 
-    /// Whether the return ring holds as many packets as it may.
+    /// Whether it holds as many packets as it may.
     pub fn is_full(&self) -> bool
-        ensures { IsTrue result ↔ (length self.now.ring ≡ 4) }
+        ensures { IsTrue result ↔ (length self.now ≡ 4) }
     {
-        self.ring.len() == RETURNS
+        self.packets.len() == RETURNS
     }
 
     /// Whether no packet is on its way.
     pub fn is_empty(&self) -> bool
-        ensures { IsTrue result ↔ (self.now.ring ≡ []) }
+        ensures { IsTrue result ↔ (self.now ≡ []) }
     {
-        self.ring.is_empty()
-    }
-
-    /// Whether no return cell has come that wasn't taken.
-    pub fn is_inbox_empty(&self) -> bool
-        ensures { IsTrue result ↔ (self.now.inbox ≡ []) }
-    {
-        self.inbox.is_empty()
+        self.packets.is_empty()
     }
 
     /// Takes the next return packet of the sink, where it said one.
     pub fn say(&mut self, packet: Option<Packet>)
-        requires { length self.old.ring + length (listed packet) ≤ 4 }
-        ensures { self.new ≡ and_said self.old packet }
+        requires { length self.old + length (listed packet) ≤ 4 }
+        ensures { self.new ≡ self.old ++ listed packet }
     {
         if let Some(packet) = packet {
-            let _ = self.ring.push_back(packet);
+            let _ = self.packets.push_back(packet);
         }
     }
 
-    /// Moves the first return packet to the inbox, or its loss where one of these windows holds it. Where there is none, nothing
-    /// changes.
-    pub fn move_one(&mut self, lost: &[(u32, u32)])
-        requires room { length self.old.inbox < self.old.room }
-        requires few { self.old.backs < 4294967295 }
-        ensures { self.new ≡ and_moved lost.now self.old }
+    /// Moves the first return packet to the inbox of a source, or its loss. Where there is none, nothing changes.
+    pub fn move_one(&mut self, source: &mut GroupSource)
+        requires room { length source.old.inbox.cells < source.old.inbox.room }
+        requires few { source.old.inbox.come < 4294967295 }
+        ensures moved { path_of self.new source.new.inbox
+            ≡ and_moved (path_of self.old source.old.inbox) }
+        ensures rest { source.new ≡ record source.old { inbox = source.new.inbox } }
     {
-        if let Some(packet) = self.ring.pop_front() {
-            let cell = cell_of(is_lost(lost, self.backs), packet);
-            let _ = self.inbox.push_back(cell);
-            self.backs += 1;
-        }
-    }
-
-    /// Takes the first return cell out of the inbox, where there is one.
-    pub fn take(&mut self) -> Option<BackCell>
-        ensures cell { result ≡ slice_get self.old.inbox 0 }
-        ensures path { self.new ≡ record self.old { inbox = drop 1 self.old.inbox } }
-    {
-        self.inbox.pop_front()
-    }
-}
-
-/// What comes of a return packet.
-fn cell_of(lost: bool, packet: Packet) -> BackCell
-    ensures { result ≡ come lost packet }
-{
-    if lost {
-        BackCell::Lost
-    } else {
-        BackCell::Packet(packet.nibbles())
+        let Some(packet) = self.packets.pop_front() else {
+            return;
+        };
+        source.put(BackCell::Packet(packet.nibbles()));
     }
 }

@@ -18,15 +18,18 @@ use Rattle.fate_law.specs.Ruler.{ruled}
 use Rattle.fate_law.proofs.worked_law.Goals as goal
 
 pub returns-clause-fates : goal.returns-clause-fates
-unfolding worked_rows worked_stream cut core_header octets_of xors bits number_behind divide add_front scramble_on pli_of head hec_of header_with hunt_within segments_on extents row_from spoiled_from fate_among
+unfolding worked_rows worked_stream cut core_header octets_of xors bits number_behind divide add_front scramble_on
+    pli_of head hec_of header_with hunt_within segments_on extents row_from spoiled_from fate_among
 returns-clause-fates c = refl
 
 pub returns-clause-segments : goal.returns-clause-segments
-unfolding worked_rows worked_stream cut core_header octets_of xors bits number_behind divide add_front scramble_on pli_of head hec_of header_with hunt_within segments_on spans_on row_segments_with
+unfolding worked_rows worked_stream cut core_header octets_of xors bits number_behind divide add_front scramble_on
+    pli_of head hec_of header_with hunt_within segments_on spans_on row_segments_with
 returns-clause-segments c = refl
 
 pub returns-clause-starts : goal.returns-clause-starts
-unfolding worked_rows worked_stream cut core_header octets_of xors bits number_behind divide add_front scramble_on pli_of head hec_of header_with hunt_within segments_on places
+unfolding worked_rows worked_stream cut core_header octets_of xors bits number_behind divide add_front scramble_on
+    pli_of head hec_of header_with hunt_within segments_on places
 returns-clause-starts c = refl
 
 pub returns-clause-runs : goal.returns-clause-runs

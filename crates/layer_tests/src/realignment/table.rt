@@ -1,10 +1,11 @@
-//! Lines of cells and what they decide, from a model that was written apart from this crate. They stand in texts of rows behind calls,
-//! so that no proof sees them.
+//! Lines of cells and what they decide, from a model that was written apart from this crate. They stand in
+//! texts of rows behind calls, so that no proof sees them.
 
 /// A path of a line. In each list 0 stands for what there is no more.
 #[derive(Clone, Copy)]
 pub(crate) struct Path {
-    /// Of each window the first container that is damaged, the first that isn't, and how many of the last vanish without a sign.
+    /// Of each window the first container that is damaged, the first that isn't, and how many of the last
+    /// vanish without a sign.
     pub(crate) windows: [u32; 12],
     /// How many containers it has.
     pub(crate) total: u32,
@@ -19,7 +20,8 @@ pub(crate) struct Path {
 pub(crate) struct Cells {
     /// Two characters for each: it is a good one with this H4 octet, or `--` for a failure.
     pub(crate) cells: &'static str,
-    /// The stretches of numbers that they decide: how many, and the cell of the first one's container, or `-` where they are bad.
+    /// The stretches of numbers that they decide: how many, and the cell of the first one's container, or `-`
+    /// where they are bad.
     pub(crate) told: &'static str,
 }
 
@@ -49,8 +51,9 @@ pub(crate) fn cells_of(row: &'static str) -> Cells {
     Cells { cells, told }
 }
 
-/// Sixty paths. The first line locks by the containers 144 and 145; the second one by 4,512 and 4,513, whose number is sent as 417; and
-/// in the third one sixteen containers lie between two windows, by which 2,047 vanish.
+/// Sixty paths. The first line locks by the containers 144 and 145; the second one by 4,512 and 4,513, whose
+/// number is sent as 417; and in the third one sixteen containers lie between two windows, by which 2,047
+/// vanish.
 pub(crate) fn path_rows() -> &'static str {
     "\
     100 140 39;200;0 2 100 146;5 9\n\

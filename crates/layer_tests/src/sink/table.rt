@@ -1,5 +1,5 @@
-//! Worked groups, from a model that was written apart from this crate. They stand in a text of rows behind a call, so that no proof sees
-//! them.
+//! Worked groups, from a model that was written apart from this crate. They stand in a text of rows behind a
+//! call, so that no proof sees them.
 
 use vc_cell::Ctrl;
 
@@ -18,7 +18,8 @@ pub(crate) struct Case {
     pub(crate) rows: u32,
     /// How many lines there are.
     pub(crate) lines: u8,
-    /// Of each line its window: the first container that is damaged, the first that isn't, and how many of the last vanish.
+    /// Of each line its window: the first container that is damaged, the first that isn't, and how many of
+    /// the last vanish.
     pub(crate) windows: [[u32; 3]; 3],
     /// What the packets say.
     pub(crate) packets: [Said; 5],
@@ -105,11 +106,12 @@ pub(crate) fn case_of(row: &'static str) -> Case {
     }
 }
 
-/// Six groups. In the first one, after a long failure, frame 1 begins before the confirmed place, and frame 2 settles the descrambler. In
-/// the second one a container is damaged: frame 3 is cut off, and rows are whole for a while before the packet lacks. In the third one
-/// one of two lines fails with a slip: its packets lack, and then it carries no payload for a time. In the fourth one three lines stand in
-/// another order than their numbers, and then two. In the fifth one both lines fail, and no packet can be read. In the sixth one a line is
-/// taken out, and no line carries payload until another is in.
+/// Six groups. In the first one, after a long failure, frame 1 begins before the confirmed place, and frame 2
+/// settles the descrambler. In the second one a container is damaged: frame 3 is cut off, and rows are whole
+/// for a while before the packet lacks. In the third one one of two lines fails with a slip: its packets
+/// lack, and then it carries no payload for a time. In the fourth one three lines stand in another order than
+/// their numbers, and then two. In the fifth one both lines fail, and no packet can be read. In the sixth one
+/// a line is taken out, and no line carries payload until another is in.
 pub(crate) fn case_rows() -> &'static str {
     "\
     2340;200;100 140 39;0,+,0,a:0 4,+,1,e:0;\

@@ -10,7 +10,8 @@ use Rattle.walk_law.proofs.answer_law.Goals as goal
 pub returns-clause-whole_count : goal.returns-clause-whole_count
 returns-clause-whole_count c script j k told takes =
     let scenario : Scenario = scenario_of script in
-    feedback scenario (session_cells scenario) (session-law scenario (packets scenario) takes.lag) takes.lag j k takes.later told takes.cell
+    feedback scenario (session_cells scenario) (session-law scenario (packets scenario) takes.lag) takes.lag j k
+    takes.later told takes.cell
 
 pub returns-clause-same_lines : goal.returns-clause-same_lines
 returns-clause-same_lines c script j k told takes tells =

@@ -16,4 +16,5 @@ returns-clause-drained c script s valid none walked = fine-drained script valid 
 
 pub returns-clause-walked : goal.returns-clause-walked
 returns-clause-walked c script s valid none walked =
-    let (low, high) = counts-within script s (valid-walks script valid) walked in fine-carried script valid none s.rows (omega arith)
+    let (low, high) = counts-within script s (valid-walks script valid) walked in fine-carried script valid none s.rows
+    (omega arith)

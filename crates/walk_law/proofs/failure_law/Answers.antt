@@ -23,9 +23,11 @@ returns-clause-ways c script rows k d inside =
     let frame : Extent = slice_index_or (session_extents script) k d in
     let long = (extents-between 0 (session_pieces script) k d inside).size in (
       way_of (session_extents script) frame (segments (session_rows script rows)),
-      lost_of (session_extents script) frame (segments (session_rows script rows)) long (Stands-all (session_rows script rows)).order,
+      lost_of (session_extents script) frame (segments (session_rows script rows)) long
+          (Stands-all (session_rows script rows)).order,
     )
 
 pub returns-clause-walked : goal.returns-clause-walked
 returns-clause-walked c script s valid walked true_starts =
-    let (low, high) = counts-within script s (valid-walks script valid) walked in frames-kept script s.rows valid (omega arith) true_starts
+    let (low, high) = counts-within script s (valid-walks script valid) walked in frames-kept script s.rows valid
+    (omega arith) true_starts

@@ -1,6 +1,7 @@
 -- What has landed.
 use Rattle.std.proofs.Common.{arith}
-use Rattle.walk_law.proofs.LandLaws.{frame-dues, command-dues, frame-waits, command-waits, frames-landed, orders-landed, offer-at, order-at}
+use Rattle.walk_law.proofs.LandLaws.{frame-dues, command-dues, frame-waits, command-waits, frames-landed, orders-landed}
+use Rattle.walk_law.proofs.LandLaws.{offer-at, order-at}
 use Rattle.walk_law.proofs.landing_law.Goals as goal
 
 pub returns-clause-frame_dues : goal.returns-clause-frame_dues
@@ -10,10 +11,12 @@ pub returns-clause-command_dues : goal.returns-clause-command_dues
 returns-clause-command_dues c = command-dues
 
 pub returns-clause-frame_waits : goal.returns-clause-frame_waits
-returns-clause-frame_waits c script s offer walked there = frame-waits script s s.frames offer walked (omega arith) there
+returns-clause-frame_waits c script s offer walked there =
+    frame-waits script s s.frames offer walked (omega arith) there
 
 pub returns-clause-command_waits : goal.returns-clause-command_waits
-returns-clause-command_waits c script s order walked there = command-waits script s s.commands order walked (omega arith) there
+returns-clause-command_waits c script s order walked there =
+    command-waits script s s.commands order walked (omega arith) there
 
 pub returns-clause-frames : goal.returns-clause-frames
 returns-clause-frames c = frames-landed

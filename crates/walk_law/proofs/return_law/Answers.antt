@@ -1,5 +1,6 @@
 -- The return path.
-use Rattle.walk_law.proofs.ReturnLaws.{all-longer, all-decided, packet-said, packet-is, cell-told, cells-next, packets-next, used-next, ring-says, ring-goes, inbox-comes, inbox-taken}
+use Rattle.walk_law.proofs.ReturnLaws.{all-longer, all-decided, packet-said, packet-is, cell-told, cells-next}
+use Rattle.walk_law.proofs.ReturnLaws.{packets-next, used-next, ring-says, ring-goes, inbox-comes, inbox-taken}
 use Rattle.walk_law.proofs.return_law.Goals as goal
 
 pub returns-clause-longer : goal.returns-clause-longer

@@ -1,6 +1,7 @@
 -- The rings of a line.
 use Rattle.walk_law.proofs.WalkLaws.{line-fits}
-use Rattle.walk_law.proofs.RingLaws.{lines-size, taken-cells, send-size, send-made, send-next, taken-next, receive-size, receive-gives, receive-pops, popped-next}
+use Rattle.walk_law.proofs.RingLaws.{lines-size, taken-cells, send-size, send-made, send-next, taken-next, receive-size}
+use Rattle.walk_law.proofs.RingLaws.{receive-gives, receive-pops, popped-next}
 use Rattle.walk_law.proofs.ring_law.Goals as goal
 
 pub returns-clause-lines : goal.returns-clause-lines

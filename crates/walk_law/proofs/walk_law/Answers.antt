@@ -1,7 +1,8 @@
 -- A walk is a course of the session.
 use Rattle.progress_law.proofs.ReachLaws.{walked-reached}
 use Rattle.walk_law.specs.Walk.{walk_plan}
-use Rattle.walk_law.proofs.WalkLaws.{begins-walked, steps-walked, drains-walked, is-course, sources-are, streams-are, frames-are, cells-come, cells-decide, rows-are, backs-are}
+use Rattle.walk_law.proofs.WalkLaws.{begins-walked, steps-walked, drains-walked, is-course, sources-are, streams-are}
+use Rattle.walk_law.proofs.WalkLaws.{frames-are, cells-come, cells-decide, rows-are, backs-are}
 use Rattle.walk_law.proofs.walk_law.Goals as goal
 
 pub returns-clause-frames : goal.returns-clause-frames

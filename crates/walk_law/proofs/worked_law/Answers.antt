@@ -23,23 +23,28 @@ use Rattle.walk_law.specs.Promise.{numbered}
 use Rattle.walk_law.proofs.worked_law.Goals as goal
 
 pub returns-clause-first_refusals : goal.returns-clause-first_refusals
-unfolding landed_from carried are_whole after keep none_kept cells_before said_before exchange take_out turned admit stream_before reaching place_of rows_of segments_on delineate_within hunt_within
+unfolding landed_from carried are_whole after keep none_kept cells_before said_before exchange take_out turned admit
+    stream_before reaching place_of rows_of segments_on delineate_within hunt_within
 returns-clause-first_refusals c = refl
 
 pub returns-clause-first_totals : goal.returns-clause-first_totals
-unfolding landed_from carried are_whole after keep none_kept cells_before said_before exchange take_out turned admit stream_before reaching place_of rows_of segments_on delineate_within hunt_within
+unfolding landed_from carried are_whole after keep none_kept cells_before said_before exchange take_out turned admit
+    stream_before reaching place_of rows_of segments_on delineate_within hunt_within
 returns-clause-first_totals c = refl
 
 pub returns-clause-refusals : goal.returns-clause-refusals
-unfolding landed_from carried are_whole after keep none_kept cells_before said_before exchange take_out turned admit stream_before reaching place_of rows_of segments_on delineate_within hunt_within
+unfolding landed_from carried are_whole after keep none_kept cells_before said_before exchange take_out turned admit
+    stream_before reaching place_of rows_of segments_on delineate_within hunt_within
 returns-clause-refusals c = refl
 
 pub returns-clause-totals : goal.returns-clause-totals
-unfolding landed_from carried are_whole after keep none_kept cells_before said_before exchange take_out turned admit stream_before reaching place_of rows_of segments_on delineate_within hunt_within
+unfolding landed_from carried are_whole after keep none_kept cells_before said_before exchange take_out turned admit
+    stream_before reaching place_of rows_of segments_on delineate_within hunt_within
 returns-clause-totals c = refl
 
 pub returns-clause-accepted : goal.returns-clause-accepted
-unfolding landed_from carried are_whole after keep none_kept cells_before said_before exchange take_out turned admit stream_before reaching place_of rows_of segments_on delineate_within hunt_within numbered
+unfolding landed_from carried are_whole after keep none_kept cells_before said_before exchange take_out turned admit
+    stream_before reaching place_of rows_of segments_on delineate_within hunt_within numbered
 returns-clause-accepted c = refl
 
 pub returns-clause-spoiled : goal.returns-clause-spoiled
@@ -47,9 +52,12 @@ unfolding carried are_whole after keep none_kept cells_before said_before exchan
 returns-clause-spoiled c = refl
 
 pub returns-clause-report : goal.returns-clause-report
-unfolding digits landed_from carried are_whole after keep none_kept cells_before said_before exchange take_out turned admit stream_before reaching place_of rows_of segments_on delineate_within hunt_within
+unfolding digits landed_from carried are_whole after keep none_kept cells_before said_before exchange take_out turned
+    admit stream_before reaching place_of rows_of segments_on delineate_within hunt_within
 returns-clause-report c = refl
 
 pub returns-clause-delivered : goal.returns-clause-delivered
-unfolding carried are_whole after keep none_kept cells_before said_before exchange take_out turned admit stream_before reaching place_of rows_of segments_on delineate_within hunt_within cut core_header octets_of xors bits number_behind divide add_front scramble_on pli_of head hec_of header_with type_fault follow_within outcomes_after_with
+unfolding carried are_whole after keep none_kept cells_before said_before exchange take_out turned admit stream_before
+    reaching place_of rows_of segments_on delineate_within hunt_within cut core_header octets_of xors bits number_behind
+    divide add_front scramble_on pli_of head hec_of header_with type_fault follow_within outcomes_after_with
 returns-clause-delivered c = refl

@@ -29,7 +29,8 @@ returns-in-Err-clause-err c =
 
 pub returns-then-draft-lt2-clause-err : goal.returns-then-draft-lt2-clause-err
 returns-then-draft-lt2-clause-err c =
-    short_told c.args.text.now c.loop-line.number c.loop-line.draft _ c.loop-line.invariant.value c.in_default.ensures.none (omega arith)
+    rw c.awaited_at.ensures
+    (short_told c.args.text.now c.loop-line.number c.loop-line.draft _ c.loop-line.invariant.value c.in_default.ensures.none (omega arith))
 
 pub returns-clause-ok : goal.returns-clause-ok
 returns-clause-ok c =

@@ -11,10 +11,15 @@ returns g c start before has =
     let row = c.from-time.result in
     let octets = c.args.octets in
     subst (HasText g.K.ByteSink.written g.K.ByteSink.faults c.line-4.new.self start)
-    (ap (λ l. before ++ l ++ c.to_le_bytes-2.result ++ c.to_le_bytes-3.result ++ c.to_le_bytes-4.result) c.to_le_bytes.ensures
-    ∙ ap (λ l. before ++ to_le_bytes w32 (125 * row / 1000000) ++ l ++ c.to_le_bytes-3.result ++ c.to_le_bytes-4.result) c.to_le_bytes-2.ensures
-    ∙ ap (λ l. before ++ to_le_bytes w32 (125 * row / 1000000) ++ to_le_bytes w32 (125 * row % 1000000) ++ l ++ c.to_le_bytes-4.result) c.to_le_bytes-3.ensures
-    ∙ ap (λ l. before ++ to_le_bytes w32 (125 * row / 1000000) ++ to_le_bytes w32 (125 * row % 1000000) ++ to_le_bytes w32 octets ++ l) c.to_le_bytes-4.ensures
-    ∙ four-behind before (to_le_bytes w32 (125 * row / 1000000)) (to_le_bytes w32 (125 * row % 1000000)) (to_le_bytes w32 octets) (to_le_bytes w32 octets)
+    (ap (λ l. before ++ l ++ c.to_le_bytes-2.result ++ c.to_le_bytes-3.result ++ c.to_le_bytes-4.result)
+    c.to_le_bytes.ensures
+    ∙ ap (λ l. before ++ to_le_bytes w32 (125 * row / 1000000) ++ l ++ c.to_le_bytes-3.result ++ c.to_le_bytes-4.result)
+    c.to_le_bytes-2.ensures
+    ∙ ap (λ l. before ++ to_le_bytes w32 (125 * row / 1000000) ++ to_le_bytes w32
+    (125 * row % 1000000) ++ l ++ c.to_le_bytes-4.result) c.to_le_bytes-3.ensures
+    ∙ ap (λ l. before ++ to_le_bytes w32 (125 * row / 1000000) ++ to_le_bytes w32
+    (125 * row % 1000000) ++ to_le_bytes w32 octets ++ l) c.to_le_bytes-4.ensures
+    ∙ four-behind before (to_le_bytes w32 (125 * row / 1000000)) (to_le_bytes w32 (125 * row % 1000000))
+    (to_le_bytes w32 octets) (to_le_bytes w32 octets)
     ∙ ap (λ row. before ++ record_head row octets) c.from-time.ensures)
     (c.line-4.ensures start _ (c.line-3.ensures start _ (c.line-2.ensures start _ (c.line.ensures start before has))))

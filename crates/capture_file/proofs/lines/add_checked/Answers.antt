@@ -11,5 +11,6 @@ returns g c start before has =
     let octets = c.args.octets.now in
     subst (HasText g.K.ByteSink.written g.K.ByteSink.faults c.add_piece.new.got start)
     (ap (λ l. before ++ encode_lower octets ++ encode_lower l) c.ethernet_fcs.ensures
-    ∙ append_assoc before (encode_lower octets) (encode_lower (fcs_in least_first octets)) ∙ ap (λ l. before ++ l) (sym (digits-append octets (fcs_in least_first octets))))
+    ∙ append_assoc before (encode_lower octets) (encode_lower (fcs_in least_first octets))
+    ∙ ap (λ l. before ++ l) (sym (digits-append octets (fcs_in least_first octets))))
     (c.add_piece.ensures start (before ++ encode_lower octets) (c.add_hex.ensures start before has))

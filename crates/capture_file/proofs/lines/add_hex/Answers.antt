@@ -9,7 +9,8 @@ pub loop-at-init : goal.loop-at-init
 loop-at-init g c = record {
   within = omega arith;
   room = c.requires;
-  grows = λ start before has. subst (HasText g.K.ByteSink.written g.K.ByteSink.faults c.args.got.now start) (digits-none before) has;
+  grows = λ start before has. subst (HasText g.K.ByteSink.written g.K.ByteSink.faults c.args.got.now start)
+      (digits-none before) has;
 }
 
 pub loop-at-preserved : goal.loop-at-preserved
@@ -24,6 +25,8 @@ loop-at-preserved g c =
       grows =
           λ start before has.
           subst (HasText g.K.ByteSink.written g.K.ByteSink.faults c.add_piece.new.got start)
-          (append_assoc before (encode_lower (take at octets)) (encode_lower (take (end - at) (drop at octets))) ∙ ap (λ l. before ++ l) (sym (digits-then octets at end low)))
-          (c.add_piece.ensures start (before ++ encode_lower (take at octets)) (c.loop-at.invariant.grows start before has));
+          (append_assoc before (encode_lower (take at octets)) (encode_lower (take (end - at) (drop at octets)))
+          ∙ ap (λ l. before ++ l) (sym (digits-then octets at end low)))
+          (c.add_piece.ensures start (before ++ encode_lower (take at octets))
+          (c.loop-at.invariant.grows start before has));
     }

@@ -12,7 +12,8 @@ abbrev pub invariant-loop-record : goal.invariant-loop-record
 invariant-loop-record g l =
     (before : List Record) × HasRead l.form l.body l.rest l.clock before × (8192 ≤ length l.room)
     × ((start : Start) (text : List ℕ) → HasText g.K.ByteSink.written g.K.ByteSink.faults l.fn.got start text
-    → HasText g.K.ByteSink.written g.K.ByteSink.faults l.got start (text ++ frame_texts (frames_behind l.form [] before)))
+    → HasText g.K.ByteSink.written g.K.ByteSink.faults l.got start
+    (text ++ frame_texts (frames_behind l.form [] before)))
 
 abbrev pub decreases-loop-record : goal.decreases-loop-record
 decreases-loop-record g l = length l.rest

@@ -15,7 +15,9 @@ returns c =
     let call = c.try_get_matches_from in
     record {
       read = IfOk-weaker call.result _ _
-          (λ matches says. ap words_in ((says (ap is_simple app ∙ is_parser)).0 ∙ ap (λ (a : App). matches_of a words) app) ∙ read.told)
+          (λ matches says. ap words_in ((says (ap is_simple app ∙ is_parser)).0
+          ∙ ap (λ (a : App). matches_of a words) app) ∙ read.told)
           call.ensures.matches;
-      fails = IfErr-weaker call.result _ _ (λ error says. says (ap (λ (a : App). takes a words) app ∙ read.taken)) call.ensures.passes;
+      fails = IfErr-weaker call.result _ _ (λ error says. says (ap (λ (a : App). takes a words) app ∙ read.taken))
+          call.ensures.passes;
     }

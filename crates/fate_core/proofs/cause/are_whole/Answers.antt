@@ -9,13 +9,16 @@ returns-in-Some c =
     let list = c.args.windows.now in
     let from = c.args.from in
     let passed = c.partition_point-passed.ensures in
-    let point = passed.partitioned (λ window. nat_le window.end from) (always_returns_same _ _ _ (λ a r f k. search rules)) (parted list from c.requires.apart) in
-    some-tells list from c.args.count c.partition_point-passed.result c.in-Some.window.now c.requires.apart c.requires.some point c.in-Some.ensures.value
+    let point = passed.partitioned (λ window. nat_le window.end from)
+    (always_returns_same _ _ _ (λ a r f k. search rules)) (parted list from c.requires.apart) in
+    some-tells list from c.args.count c.partition_point-passed.result c.in-Some.window.now c.requires.apart
+    c.requires.some point c.in-Some.ensures.value
 
 pub returns-in-None : goal.returns-in-None
 returns-in-None c =
     let list = c.args.windows.now in
     let from = c.args.from in
     let passed = c.partition_point-passed.ensures in
-    let point = passed.partitioned (λ window. nat_le window.end from) (always_returns_same _ _ _ (λ a r f k. search rules)) (parted list from c.requires.apart) in
+    let point = passed.partitioned (λ window. nat_le window.end from)
+    (always_returns_same _ _ _ (λ a r f k. search rules)) (parted list from c.requires.apart) in
     nothing-tells list from c.args.count c.partition_point-passed.result point c.in-None.ensures.value

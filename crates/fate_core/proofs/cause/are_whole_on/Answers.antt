@@ -15,6 +15,8 @@ beyond (list ∷ lists) (suc line) high = beyond lists line (omega arith)
 pub returns-then-line-len : goal.returns-then-line-len
 returns-then-line-len c =
     let lists = c.args.windows.now in
-    let high : length lists ≤ c.args.line = omega (arith, c.if-line-len.true, c.len.ensures, ap length c.windows.view_is, c.from-line.ensures) in
+    let high : length lists ≤ c.args.line =
+    omega (arith, c.if-line-len.true, c.len.ensures, ap length c.windows.view_is, c.from-line.ensures) in
     le-leb c.len.result c.from-line.result c.if-line-len.true
-    ∙ sym (ap (λ list. whole_in list c.args.from c.args.count) (beyond lists c.args.line high) ∙ none-tells [] c.args.from c.args.count refl)
+    ∙ sym (ap (λ list. whole_in list c.args.from c.args.count) (beyond lists c.args.line high)
+    ∙ none-tells [] c.args.from c.args.count refl)

@@ -6,4 +6,5 @@ use Rattle.fate_core.proofs.cause.is_heard.Given as goal
 
 abbrev pub invariant-loop-list : goal.invariant-loop-list
 invariant-loop-list l =
-    list_any (λ list. whole_in list (16 * l.packet) 24) (drop l.list-index l.list-items) ≡ list_any (λ list. whole_in list (16 * l.packet) 24) l.windows
+    list_any (λ list. whole_in list (16 * l.packet) 24) (drop l.list-index l.list-items) ≡ list_any
+    (λ list. whole_in list (16 * l.packet) 24) l.windows

@@ -1,10 +1,8 @@
-use Rattle.std.proofs.Common.{false, refl, ◌∙◌, ap}
-use Rattle.gfp_delineate.specs.Receiver.{Receiver}
-use Rattle.gfp_delineate.proofs.Known.{IsAt-start}
+use Rattle.std.proofs.Common.{false, sym, subst}
+use Rattle.gfp_delineate.specs.Receiver.{Receiver, area_limit, StandsIn}
 use Rattle.gfp_delineate.proofs.Delineator.broken.Goals as goal
 
 pub returns-clause-stands_in : goal.returns-clause-stands_in
-returns-clause-stands_in c longest first octets stands =
-    IsAt-start _ longest false refl
-    (ap (λ (receiver : Receiver). receiver.progress.longest) c.self.view_is ∙ stands.limit) c.self.told
-    c.forget.ensures
+returns-clause-stands_in c = λ longest first octets stands.
+    c.broken.ensures.stands (area_limit longest) false first octets
+    (subst (λ (was : Receiver). StandsIn was longest first octets) (sym c.self.view_is) stands)

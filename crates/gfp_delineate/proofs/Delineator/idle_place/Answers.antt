@@ -1,51 +1,25 @@
-use Rattle.std.proofs.Common.{true, false, Some, ◌≡◌, ◌-◌, ◌<◌, ℕ, take, drop, sym, ◌∙◌, ap, subst}
-use Rattle.std.specs.Prelude.{vec_len}
-use Rattle.gfp_delineate.specs.declared.Phase.TheVariants.{SyncHeader}
-use Rattle.gfp_delineate.specs.Receiver.{Receiver, IsWithin, header_begun_in}
-use Rattle.session_model.proofs.IdleLaws.{idle_header, core_header-idle}
-use Rattle.session_model.specs.Core.{core_header}
-use Rattle.gfp_delineate.proofs.Taking.{told}
-use Rattle.gfp_delineate.proofs.IdleSteps.{Takes-idles_from}
+use Rattle.std.proofs.Common.{ℕ, [], false, Option, Some, None, refl, subst}
+use Rattle.std.specs.Prelude.{IfSome}
+use Rattle.gfp_delineate.specs.Repeated.{idles_from}
+use Rattle.gfp_delineate.specs.Areas.{Goes, Adds}
+use Rattle.gfp_delineate.specs.Receiver.{Receiver, area_limit, Advances, Brings}
+use Rattle.gfp_delineate.proofs.ClientLaws.{Brings-ends}
 use Rattle.gfp_delineate.proofs.Delineator.idle_place.Goals as goal
 
-pub returns-in-SyncHeader-clause-stays : goal.returns-in-SyncHeader-clause-stays
-returns-in-SyncHeader-clause-stays c count =
-    let place : ℕ = c.from.result in
-    let have : ℕ = c.in-SyncHeader.have in
-    let part : have < 4 = subst (λ phase. IsWithin phase (vec_len c.self.inside.area) c.self.inside.max)
-    c.in-SyncHeader.is c.self.invariant.bounds in
-    let was : c.args.self.now.progress.phase ≡ SyncHeader have =
-    ap (λ (receiver : Receiver). receiver.progress.phase) (sym c.self.view_is) ∙ c.in-SyncHeader.is in
-    let begins : drop (4 - have) c.args.self.now.progress.window ≡ take have idle_header =
-    ap (λ (receiver : Receiver). drop (4 - have) receiver.progress.window) (sym c.self.view_is)
-    ∙ c.begins_idle.ensures.begun c.if-begins_idle.true in
-    rw c.from.ensures (told _ _ _ _ (Takes-idles_from c.args.self.now.progress have part was begins count))
+stays : (receiver : Receiver) (place : Option ℕ) →
+    IfSome place (λ place. (count : ℕ) → Goes receiver.progress receiver.progress (idles_from place count)
+    × Adds receiver.progress (idles_from place count) []) →
+    IfSome place (λ place. (count : ℕ) → Advances receiver receiver (idles_from place count)
+    × Brings receiver (idles_from place count) [])
+stays receiver None inner = tt
+stays receiver (Some place) inner = λ count. (
+  λ longest first octets stands. (inner count).0 (area_limit longest) false first octets stands,
+  Brings-ends receiver (idles_from place count) [] [] refl (inner count).1,
+)
 
-pub returns-in-SyncHeader-clause-idle : goal.returns-in-SyncHeader-clause-idle
-returns-in-SyncHeader-clause-idle c =
-    let now : Receiver = c.args.self.now in
-    let have : ℕ = c.in-SyncHeader.have in
-    let was : now.progress.phase ≡ SyncHeader have =
-    ap (λ (receiver : Receiver). receiver.progress.phase) (sym c.self.view_is) ∙ c.in-SyncHeader.is in
-    let begins : drop (4 - have) now.progress.window ≡ take have idle_header =
-    ap (λ (receiver : Receiver). drop (4 - have) receiver.progress.window) (sym c.self.view_is)
-    ∙ c.begins_idle.ensures.begun c.if-begins_idle.true in
-    ap (λ phase. header_begun_in phase now.progress.window) was
-    ∙ ap (λ l. Some l) (begins ∙ ap (take have) (sym core_header-idle) ∙ ap (λ n. take n (core_header 0))
-    (sym c.from.ensures))
-
-pub returns-in_default-clause-none : goal.returns-in_default-clause-none
-returns-in_default-clause-none c = λ place same.
-    let now : Receiver = c.args.self.now in
-    let have : ℕ = c.in-SyncHeader.have in
-    let was : now.progress.phase ≡ SyncHeader have =
-    ap (λ (receiver : Receiver). receiver.progress.phase) (sym c.self.view_is) ∙ c.in-SyncHeader.is in
-    let some : Some (drop (4 - have) now.progress.window) ≡ Some (take place (core_header 0)) =
-    sym (ap (λ phase. header_begun_in phase now.progress.window) was) ∙ same in
-    let came : drop (4 - have) now.progress.window ≡ take place (core_header 0) = cc in
-    let alike : drop (4 - have) c.self.inside.window ≡ take place idle_header =
-    ap (λ (receiver : Receiver). drop (4 - have) receiver.progress.window) c.self.view_is ∙ came
-    ∙ ap (take place) core_header-idle in
-    let yes : c.begins_idle.result ≡ true = c.begins_idle.ensures.all place alike in
-    let no : c.begins_idle.result ≡ false = c.if-begins_idle.false in
-    cc
+pub returns-clause-stays : goal.returns-clause-stays
+returns-clause-stays c =
+    subst (λ (receiver : Receiver). IfSome c.idle_place.result (λ place. (count : ℕ) →
+    Advances receiver receiver (idles_from place count) × Brings receiver (idles_from place count) [])) c.self.view_is
+    (stays (record { progress = c.self.inside.receiver; holds = c.self.inside.holds }) c.idle_place.result
+    c.idle_place.ensures.stays)

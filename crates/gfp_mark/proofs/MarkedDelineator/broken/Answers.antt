@@ -6,5 +6,9 @@ use Rattle.gfp_mark.proofs.MarkSteps.{no-octets}
 use Rattle.gfp_mark.proofs.MarkedDelineator.broken.Goals as goal
 
 pub returns-clause-stands_in : goal.returns-clause-stands_in
-returns-clause-stands_in c longest first octets stands =
-    (c.broken.ensures.stands_in longest first octets (subst (λ (marked : Marked). receiver.StandsIn marked.receiver longest first octets) (sym c.self.view_is) stands.0), no-octets)
+returns-clause-stands_in c longest first octets stands = (
+  c.broken.ensures.stands_in longest first octets
+      (subst (λ (marked : Marked). receiver.StandsIn marked.receiver longest first octets)
+      (sym c.self.view_is) stands.0),
+  no-octets,
+)

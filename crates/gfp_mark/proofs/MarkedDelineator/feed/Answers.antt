@@ -12,6 +12,13 @@ returns-then-piece-gt0-clause-stands_in c = rw (take_one c.args.piece.now c.if-p
 pub returns-else-is_hunting-clause-stands_in : goal.returns-else-is_hunting-clause-stands_in
 returns-else-is_hunting-clause-stands_in c longest first octets stands =
     let marked = subst (λ (marked : Marked). HasMark marked.mark octets) (sym c.self.view_is) stands.1 in (
-      c.feed.ensures.stands_in longest first octets (subst (λ (marked : Marked). receiver.StandsIn marked.receiver longest first octets) (sym c.self.view_is) stands.0),
-      mark-kept c.self.inside.mark octets c.args.piece.now c.feed.result.0 (elim c.else-is_hunting.either [ inl empty ↦ inr (omega (arith, empty.1)) | inr isnt ↦ inl (ap (λ (marked : Marked). is_hunting marked.mark) c.self.view_is ∙ sym c.is_hunting.ensures ∙ isnt) ]) marked,
+      c.feed.ensures.stands_in longest first octets
+          (subst (λ (marked : Marked). receiver.StandsIn marked.receiver longest first octets)
+          (sym c.self.view_is) stands.0),
+      mark-kept c.self.inside.mark octets c.args.piece.now c.feed.result.0
+          (elim c.else-is_hunting.either [
+            | inl empty ↦ inr (omega (arith, empty.1))
+            | inr isnt ↦ inl
+                (ap (λ (marked : Marked). is_hunting marked.mark) c.self.view_is ∙ sym c.is_hunting.ensures ∙ isnt)
+          ]) marked,
     )

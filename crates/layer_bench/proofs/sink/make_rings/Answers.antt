@@ -7,4 +7,5 @@ use Rattle.layer_bench.proofs.sink.make_rings.Goals as goal
 pub returns-clause-count : goal.returns-clause-count
 returns-clause-count c =
     let e : c.loop-line.line ≡ c.args.lines = omega (arith, c.loop-line-test.false, c.loop-line.auto.line-end) in
-    so_many c.loop-line.into.items c.args.lines (subst (λ n. received c.loop-line.into.items ≡ replicate n []) e c.loop-line.invariant)
+    so_many c.loop-line.into.items c.args.lines
+    (subst (λ n. received c.loop-line.into.items ≡ replicate n []) e c.loop-line.invariant)

@@ -3,4 +3,8 @@ use Rattle.std.proofs.Common.{◌≡◌, ◌≤◌, ◌+◌, vec_len}
 use Rattle.layer_bench.proofs.source.made.Given as goal
 
 abbrev pub invariant-loop : goal.invariant-loop
-invariant-loop l = record { ticks : l.core.ticks ≤ 8192 + l.counter; lines : l.core.lines ≡ l.members; size : vec_len l.out ≡ l.members }
+invariant-loop l = record {
+  ticks : l.core.ticks ≤ 8192 + l.counter;
+  lines : l.core.lines ≡ l.members;
+  size : vec_len l.out ≡ l.members;
+}

@@ -8,9 +8,11 @@ use Rattle.outside_io.proofs.transfer.put_all.Goals as goal
 pub loop-at-preserved : goal.loop-at-preserved
 loop-at-preserved g c = record {
   within = grind (arith, common_steps);
-  written = Appends-more _ _ _ _ _ _ c.loop-at.at c.in-Ok.n c.loop-at.invariant.written (rw take_rest at c.in-Ok.ensures.appended) c.in-Ok.ensures.quiet;
+  written = Appends-more _ _ _ _ _ _ c.loop-at.at c.in-Ok.n c.loop-at.invariant.written
+      (rw take_rest at c.in-Ok.ensures.appended) c.in-Ok.ensures.quiet;
 }
 
 pub returns-in-Err-clause-err : goal.returns-in-Err-clause-err
 returns-in-Err-clause-err g c =
-    AppendsPart-stop _ _ _ _ _ _ c.loop-at.at (omega arith) c.loop-at.invariant.written c.in-Err.ensures.stays c.in-Err.ensures.counted
+    AppendsPart-stop _ _ _ _ _ _ c.loop-at.at (omega arith) c.loop-at.invariant.written c.in-Err.ensures.stays
+    c.in-Err.ensures.counted

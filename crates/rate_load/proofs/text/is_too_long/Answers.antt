@@ -5,7 +5,9 @@ use Rattle.rate_load.proofs.LineLaws.{lines_of-none, total-more, length-lines_of
 use Rattle.rate_load.proofs.text.is_too_long.Goals as goal
 use Rattle.rate_load.proofs.text.is_too_long.Goals.{After-from}
 
-next_total : (c : After-from) → c.loop-k.total + (c.line_start-end.result + 2 * c.from.result + 1) ≡ length (lines_of c.args.load.now (c.loop-k.k + 1))
+next_total : (c : After-from) →
+    c.loop-k.total + (c.line_start-end.result + 2 * c.from.result + 1) ≡ length
+    (lines_of c.args.load.now (c.loop-k.k + 1))
 next_total c =
     let within : c.line_start-end.result ≤ length c.line_start-end.new.out =
     omega (arith, c.line_start-end.ensures.within, c.line_start-end.auto.out, c.loop-k-test.array_long) in
@@ -23,6 +25,7 @@ loop-k-preserved c =
 pub returns-then-total-gt-LONGEST : goal.returns-then-total-gt-LONGEST
 returns-then-total-gt-LONGEST c =
     let e = next_total (goal.at.returns-then-total-gt-LONGEST c).After-from in
-    let inside : c.loop-k.k + 1 ≤ count_of c.args.load.now = omega (arith, c.loop-k-test.true, c.count_of-k-end.ensures.count) in
+    let inside : c.loop-k.k + 1 ≤ count_of c.args.load.now =
+    omega (arith, c.loop-k-test.true, c.count_of-k-end.ensures.count) in
     let long = length-lines_of c.args.load.now (c.loop-k.k + 1) (count_of c.args.load.now) inside in
     (λ t. omega (arith, e, long, c.if-total-gt-LONGEST.true), λ t. refl)

@@ -21,7 +21,8 @@ loop-k-preserved g c = record {
       subst (λ text. Appends g.K.ByteSink.written g.K.ByteSink.faults c.args.out.now c.write_line.new.out text)
       (sym (lines_of-more c.args.load.now c.loop-k.k))
       (Appends-then g.K.ByteSink.written g.K.ByteSink.faults c.args.out.now c.loop-k.out c.write_line.new.out
-      (lines_of c.args.load.now c.loop-k.k) (line_at c.args.load.now c.loop-k.k) c.loop-k.invariant.lines c.in-Ok.ensures.ok);
+      (lines_of c.args.load.now c.loop-k.k) (line_at c.args.load.now c.loop-k.k) c.loop-k.invariant.lines
+      c.in-Ok.ensures.ok);
 }
 
 pub returns-in-Err-clause-err : goal.returns-in-Err-clause-err

@@ -1,5 +1,6 @@
 -- One more end through which nothing has passed.
-use Rattle.std.proofs.Common.{rules, ◌≡◌, ℕ, zero, suc, ◌+◌, List, [], ◌∷◌, ◌++◌, length, slice_get, Some, sym, subst, arith}
+use Rattle.std.proofs.Common.{rules, ◌≡◌, ℕ, zero, suc, ◌+◌, List, [], ◌∷◌, ◌++◌, length, slice_get, Some, sym, subst}
+use Rattle.std.proofs.Common.{arith}
 use Rattle.std.proofs.lemmas.List.{length-append}
 use Rattle.member_ring.specs.declared.ends.RingOut.{RingOut}
 use Rattle.member_ring.specs.Ends.{out_passed}
@@ -9,7 +10,8 @@ use Rattle.session_tests.proofs.groups.send_rings.Goals as goal
 same-some : {X : Type 0} (x y : X) → Some x ≡ Some y → x ≡ y
 same-some x y e = cc
 
-unused-more : {T : Type 0} (ends : List (RingOut T)) (end : RingOut T) → AreUnused ends → out_passed end ≡ [] → AreUnused (ends ++ end ∷ [])
+unused-more : {T : Type 0} (ends : List (RingOut T)) (end : RingOut T) → AreUnused ends → out_passed end ≡ [] →
+    AreUnused (ends ++ end ∷ [])
 unused-more [] end none fresh zero out is = subst (λ o. out_passed o ≡ []) (same-some end out is) fresh
 unused-more [] end none fresh (suc m) out is = absurd cc
 unused-more (first ∷ ends) end none fresh zero out is = none zero out is
@@ -20,6 +22,8 @@ loop-preserved c =
     let items : c.push.new.self.items ≡ c.loop.tx.items ++ c.in_ok-end.end ∷ [] = search rules in
     let more = length-append c.loop.tx.items (c.in_ok-end.end ∷ []) in
     record {
-      count = let count = c.loop.invariant.count in omega (arith, subst (λ xs. length xs ≡ length c.loop.tx.items + 1) (sym items) more, count);
-      unused = subst AreUnused (sym items) (unused-more c.loop.tx.items c.in_ok-end.end c.loop.invariant.unused (search rules));
+      count = let count = c.loop.invariant.count in
+          omega (arith, subst (λ xs. length xs ≡ length c.loop.tx.items + 1) (sym items) more, count);
+      unused = subst AreUnused (sym items)
+          (unused-more c.loop.tx.items c.in_ok-end.end c.loop.invariant.unused (search rules));
     }

@@ -7,7 +7,8 @@ use Rattle.session_tests.proofs.walks.make.Goals as goal
 pub step-requires : goal.step-requires
 step-requires c =
     let valid = c.requires.valid in
-    let size = has-paths c.args.walk.now.script (valid-walks c.args.walk.now.script valid) ∙ valid.network.windows_each in
+    let size = has-paths c.args.walk.now.script (valid-walks c.args.walk.now.script valid)
+    ∙ valid.network.windows_each in
     let lines = c.requires.lines in
     let has : c.in-Carry.line < length (walk_plan c.args.walk.now.script).paths = omega (arith, size, lines) in
     has

@@ -2,7 +2,8 @@
 use Rattle.std.proofs.Common.{◌≡◌, ◌+◌, ◌≤◌, ◌++◌, length, sym, ◌∙◌, ap, arith, length-append}
 use Rattle.session_model.specs.Rows.{lines_at, active_from}
 use Rattle.sink_core.specs.Active.{carrying}
-use Rattle.sink_core.proofs.ActiveLaws.{active_from-none, active_from-more, active_from-fits, carrying-fits, active_of-found}
+use Rattle.sink_core.proofs.ActiveLaws.{active_from-none, active_from-more, active_from-fits, carrying-fits}
+use Rattle.sink_core.proofs.ActiveLaws.{active_of-found}
 use Rattle.sink_core.proofs.active.find_active.Goals as goal
 
 pub loop-sq-init : goal.loop-sq-init
@@ -18,7 +19,8 @@ returns-then-len-count-clause-lines c =
     let lines = c.loop-sq.invariant.lines in
     let size = ap length lines in
     let now = c.loop-sq.active.ok.0 in
-    let count : length (active_from 0 n packets) ≡ carrying packets = omega (arith, size, now, c.len.ensures, c.if-len-count.true, c.carrying-count.ensures) in
+    let count : length (active_from 0 n packets) ≡ carrying packets =
+    omega (arith, size, now, c.len.ensures, c.if-len-count.true, c.carrying-count.ensures) in
     let below : n ≤ 256 = omega (arith, c.loop-sq-test.true) in
     lines ∙ active_of-found n packets below count
 
@@ -26,7 +28,8 @@ pub push_lines-requires-clause-room : goal.push_lines-requires-clause-room
 push_lines-requires-clause-room c =
     let packets = c.args.packets.now in
     let n = c.loop-sq.sq in
-    let more = ap length (active_from-more n packets) ∙ length-append (active_from 0 n packets) (lines_at n 0 packets) in
+    let more = ap length (active_from-more n packets)
+    ∙ length-append (active_from 0 n packets) (lines_at n 0 packets) in
     let fits = active_from-fits (n + 1) 0 packets in
     let all = carrying-fits packets in
     let len = ap length c.loop-sq.invariant.lines in
@@ -40,6 +43,7 @@ loop-sq-preserved c =
     let packets = c.args.packets.now in
     let n = c.loop-sq.sq in
     record {
-      lines = c.push_lines.ensures.lines ∙ ap (λ l. l ++ lines_at n 0 packets) c.loop-sq.invariant.lines ∙ sym (active_from-more n packets);
+      lines = c.push_lines.ensures.lines ∙ ap (λ l. l ++ lines_at n 0 packets) c.loop-sq.invariant.lines
+          ∙ sym (active_from-more n packets);
       room = (let room = c.loop-sq.invariant.room in let kept = c.push_lines.ensures.capacity in omega (arith, kept));
     }

@@ -11,7 +11,8 @@ push_reserved-requires c =
     let items = c.loop-line.active.items in
     let rest = lines_at c.args.sq i (drop i packets) in
     let inv = c.loop-line.invariant in
-    let both = sym (length-append items rest) ∙ ap length inv.lines ∙ length-append c.args.active.now.items (lines_at c.args.sq 0 packets) in
+    let both = sym (length-append items rest) ∙ ap length inv.lines
+    ∙ length-append c.args.active.now.items (lines_at c.args.sq 0 packets) in
     let here = lines_at-here c.args.sq i packets c.loop-line-test.true (sym c.has.ensures ∙ c.if-has.true) in
     let room = c.requires.room in
     let cap = inv.room in

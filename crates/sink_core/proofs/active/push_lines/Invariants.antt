@@ -5,6 +5,7 @@ use Rattle.sink_core.proofs.active.push_lines.Given as goal
 
 abbrev pub invariant-loop-line : goal.invariant-loop-line
 invariant-loop-line l = record {
-  lines : l.active.items ++ lines_at l.sq l.line (drop l.line l.packets) ≡ l.fn.active.items ++ lines_at l.sq 0 l.packets;
+  lines : l.active.items ++ lines_at l.sq l.line (drop l.line l.packets)
+      ≡ l.fn.active.items ++ lines_at l.sq 0 l.packets;
   room : vec_capacity l.active ≡ vec_capacity l.fn.active;
 }

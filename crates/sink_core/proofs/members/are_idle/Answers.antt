@@ -15,11 +15,13 @@ loop-rank-preserved c rank p below low =
       | inl before ↦ c.loop-rank.invariant rank p before low
       | inr after ↦ (
           let same : rank ≡ c.loop-rank.rank = omega arith in
-          subst (λ r. slice_index (payload_at containers (slice_index active r)) (c.args.place + p) ≡ slice_index (core_header 0) ((c.args.have + r + p % 8 * length active) % 4)) (sym same)
+          subst (λ r. slice_index (payload_at containers (slice_index active r)) (c.args.place + p) ≡ slice_index
+          (core_header 0) ((c.args.have + r + p % 8 * length active) % 4)) (sym same)
           (c.carries_word.ensures c.if-not-carries_word.false p low ∙ c.idle_word.ensures (p % 8) (omega arith)))
     ]
 
 pub returns : goal.returns
 returns c = λ _.
-    idles-dealt c.args.have c.args.place c.args.places (held c.args.containers.now) c.args.active.now c.requires.have c.requires.eights
+    idles-dealt c.args.have c.args.place c.args.places (held c.args.containers.now) c.args.active.now c.requires.have
+    c.requires.eights
     (λ rank p below low. c.loop-rank.invariant rank p (omega (arith, below, c.loop-rank-test.false)) low)

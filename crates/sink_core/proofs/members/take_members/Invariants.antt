@@ -11,7 +11,8 @@ invariant-loop-place g l = record {
   within : l.place ≤ l.size;
   known : IsKnown l.delineator;
   grows : Grows l.fn.delineator l.delineator (octets_from 0 l.place (payloads_of (held l.containers) l.active));
-  gives : (start : Start) → Gives (λ o. g.F.FrameOut.stands_for o start) l.fn.delineator (octets_from 0 l.place (payloads_of (held l.containers) l.active)) l.fn.out l.out;
+  gives : (start : Start) → Gives (λ o. g.F.FrameOut.stands_for o start) l.fn.delineator
+      (octets_from 0 l.place (payloads_of (held l.containers) l.active)) l.fn.out l.out;
 }
 
 abbrev pub decreases-loop-place : goal.decreases-loop-place

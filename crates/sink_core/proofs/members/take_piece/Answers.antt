@@ -15,15 +15,20 @@ loop-at-preserved g c =
     let now = c.take_some-at.new.delineator in
     let rest = take (length piece - at) (drop at piece) in
     let inv = c.loop-at.invariant in
-    let size : length rest ≡ length piece - at = ap length (take_all (length piece - at) (drop at piece) (omega (arith, length-drop at piece))) ∙ length-drop at piece in
+    let size : length rest ≡ length piece - at =
+    ap length (take_all (length piece - at) (drop at piece) (omega (arith, length-drop at piece)))
+    ∙ length-drop at piece in
     let next : take (at + n) piece ≡ take at piece ++ take n rest = take-further at n piece in
     record {
       within = omega (arith, size, c.take_some-at.ensures.within, inv.within);
       known = known-grows then' now (take n rest) inv.known c.take_some-at.ensures.grows;
-      grows = subst (Grows was now) (sym next) (grows-more was then' now (take at piece) (take n rest) inv.grows c.take_some-at.ensures.grows);
+      grows = subst (Grows was now) (sym next)
+          (grows-more was then' now (take at piece) (take n rest) inv.grows c.take_some-at.ensures.grows);
       gives = λ start.
-          subst (λ l. Gives (λ o. g.F.FrameOut.stands_for o start) was l c.args.out.now c.take_some-at.new.out) (sym next)
-          (gives-more (λ o. g.F.FrameOut.stands_for o start) was then' (take at piece) (take n rest) c.args.out.now c.loop-at.out c.take_some-at.new.out
+          subst (λ l. Gives (λ o. g.F.FrameOut.stands_for o start) was l c.args.out.now c.take_some-at.new.out)
+          (sym next)
+          (gives-more (λ o. g.F.FrameOut.stands_for o start) was then' (take at piece)
+          (take n rest) c.args.out.now c.loop-at.out c.take_some-at.new.out
           inv.grows (inv.gives start) (c.take_some-at.ensures.gives start));
     }
 
@@ -34,5 +39,6 @@ returns g c =
     let all : take at piece ≡ piece = take_all at piece (omega (arith, c.loop-at-test.false)) in
     record {
       grows = subst (Grows c.args.delineator.now c.loop-at.delineator) all c.loop-at.invariant.grows;
-      gives = λ start. subst (λ l. Gives (λ o. g.F.FrameOut.stands_for o start) c.args.delineator.now l c.args.out.now c.loop-at.out) all (c.loop-at.invariant.gives start);
+      gives = λ start. subst (λ l. Gives (λ o. g.F.FrameOut.stands_for o start) c.args.delineator.now l c.args.out.now
+          c.loop-at.out) all (c.loop-at.invariant.gives start);
     }

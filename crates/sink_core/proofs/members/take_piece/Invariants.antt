@@ -8,7 +8,8 @@ invariant-loop-at g l = record {
   within : l.at ≤ length l.piece;
   known : IsKnown l.delineator;
   grows : Grows l.fn.delineator l.delineator (take l.at l.piece);
-  gives : (start : Start) → Gives (λ o. g.F.FrameOut.stands_for o start) l.fn.delineator (take l.at l.piece) l.fn.out l.out;
+  gives : (start : Start) → Gives (λ o. g.F.FrameOut.stands_for o start) l.fn.delineator
+      (take l.at l.piece) l.fn.out l.out;
 }
 
 abbrev pub decreases-loop-at : goal.decreases-loop-at

@@ -6,4 +6,5 @@ use Rattle.sink_core.proofs.row.are_whole.Given as goal
 
 abbrev pub invariant-loop-line : goal.invariant-loop-line
 invariant-loop-line l = (cells : List (List Cell)) → Stands l.rows cells →
-    is_some (containers_at cells l.rows.rows (drop l.line-index l.active)) ≡ is_some (containers_at cells l.rows.rows l.active)
+    is_some (containers_at cells l.rows.rows (drop l.line-index l.active)) ≡ is_some
+    (containers_at cells l.rows.rows l.active)

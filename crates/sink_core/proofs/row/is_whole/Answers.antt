@@ -19,7 +19,8 @@ returns-then-active-from c = record {
       let tested : (length active == c.in-Some.act) ≡ true = grind (arith, nat_tests, same) in
       let whole : c.are_whole.result ≡ is_whole_by (act_of (leader packets)) active all =
       c.are_whole.ensures cells stands
-      ∙ sym (ap (λ act. is_whole_by act active all) (sym c.leading_act.ensures ∙ c.in-Some.is) ∙ ap (λ b. b && all) tested) in
+      ∙ sym (ap (λ act. is_whole_by act active all) (sym c.leading_act.ensures ∙ c.in-Some.is)
+      ∙ ap (λ b. b && all) tested) in
       ap (λ packets. row_under packets size cells t) (sym governs)
       ∙ row-under packets size cells places t active c.are_whole.result (carry ∙ ap active_of (sym governs)) hold whole;
 }

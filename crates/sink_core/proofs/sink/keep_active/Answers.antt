@@ -9,10 +9,14 @@ pub returns-then-ends_packet-clause-active : goal.returns-then-ends_packet-claus
 returns-then-ends_packet-clause-active c cells governs are = c.find_active.ensures.lines ∙ ap active_of governs
 
 pub returns-then-ends_packet-clause-lines : goal.returns-then-ends_packet-clause-lines
-returns-then-ends_packet-clause-lines c = found-lines c.args.packets.now c.find_active.new.active.items (length c.args.packets.now) c.find_active.ensures.lines refl
+returns-then-ends_packet-clause-lines c =
+    found-lines c.args.packets.now c.find_active.new.active.items
+    (length c.args.packets.now) c.find_active.ensures.lines refl
 
 pub returns-then-ends_packet-clause-within : goal.returns-then-ends_packet-clause-within
-returns-then-ends_packet-clause-within c = found-fits c.args.packets.now c.find_active.new.active.items (length c.args.packets.now) c.find_active.ensures.lines refl c.requires.few
+returns-then-ends_packet-clause-within c =
+    found-fits c.args.packets.now c.find_active.new.active.items (length c.args.packets.now) c.find_active.ensures.lines
+    refl c.requires.few
 
 pub returns-else-ends_packet-clause-active : goal.returns-else-ends_packet-clause-active
 returns-else-ends_packet-clause-active c cells governs are = are

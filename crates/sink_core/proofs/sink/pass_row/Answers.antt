@@ -12,7 +12,8 @@ returns-then-ends_packet-clause-stands c cells governs told =
     let (late, last) = packet-ends t (sym c.ends_packet.ensures.value ∙ c.if-ends_packet.true) in
     let rows = read_rows cells (packet_rows t) in
     subst (HasTold c.packet_row.new.self)
-    (ap (λ row. rows ++ row ∷ []) (governs ∙ governing-back cells t late last) ∙ sym (read-more cells (packet_rows t)) ∙ ap (read_rows cells) (sym (packet_rows-more t late last)))
+    (ap (λ row. rows ++ row ∷ []) (governs ∙ governing-back cells t late last) ∙ sym (read-more cells (packet_rows t))
+    ∙ ap (read_rows cells) (sym (packet_rows-more t late last)))
     (c.packet_row.ensures.stands rows told)
 
 pub returns-then-ends_packet-clause-back : goal.returns-then-ends_packet-clause-back
@@ -20,5 +21,7 @@ returns-then-ends_packet-clause-back c cells governs told =
     let t = c.args.t in
     let (late, last) = packet-ends t (sym c.ends_packet.ensures.value ∙ c.if-ends_packet.true) in
     let rows = read_rows cells (packet_rows t) in
-    ap Some (c.packet_row.ensures.packet rows told ∙ ap₂ (λ row n. return_of (rows ++ row ∷ []) n) (governs ∙ governing-back cells t late last) (length-read cells (packet_rows t)))
+    ap Some (c.packet_row.ensures.packet rows told
+    ∙ ap₂ (λ row n. return_of (rows ++ row ∷ []) n) (governs ∙ governing-back cells t late last)
+    (length-read cells (packet_rows t)))
     ∙ sym (back-here cells t late last)

@@ -5,6 +5,7 @@ use Rattle.trace_core.proofs.lines.add_places.Goals as goal
 
 pub loop-member-preserved : goal.loop-member-preserved
 loop-member-preserved c = record {
-  text = places-next c.args.line.now c.loop-member.line c.add_place.new.line c.args.table.now.source.table c.loop-member.member c.loop-member.invariant.text c.add_place.ensures.text;
+  text = places-next c.args.line.now c.loop-member.line c.add_place.new.line c.args.table.now.source.table
+      c.loop-member.member c.loop-member.invariant.text c.add_place.ensures.text;
   end = omega (arith, c.loop-member.invariant.end, c.add_place.ensures.end);
 }

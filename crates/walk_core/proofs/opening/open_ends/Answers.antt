@@ -2,9 +2,7 @@
 use Rattle.walk_core.proofs.opening.open_ends.Goals as goal
 
 pub returns-clause-source : goal.returns-clause-source
-returns-clause-source c =
-    let e = c.in_ok-new.ensures in
-    record { stands = e.stands; lines = e.lines; lag = e.lag; size = e.size; ticks = e.ticks }
+returns-clause-source c = c.in_ok-new.ensures
 
 pub returns-clause-sink : goal.returns-clause-sink
 returns-clause-sink c =

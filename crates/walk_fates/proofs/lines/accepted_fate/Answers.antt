@@ -13,4 +13,6 @@ returns c =
     let script = c.args.walk.now.script in
     let s = c.args.walk.now.counts in
     fate-is script s c.args.seen.now c.requires c.args.frame c.fate.result
-    (c.fate.ensures (scenario_of script) (session_of script) (stream_before (scenario_of script) (session_of script) s.ticks) s.rows c.requires.rows.packets.are c.requires.places c.requires.rows.segments)
+    (c.fate.ensures (scenario_of script) (session_of script)
+    (stream_before (scenario_of script) (session_of script) s.ticks) s.rows c.requires.rows.packets.are
+    c.requires.places c.requires.rows.segments)

@@ -14,7 +14,8 @@ use Rattle.walk_fates.proofs.lines.told_mark.Goals as goal
 pub returns-in_err-row : goal.returns-in_err-row
 returns-in_err-row c =
     let script = c.args.walk.now.script in
-    absurd (not-beyond script c.args.walk.now.counts c.args.seen.now c.requires.seen c.args.segment c.in_ok-place.place c.requires.segment c.in_ok-place.was
+    absurd (not-beyond script c.args.walk.now.counts c.args.seen.now c.requires.seen c.args.segment c.in_ok-place.place
+    c.requires.segment c.in_ok-place.was
     (c.in_err-row.ensures.beyond (scenario_of script) (session_of script) c.requires.seen.rows.packets.are))
 
 pub returns : goal.returns
@@ -26,8 +27,10 @@ returns c =
     let are = c.requires.seen.rows.packets.are in
     let piece = c.is_piece.ensures (stream_before (scenario_of script) (session_of script) s.ticks) sees.places
     ∙ mark-piece script s c.args.seen.now sees c.args.segment place c.requires.segment c.in_ok-place.was in
-    let row = mark-row script s c.args.seen.now sees c.args.segment place c.requires.segment c.in_ok-place.was c.in_ok-row.row
-    (c.in_ok-row.ensures.from (scenario_of script) (session_of script) are) (c.in_ok-row.ensures.below (scenario_of script) (session_of script) are) in
+    let row = mark-row script s c.args.seen.now sees c.args.segment place c.requires.segment c.in_ok-place.was
+    c.in_ok-row.row
+    (c.in_ok-row.ensures.from (scenario_of script) (session_of script) are)
+    (c.in_ok-row.ensures.below (scenario_of script) (session_of script) are) in
     ap (λ is. told_text (Some (record { is_true = is; row = c.in_ok-row.row }))) piece
     ∙ ap (λ row. told_text (Some (record { is_true = is_piece_at (session_pieces script) place; row = row }))) row
     ∙ sym (ap (mark_text (session_pieces script) (session_rows script s.rows)) c.in_ok-place.was)

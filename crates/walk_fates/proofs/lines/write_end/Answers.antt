@@ -16,10 +16,18 @@ returns g c = λ all are start before has.
     let script = c.args.walk.now.script in
     let s = c.args.walk.now.counts in
     let ended = c.args.ended in
-    let tally : Tally = record { frames = ended.frames; got = ended.totals.got; lost = ended.totals.lost; waits = ended.totals.waits; refused = ended.refused } in
+    let tally : Tally = record {
+      frames = ended.frames;
+      got = ended.totals.got;
+      lost = ended.totals.lost;
+      waits =
+          ended.totals.waits;
+      refused = ended.refused;
+    } in
     let is = c.starts_true-starts.result in
     let starts = starts-are script s c.args.seen.now c.requires is
-    (c.starts_true-starts.ensures (stream_before (scenario_of script) (session_of script) s.ticks) (session_rows script s.rows) c.requires.places c.requires.rows.segments) in
+    (c.starts_true-starts.ensures (stream_before (scenario_of script) (session_of script) s.ticks)
+    (session_rows script s.rows) c.requires.places c.requires.rows.segments) in
     subst (HasText g.K.ByteSink.written g.K.ByteSink.faults c.line.new.self start)
     (ap (λ l. before ++ l)
     (c.fates_line-end.ensures.line

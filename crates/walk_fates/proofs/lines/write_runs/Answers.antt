@@ -14,5 +14,7 @@ loop-run-preserved g c = λ start before has.
     let i = c.loop-run.run-index in
     let none : SpoiledRun = record { first = 0; end = 0; cause = Packet } in
     subst (HasText g.K.ByteSink.written g.K.ByteSink.faults c.line.new.self start)
-    (text-next spoiled_text runs i (get_or runs i none) before (take c.spoiled_line-end.result c.spoiled_line-end.new.out) (get-some runs i none c.loop-run-test.true) c.spoiled_line-end.ensures.line)
+    (text-next spoiled_text runs i (get_or runs i none) before
+    (take c.spoiled_line-end.result c.spoiled_line-end.new.out) (get-some runs i none c.loop-run-test.true)
+    c.spoiled_line-end.ensures.line)
     (c.line.ensures start (before ++ flat_map spoiled_text (take i runs)) (c.loop-run.invariant start before has))

@@ -11,9 +11,12 @@ returns g c = λ segment there start before has.
     let script = c.args.walk.now.script in
     let rows = c.args.walk.now.counts.rows in
     let own = c.in-Some.segment in
-    let found : Some own ≡ Some segment = c.in-Some.ensures (session_rows script rows) c.requires.rows.segments ∙ there in
+    let found : Some own ≡ Some segment = c.in-Some.ensures (session_rows script rows) c.requires.rows.segments
+    ∙ there in
     let same : own ≡ segment = cc in
-    let text : List ℕ → List ℕ = λ (t : List ℕ). codes "segment " ++ decimal own.first ++ codes " " ++ decimal own.end ++ codes " " ++ t ++ codes "\n" in
+    let text : List ℕ → List ℕ = λ (t : List ℕ). codes "segment " ++ decimal own.first ++ codes " " ++ decimal own.end
+    ++ codes " " ++ t ++ codes "\n" in
     subst (HasText g.K.ByteSink.written g.K.ByteSink.faults c.line.new.self start)
-    (ap (λ l. before ++ l) (c.segment_line-end.ensures.line ∙ ap text c.told_mark.ensures ∙ ap (segment_in script rows) same))
+    (ap (λ l. before ++ l) (c.segment_line-end.ensures.line ∙ ap text c.told_mark.ensures
+    ∙ ap (segment_in script rows) same))
     (c.line.ensures start before has)

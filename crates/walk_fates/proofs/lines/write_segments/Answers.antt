@@ -20,7 +20,8 @@ loop-i-preserved g c = λ start before has.
     let own = some-there all i low in
     subst (HasText g.K.ByteSink.written g.K.ByteSink.faults c.write_segment.new.got start)
     (text-next (segment_in script rows) all i own.0 before (segment_in script rows own.0) own.1 refl)
-    (c.write_segment.ensures own.0 own.1 start (before ++ flat_map (segment_in script rows) (take i all)) (c.loop-i.invariant start before has))
+    (c.write_segment.ensures own.0 own.1 start (before ++ flat_map (segment_in script rows) (take i all))
+    (c.loop-i.invariant start before has))
 
 pub returns : goal.returns
 returns g c = λ start before has.

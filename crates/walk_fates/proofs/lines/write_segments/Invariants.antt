@@ -9,6 +9,8 @@ use Rattle.walk_fates.specs.Lines.{segment_in}
 use Rattle.walk_fates.proofs.lines.write_segments.Given as goal
 
 abbrev pub invariant-loop-i : goal.invariant-loop-i
-invariant-loop-i g l = (start : Start) (before : List ℕ) → HasText g.K.ByteSink.written g.K.ByteSink.faults l.fn.got start before →
+invariant-loop-i g l = (start : Start) (before : List ℕ) →
+    HasText g.K.ByteSink.written g.K.ByteSink.faults l.fn.got start before →
     HasText g.K.ByteSink.written g.K.ByteSink.faults l.got start
-    (before ++ flat_map (segment_in l.walk.script l.walk.counts.rows) (take l.i (later_segments (session_rows l.walk.script l.walk.counts.rows))))
+    (before ++ flat_map (segment_in l.walk.script l.walk.counts.rows)
+    (take l.i (later_segments (session_rows l.walk.script l.walk.counts.rows))))

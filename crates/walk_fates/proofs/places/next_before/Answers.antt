@@ -5,5 +5,6 @@ use Rattle.walk_fates.proofs.places.next_before.Goals as goal
 
 pub returns-in_default-clause-none : goal.returns-in_default-clause-none
 returns-in_default-clause-none c =
-    next-waits c.args.walk.now.script c.args.cursor.now c.next.new.self c.in-Some.frame c.args.walk.now.counts.ticks c.requires.at.valid c.in-Some.ensures.some
+    next-waits c.args.walk.now.script c.args.cursor.now c.next.new.self c.in-Some.frame c.args.walk.now.counts.ticks
+    c.requires.at.valid c.in-Some.ensures.some
     (omega (arith, c.requires.ticks, c.if-frame-ticks.false))

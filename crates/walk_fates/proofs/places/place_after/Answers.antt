@@ -15,6 +15,7 @@ pub returns-clause-low : goal.returns-clause-low
 returns-clause-low c =
     let few = few-ticks c.args.walk.now.script c.args.walk.now.counts c.requires.valid c.requires.walked in
     let made = c.requires.made in
-    let is = c.place.ensures (scenario_of c.args.walk.now.script) (session_of c.args.walk.now.script) c.requires.packets.are in
+    let is = c.place.ensures (scenario_of c.args.walk.now.script)
+    (session_of c.args.walk.now.script) c.requires.packets.are in
     let low = place-few c.args.walk.now.script (c.args.row + 1) c.requires.valid (omega (arith, few.0, made)) in
     omega (arith, is, low)

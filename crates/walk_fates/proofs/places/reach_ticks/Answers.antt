@@ -7,7 +7,8 @@ use Rattle.walk_fates.proofs.places.reach_ticks.Goals as goal
 
 pub loop-t-preserved : goal.loop-t-preserved
 loop-t-preserved c frames between from =
-    reach-tick c.args.walk.now.script frames c.args.from c.loop-t.t c.args.to c.place_after.result c.loop-t.ruler c.reach.new.self between c.loop-t.auto.t c.loop-t-test.true
+    reach-tick c.args.walk.now.script frames c.args.from c.loop-t.t c.args.to c.place_after.result c.loop-t.ruler
+    c.reach.new.self between c.loop-t.auto.t c.loop-t-test.true
     c.place_after.ensures.is c.reach.ensures (c.loop-t.invariant frames between from)
 
 pub returns : goal.returns

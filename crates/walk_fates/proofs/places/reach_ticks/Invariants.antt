@@ -6,4 +6,5 @@ use Rattle.walk_fates.proofs.places.reach_ticks.Given as goal
 
 abbrev pub invariant-loop-t : goal.invariant-loop-t
 invariant-loop-t l = (frames : ℕ) → Between l.walk.script frames l.from l.to →
-    l.fn.ruler ≡ ruler_of (stream_in l.walk.script l.from frames) → l.ruler ≡ ruler_of (stream_in l.walk.script l.t frames)
+    l.fn.ruler ≡ ruler_of (stream_in l.walk.script l.from frames) →
+    l.ruler ≡ ruler_of (stream_in l.walk.script l.t frames)

@@ -1,5 +1,6 @@
 -- One row more.
-use Rattle.std.proofs.Common.{◌≡◌, ℕ, suc, ◌+◌, ◌<◌, ◌≤◌, ◌∷◌, ◌++◌, [], Option, is_none, refl, sym, ◌∙◌, ap, subst, arith, OnOk}
+use Rattle.std.proofs.Common.{◌≡◌, ℕ, suc, ◌+◌, ◌<◌, ◌≤◌, ◌∷◌, ◌++◌, [], Option, is_none, refl, sym, ◌∙◌, ap, subst}
+use Rattle.std.proofs.Common.{arith, OnOk}
 use Rattle.std.proofs.lemmas.Result.{on_ok_weaker}
 use Rattle.session_model.specs.declared.script.Script.{Script}
 use Rattle.session_model.specs.Scenario.{scenario_of}
@@ -13,7 +14,8 @@ use Rattle.std.proofs.Common.{map}
 use Rattle.std.specs.List.{range_with_len}
 use Rattle.walk_law.specs.Walk.{session_of}
 use Rattle.walk_law.specs.Delivered.{session_rows}
-use Rattle.walk_fates.proofs.SeenLaws.{few-rows, windows-apart, causes-size, rows-size, rows-next, row-tells, whole-cause, none-is, place-low, mark-low, one-row}
+use Rattle.walk_fates.proofs.SeenLaws.{few-rows, windows-apart, causes-size, rows-size, rows-next, row-tells}
+use Rattle.walk_fates.proofs.SeenLaws.{whole-cause, none-is, place-low, mark-low, one-row}
 use Rattle.walk_fates.proofs.seen.see_row.Goals as goal
 
 pub row_cause-cause-requires-clause-governed : goal.row_cause-cause-requires-clause-governed
@@ -72,15 +74,21 @@ returns c =
     let cells = session_of script in
     let row = c.args.row in
     let causes = map (row_cause scenario cells) (range_with_len 0 row) in
-    let is : c.row_cause-cause.result ≡ row_cause scenario cells row = c.row_cause-cause.ensures scenario cells (ap (λ (s : Script). s.config.windows) (sym c.script.ensures.script)) c.requires.seen.packets.are in
+    let is : c.row_cause-cause.result ≡ row_cause scenario cells row =
+    c.row_cause-cause.ensures scenario cells
+    (ap (λ (s : Script). s.config.windows) (sym c.script.ensures.script)) c.requires.seen.packets.are in
     let runs : AreRuns c.row.new.self (causes ++ row_cause scenario cells row ∷ []) =
-    subst (λ (cause : Option Cause). AreRuns c.row.new.self (causes ++ cause ∷ [])) is (c.in_ok-row.ensures.ok causes c.requires.seen.runs) in
+    subst (λ (cause : Option Cause). AreRuns c.row.new.self (causes ++ cause ∷ [])) is
+    (c.in_ok-row.ensures.ok causes c.requires.seen.runs) in
     let ends : c.place-end.result ≡ place_of scenario cells c.args.walk.now.counts.rows =
     c.place-end.ensures scenario cells c.requires.seen.packets.are ∙ ap (place_of scenario cells) c.requires.last in
     let told : Tells (session_rows script (row + 1)) c.place-end.result c.first_confirmed.result =
-    row-tells script c.args.walk.now.counts (row + 1) c.place-end.result c.first_confirmed.result c.requires.last ends c.first_confirmed.ensures in
-    let whole = whole-cause script row c.row_cause-cause.result is ∙ none-is c.row_cause-cause.result c.is_none.result c.is_none.ensures in
+    row-tells script c.args.walk.now.counts (row + 1) c.place-end.result c.first_confirmed.result c.requires.last ends
+    c.first_confirmed.ensures in
+    let whole = whole-cause script row c.row_cause-cause.result is
+    ∙ none-is c.row_cause-cause.result c.is_none.result c.is_none.ensures in
     let stands = c.row-2.ensures.ok (session_rows script row) (row_of scenario cells row) c.requires.seen.segments whole
     (subst (λ rows. Tells rows c.place-end.result c.first_confirmed.result) (rows-next script row) told) in
     on_ok_weaker c.row-2.result (λ segments. one-row script c.args.walk.now.counts.ticks row c.args.walk.now.counts.rows
-    (record { packets = c.args.seen.now.packets; segments = c.row-2.new.self; runs = c.row.new.self }) c.requires.last c.requires.seen.packets segments runs) stands
+    (record { packets = c.args.seen.now.packets; segments = c.row-2.new.self; runs = c.row.new.self }) c.requires.last
+    c.requires.seen.packets segments runs) stands

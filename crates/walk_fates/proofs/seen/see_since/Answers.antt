@@ -10,10 +10,12 @@ use Rattle.walk_fates.proofs.seen.see_since.Goals as goal
 use Rattle.walk_fates.proofs.seen.see_since.Goals.{then-is_step+in_ok-push, else-is_step}
 
 pub is_step-requires-clause-least : goal.is_step-requires-clause-least
-is_step-requires-clause-least c = let e = ap (λ (t : Totals). t.ticks) c.totals-totals.ensures in let h = c.requires.least in omega (arith, e, h)
+is_step-requires-clause-least c = let e = ap (λ (t : Totals). t.ticks) c.totals-totals.ensures in
+    let h = c.requires.least in omega (arith, e, h)
 
 pub is_step-requires-clause-most : goal.is_step-requires-clause-most
-is_step-requires-clause-most c = let e = ap (λ (t : Totals). t.ticks) c.totals-totals.ensures in let h = c.requires.most in omega (arith, e, h)
+is_step-requires-clause-most c = let e = ap (λ (t : Totals). t.ticks) c.totals-totals.ensures in
+    let h = c.requires.most in omega (arith, e, h)
 
 pub push-requires : goal.push-requires
 push-requires c =
@@ -25,12 +27,17 @@ pub returns-then-totals-rows : goal.returns-then-totals-rows
 returns-then-totals-rows c =
     let script = c.args.walk.now.script in
     let ticks = c.args.walk.now.counts.ticks in
-    let on : steps_in ticks ≡ steps_in c.totals-totals.result.ticks = ap steps_in (sym (ap (λ (t : Totals). t.ticks) c.totals-totals.ensures)) in
-    let all : c.args.rows ≡ c.args.walk.now.counts.rows = sym c.if-totals-rows.true ∙ ap (λ (t : Totals). t.taken) c.totals-totals.ensures in
+    let on : steps_in ticks ≡ steps_in c.totals-totals.result.ticks =
+    ap steps_in (sym (ap (λ (t : Totals). t.ticks) c.totals-totals.ensures)) in
+    let all : c.args.rows ≡ c.args.walk.now.counts.rows = sym c.if-totals-rows.true
+    ∙ ap (λ (t : Totals). t.taken) c.totals-totals.ensures in
     let sees : Sees script ticks c.args.rows c.if-is_step.seen = elim c.if-is_step.branch [
-      | then-is_step+in_ok-push w ↦ sees-step script c.args.ticks ticks c.args.rows c.args.seen.now c.if-is_step.seen w.push.new.self w.active.result.items c.requires.seen
-          (on ∙ w.if-is_step.ensures.yes) (w.active.ensures ∙ ap active w.table.ensures.table) w.in_ok-push.ensures.ok w.seen-is
-      | else-is_step w ↦ sees-same script c.args.ticks ticks c.args.rows c.args.seen.now c.if-is_step.seen c.requires.seen (on ∙ w.if-is_step.ensures.no) w.seen-is
+      | then-is_step+in_ok-push w ↦ sees-step script c.args.ticks ticks c.args.rows c.args.seen.now c.if-is_step.seen
+          w.push.new.self w.active.result.items c.requires.seen
+          (on ∙ w.if-is_step.ensures.yes) (w.active.ensures ∙ ap active w.table.ensures.table) w.in_ok-push.ensures.ok
+          w.seen-is
+      | else-is_step w ↦ sees-same script c.args.ticks ticks c.args.rows c.args.seen.now c.if-is_step.seen
+          c.requires.seen (on ∙ w.if-is_step.ensures.no) w.seen-is
     ] in
     subst (λ n. Sees script ticks n c.if-is_step.seen) all sees
 
@@ -38,9 +45,13 @@ pub see_row-requires-clause-seen : goal.see_row-requires-clause-seen
 see_row-requires-clause-seen c =
     let script = c.args.walk.now.script in
     let ticks = c.args.walk.now.counts.ticks in
-    let on : steps_in ticks ≡ steps_in c.totals-totals.result.ticks = ap steps_in (sym (ap (λ (t : Totals). t.ticks) c.totals-totals.ensures)) in
+    let on : steps_in ticks ≡ steps_in c.totals-totals.result.ticks =
+    ap steps_in (sym (ap (λ (t : Totals). t.ticks) c.totals-totals.ensures)) in
     elim c.if-is_step.branch [
-      | then-is_step+in_ok-push w ↦ sees-step script c.args.ticks ticks c.args.rows c.args.seen.now c.if-is_step.seen w.push.new.self w.active.result.items c.requires.seen
-          (on ∙ w.if-is_step.ensures.yes) (w.active.ensures ∙ ap active w.table.ensures.table) w.in_ok-push.ensures.ok w.seen-is
-      | else-is_step w ↦ sees-same script c.args.ticks ticks c.args.rows c.args.seen.now c.if-is_step.seen c.requires.seen (on ∙ w.if-is_step.ensures.no) w.seen-is
+      | then-is_step+in_ok-push w ↦ sees-step script c.args.ticks ticks c.args.rows c.args.seen.now c.if-is_step.seen
+          w.push.new.self w.active.result.items c.requires.seen
+          (on ∙ w.if-is_step.ensures.yes) (w.active.ensures ∙ ap active w.table.ensures.table) w.in_ok-push.ensures.ok
+          w.seen-is
+      | else-is_step w ↦ sees-same script c.args.ticks ticks c.args.rows c.args.seen.now c.if-is_step.seen
+          c.requires.seen (on ∙ w.if-is_step.ensures.no) w.seen-is
     ]

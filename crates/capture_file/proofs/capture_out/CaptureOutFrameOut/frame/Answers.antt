@@ -8,6 +8,7 @@ use Rattle.capture_file.proofs.capture_out.CaptureOutFrameOut.frame.Goals as goa
 pub returns : goal.returns
 returns g c start frames has = (
   has.0,
-  subst (HasText g.K.ByteSink.written g.K.ByteSink.faults c.line.new.self (first_in start)) (row-behind (before_in start) c.args.self.now.row frames c.args.frame.now)
+  subst (HasText g.K.ByteSink.written g.K.ByteSink.faults c.line.new.self (first_in start))
+      (row-behind (before_in start) c.args.self.now.row frames c.args.frame.now)
       (c.line.ensures (first_in start) _ (c.add_head.ensures (first_in start) _ has.1)),
 )

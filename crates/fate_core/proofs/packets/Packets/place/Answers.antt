@@ -5,7 +5,8 @@ use Rattle.fate_core.specs.Packets.{ArePackets}
 use Rattle.fate_core.proofs.PlaceLaws.{place-none, get-at, actives-length, row-low, row-place, end-place}
 use Rattle.fate_core.proofs.packets.Packets.place.Goals as goal
 
-there : (c : goal.After-width) → slice_get c.self.inside.packets.items ((c.args.row - 24) / 16) ≡ Some c.index-packet.result.now
+there : (c : goal.After-width) →
+    slice_get c.self.inside.packets.items ((c.args.row - 24) / 16) ≡ Some c.index-packet.result.now
 there c =
     get-at c.self.inside.packets.items ((c.args.row - 24) / 16) c.index-packet.result.now
     (let few = c.requires in
@@ -18,7 +19,8 @@ returns-then-row-le-FIRST c = λ scenario cells are. sym (place-none scenario ce
 
 pub returns-then-k-len : goal.returns-then-k-len
 returns-then-k-len c = λ scenario cells are.
-    end-place c.self.inside.size c.self.inside.packets.items c.self.inside.end c.self.invariant scenario cells (subst (ArePackets scenario cells) (sym c.self.view_is) are)
+    end-place c.self.inside.size c.self.inside.packets.items c.self.inside.end c.self.invariant scenario cells
+    (subst (ArePackets scenario cells) (sym c.self.view_is) are)
     c.args.row
     (let few = c.requires in
     let all = actives-length c.self.inside.size c.self.inside.packets.items c.self.inside.end c.self.invariant in
@@ -27,9 +29,11 @@ returns-then-k-len c = λ scenario cells are.
 
 low : (c : goal.After-width) → c.index-packet.result.now.start + c.from.result * c.width.result ≤ 8796093022208
 low c =
-    let all = row-low c.self.inside.size c.self.inside.packets.items c.self.inside.end c.self.invariant ((c.args.row - 24) / 16) c.from.result c.index-packet.result.now (there c)
+    let all = row-low c.self.inside.size c.self.inside.packets.items c.self.inside.end c.self.invariant
+    ((c.args.row - 24) / 16) c.from.result c.index-packet.result.now (there c)
     (let e = c.from.ensures in omega (arith, e)) in
-    let w : c.width.result ≡ c.self.inside.size * length c.index-packet.result.now.lines.items = c.width.ensures ∙ ap (λ p. p.size * length c.index-packet.result.now.lines.items) (sym c.self.view_is) in
+    let w : c.width.result ≡ c.self.inside.size * length c.index-packet.result.now.lines.items = c.width.ensures
+    ∙ ap (λ p. p.size * length c.index-packet.result.now.lines.items) (sym c.self.view_is) in
     subst (λ w. c.index-packet.result.now.start + c.from.result * w ≤ 8796093022208) (sym w) all
 
 pub overflow_mul-result : goal.overflow_mul-result
@@ -40,8 +44,12 @@ overflow_add-result c = let all = low c in omega (arith, all)
 
 pub returns : goal.returns
 returns c = λ scenario cells are.
-    let w : c.width.result ≡ c.self.inside.size * length c.index-packet.result.now.lines.items = c.width.ensures ∙ ap (λ p. p.size * length c.index-packet.result.now.lines.items) (sym c.self.view_is) in
-    let row = row-place c.self.inside.size c.self.inside.packets.items c.self.inside.end c.self.invariant scenario cells (subst (ArePackets scenario cells) (sym c.self.view_is) are)
-    ((c.args.row - 24) / 16) c.from.result c.index-packet.result.now (there c) (let e = c.from.ensures in omega (arith, e)) in
-    let at : 24 + 16 * ((c.args.row - 24) / 16) + c.from.result ≡ c.args.row = (let e = c.from.ensures in omega (arith, e, c.if-row-le-FIRST.false)) in
+    let w : c.width.result ≡ c.self.inside.size * length c.index-packet.result.now.lines.items = c.width.ensures
+    ∙ ap (λ p. p.size * length c.index-packet.result.now.lines.items) (sym c.self.view_is) in
+    let row = row-place c.self.inside.size c.self.inside.packets.items c.self.inside.end c.self.invariant scenario cells
+    (subst (ArePackets scenario cells) (sym c.self.view_is) are)
+    ((c.args.row - 24) / 16) c.from.result c.index-packet.result.now (there c)
+    (let e = c.from.ensures in omega (arith, e)) in
+    let at : 24 + 16 * ((c.args.row - 24) / 16) + c.from.result ≡ c.args.row =
+    (let e = c.from.ensures in omega (arith, e, c.if-row-le-FIRST.false)) in
     ap (λ w. c.index-packet.result.now.start + c.from.result * w) w ∙ sym row ∙ ap (place_of scenario cells) at

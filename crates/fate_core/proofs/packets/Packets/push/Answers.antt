@@ -14,10 +14,12 @@ rows-few size lines small few =
 
 pub overflow_add-self : goal.overflow_add-self
 overflow_add-self c =
-    let low = start-low c.self.inside.size c.self.inside.packets.items c.self.inside.end c.self.invariant (length c.self.inside.packets.items) (omega arith) in
+    let low = start-low c.self.inside.size c.self.inside.packets.items c.self.inside.end c.self.invariant
+    (length c.self.inside.packets.items) (omega arith) in
     let few = c.len.ensures.fits in
     let own = rows-few c.from.result c.len.result (let e = c.from.ensures in let small = c.self.invariant.small in omega (arith, e, small)) few in
-    let e : c.from.result * c.len.result * c.from-2.result ≡ c.from.result * c.len.result * 16 = ap (λ n. c.from.result * c.len.result * n) c.from-2.ensures in
+    let e : c.from.result * c.len.result * c.from-2.result ≡ c.from.result * c.len.result * 16 =
+    ap (λ n. c.from.result * c.len.result * n) c.from-2.ensures in
     let ends = c.self.invariant.ends in
     omega (arith, low, own, e, ends)
 
@@ -32,9 +34,12 @@ invariant_of-self c =
     let octets : c.from.result * c.len.result * c.from-2.result ≡ c.self.inside.size * length c.args.active.items * 16 =
     (let one : c.from.result ≡ c.self.inside.size = c.from.ensures in
     let two : c.len.result ≡ length c.args.active.items = c.len.ensures.value in
-    ap (λ n. n * c.len.result * c.from-2.result) one ∙ ap (λ n. c.self.inside.size * n * c.from-2.result) two ∙ ap (λ n. c.self.inside.size * length c.args.active.items * n) c.from-2.ensures) in
-    subst (λ items. IsPacketList c.self.inside.size items (c.self.inside.end + c.from.result * c.len.result * c.from-2.result)) (sym c.in-Ok.ensures.items)
-    (pushed c.self.inside.size c.self.inside.packets.items c.self.inside.end packet (c.self.inside.end + c.from.result * c.len.result * c.from-2.result) c.self.invariant more
+    ap (λ n. n * c.len.result * c.from-2.result) one ∙ ap (λ n. c.self.inside.size * n * c.from-2.result) two
+    ∙ ap (λ n. c.self.inside.size * length c.args.active.items * n) c.from-2.ensures) in
+    subst (λ items. IsPacketList c.self.inside.size items
+    (c.self.inside.end + c.from.result * c.len.result * c.from-2.result)) (sym c.in-Ok.ensures.items)
+    (pushed c.self.inside.size c.self.inside.packets.items c.self.inside.end packet
+    (c.self.inside.end + c.from.result * c.len.result * c.from-2.result) c.self.invariant more
     (let few = c.len.ensures.fits in let value = c.len.ensures.value in omega (arith, few, value))
     (refl-of c.self.inside.end) (ap (λ n. c.self.inside.end + n) octets))
   where

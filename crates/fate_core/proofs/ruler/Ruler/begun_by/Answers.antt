@@ -15,9 +15,12 @@ returns c =
     let frames : List Piece = take begun c.self.inside.frames.items in
     let same : take begun c.deref.result.now ≡ frames = ap (take begun) c.deref.ensures.value in
     let sorted : IsPartitionedBy (λ (p : Piece). nat_le p.from place) (take begun c.deref.result.now) =
-    subst (λ items. IsPartitionedBy (λ (p : Piece). nat_le p.from place) items) (sym same) (parted frames c.self.inside.end place c.self.invariant.order) in
+    subst (λ items. IsPartitionedBy (λ (p : Piece). nat_le p.from place) items) (sym same)
+    (parted frames c.self.inside.end place c.self.invariant.order) in
     let point : Begun frames place i =
     subst (λ items. Begun items place i) same
-    (c.partition_point.ensures.partitioned (λ p. nat_le p.from place) (always_returns_same _ _ _ (λ a r f k. search rules)) sorted) in
+    (c.partition_point.ensures.partitioned (λ p. nat_le p.from place)
+    (always_returns_same _ _ _ (λ a r f k. search rules)) sorted) in
     subst (λ v. IsBegun v.sent place i) c.self.view_is
-    (is-begun frames place i (let bound = c.partition_point.ensures.bound in omega (arith, bound, ap length same)) point)
+    (is-begun frames place i (let bound = c.partition_point.ensures.bound in omega (arith, bound, ap length same))
+    point)

@@ -4,7 +4,8 @@ use Rattle.fate_law.specs.Ruler.{ruled}
 use Rattle.fate_core.proofs.ruler.Ruler.reach_by_frames.Given as goal
 
 abbrev pub invariant-loop-self : goal.invariant-loop-self
-invariant-loop-self l = ruled l.place l.self.end l.self.sent l.self.waiting ≡ ruled l.place l.fn.self.end l.fn.self.sent l.fn.self.waiting
+invariant-loop-self l = ruled l.place l.self.end l.self.sent l.self.waiting ≡ ruled l.place l.fn.self.end l.fn.self.sent
+    l.fn.self.waiting
 
 abbrev pub decreases-loop-self : goal.decreases-loop-self
 decreases-loop-self l = length l.self.waiting

@@ -1,5 +1,6 @@
 -- Where a row lies.
-use Rattle.std.proofs.Common.{rules, ◌≡◌, ℕ, ◌-◌, ◌<◌, ◌≤◌, nat_le, true, false, List, length, take, drop, slice_get, Some, None, sym, ◌∙◌, ap, subst}
+use Rattle.std.proofs.Common.{rules, ◌≡◌, ℕ, ◌-◌, ◌<◌, ◌≤◌, nat_le, true, false, List, length, take, drop, slice_get}
+use Rattle.std.proofs.Common.{Some, None, sym, ◌∙◌, ap, subst}
 use Rattle.std.specs.Prelude.{if◌then◌else◌}
 use Rattle.std.specs.List.Sorted.{IsPartitionedBy}
 use Rattle.std.proofs.Math.Seq.{take-length}
@@ -19,9 +20,12 @@ returns-then-row-self c = λ rows stands low.
 
 pub returns-then-self-row : goal.returns-then-self-row
 returns-then-self-row c = λ rows stands low.
-    subst (IsAround rows c.args.row) (sym (c.within.ensures ∙ ap (λ v. record { spoiled = v.last.end; first = false; mark = v.last.mark }) c.self.view_is))
+    subst (IsAround rows c.args.row)
+    (sym (c.within.ensures ∙ ap (λ v. record { spoiled = v.last.end; first = false; mark = v.last.mark })
+    c.self.view_is))
     (in-last c.args.self.now rows stands (subst AreSegments c.self.view_is c.self.invariant) c.args.row low
-    (subst (λ v. v.first ≤ c.args.row) c.self.view_is c.if-row-self.false) (subst (λ v. v.last.first ≤ c.args.row) c.self.view_is c.if-self-row.true))
+    (subst (λ v. v.first ≤ c.args.row) c.self.view_is c.if-row-self.false)
+    (subst (λ v. v.last.first ≤ c.args.row) c.self.view_is c.if-self-row.true))
 
 rest : {X : Type 0} (list : List X) (i : ℕ) → take (length list - i) (drop i list) ≡ drop i list
 rest list i = ap (λ n. take n (drop i list)) (sym (length-drop i list)) ∙ take-length (drop i list)
@@ -32,15 +36,20 @@ returns-then-segment-row c = λ rows stands low.
     let are = c.self.invariant in
     let i = c.partition_point-passed.result in
     let sorted : IsPartitionedBy (λ (s : RowSegment). nat_le s.end row) c.deref.result.now =
-    subst (λ items. IsPartitionedBy (λ (s : RowSegment). nat_le s.end row) items) (sym c.deref.ensures.value) (parted c.self.inside.ended.items c.self.inside.last.first row are.order) in
+    subst (λ items. IsPartitionedBy (λ (s : RowSegment). nat_le s.end row) items) (sym c.deref.ensures.value)
+    (parted c.self.inside.ended.items c.self.inside.last.first row are.order) in
     let point : Passed c.args.self.now.ended row i =
     subst (λ items. Passed items row i) (c.deref.ensures.value ∙ ap (λ v. v.ended) c.self.view_is)
-    (c.partition_point-passed.ensures.partitioned (λ s. nat_le s.end row) (always_returns_same _ _ _ (λ a r f k. search rules)) sorted) in
+    (c.partition_point-passed.ensures.partitioned (λ s. nat_le s.end row)
+    (always_returns_same _ _ _ (λ a r f k. search rules)) sorted) in
     let high = subst (λ v. v.first ≤ row) c.self.view_is c.if-row-self.false in
     let there : Some c.in-Some.segment.now ≡ slice_get (drop i c.args.self.now.ended) 0 =
-    c.in-Some.ensures.value ∙ ap (λ l. slice_get l 0) (rest c.deref-2.result.now i ∙ ap (drop i) (c.deref-2.ensures.value ∙ ap (λ v. v.ended) c.self.view_is)) in
-    subst (IsAround rows row) (ap (λ b. if b then in_segment c.in-Some.segment.now else in_none row) (le-leb c.in-Some.segment.now.first row c.if-segment-row.true) ∙ sym c.within-then-segment-row.ensures)
-    (in-ended c.args.self.now rows stands (subst AreSegments c.self.view_is are) row low i c.in-Some.segment.now high point there)
+    c.in-Some.ensures.value ∙ ap (λ l. slice_get l 0)
+    (rest c.deref-2.result.now i ∙ ap (drop i) (c.deref-2.ensures.value ∙ ap (λ v. v.ended) c.self.view_is)) in
+    subst (IsAround rows row) (ap (λ b. if b then in_segment c.in-Some.segment.now else in_none row)
+    (le-leb c.in-Some.segment.now.first row c.if-segment-row.true) ∙ sym c.within-then-segment-row.ensures)
+    (in-ended c.args.self.now rows stands (subst AreSegments c.self.view_is are) row low i c.in-Some.segment.now high
+    point there)
 
 pub returns-else-segment-row : goal.returns-else-segment-row
 returns-else-segment-row c = λ rows stands low.
@@ -48,15 +57,20 @@ returns-else-segment-row c = λ rows stands low.
     let are = c.self.invariant in
     let i = c.partition_point-passed.result in
     let sorted : IsPartitionedBy (λ (s : RowSegment). nat_le s.end row) c.deref.result.now =
-    subst (λ items. IsPartitionedBy (λ (s : RowSegment). nat_le s.end row) items) (sym c.deref.ensures.value) (parted c.self.inside.ended.items c.self.inside.last.first row are.order) in
+    subst (λ items. IsPartitionedBy (λ (s : RowSegment). nat_le s.end row) items) (sym c.deref.ensures.value)
+    (parted c.self.inside.ended.items c.self.inside.last.first row are.order) in
     let point : Passed c.args.self.now.ended row i =
     subst (λ items. Passed items row i) (c.deref.ensures.value ∙ ap (λ v. v.ended) c.self.view_is)
-    (c.partition_point-passed.ensures.partitioned (λ s. nat_le s.end row) (always_returns_same _ _ _ (λ a r f k. search rules)) sorted) in
+    (c.partition_point-passed.ensures.partitioned (λ s. nat_le s.end row)
+    (always_returns_same _ _ _ (λ a r f k. search rules)) sorted) in
     let high = subst (λ v. v.first ≤ row) c.self.view_is c.if-row-self.false in
     let there : Some c.in-Some.segment.now ≡ slice_get (drop i c.args.self.now.ended) 0 =
-    c.in-Some.ensures.value ∙ ap (λ l. slice_get l 0) (rest c.deref-2.result.now i ∙ ap (drop i) (c.deref-2.ensures.value ∙ ap (λ v. v.ended) c.self.view_is)) in
-    subst (IsAround rows row) (ap (λ b. if b then in_segment c.in-Some.segment.now else in_none row) (lt-leb c.in-Some.segment.now.first row c.if-segment-row.false) ∙ sym c.nowhere.ensures)
-    (in-ended c.args.self.now rows stands (subst AreSegments c.self.view_is are) row low i c.in-Some.segment.now high point there)
+    c.in-Some.ensures.value ∙ ap (λ l. slice_get l 0)
+    (rest c.deref-2.result.now i ∙ ap (drop i) (c.deref-2.ensures.value ∙ ap (λ v. v.ended) c.self.view_is)) in
+    subst (IsAround rows row) (ap (λ b. if b then in_segment c.in-Some.segment.now else in_none row)
+    (lt-leb c.in-Some.segment.now.first row c.if-segment-row.false) ∙ sym c.nowhere.ensures)
+    (in-ended c.args.self.now rows stands (subst AreSegments c.self.view_is are) row low i c.in-Some.segment.now high
+    point there)
 
 pub returns-in-None : goal.returns-in-None
 returns-in-None c = λ rows stands low.
@@ -64,12 +78,16 @@ returns-in-None c = λ rows stands low.
     let are = c.self.invariant in
     let i = c.partition_point-passed.result in
     let sorted : IsPartitionedBy (λ (s : RowSegment). nat_le s.end row) c.deref.result.now =
-    subst (λ items. IsPartitionedBy (λ (s : RowSegment). nat_le s.end row) items) (sym c.deref.ensures.value) (parted c.self.inside.ended.items c.self.inside.last.first row are.order) in
+    subst (λ items. IsPartitionedBy (λ (s : RowSegment). nat_le s.end row) items) (sym c.deref.ensures.value)
+    (parted c.self.inside.ended.items c.self.inside.last.first row are.order) in
     let point : Passed c.args.self.now.ended row i =
     subst (λ items. Passed items row i) (c.deref.ensures.value ∙ ap (λ v. v.ended) c.self.view_is)
-    (c.partition_point-passed.ensures.partitioned (λ s. nat_le s.end row) (always_returns_same _ _ _ (λ a r f k. search rules)) sorted) in
+    (c.partition_point-passed.ensures.partitioned (λ s. nat_le s.end row)
+    (always_returns_same _ _ _ (λ a r f k. search rules)) sorted) in
     let high = subst (λ v. v.first ≤ row) c.self.view_is c.if-row-self.false in
     let there : None ≡ slice_get (drop i c.args.self.now.ended) 0 =
-    c.in-None.ensures.value ∙ ap (λ l. slice_get l 0) (rest c.deref-2.result.now i ∙ ap (drop i) (c.deref-2.ensures.value ∙ ap (λ v. v.ended) c.self.view_is)) in
+    c.in-None.ensures.value ∙ ap (λ l. slice_get l 0)
+    (rest c.deref-2.result.now i ∙ ap (drop i) (c.deref-2.ensures.value ∙ ap (λ v. v.ended) c.self.view_is)) in
     subst (IsAround rows row) (sym c.nowhere-in-None.ensures)
-    (in-no c.args.self.now rows stands (subst AreSegments c.self.view_is are) row low i high (subst (λ v. row < v.last.first) c.self.view_is c.if-self-row.false) point there)
+    (in-no c.args.self.now rows stands (subst AreSegments c.self.view_is are) row low i high
+    (subst (λ v. row < v.last.first) c.self.view_is c.if-self-row.false) point there)

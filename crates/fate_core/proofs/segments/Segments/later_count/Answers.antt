@@ -8,7 +8,8 @@ use Rattle.fate_core.proofs.segments.Segments.later_count.Goals as goal
 pub returns-then-is_told : goal.returns-then-is_told
 returns-then-is_told c = λ rows stands.
     let told : is_told c.args.self.now ≡ true = sym c.is_told.ensures ∙ c.if-is_told.true in
-    let all = ap length (later-kept c.args.self.now rows stands ∙ ap (λ b. c.args.self.now.ended ++ (if b then c.args.self.now.last ∷ [] else [])) told) in
+    let all = ap length (later-kept c.args.self.now rows stands
+    ∙ ap (λ b. c.args.self.now.ended ++ (if b then c.args.self.now.last ∷ [] else [])) told) in
     let sum = length-append c.args.self.now.ended (c.args.self.now.last ∷ []) in
     let ended = ap (λ v. length v.ended) c.self.view_is in
     let n = c.len-ended.ensures in
@@ -17,7 +18,8 @@ returns-then-is_told c = λ rows stands.
 pub returns-else-is_told : goal.returns-else-is_told
 returns-else-is_told c = λ rows stands.
     let told : is_told c.args.self.now ≡ false = sym c.is_told.ensures ∙ c.if-is_told.false in
-    let all = ap length (later-kept c.args.self.now rows stands ∙ ap (λ b. c.args.self.now.ended ++ (if b then c.args.self.now.last ∷ [] else [])) told) in
+    let all = ap length (later-kept c.args.self.now rows stands
+    ∙ ap (λ b. c.args.self.now.ended ++ (if b then c.args.self.now.last ∷ [] else [])) told) in
     let sum = length-append c.args.self.now.ended [] in
     let ended = ap (λ v. length v.ended) c.self.view_is in
     let n = c.len-ended.ensures in

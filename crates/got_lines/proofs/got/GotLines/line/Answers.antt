@@ -7,6 +7,7 @@ pub returns-in-Ok : goal.returns-in-Ok
 returns-in-Ok g c start before has =
     let now = c.args.self.now in (
       has.0,
-      told-more g.K.ByteSink.written g.K.ByteSink.faults now.failed (seen (told_of start.octets) start.faults) now.out.now c.add.new.out now.block c.add.new.self before c.args.text.now
+      told-more g.K.ByteSink.written g.K.ByteSink.faults now.failed (seen (told_of start.octets) start.faults)
+          now.out.now c.add.new.out now.block c.add.new.self before c.args.text.now
           c.if-self.false c.in-Ok.ensures.ok has.1,
     )

@@ -12,7 +12,8 @@ returns-then-self g c start frames has =
     let last = seen (g.K.ByteSink.written now.out.now) (g.K.ByteSink.faults now.out.now) in (
       has.0,
       subst (WritesOrWaits now.failed first last now.block.now) (texts-more frames c.args.frame.now)
-          (told-stopped now.failed first last now.block.now now.block.now (got_texts frames) (got_text c.args.frame.now) c.if-self.true has.1),
+          (told-stopped now.failed first last now.block.now now.block.now (got_texts frames)
+          (got_text c.args.frame.now) c.if-self.true has.1),
     )
 
 pub returns-in-Ok : goal.returns-in-Ok
@@ -22,6 +23,7 @@ returns-in-Ok g c start frames has =
     let last = seen (g.K.ByteSink.written c.add_got.new.out) (g.K.ByteSink.faults c.add_got.new.out) in (
       has.0,
       subst (WritesOrWaits now.failed first last c.add_got.new.self) (texts-more frames c.args.frame.now)
-          (told-more g.K.ByteSink.written g.K.ByteSink.faults now.failed first now.out.now c.add_got.new.out now.block.now c.add_got.new.self (got_texts frames) (got_text c.args.frame.now)
+          (told-more g.K.ByteSink.written g.K.ByteSink.faults now.failed first now.out.now c.add_got.new.out
+          now.block.now c.add_got.new.self (got_texts frames) (got_text c.args.frame.now)
           c.if-self.false c.in-Ok.ensures.ok has.1),
     )

@@ -51,7 +51,7 @@ carry_on-requires-clause-room c =
 
 pub carry_on-requires-clause-places : goal.carry_on-requires-clause-places
 carry_on-requires-clause-places c =
-    sent-places c.self.inside.script c.self.inside.source.ticks _ c.self.inside.sent.items c.self.invariant.sent
+    sent-places c.self.inside.script c.self.inside.source.core.ticks _ c.self.inside.sent.items c.self.invariant.sent
 
 pub carry_on-requires-clause-lines : goal.carry_on-requires-clause-lines
 carry_on-requires-clause-lines c k frame e =
@@ -59,7 +59,7 @@ carry_on-requires-clause-lines c k frame e =
     c.requires in
     let at = c.from-m.ensures in
     let own = c.self.inside in
-    let size = frame-size own.script own.source.ticks _ own.sent.items c.self.invariant.sent k frame e in
+    let size = frame-size own.script own.source.core.ticks _ own.sent.items c.self.invariant.sent k frame e in
     omega (arith, low, at, size)
 
 pub invariant_of-self : goal.invariant_of-self

@@ -25,10 +25,10 @@ index-requires-in-Some-2 c =
     let low = line-low _ _ _ _ _ c.self.invariant _ c.self.view_is c.args.line c.from-m.result c.from-m.ensures
     c.requires in
     let at = c.from-m.ensures in
-    let places = sent-places own.script own.source.ticks _ own.sent.items c.self.invariant.sent in
+    let places = sent-places own.script own.source.core.ticks _ own.sent.items c.self.invariant.sent in
     let row = at-index own.sent.items (c.in-Some.t % 32) c.index-in-Some.result.now
     (omega (arith, places)) c.index-in-Some.ensures in
-    let size = frame-size own.script own.source.ticks _ own.sent.items c.self.invariant.sent _
+    let size = frame-size own.script own.source.core.ticks _ own.sent.items c.self.invariant.sent _
     c.index-in-Some.result.now row in
     let within : c.from-m.result < length c.index-in-Some.result.now.items = omega (arith, low, at, size) in
     search (rules, within)
@@ -41,10 +41,10 @@ returns-in-Some c =
     let there =
     line-there _ _ _ _ _ c.self.invariant _ c.self.view_is c.args.line c.from-m.result c.from-m.ensures c.requires
     c.index.result.now c.index.ensures in
-    let places = sent-places own.script own.source.ticks _ own.sent.items c.self.invariant.sent in
+    let places = sent-places own.script own.source.core.ticks _ own.sent.items c.self.invariant.sent in
     let row = at-index own.sent.items (c.in-Some.t % 32) c.index-in-Some.result.now
     (omega (arith, places)) c.index-in-Some.ensures in
-    let size = frame-size own.script own.source.ticks _ own.sent.items c.self.invariant.sent _
+    let size = frame-size own.script own.source.core.ticks _ own.sent.items c.self.invariant.sent _
     c.index-in-Some.result.now row in
     let box =
     at-index c.index-in-Some.result.now.items c.args.line c.index-in-Some-2.result.now (omega (arith, low, size))

@@ -1,7 +1,9 @@
 -- A row is taken, or the cells that were popped wait for more.
-use Rattle.std.proofs.Common.{◌≡◌, sym, ◌∙◌, ap, subst}
+use Rattle.std.proofs.Common.{◌≡◌, List, sym, ◌∙◌, ap, subst}
 use Rattle.session_model.specs.declared.walk.Event.TheVariants.{Take}
 use Rattle.session_model.specs.declared.walk.StallCause.TheVariants.{Waiting}
+use Rattle.session_model.specs.declared.packet.Packet.{Packet}
+use Rattle.walk_parts.specs.Return.{path_of}
 use Rattle.walk_core.specs.declared.moved.Moved.TheVariants.{Yes, Stalled}
 use Rattle.walk_core.specs.Moved.{Walked, moved_of, counts_after, GivesRows}
 use Rattle.walk_core.specs.Take.{take_cause}
@@ -44,7 +46,7 @@ invariant_of-self-2 g c =
     let decided = sym c.in_default.is in
     let can = can-take _ _ _ _ _ c.self.invariant none _ _ _ c.pop_lines.ensures.rows c.pop_lines.ensures.lines popped decided in
     taken-kept _ _ _ _ _ c.self.invariant none _ _ _ c.pop_lines.ensures.rows c.pop_lines.ensures.lines popped decided
-    _ _ c.take_row-packet.result.0 (c.take_row-packet.ensures.takes _ can) c.say.new.self c.say.ensures _ (c.take_row-packet.ensures.counted _ can)
+    _ _ c.take_row-packet.result.0 (c.take_row-packet.ensures.takes _ can) (path_of c.say.new.self c.self.inside.source.inbox) (ap (λ (ring : List Packet). path_of ring c.self.inside.source.inbox) c.say.ensures) _ (c.take_row-packet.ensures.counted _ can)
 
 pub returns-clause-counts : goal.returns-clause-counts
 returns-clause-counts g c =
@@ -53,7 +55,7 @@ returns-clause-counts g c =
     let decided = sym c.in_default.is in
     let can = can-take _ _ _ _ _ c.self.invariant none _ _ _ c.pop_lines.ensures.rows c.pop_lines.ensures.lines popped decided in
     taken-counts _ _ _ _ _ c.self.invariant none _ _ _ c.pop_lines.ensures.rows c.pop_lines.ensures.lines popped decided
-    _ _ c.take_row-packet.result.0 (c.take_row-packet.ensures.takes _ can) c.say.new.self c.say.ensures _ (c.take_row-packet.ensures.counted _ can)
+    _ _ c.take_row-packet.result.0 (c.take_row-packet.ensures.takes _ can) (path_of c.say.new.self c.self.inside.source.inbox) (ap (λ (ring : List Packet). path_of ring c.self.inside.source.inbox) c.say.ensures) _ (c.take_row-packet.ensures.counted _ can)
     ∙ ap (λ (w : Walked). counts_after w.script w.counts Take) c.self.view_is
 
 pub returns-clause-moved : goal.returns-clause-moved

@@ -13,5 +13,6 @@ returns-clause-at c =
       commands = commands;
       within = omega arith;
       left = omega (arith, c.landed_frames.ensures);
-      refusals = ap (λ frames. refusals_among script (landed_from frames commands 0 script.items)) (sym c.landed_frames.ensures);
+      refusals = ap (λ frames. refusals_among script (landed_from frames commands 0 script.items))
+          (sym c.landed_frames.ensures);
     }

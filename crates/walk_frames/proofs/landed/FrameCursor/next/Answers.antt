@@ -11,7 +11,8 @@ returns-else-self-items_of-clause-none c =
     let size = ap length c.items_of.ensures in
     let test = c.if-self-items_of.false in
     past-before c.args.walk.now.script c.args.walk.now.counts c.args.self.now c.loop-self.self inv.1
-    (past-end c.args.walk.now.script c.args.walk.now.counts c.loop-self.self inv.0 (inr (omega (arith, item, size, test))))
+    (past-end c.args.walk.now.script c.args.walk.now.counts c.loop-self.self inv.0
+    (inr (omega (arith, item, size, test))))
 
 pub returns-after-loop-self-clause-none : goal.returns-after-loop-self-clause-none
 returns-after-loop-self-clause-none c =

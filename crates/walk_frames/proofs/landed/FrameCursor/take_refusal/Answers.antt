@@ -9,5 +9,7 @@ pub returns-in-Some-clause-finds : goal.returns-in-Some-clause-finds
 returns-in-Some-clause-finds c why later is far =
     let there = c.in-Some.ensures.lookup.3 in
     let at = ap (λ (cursor : Cursor). cursor.refusal) c.self.view_is in
-    found-refusal c.args.refusals.now c.self.inside.refusal c.args.item c.in-Some.field-0.now (get-refusal c.args.refusals.now c.self.inside.refusal c.in-Some.field-0.now there.0 there.1) c.if-number-item.true why later
+    found-refusal c.args.refusals.now c.self.inside.refusal c.args.item c.in-Some.field-0.now
+    (get-refusal c.args.refusals.now c.self.inside.refusal c.in-Some.field-0.now there.0 there.1)
+    c.if-number-item.true why later
     (ap (λ n. drop n c.args.refusals.now) at ∙ is) far

@@ -1,0 +1,6 @@
+use Rattle.std.proofs.Common.{◌≡◌, ◌-◌}
+use Rattle.fcs_model.specs.Near.{near, turned_below}
+use Rattle.gfp_delineate.proofs.near.read_near.Given as goal
+
+abbrev pub invariant-loop-place : goal.invariant-loop-place
+invariant-loop-place l = near l.octets ≡ turned_below (32 - l.place) l.octets
