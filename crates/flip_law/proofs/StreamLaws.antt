@@ -17,11 +17,12 @@ use Rattle.session_model.proofs.AreaLaws.{scrambled_behind, descrambled_behind, 
 use Rattle.gfp_delineate.proofs.HuntLaws.{header-window, search-confirmed}
 use Rattle.gfp_delineate.proofs.RunLaws.{follow-few, follow-whole, delineate_from, delineate-open}
 use Rattle.gfp_delineate.proofs.FrontLaws.{header_at-core}
-use Rattle.fcs_model.specs.Flips.{count, flipped}
+use Rattle.remainder.specs.Count.{count}
+use Rattle.fcs_model.specs.Flips.{flipped}
 use Rattle.fcs_model.specs.Near.{near}
 use Rattle.fcs_model.specs.Fcs.{fcs_area, fcs_outcome, frame_in}
 use Rattle.flip_law.specs.Flipped.{fcs_stream, IsFrame, fcs_delivered, area_size, area_flips, flips_after, window, AreFew, clear}
-use Rattle.flip_law.proofs.CountLaws.{count-zeros, none_or_one}
+use Rattle.remainder.proofs.CountLaws.{count-zeros, none_or_one}
 use Rattle.flip_law.proofs.FlippedLaws.{length-flipped, octet_bits-flipped, flipped-none, flipped-append}
 use Rattle.flip_law.proofs.PlaceLaws.{length-flips_of, turned-flipped}
 use Rattle.flip_law.specs.Places.{Flip, LiesIn, turned, flips_of}
