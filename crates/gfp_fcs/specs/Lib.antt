@@ -1,1 +1,2 @@
 pub mod Encoder
+pub mod Delineator
