@@ -1,9 +1,11 @@
 -- Octets of which bits are turned over.
-use Rattle.std.proofs.Common.{◌≡◌, ℕ, ◌*◌, ◌<◌, Bool, false, List, ◌++◌, length, replicate, All, sym, ◌∙◌, ap, ap₂, le_of_eq}
+use Rattle.std.proofs.Common.{◌≡◌, ℕ, ◌*◌, ◌<◌, Bool, false, List, ◌++◌, length, replicate, All, sym, ◌∙◌, ap, ap₂}
+use Rattle.std.proofs.Common.{le_of_eq}
 use Rattle.std.proofs.lemmas.List.{length-append}
 use Rattle.remainder.specs.Bits.{octet_bits, octets_of, xors}
 use Rattle.remainder.proofs.XorLaws.{length_xors, xors_assoc, xors-zeros_right, xors-append}
-use Rattle.remainder.proofs.OctetLaws.{octet_bits-append, length-octet_bits, length-octets_of, octets_of_below, octets_of-octet_bits, octet_bits-octets_of, octets_of-append}
+use Rattle.remainder.proofs.OctetLaws.{octet_bits-append, length-octet_bits, length-octets_of, octets_of_below}
+use Rattle.remainder.proofs.OctetLaws.{octets_of-octet_bits, octet_bits-octets_of, octets_of-append}
 use Rattle.fcs_model.specs.Flips.{flipped}
 
 pub length-flipped : (flips : List Bool) (octets : List ℕ) → length (flipped flips octets) ≡ length octets

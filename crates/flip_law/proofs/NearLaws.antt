@@ -1,6 +1,8 @@
 -- Four octets that differ from a core header in at most one bit give that header: the 32 single errors leave
 -- remainders that differ from each other and from 0.
-use Rattle.std.proofs.Common.{◌≡◌, ℕ, zero, suc, ◌*◌, ◌^◌, ◌<◌, ◌≤◌, ◌⊎◌, Bool, false, List, ◌++◌, length, replicate, take, drop, All, Option, Some, None, refl, sym, ◌∙◌, ap, ap₂, subst, inl, inr, arith, le_of_eq}
+use Rattle.std.proofs.Common.{◌≡◌, ℕ, zero, suc, ◌*◌, ◌^◌, ◌<◌, ◌≤◌, ◌⊎◌, Bool, false, List, ◌++◌, length, replicate}
+use Rattle.std.proofs.Common.{take, drop, All, Option, Some, None, refl, sym, ◌∙◌, ap, ap₂, subst, inl, inr, arith}
+use Rattle.std.proofs.Common.{le_of_eq}
 use Rattle.std.proofs.lemmas.List.{length-replicate, length-take, length-drop, take-append-drop}
 use Rattle.std.specs.Prelude.{◌↔◌}
 use Rattle.remainder.specs.Bits.{bits, number, octet_bits, octets_of, xors}
@@ -8,12 +10,14 @@ use Rattle.remainder.proofs.XorLaws.{length_xors, xors_assoc, xors-self, xors-ze
 use Rattle.remainder.proofs.BitLaws.{length-bits, bits-add, bits_low, bits-number}
 use Rattle.remainder.proofs.OctetLaws.{octet_bits-append, length-octet_bits, octets_of-octet_bits, octet_bits-octets_of}
 use Rattle.session_model.specs.Core.{core_header, IsPli, pli_of, head}
-use Rattle.session_model.proofs.CoreLaws.{length-core_header, core_header_below, head-core_header, core_header-head, IsPli-head}
+use Rattle.session_model.proofs.CoreLaws.{length-core_header, core_header_below, head-core_header, core_header-head}
+use Rattle.session_model.proofs.CoreLaws.{IsPli-head}
 use Rattle.remainder.specs.Count.{count}
 use Rattle.fcs_model.specs.Flips.{flipped}
 use Rattle.fcs_model.specs.Near.{or_else, turned_below, near, IsNear, check_of}
 use Rattle.hec16.specs.Fixed.{bit_at, IsFixed}
-use Rattle.hec16.proofs.WordLaws.{at_most_one, length-bit_at, count-bit_at, with_check, length-with_check, none_differ, one_differs, two_differ, length-both}
+use Rattle.hec16.proofs.WordLaws.{at_most_one, length-bit_at, count-bit_at, with_check, length-with_check, none_differ}
+use Rattle.hec16.proofs.WordLaws.{one_differs, two_differ, length-both}
 use Rattle.remainder.proofs.CountLaws.{count-zeros}
 use Rattle.flip_law.proofs.FlippedLaws.{octet_bits-flipped, flipped-none, flipped_twice}
 
@@ -21,7 +25,8 @@ octet_bits-core_header : (pli : ℕ) → octet_bits (core_header pli) ≡ xors (
 unfolding core_header with_check
 octet_bits-core_header pli =
     octet_bits-octets_of 4 (xors (bits 32 0xb6ab31e0) (with_check pli))
-    (length_xors (bits 32 0xb6ab31e0) (with_check pli) (length-bits 32 0xb6ab31e0 ∙ sym (length-with_check pli)) ∙ length-with_check pli)
+    (length_xors (bits 32 0xb6ab31e0) (with_check pli) (length-bits 32 0xb6ab31e0 ∙ sym (length-with_check pli))
+        ∙ length-with_check pli)
 
 -- ---- two headers that differ by flips
 -- their words differ by them
@@ -33,8 +38,10 @@ words_differ p q flips size e =
     let same : xors mask (with_check q) ≡ xors mask (xors (with_check p) flips) =
     sym (octet_bits-core_header q) ∙ ap octet_bits e ∙ octet_bits-flipped flips (core_header p) four
     ∙ ap (λ l. xors l flips) (octet_bits-core_header p) ∙ xors_assoc mask (with_check p) flips in
-    let long : length (xors (with_check p) flips) ≡ 32 = length_xors (with_check p) flips (length-with_check p ∙ sym size) ∙ size in
-    sym (xors_twice mask (with_check q) (le_of_eq (length-with_check q ∙ sym (length-bits 32 0xb6ab31e0)))) ∙ ap (xors mask) same
+    let long : length (xors (with_check p) flips) ≡ 32 =
+            length_xors (with_check p) flips (length-with_check p ∙ sym size) ∙ size in
+    sym (xors_twice mask (with_check q) (le_of_eq (length-with_check q ∙ sym (length-bits 32 0xb6ab31e0))))
+        ∙ ap (xors mask) same
     ∙ xors_twice mask (xors (with_check p) flips) (le_of_eq (long ∙ sym (length-bits 32 0xb6ab31e0)))
 
 -- ---- what is read
@@ -267,7 +274,8 @@ module _ (octets : List ℕ) (four : length octets ≡ 4) (below : All (λ o. o 
         ap octet_bits n.is
         ∙ octet_bits-flipped flips (core_header pli) (n.size ∙ sym (ap (λ n. 8 * n) (length-core_header pli)))
         ∙ ap (λ l. xors l flips) (octet_bits-core_header pli) in
-        let both : length (xors (with_check pli) flips) ≡ 32 = length_xors (with_check pli) flips (length-with_check pli ∙ sym n.size)
+        let both : length (xors (with_check pli) flips) ≡ 32 =
+                length_xors (with_check pli) flips (length-with_check pli ∙ sym n.size)
         ∙ n.size in
         let same : plain ≡ xors (with_check pli) flips =
         plain_is ∙ ap (xors mask) (sent ∙ xors_assoc mask (with_check pli) flips)
@@ -285,7 +293,8 @@ module _ (octets : List ℕ) (four : length octets ≡ 4) (below : All (λ o. o 
         let all : xors (octet_bits (core_header pli)) flips ≡ octet_bits octets =
         ap (λ l. xors l flips) (octet_bits-core_header pli)
         ∙ xors_assoc mask (with_check pli) flips
-        ∙ ap (xors mask) (xors_twice (with_check pli) plain (le_of_eq (length-plain ∙ sym (length-with_check pli))) ∙ plain_is)
+        ∙ ap (xors mask) (xors_twice (with_check pli) plain (le_of_eq (length-plain ∙ sym (length-with_check pli)))
+            ∙ plain_is)
         ∙ xors_twice mask (octet_bits octets) (le_of_eq (size_of_all ∙ sym length-mask)) in
         record {
           fits = fits;

@@ -1,12 +1,14 @@
 -- Remainders by the generator of the FCS: a register that isn't zero stays so where zeros follow, and one bit, or two
 -- that are 43 places apart, leave something.
-use Rattle.std.proofs.Common.{◌≡◌, ℕ, zero, suc, ◌+◌, ◌-◌, ◌/◌, ◌<◌, ◌≤◌, Bool, true, false, List, [], ◌∷◌, ◌++◌, length, replicate, refl, sym, ◌∙◌, ap, subst, inl, inr, arith, append_assoc, le_of_eq}
+use Rattle.std.proofs.Common.{◌≡◌, ℕ, zero, suc, ◌+◌, ◌-◌, ◌/◌, ◌<◌, ◌≤◌, Bool, true, false, List, [], ◌∷◌, ◌++◌}
+use Rattle.std.proofs.Common.{length, replicate, refl, sym, ◌∙◌, ap, subst, inl, inr, arith, append_assoc, le_of_eq}
 use Rattle.std.proofs.lemmas.List.{append-nil, length-append, length-replicate, replicate-append-replicate}
 use Rattle.std.proofs.lemmas.Bool.{cases_lt}
 use Rattle.remainder.specs.Bits.{bits, xor, xors}
 use Rattle.remainder.specs.Remainder.{add_front, divide}
 use Rattle.remainder.proofs.XorLaws.{xors-append}
-use Rattle.remainder.proofs.DivisionLaws.{length-add_front, add_front-append, divide-zeros, divide-add, divide-append, length-divide}
+use Rattle.remainder.proofs.DivisionLaws.{length-add_front, add_front-append, divide-zeros, divide-add, divide-append}
+use Rattle.remainder.proofs.DivisionLaws.{length-divide}
 use Rattle.remainder.specs.Count.{count}
 use Rattle.crc32.specs.Crc32.{crc32}
 use Rattle.crc32.proofs.CheckLaws.{length-crc32}

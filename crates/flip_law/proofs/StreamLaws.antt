@@ -1,7 +1,10 @@
 -- The flipped stream: its one run has all areas, and each is delivered exactly where its window is clear.
-use Rattle.std.proofs.Common.{◌≡◌, ℕ, ◌+◌, ◌*◌, ◌<◌, ◌≤◌, ◌==◌, Bool, true, false, if◌then◌else◌, List, [], ◌∷◌, ◌++◌, length, map, take, drop, replicate, All, Some, None, refl, sym, ◌∙◌, ap, ap₂, subst, inl, inr, arith, append_assoc}
+use Rattle.std.proofs.Common.{◌≡◌, ℕ, ◌+◌, ◌*◌, ◌<◌, ◌≤◌, ◌==◌, Bool, true, false, if◌then◌else◌, List, [], ◌∷◌, ◌++◌}
+use Rattle.std.proofs.Common.{length, map, take, drop, replicate, All, Some, None, refl, sym, ◌∙◌, ap, ap₂, subst, inl}
+use Rattle.std.proofs.Common.{inr, arith, append_assoc}
 use Rattle.std.specs.List.{flat_map}
-use Rattle.std.proofs.lemmas.List.{append-nil, length-append, length-replicate, length-take, length-drop, take_at, drop_at, take-append-drop}
+use Rattle.std.proofs.lemmas.List.{append-nil, length-append, length-replicate, length-take, length-drop, take_at}
+use Rattle.std.proofs.lemmas.List.{drop_at, take-append-drop}
 use Rattle.std.proofs.lemmas.List.Elements.{All-append, All-drop, All-head, All-nil, All-tail}
 use Rattle.remainder.specs.Bits.{octet_bits, octets_of, xors}
 use Rattle.session_model.specs.Scramble.{descrambled, scrambled_octets, descrambled_octets}
@@ -12,8 +15,11 @@ use Rattle.session_model.specs.Run.{Followed, area_then, follow_with, run_then, 
 use Rattle.session_model.specs.Outcome.{area_outcomes, outcomes_after_with, descrambled_areas, run_outcomes_with}
 use Rattle.session_model.proofs.CoreLaws.{length-core_header, core_header_below}
 use Rattle.session_model.proofs.ScrambleLaws.{descrambled-scrambled, length-descrambled, descrambled-append}
-use Rattle.session_model.proofs.ScrambledOctets.{length-scrambled_octets, octet_bits-scrambled_octets, scrambled_octets-append, scrambled_octets_below}
-use Rattle.session_model.proofs.AreaLaws.{scrambled_behind, descrambled_behind, scrambled_behind-append, length-scrambled_single, scrambled_behind-single, descrambled_behind-append, descrambled_behind-single}
+use Rattle.session_model.proofs.ScrambledOctets.{length-scrambled_octets, octet_bits-scrambled_octets}
+use Rattle.session_model.proofs.ScrambledOctets.{scrambled_octets-append, scrambled_octets_below}
+use Rattle.session_model.proofs.AreaLaws.{scrambled_behind, descrambled_behind, scrambled_behind-append}
+use Rattle.session_model.proofs.AreaLaws.{length-scrambled_single, scrambled_behind-single, descrambled_behind-append}
+use Rattle.session_model.proofs.AreaLaws.{descrambled_behind-single}
 use Rattle.gfp_delineate.proofs.HuntLaws.{header-window, search-confirmed}
 use Rattle.gfp_delineate.proofs.RunLaws.{follow-few, follow-whole, delineate_from, delineate-open}
 use Rattle.gfp_delineate.proofs.FrontLaws.{header_at-core}
@@ -21,7 +27,8 @@ use Rattle.remainder.specs.Count.{count}
 use Rattle.fcs_model.specs.Flips.{flipped}
 use Rattle.fcs_model.specs.Near.{near}
 use Rattle.fcs_model.specs.Fcs.{fcs_area, fcs_outcome, frame_in}
-use Rattle.flip_law.specs.Flipped.{fcs_stream, IsFrame, fcs_delivered, area_size, area_flips, flips_after, window, AreFew, clear}
+use Rattle.flip_law.specs.Flipped.{fcs_stream, IsFrame, fcs_delivered, area_size, area_flips, flips_after, window}
+use Rattle.flip_law.specs.Flipped.{AreFew, clear}
 use Rattle.remainder.proofs.CountLaws.{count-zeros, none_or_one}
 use Rattle.flip_law.proofs.FlippedLaws.{length-flipped, octet_bits-flipped, flipped-none, flipped-append}
 use Rattle.flip_law.proofs.PlaceLaws.{length-flips_of, turned-flipped}

@@ -1,12 +1,14 @@
 -- The stream with one frame more.
-use Rattle.std.proofs.Common.{◌≡◌, ℕ, ◌+◌, List, [], ◌∷◌, ◌++◌, length, map, take, drop, sym, ◌∙◌, ap, ap₂, arith, append-nil, append_assoc, length-append}
+use Rattle.std.proofs.Common.{◌≡◌, ℕ, ◌+◌, List, [], ◌∷◌, ◌++◌, length, map, take, drop, sym, ◌∙◌, ap, ap₂, arith}
+use Rattle.std.proofs.Common.{append-nil, append_assoc, length-append}
 use Rattle.std.specs.List.{flat_map}
 use Rattle.std.proofs.lemmas.List.{map-append, take_at, drop_at}
 use Rattle.std.proofs.lemmas.List.Concat.{flat_map-append}
 use Rattle.session_model.specs.Core.{core_header}
 use Rattle.session_model.specs.Piece.{joined, with_header}
 use Rattle.session_model.specs.Scramble.{scrambled_octets}
-use Rattle.session_model.proofs.AreaLaws.{scrambled_behind, scrambled_behind-append, scrambled_behind-single, length-scrambled_single}
+use Rattle.session_model.proofs.AreaLaws.{scrambled_behind, scrambled_behind-append, scrambled_behind-single}
+use Rattle.session_model.proofs.AreaLaws.{length-scrambled_single}
 use Rattle.session_model.proofs.CutLaws.{joined-append}
 use Rattle.session_model.proofs.ScrambledOctets.{length-scrambled_octets}
 use Rattle.fcs_model.specs.Fcs.{fcs_area}

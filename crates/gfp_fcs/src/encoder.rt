@@ -9,8 +9,8 @@ use gfp_headers::{core_bytes, type_bytes_fcs};
 use gfp_scramble::Scrambler;
 use std::marker::Model;
 
-/// Writes frames with an FCS as they are on the stream, whose areas are scrambled as one list. The idles before the first frame are the
-/// caller's.
+/// Writes frames with an FCS as they are on the stream, whose areas are scrambled as one list. The idles
+/// before the first frame are the caller's.
 #[derive(Clone, Copy, Debug)]
 pub struct FcsEncoder {
     /// Of all areas so far.
@@ -37,8 +37,8 @@ impl FcsEncoder {
         }
     }
 
-    /// Writes the next frame, of 64 to 9,600 octets: its core header, and scrambled its type header, its octets and its FCS. Answers how many
-    /// octets these are, which is twelve more than the frame has.
+    /// Writes the next frame, of 64 to 9,600 octets: its core header, and scrambled its type header, its
+    /// octets and its FCS. Answers how many octets these are, which is twelve more than the frame has.
     pub fn frame(&mut self, f: &[u8], out: &mut [u8]) -> usize
         requires least { 64 ≤ length f.now }
         requires most { length f.now ≤ longest_frame }

@@ -1,5 +1,6 @@
 -- What the octets of a type header say, and which of them is that of an Ethernet frame with an FCS.
-use Rattle.std.proofs.Common.{◌≡◌, ◌≢◌, ℕ, ◌+◌, ◌*◌, ◌/◌, ◌%◌, ◌^◌, ◌<◌, Bool, true, false, List, [], ◌∷◌, length, Some, None, get_or, refl, sym, ◌∙◌, ap, ap₂, arith, eq-eqb}
+use Rattle.std.proofs.Common.{◌≡◌, ◌≢◌, ℕ, ◌+◌, ◌*◌, ◌/◌, ◌%◌, ◌^◌, ◌<◌, Bool, true, false, List, [], ◌∷◌, length, Some}
+use Rattle.std.proofs.Common.{None, get_or, refl, sym, ◌∙◌, ap, ap₂, arith, eq-eqb}
 use Rattle.std.specs.Prelude.{if◌then◌else◌, ◌==◌}
 use Rattle.std.proofs.lemmas.Bool.{ne_eqb, eqb-true}
 use Rattle.remainder.specs.Bits.{bits, number_behind}
@@ -16,24 +17,29 @@ unfolding hec_of bits divide add_front number_behind
 hec_of_field = refl
 
 -- where the check is another one, nothing else counts
-pub fcs_type_fault-check : (octets : List ℕ) (field said found : ℕ) → field ≡ type_field octets → said ≡ type_check octets → found ≡ hec_of field → said ≢ found → fcs_type_fault octets ≡ Some (Check said found)
+pub fcs_type_fault-check : (octets : List ℕ) (field said found : ℕ) → field ≡ type_field octets →
+    said ≡ type_check octets → found ≡ hec_of field → said ≢ found → fcs_type_fault octets ≡ Some (Check said found)
 unfolding fcs_type_fault
 fcs_type_fault-check octets field said found e s f h =
     let right : found ≡ hec_of (type_field octets) = f ∙ ap hec_of e in
-    ap (λ b. if b then fcs_field_fault (type_field octets) else Some (Check (type_check octets) (hec_of (type_field octets))))
+    ap (λ b. if b then fcs_field_fault (type_field octets) else Some
+        (Check (type_check octets) (hec_of (type_field octets))))
     (ne_eqb (type_check octets) (hec_of (type_field octets)) (λ same. h (s ∙ same ∙ sym right)))
     ∙ ap₂ (λ a b. Some (Check a b)) (sym s) (sym right)
 
 -- where it is right, the fields do
-pub fcs_type_fault-field : (octets : List ℕ) (field said found : ℕ) → field ≡ type_field octets → said ≡ type_check octets → found ≡ hec_of field → said ≡ found → fcs_type_fault octets ≡ fcs_field_fault field
+pub fcs_type_fault-field : (octets : List ℕ) (field said found : ℕ) → field ≡ type_field octets →
+    said ≡ type_check octets → found ≡ hec_of field → said ≡ found → fcs_type_fault octets ≡ fcs_field_fault field
 unfolding fcs_type_fault
 fcs_type_fault-field octets field said found e s f same =
     let right : type_check octets ≡ hec_of (type_field octets) = sym s ∙ same ∙ f ∙ ap hec_of e in
-    ap (λ b. if b then fcs_field_fault (type_field octets) else Some (Check (type_check octets) (hec_of (type_field octets))))
+    ap (λ b. if b then fcs_field_fault (type_field octets) else Some
+        (Check (type_check octets) (hec_of (type_field octets))))
     (eq-eqb (type_check octets) (hec_of (type_field octets)) right)
     ∙ ap fcs_field_fault (sym e)
 
-none_tells : (a b c d : Bool) (x y z w : TypeFault) → (if a then (if b then (if c then (if d then None else Some x) else Some y) else Some z) else Some w) ≡ None →
+none_tells : (a b c d : Bool) (x y z w : TypeFault) →
+    (if a then (if b then (if c then (if d then None else Some x) else Some y) else Some z) else Some w) ≡ None →
     (a ≡ true) × (b ≡ true) × (c ≡ true) × (d ≡ true)
 none_tells true true true true x y z w e = (refl, refl, refl, refl)
 none_tells true true true false x y z w e = absurd cc
@@ -44,7 +50,8 @@ none_tells false b c d x y z w e = absurd cc
 -- the only type field with no fault
 field_one : (field : ℕ) → field < 2 ^ 16 → fcs_field_fault field ≡ None → field ≡ 0x1001
 field_one field h e =
-    let t = none_tells (field / 2 ^ 13 == 0) (field / 2 ^ 12 % 2 == 1) (field / 2 ^ 8 % 2 ^ 4 == 0) (field % 2 ^ 8 == 1) _ _ _ _ e in
+    let t = none_tells (field / 2 ^ 13 == 0) (field / 2 ^ 12 % 2 == 1) (field / 2 ^ 8 % 2 ^ 4 == 0)
+            (field % 2 ^ 8 == 1) _ _ _ _ e in
     let pti = eqb-true (field / 2 ^ 13) 0 t.0 in
     let pfi = eqb-true (field / 2 ^ 12 % 2) 1 t.1 in
     let exi = eqb-true (field / 2 ^ 8 % 2 ^ 4) 0 t.2 in
@@ -52,7 +59,9 @@ field_one field h e =
     omega arith
 
 -- the only octets with no fault
-pub type_header_only : (octets : List ℕ) (field said found : ℕ) → length octets ≡ 4 → ((i : ℕ) → get_or octets i 0 < 256) → field ≡ type_field octets → said ≡ type_check octets → found ≡ hec_of field → said ≡ found → fcs_field_fault field ≡ None → octets ≡ fcs_header
+pub type_header_only : (octets : List ℕ) (field said found : ℕ) → length octets ≡ 4 →
+    ((i : ℕ) → get_or octets i 0 < 256) → field ≡ type_field octets → said ≡ type_check octets → found ≡ hec_of field →
+    said ≡ found → fcs_field_fault field ≡ None → octets ≡ fcs_header
 type_header_only (a ∷ b ∷ c ∷ d ∷ []) field said found size below e s f same none =
     let p : a < 256 = below 0 in
     let q : b < 256 = below 1 in
@@ -61,7 +70,8 @@ type_header_only (a ∷ b ∷ c ∷ d ∷ []) field said found size below e s f 
     let small : field < 2 ^ 16 = omega arith in
     let one : field ≡ 0x1001 = field_one field small none in
     let check : 256 * c + d ≡ 0x1352 = sym s ∙ same ∙ f ∙ ap hec_of one ∙ hec_of_field in
-    ap₂ (λ x l. x ∷ l) (omega arith) (ap₂ (λ x l. x ∷ l) (omega arith) (ap₂ (λ x y. x ∷ y ∷ []) (omega arith) (omega arith)))
+    ap₂ (λ x l. x ∷ l) (omega arith)
+        (ap₂ (λ x l. x ∷ l) (omega arith) (ap₂ (λ x y. x ∷ y ∷ []) (omega arith) (omega arith)))
 type_header_only [] field said found size below e s f same none = absurd (omega arith)
 type_header_only (a ∷ []) field said found size below e s f same none = absurd (omega arith)
 type_header_only (a ∷ b ∷ []) field said found size below e s f same none = absurd (omega arith)
@@ -69,5 +79,7 @@ type_header_only (a ∷ b ∷ c ∷ []) field said found size below e s f same n
 type_header_only (a ∷ b ∷ c ∷ d ∷ x ∷ more) field said found size below e s f same none = absurd (omega arith)
 
 -- whose check is right
-pub type_header_checked : (octets : List ℕ) (field said found : ℕ) → field ≡ type_field octets → said ≡ type_check octets → found ≡ hec_of field → octets ≡ fcs_header → said ≡ found
-type_header_checked octets field said found e s f h = s ∙ ap type_check h ∙ sym (f ∙ ap hec_of (e ∙ ap type_field h) ∙ hec_of_field)
+pub type_header_checked : (octets : List ℕ) (field said found : ℕ) → field ≡ type_field octets →
+    said ≡ type_check octets → found ≡ hec_of field → octets ≡ fcs_header → said ≡ found
+type_header_checked octets field said found e s f h = s ∙ ap type_check h
+    ∙ sym (f ∙ ap hec_of (e ∙ ap type_field h) ∙ hec_of_field)

@@ -1,6 +1,7 @@
 -- Headers of a word and its check with one bit turned over.
 use Rattle.std.proofs.Common.{◌≡◌, ◌⊎◌, ℕ, ◌+◌, ◌-◌, ◌*◌, ◌/◌, ◌%◌, ◌^◌, ◌<◌, ◌==◌, Bool, true, false, List, ◌∷◌, ◌++◌}
-use Rattle.std.proofs.Common.{length, take, drop, replicate, bit_xor, inl, inr, refl, sym, ◌∙◌, ap, ap₂, arith, le_of_eq}
+use Rattle.std.proofs.Common.{length, take, drop, replicate, bit_xor, inl, inr, refl, sym, ◌∙◌, ap, ap₂, arith}
+use Rattle.std.proofs.Common.{le_of_eq}
 use Rattle.std.proofs.Common.{mod-eq_of_lt}
 use Rattle.std.proofs.lemmas.List.{take_at, drop_at}
 use Rattle.remainder.specs.Bits.{bits, number, number_behind, xors}
@@ -12,7 +13,8 @@ use Rattle.remainder.proofs.CountLaws.{OneAt, count-zeros, count_none, count_one
 use Rattle.hec16.specs.Hec.{crc16, hec_bits}
 use Rattle.hec16.specs.Fixed.{bit_at, IsFixed, IsSound}
 use Rattle.hec16.proofs.HecLaws.{bits-hec_of, hec_of-from_bits}
-use Rattle.hec16.proofs.WordLaws.{all_below, all_below_at, nat_eq_tells, length-bit_at, count-bit_at, with_check, length-with_check}
+use Rattle.hec16.proofs.WordLaws.{all_below, all_below_at, nat_eq_tells, length-bit_at, count-bit_at, with_check}
+use Rattle.hec16.proofs.WordLaws.{length-with_check}
 
 -- ---- one bit of 32, as a number
 computed : all_below 32 (λ k. number (bit_at k) == 2 ^ (31 - k)) ≡ true
@@ -21,7 +23,8 @@ computed = refl
 
 bits-bit : (k : ℕ) → k < 32 → bits 32 (2 ^ (31 - k)) ≡ bit_at k
 bits-bit k h =
-    ap (bits 32) (sym (nat_eq_tells (number (bit_at k)) (2 ^ (31 - k)) (all_below_at 32 (λ k. number (bit_at k) == 2 ^ (31 - k)) k computed h)))
+    ap (bits 32) (sym (nat_eq_tells (number (bit_at k)) (2 ^ (31 - k))
+        (all_below_at 32 (λ k. number (bit_at k) == 2 ^ (31 - k)) k computed h)))
     ∙ ap (λ n. bits n (number (bit_at k))) (sym (length-bit_at k h)) ∙ bits-number (bit_at k)
 
 bits-place : (place : ℕ) → place < 32 → bits 32 (2 ^ place) ≡ bit_at (31 - place)
@@ -88,7 +91,8 @@ module _ (word check : ℕ) (w : word < 2 ^ 16) (c : check < 2 ^ 16) where
       }
 
   -- one bit of it turned over
-  pub turned-fixed : (place turned : ℕ) → place < 32 → turned ≡ bit_xor (word * 2 ^ 16 + check) (2 ^ place) → turned < 2 ^ 32
+  pub turned-fixed : (place turned : ℕ) → place < 32 → turned ≡ bit_xor (word * 2 ^ 16 + check) (2 ^ place) →
+      turned < 2 ^ 32
       → IsSound turned → IsFixed word check (turned / 2 ^ 16)
   unfolding header given with_check
   turned-fixed place turned h is small sound =
@@ -107,7 +111,8 @@ module _ (word check : ℕ) (w : word < 2 ^ 16) (c : check < 2 ^ 16) where
 
   -- a word that is fixed so is that of the header, or of one with one bit turned over
   pub fixed-sound : (right : ℕ) → IsFixed word check right
-      → IsSound (word * 2 ^ 16 + check) ⊎ ((place : ℕ) × (place < 32) × IsSound (bit_xor (word * 2 ^ 16 + check) (2 ^ place)))
+      → IsSound (word * 2 ^ 16 + check) ⊎
+          ((place : ℕ) × (place < 32) × IsSound (bit_xor (word * 2 ^ 16 + check) (2 ^ place)))
   unfolding header given with_check
   fixed-sound right fixed =
       let flips : List Bool = xors (with_check right) given in
@@ -125,7 +130,8 @@ module _ (word check : ℕ) (w : word < 2 ^ 16) (c : check < 2 ^ 16) where
             let at : OneAt flips = count_one flips one in
             let behind : at.after ≡ 31 - at.before = omega (arith, at.size, long) in
             let inside : at.before < 32 = omega (arith, at.size, long) in
-            let is : flips ≡ bit_at at.before = at.bits ∙ ap (λ n. replicate at.before false ++ true ∷ replicate n false) behind in
+            let is : flips ≡ bit_at at.before = at.bits
+                    ∙ ap (λ n. replicate at.before false ++ true ∷ replicate n false) behind in
             let turned : with_check right ≡ bits 32 (bit_xor header (2 ^ (31 - at.before))) =
             back ∙ ap₂ xors given-is (is ∙ sym (bits-bit at.before inside))
             ∙ sym (bits-xor 32 header (2 ^ (31 - at.before))) in

@@ -134,7 +134,8 @@ with_check pli = bits 16 pli ++ hec_bits pli
 
 pub length-with_check : (pli : ℕ) → length (with_check pli) ≡ 32
 unfolding with_check
-length-with_check pli = omega (arith, length-append (bits 16 pli) (hec_bits pli), length-bits 16 pli, length-hec_bits pli)
+length-with_check pli = omega (arith, length-append (bits 16 pli) (hec_bits pli), length-bits 16 pli,
+    length-hec_bits pli)
 
 left-with_check : (pli : ℕ) → left (with_check pli) ≡ left (replicate 32 false)
 unfolding with_check left
@@ -155,8 +156,10 @@ flips_leave : (p q : ℕ) (flips : List Bool) → length flips ≡ 32 → with_c
     → left flips ≡ left (replicate 32 false)
 flips_leave p q flips size e =
     let difference : flips ≡ xors (with_check p) (with_check q) =
-    sym (xors_twice (with_check p) flips (le_of_eq (size ∙ sym (length-with_check p)))) ∙ ap (xors (with_check p)) (sym e) in
-    ap left difference ∙ left-xors (with_check p) (with_check q) ∙ ap₂ xors (left-with_check p) (left-with_check q) ∙ nothing_twice
+    sym (xors_twice (with_check p) flips (le_of_eq (size ∙ sym (length-with_check p))))
+        ∙ ap (xors (with_check p)) (sym e) in
+    ap left difference ∙ left-xors (with_check p) (with_check q) ∙ ap₂ xors (left-with_check p) (left-with_check q)
+        ∙ nothing_twice
 
 same_word : (p q : ℕ) → p < 2 ^ 16 → q < 2 ^ 16 → with_check q ≡ with_check p → q ≡ p
 unfolding with_check
@@ -169,7 +172,8 @@ same_word p q hp hq e =
 pub none_differ : (p q : ℕ) (flips : List Bool) → p < 2 ^ 16 → q < 2 ^ 16 → flips ≡ replicate 32 false
     → with_check q ≡ xors (with_check p) flips → q ≡ p
 none_differ p q flips hp hq none e =
-    same_word p q hp hq (e ∙ ap (xors (with_check p)) none ∙ xors-zeros_right 32 (with_check p) (le_of_eq (length-with_check p)))
+    same_word p q hp hq (e ∙ ap (xors (with_check p)) none
+        ∙ xors-zeros_right 32 (with_check p) (le_of_eq (length-with_check p)))
 
 -- one flip makes no header
 pub one_differs : (p q k : ℕ) → k < 32 → with_check q ≢ xors (with_check p) (bit_at k)
@@ -211,8 +215,10 @@ through p q third size =
     xors_medial (with_check p) third (with_check q) third
     ∙ ap (xors (xors (with_check p) (with_check q))) (xors-self third ∙ ap (λ n. replicate n false) size)
     ∙ xors-zeros_right 32 (xors (with_check p) (with_check q))
-    (le_of_eq (length_xors (with_check p) (with_check q) (length-with_check p ∙ sym (length-with_check q)) ∙ length-with_check q)) in
-    sym (ap (xors (with_check p)) same ∙ xors_twice (with_check p) (with_check q) (le_of_eq (length-with_check q ∙ sym (length-with_check p))))
+    (le_of_eq (length_xors (with_check p) (with_check q) (length-with_check p ∙ sym (length-with_check q))
+        ∙ length-with_check q)) in
+    sym (ap (xors (with_check p)) same
+        ∙ xors_twice (with_check p) (with_check q) (le_of_eq (length-with_check q ∙ sym (length-with_check p))))
 
 within_two : (p q : ℕ) (first second : List Bool) → p < 2 ^ 16 → q < 2 ^ 16 → length first ≡ 32 → length second ≡ 32
     → count first ≤ 1 → count second ≤ 1 →
@@ -227,7 +233,8 @@ within_two p q first second hp hq a b few also e = elim (at_most_one first a few
   | inr one ↦ elim (at_most_one second b also) [
     | inl none ↦ absurd (one_differs p q one.0 one.1
         (e ∙ ap (xors (with_check p)) (ap (xors first) none ∙ xors-zeros_right 32 first (le_of_eq a) ∙ one.2)))
-    | inr other ↦ two_differ p q one.0 other.0 hp hq one.1 other.1 (e ∙ ap (xors (with_check p)) (ap₂ xors one.2 other.2))
+    | inr other ↦ two_differ p q one.0 other.0 hp hq one.1 other.1
+        (e ∙ ap (xors (with_check p)) (ap₂ xors one.2 other.2))
   ]
 ]
 

@@ -30,14 +30,16 @@ line_said n d new all l ls said first none says is =
     line_sound noise_lines n d new all l ls first none (is ∙ ap (λ (r : Statement). after d r) says)
 
 -- a line that has one
-line_told : (text : List ℕ) (n : ℕ) (d : Draft) (all : List (List ℕ)) (l : List ℕ) (ls : List (List ℕ)) (fault : LineFault)
+line_told : (text : List ℕ) (n : ℕ) (d : Draft) (all : List (List ℕ)) (l : List ℕ) (ls : List (List ℕ))
+    (fault : LineFault)
     → said_by noise_lines text ≡ said_from noise_lines n d all → all ≡ l ∷ ls → words_fault d (words l) ≡ Some fault
     → noise_of text ≡ Err (n, fault)
 line_told text n d all l ls fault same first fails =
     ap noise_of_draft (same ∙ line_faulty noise_lines n d all l ls fault first fails)
 
 -- or wasn't read
-pub line_stopped : (text : List ℕ) (n : ℕ) (d : Draft) (all : List (List ℕ)) (l : List ℕ) (ls : List (List ℕ)) (why : LineStop)
+pub line_stopped : (text : List ℕ) (n : ℕ) (d : Draft) (all : List (List ℕ)) (l : List ℕ) (ls : List (List ℕ))
+    (why : LineStop)
     → said_by noise_lines text ≡ said_from noise_lines n d all → all ≡ l ∷ ls → IsLineStop why (words_fault d (words l))
     → IsNoiseFault text (stopped n why)
 line_stopped text n d all l ls (stop.Fault fault) same first fails = line_told text n d all l ls fault same first fails
@@ -53,7 +55,8 @@ pub noise_said : (text : List ℕ) (d : Draft) (noise : Noise) → said_by noise
 noise_said text d noise said is = ap noise_of_draft said ∙ ap Ok (sym is)
 
 -- ---- a frame more
-sizes-more : (frames : List (List ℕ)) (frame : List ℕ) → sizes (frames ++ frame ∷ []) ≡ sizes frames + (length frame + 12)
+sizes-more : (frames : List (List ℕ)) (frame : List ℕ) →
+    sizes (frames ++ frame ∷ []) ≡ sizes frames + (length frame + 12)
 unfolding sizes
 sizes-more [] frame = omega arith
 sizes-more (f ∷ frames) frame = omega (arith, sizes-more frames frame)

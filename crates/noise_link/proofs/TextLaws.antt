@@ -23,5 +23,6 @@ text-is noise octets line frames flips got dropped stream sent turned came lost 
     ∙ ap (λ n. counts_text n flips got dropped) sent
     ∙ ap (λ n. counts_text (length noise.frames) n got dropped) turned
     ∙ ap (λ n. counts_text (length noise.frames) (length noise.flips) n dropped) came
-    ∙ ap (λ n. counts_text (length noise.frames) (length noise.flips) (length (delivered (fcs_outcomes octets))) n) lost)
+    ∙ ap (λ n. counts_text (length noise.frames) (length noise.flips) (length (delivered (fcs_outcomes octets))) n)
+        lost)
     ∙ ap (λ l. outcomes_text (length noise.frames) (length noise.flips) (fcs_outcomes l)) stream

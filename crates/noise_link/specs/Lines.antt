@@ -1,6 +1,8 @@
--- The lines of a noise's text: what each may say after those before it, which fault it has first, and what it adds to them. This language is
+-- The lines of a noise's text: what each may say after those before it, which fault it has first, and what it adds to
+-- them. This language is
 -- this project's own.
-use Rattle.std.specs.Prelude.{ℕ, ◌+◌, ◌-◌, ◌*◌, ◌/◌, ◌%◌, ◌==◌, nat_lt, not, Bool, false, List, [], ◌∷◌, ◌++◌, length, Option, Some, None, drop, option_map, codes, bytes_eq, if◌then◌else◌}
+use Rattle.std.specs.Prelude.{ℕ, ◌+◌, ◌-◌, ◌*◌, ◌/◌, ◌%◌, ◌==◌, nat_lt, not, Bool, false, List, [], ◌∷◌, ◌++◌, length}
+use Rattle.std.specs.Prelude.{Option, Some, None, drop, option_map, codes, bytes_eq, if◌then◌else◌}
 use Rattle.std.specs.Option.{option_or}
 use Rattle.text_lines.specs.Words.{word_at, is_skipped, number_at, octets_of}
 use Rattle.text_lines.specs.Fields.{Field, within, digits, where_true, fields_fault}
@@ -29,7 +31,8 @@ place_fault d word.Frame = where_true (nat_lt 0 d.least) wrong.FrameBehind
 place_fault d word.Flip = None
 
 -- ---- the other words
--- what the words after a keyword have to be: a frame's digits, or the place of an octet of the stream and of a bit in it
+-- what the words after a keyword have to be: a frame's digits, or the place of an octet of the stream and of a bit in
+-- it
 abbrev pub fields : Draft → Keyword → List Field
 fields d word.Frame = digits 64 9600 ∷ []
 fields d word.Flip = within 0 (d.size - 1) ∷ within 0 7 ∷ []

@@ -1,27 +1,15 @@
--- A run of noise, as private clauses say it.
+-- What was received so far, as private clauses say it.
 use Rattle.std.specs.Prelude.{◌≡◌, ℕ, List, length, Option}
 use Rattle.outside_io.specs.Start.{Start}
 use Rattle.report_text.specs.Report.{got_texts}
 use Rattle.got_lines.specs.Told.{HasText}
 use Rattle.gfp_fcs.specs.Delineator.{fcs_outcomes}
 use Rattle.gfp_fcs.specs.Delineator as delineator
-use Rattle.noise_link.specs.declared.draft.Noise.{Noise}
 use Rattle.noise_link.specs.declared.reception.Reception.{Reception}
-use Rattle.noise_link.specs.Text.{received, delivered, causes}
+use Rattle.noise_link.specs.Text.{delivered, causes}
 
--- what is received, and of how many frames and flips it is
-pub record Run : Type 0 where
-  pub octets : List ℕ
-  pub frames : ℕ
-  pub flips : ℕ
-
--- a noise is ready to be received
-pub record Stands (run : Run) (noise : Noise) : Type 0 where
-  pub octets : run.octets ≡ received noise
-  pub frames : run.frames ≡ length noise.frames
-  pub flips : run.flips ≡ length noise.flips
-
--- these octets were received: the lines of the frames that they delivered were written since a start, or wait, and the frames are counted
+-- these octets were received: the lines of the frames that they delivered were written since a start, or wait, and the
+-- frames are counted
 pub record Received {K : Type 0} (written : K → Option (List ℕ)) (faults : K → ℕ) (reception : Reception K)
     (start : Start) (octets : List ℕ) : Type 0 where
   pub stands : delineator.Stands reception.delineator octets

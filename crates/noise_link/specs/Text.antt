@@ -46,7 +46,8 @@ noise_text noise = outcomes_text (length noise.frames) (length noise.flips) (fcs
 abbrev pub flip_bits : Noise → List Bool
 flip_bits noise = flips_of (length (fcs_stream noise.frames)) noise.flips
 
--- the two idles have no flip, each other core header has one at most, and each area with the 43 area bits before it one at most
+-- the two idles have no flip, each other core header has one at most, and each area with the 43 area bits before it one
+-- at most
 pub record AreSingle (noise : Noise) : Type 0 where
   pub idles : take 64 (flip_bits noise) ≡ replicate 64 false
   pub few : AreFew [] (drop 64 (flip_bits noise)) noise.frames

@@ -1,7 +1,8 @@
-//! Frames with an FCS in a stream of which bits are turned over: what a text says of frames and flips, and the lines of the frames that get
-//! through. The language is a definition that computes, `noise_of`: lines, words, and for each line the first fault that it has or what it
-//! adds to the lines before it; the reader gives just that, in one pass. How frames are sent and received is in `gfp_fcs`. Begin with
-//! `read_noise` and `NoiseRun`.
+//! Frames with an FCS in a stream of which bits are turned over: what a text says of frames and flips, and
+//! the lines of the frames that get through. The language is a definition that computes, `noise_of`: lines,
+//! words, and for each line the first fault that it has or what it adds to the lines before it; the reader
+//! gives just that, in one pass. How frames are sent and received is in `gfp_fcs`. Begin with `read_noise`
+//! and `NoiseRun`.
 #![tactic(auto)]
 
 ghost use Rattle.std.specs.Prelude.{◌≡◌, ◌↔◌, ℕ, List, Err};
@@ -39,8 +40,9 @@ pub fn fault_law()
         ↔ IsFirstFault noise_lines 1 at_first (lines text) number fault }
 {}
 
-/// Where the two idles have no flip, each other core header has one at most, and each area with the 43 area bits before it has one at most,
-/// the frames that are delivered are, in order and each once, exactly those whose area and the 43 area bits before it have none.
+/// Where the two idles have no flip, each other core header has one at most, and each area with the 43 area
+/// bits before it has one at most, the frames that are delivered are, in order and each once, exactly those
+/// whose area and the 43 area bits before it have none.
 pub fn noise_law()
     ensures { (noise : Noise) → IsNoise noise → AreSingle noise →
         delivered (fcs_outcomes (received noise)) ≡ untouched noise }

@@ -87,8 +87,8 @@ fn read_draft(alloc: Global, text: &[u8]) -> Result<Draft, NoiseFault>
     Ok(draft)
 }
 
-/// The frames and flips that a text of at most 67,108,864 octets says. Else its first fault: that of the first faulty line. Want of
-/// memory may come in place of any answer.
+/// The frames and flips that a text of at most 67,108,864 octets says. Else its first fault: that of the
+/// first faulty line. Want of memory may come in place of any answer.
 pub fn read_noise(alloc: Global, text: &[u8]) -> Result<Noise, NoiseFault>
     requires { length text.now ≤ longest_input }
     ensures noise { IfOk result (λ noise. noise_of text.now ≡ Ok noise) }

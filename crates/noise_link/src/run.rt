@@ -1,10 +1,8 @@
 //! The stream of frames is received with its flips, and what comes of it is written.
 ghost use Rattle.std.specs.Prelude.{◌≡◌, IfOk, OnOk, OnErr};
 ghost use Rattle.outside_io.specs.Transfer.{Appends, AppendsPart};
-ghost use Rattle.noise_link.specs.declared.draft.Noise.{Noise};
 ghost use Rattle.noise_link.specs.Noise.{IsNoise};
-ghost use Rattle.noise_link.specs.Text.{noise_text};
-ghost use Rattle.noise_link.specs.Run.{Stands};
+ghost use Rattle.noise_link.specs.Text.{received, noise_text};
 
 use crate::draft::Noise;
 use crate::lines::{Counts, END_ROOM, end_line, take_back};
@@ -21,18 +19,15 @@ use std::marker::Model;
 pub struct NoiseRun {
     octets: Vec<u8>,
     receiver: FcsDelineator,
-    frames: u64,
-    flips: u64,
 }
 
 impl Model for NoiseRun {
-    ghost use Rattle.std.specs.Prelude.{[]};
+    ghost use Rattle.std.specs.Prelude.{ℕ, List, []};
     ghost use Rattle.gfp_fcs.specs.Delineator as delineator;
-    ghost use Rattle.noise_link.specs.Run.{Run};
 
-    ghost Value = { Run };
+    ghost Value = { List ℕ };
 
-    ghost view = { λ run. record { octets = run.octets.items; frames = run.frames; flips = run.flips } };
+    ghost view = { λ run. run.octets.items };
 
     ghost invariant = { λ run. delineator.Stands run.receiver [] };
 }
@@ -42,31 +37,26 @@ impl NoiseRun {
     #[tactic(auto, unfolding(crate::specs::Text::received))]
     pub fn new(alloc: Global, noise: &Noise) -> Result<NoiseRun, AllocError>
         requires { IsNoise noise.now }
-        ensures { IfOk result (λ run. Stands run noise.now) }
+        ensures { IfOk result (λ run. run ≡ received noise.now) }
     {
         let mut octets = stream_of(alloc, noise.frames.0.as_slice())?;
         turn_all(octets.as_mut_slice(), noise.flips.0.as_slice());
         Ok(NoiseRun {
             octets,
             receiver: FcsDelineator::new(alloc)?,
-            frames: noise.frames.0.len() as u64,
-            flips: noise.flips.0.len() as u64,
         })
     }
 
-    /// Receives the stream octet by octet, and writes the line of each frame that is delivered, and last the counts. No call takes memory.
-    pub fn write<K: ByteSink>(self, out: &mut K) -> Result<(), Failed>
-        ensures ok { (noise : Noise) → Stands self noise →
-            OnOk result (Appends K.written K.faults out.old out.new (noise_text noise)) }
-        ensures err { (noise : Noise) → Stands self noise →
-            OnErr result (AppendsPart K.written K.faults out.old out.new (noise_text noise)) }
+    /// Receives the stream octet by octet, and writes the line of each frame that is delivered, and last the
+    /// counts. The noise is the one of which the run was made. No call takes memory.
+    pub fn write<K: ByteSink>(self, noise: &Noise, out: &mut K) -> Result<(), Failed>
+        requires { self ≡ received noise.now }
+        ensures ok { OnOk result
+            (Appends K.written K.faults out.old out.new (noise_text noise.now)) }
+        ensures err { OnErr result
+            (AppendsPart K.written K.faults out.old out.new (noise_text noise.now)) }
     {
-        let NoiseRun {
-            octets,
-            receiver,
-            frames,
-            flips,
-        } = self;
+        let NoiseRun { octets, receiver } = self;
         let mut reception = Reception {
             delineator: receiver,
             lines: GotLines::new(out),
@@ -83,8 +73,8 @@ impl NoiseRun {
         let mut line = [0u8; END_ROOM];
         let end = end_line(
             Counts {
-                frames,
-                flips,
+                frames: noise.frames.0.len() as u64,
+                flips: noise.flips.0.len() as u64,
                 got,
                 dropped,
             },

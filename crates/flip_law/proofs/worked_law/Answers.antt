@@ -1,11 +1,13 @@
 -- Worked flips, by the law of flips: its premises and the frames that get through are computed.
-use Rattle.std.proofs.Common.{◌≡◌, ℕ, ◌+◌, ◌-◌, ◌*◌, ◌<◌, ◌≤◌, ◌&&◌, Bool, true, false, List, [], ◌∷◌, ◌++◌, length, take, drop, replicate, All, refl, arith}
+use Rattle.std.proofs.Common.{◌≡◌, ℕ, ◌+◌, ◌-◌, ◌*◌, ◌<◌, ◌≤◌, ◌&&◌, Bool, true, false, List, [], ◌∷◌, ◌++◌, length}
+use Rattle.std.proofs.Common.{take, drop, replicate, All, refl, arith}
 use Rattle.std.specs.Prelude.{nat_le}
 use Rattle.std.proofs.lemmas.Bool.Decides.{nat_tests}
 use Rattle.std.proofs.lemmas.List.{length-append, length-replicate}
 use Rattle.std.proofs.lemmas.List.Elements.{All-replicate}
 use Rattle.remainder.specs.Count.{count}
-use Rattle.flip_law.specs.Flipped.{fcs_stream, IsFrame, area_flips, flips_after, window, AreFew, clear, worked_frames, one_flip}
+use Rattle.flip_law.specs.Flipped.{fcs_stream, IsFrame, area_flips, flips_after, window, AreFew, clear, worked_frames}
+use Rattle.flip_law.specs.Flipped.{one_flip}
 use Rattle.flip_law.proofs.StreamLaws.{sizes, length-fcs_stream, delivered-clear}
 use Rattle.flip_law.proofs.worked_law.Goals as goal
 

@@ -12,7 +12,8 @@ use Rattle.noise_link.proofs.fault_law.Goals as goal
 abbrev no_noise : ℕ × LineFault → Result Noise (ℕ × LineFault)
 no_noise at = Err at
 
-same_fault : (said : Result Draft (ℕ × LineFault)) (at : ℕ × LineFault) → noise_of_draft said ≡ no_noise at → said ≡ Err at
+same_fault : (said : Result Draft (ℕ × LineFault)) (at : ℕ × LineFault) → noise_of_draft said ≡ no_noise at →
+    said ≡ Err at
 same_fault (Ok d) at e = let bad : Ok (noise_in d) ≡ no_noise at = e in absurd cc
 same_fault (Err other) at e = let same : no_noise other ≡ no_noise at = e in cc
 

@@ -1,6 +1,7 @@
 -- The two words are those that the octets say.
 use Rattle.std.proofs.Common.{refl, sym, ◌∙◌}
-use Rattle.gfp_headers.proofs.FcsTypeLaws.{fcs_type_fault-check, fcs_type_fault-field, type_header_only, type_header_checked}
+use Rattle.gfp_headers.proofs.FcsTypeLaws.{fcs_type_fault-check, fcs_type_fault-field, type_header_only}
+use Rattle.gfp_headers.proofs.FcsTypeLaws.{type_header_checked}
 use Rattle.gfp_headers.proofs.type_header.read_type_fcs.Goals as goal
 
 pub returns-then-said-found-clause-value : goal.returns-then-said-found-clause-value
@@ -24,7 +25,8 @@ returns-in-None-clause-value c =
 
 pub returns-in-None-clause-ok : goal.returns-in-None-clause-ok
 returns-in-None-clause-ok c = (
-  λ yes. type_header_only c.args.octets.now c.word-field.result c.word-said.result c.hec-found.result c.told-octets c.fits-octets
+  λ yes. type_header_only c.args.octets.now c.word-field.result c.word-said.result c.hec-found.result c.told-octets
+      c.fits-octets
       c.word-field.ensures c.word-said.ensures c.hec-found.ensures.value c.if-said-found.false
       (sym (c.fault_of_field.ensures.checked refl) ∙ c.in-None.is),
   λ h. refl,

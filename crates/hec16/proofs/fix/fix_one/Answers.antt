@@ -1,5 +1,6 @@
 -- A header is sound as it is, or with one bit turned over; and where none of these is, no word is fixed so.
-use Rattle.std.proofs.Common.{◌≡◌, ◌^◌, ◌/◌, ℕ, Some, IsTrue, true, false, bit_xor, inl, inr, sym, ◌∙◌, ap, subst, arith}
+use Rattle.std.proofs.Common.{◌≡◌, ◌^◌, ◌/◌, ℕ, Some, IsTrue, true, false, bit_xor, inl, inr, sym, ◌∙◌, ap, subst}
+use Rattle.std.proofs.Common.{arith}
 use Rattle.hec16.specs.Fixed.{IsFixed, IsSound}
 use Rattle.hec16.proofs.WordLaws.{fixed_once}
 use Rattle.hec16.proofs.FixLaws.{whole-fixed, turned-fixed, fixed-sound}
@@ -36,7 +37,8 @@ neither : (c : goal.After-loop-place) (right : ℕ) → IsFixed c.args.word c.ar
 neither c right fixed =
     elim (fixed-sound c.args.word c.args.check c.ranges.word.fits c.ranges.check.fits right fixed) [
       | inl sound ↦ (
-          let yes : IsTrue c.is_sound.result = c.is_sound.ensures.1 (subst IsSound (sym c.header_of-header.ensures) sound) in
+          let yes : IsTrue c.is_sound.result =
+                  c.is_sound.ensures.1 (subst IsSound (sym c.header_of-header.ensures) sound) in
           let no : true ≡ false = sym yes ∙ c.if-is_sound.false in
           absurd cc)
       | inr found ↦ c.loop-place.invariant found.0 (omega (arith, found.1, c.loop-place-test.false)) found.2

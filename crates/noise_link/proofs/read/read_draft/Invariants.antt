@@ -1,4 +1,5 @@
--- What the lines read so far say; the rest of the text is read from there. Each of its octets is worth a frame more at most.
+-- What the lines read so far say; the rest of the text is read from there. Each of its octets is worth a frame more at
+-- most.
 use Rattle.std.proofs.Common.{◌≡◌, ◌≤◌, ◌+◌, ◌*◌, length}
 use Rattle.std.specs.Str.Lines.{lines}
 use Rattle.text_lines.specs.Language.{said_from, said_by}
