@@ -1,7 +1,7 @@
 -- What comes of an area, by its size and its FCS, and by how it ended.
-use Rattle.std.proofs.Common.{◌≡◌, ◌≢◌, ℕ, ◌+◌, ◌-◌, ◌^◌, ◌<◌, ◌≤◌, Bool, true, false, List, [], ◌∷◌, ◌++◌, length, map}
-use Rattle.std.proofs.Common.{take, drop, Option, Some, inl, inr, refl, sym, ◌∙◌, ap, ap₂, subst, arith, w32, mod-eq_of_lt}
-use Rattle.std.proofs.Common.{length-drop, length-take}
+use Rattle.std.proofs.Common.{◌≡◌, ◌≢◌, ℕ, ◌-◌, ◌^◌, ◌<◌, ◌≤◌, Bool, true, false, List, ◌++◌, length, map}
+use Rattle.std.proofs.Common.{take, drop, Some, inl, inr, refl, sym, ◌∙◌, ap, ap₂, subst, arith, w32}
+use Rattle.std.proofs.Common.{mod-eq_of_lt, length-drop, length-take}
 use Rattle.std.specs.Prelude.{nat_lt, if◌then◌else◌, ◌↔◌, IsTrue, IfSome}
 use Rattle.std.specs.Option.{option_to_list}
 use Rattle.std.specs.Int.{to_be_bytes}

@@ -1,5 +1,5 @@
 -- What a receiver of frames with an FCS knows of the octets of a stream that have come.
-use Rattle.std.specs.Prelude.{◌≡◌, ℕ, ◌-◌, ◌&&◌, nat_le, Bool, true, List, [], ◌∷◌, length, map, take, drop, Option}
+use Rattle.std.specs.Prelude.{ℕ, ◌-◌, ◌&&◌, nat_le, Bool, true, List, [], ◌∷◌, length, map, take, drop, Option}
 use Rattle.std.specs.Prelude.{Some, None, if◌then◌else◌}
 use Rattle.std.specs.Option.{option_to_list}
 use Rattle.session_model.specs.Core.{head}

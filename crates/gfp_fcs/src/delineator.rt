@@ -6,7 +6,8 @@ ghost use Rattle.std.specs.Int.{to_be_bytes, w32};
 ghost use Rattle.session_model.specs.Limits.{longest_frame};
 ghost use Rattle.gfp_delineate.specs.Areas.{ends_told};
 ghost use Rattle.fcs_model.specs.Fcs.{fcs_type_fault, by_size, by_type};
-ghost use Rattle.gfp_fcs.specs.Delineator.{Stands, fcs_outcomes, frame_of, info_of, outcomes_told, told_fcs, fcs_of_end};
+ghost use Rattle.gfp_fcs.specs.Delineator.{Stands, fcs_outcomes, frame_of, info_of, outcomes_told, told_fcs};
+ghost use Rattle.gfp_fcs.specs.Delineator.{fcs_of_end};
 
 use crate::check::fcs;
 use fcs_model::FcsWhy;

@@ -1,7 +1,7 @@
-//! Client frames with a frame check sequence (FCS) behind them, as a stream with noise has them: the FCS as a
-//! number, the encoder that writes their stream, and the receiver, which corrects core headers with one wrong
-//! bit. What a frame is on the stream, and what comes of one, stands in fcs_model's `specs/Fcs.antt`; which
-//! frames get through flipped bits, in `flip_law`. Begin with `FcsEncoder` and `FcsDelineator`.
+//! Client frames with a frame check sequence (FCS) behind them, as a stream with noise has them: the FCS as a number,
+//! the encoder that writes their stream, and the receiver, which corrects core headers with one wrong bit. What a frame
+//! is on the stream, and what comes of one, stands in fcs_model's `specs/Fcs.antt`; which frames get through flipped
+//! bits, in `flip_law`. Begin with `FcsEncoder` and `FcsDelineator`.
 #![tactic(auto)]
 
 mod check;

@@ -1,6 +1,6 @@
-use Rattle.std.proofs.Common.{◌-◌, [], take, true, ℕ, List, refl, sym, ◌∙◌, subst}
+use Rattle.std.proofs.Common.{◌-◌, [], take, true, refl, sym, ◌∙◌, subst}
 use Rattle.std.proofs.lemmas.List.{append-nil}
-use Rattle.gfp_delineate.specs.Areas.{IsAt, ends_told}
+use Rattle.gfp_delineate.specs.Areas.{ends_told}
 use Rattle.gfp_fcs.specs.Delineator.{FcsReceiver, Stands, fcs_outcomes, told_fcs}
 use Rattle.gfp_fcs.proofs.AreaLaws.{outcomes-ends, told-ends, short-ends}
 use Rattle.gfp_fcs.proofs.delineator.FcsDelineator.feed.Goals as goal
@@ -17,7 +17,8 @@ returns-clause-outcome c = λ octets stands.
     (take c.feed-taken.result.0 c.args.piece.now)
     (ends_told c.feed-taken.new.self.area c.feed-taken.result.1) (told_fcs now c.step_of-step.result)
     (told-ends c.feed-taken.new.self c.is_frame-self-inside.result c.feed-taken.result.1 c.step_of-step.result
-    c.area.result.now c.is_frame-self-inside.ensures c.area.ensures c.step_of-step.ensures.outcome c.step_of-step.ensures.room)
+    c.area.result.now c.is_frame-self-inside.ensures c.area.ensures c.step_of-step.ensures.outcome
+    c.step_of-step.ensures.room)
     c.feed-taken.ensures.outcome
     (subst (λ (was : FcsReceiver). Stands was octets) (sym c.self.view_is) stands)
 
