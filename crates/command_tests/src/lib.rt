@@ -8,6 +8,7 @@ mod door;
 #[cfg(test)]
 mod group;
 #[cfg(test)]
+mod noise;
 mod pointers;
 #[cfg(test)]
 mod rows;

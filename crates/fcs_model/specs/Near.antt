@@ -1,14 +1,10 @@
 -- The core header from which four octets differ in at most one bit.
-use Rattle.std.specs.Prelude.{◌≡◌, ℕ, zero, suc, ◌-◌, ◌^◌, ◌<◌, ◌≤◌, length, drop, true, false, Bool, List, ◌∷◌, ◌++◌}
-use Rattle.std.specs.Prelude.{replicate, Option, Some, None}
+use Rattle.std.specs.Prelude.{◌≡◌, ℕ, zero, suc, ◌≤◌, length, drop, Bool, List, Option, Some, None}
 use Rattle.remainder.specs.Bits.{bits, number, octet_bits, xors}
-use Rattle.hec16.specs.Hec.{hec_bits}
+use Rattle.hec16.specs.Fixed.{bit_at}
 use Rattle.session_model.specs.Core.{core_header, IsPli, head}
-use Rattle.fcs_model.specs.Flips.{count, flipped}
-
--- one bit of 32
-abbrev pub bit_at : ℕ → List Bool
-bit_at place = replicate place false ++ true ∷ replicate (31 - place) false
+use Rattle.remainder.specs.Count.{count}
+use Rattle.fcs_model.specs.Flips.{flipped}
 
 abbrev pub or_else : Option ℕ → Option ℕ → Option ℕ
 or_else None other = other
@@ -30,11 +26,6 @@ pub record IsNear (octets : List ℕ) (pli : ℕ) : Type 0 where
   pub size : length flips ≡ 32
   pub few : count flips ≤ 1
   pub is : octets ≡ flipped flips (core_header pli)
-
--- a word that, with its check behind it, differs from a word and what is behind it in at most one bit
-pub record IsFixed (word check right : ℕ) : Type 0 where
-  pub fits : right < 2 ^ 16
-  pub few : count (xors (bits 16 right ++ hec_bits right) (bits 16 word ++ bits 16 check)) ≤ 1
 
 -- the check that four octets have if they are a core header
 unfoldable pub check_of : List ℕ → ℕ

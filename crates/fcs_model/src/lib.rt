@@ -17,3 +17,11 @@ pub enum FcsWhy {
     Short { pli: u16 },
     Fcs { said: u32, found: u32 },
 }
+
+/// A bit that is turned over on the way: `place` is that of its octet, counted from 0, and `bit` its place in
+/// the octet, 0 for the most significant one.
+#[derive(Clone, Copy, Debug, PartialEq, Eq)]
+pub struct Flip {
+    pub place: u64,
+    pub bit: u8,
+}

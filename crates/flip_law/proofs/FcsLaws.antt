@@ -14,7 +14,8 @@ use Rattle.remainder.specs.Remainder.{divide, remainder}
 use Rattle.remainder.proofs.XorLaws.{xors-self, xors_twice}
 use Rattle.remainder.proofs.RemainderLaws.{length-remainder, divide_behind}
 use Rattle.remainder.proofs.OctetLaws.{length-octet_bits, octets_of_below}
-use Rattle.fcs_model.specs.Flips.{count, flipped}
+use Rattle.remainder.specs.Count.{count}
+use Rattle.fcs_model.specs.Flips.{flipped}
 use Rattle.crc32.specs.Crc32.{crc32, check_bits, fcs_of}
 use Rattle.crc32.proofs.CheckLaws.{length-crc32, length-check_bits, check_bits-xors, octet_bits-fcs_of, length-fcs_of}
 use Rattle.fcs_model.specs.declared.FcsWhy.TheVariants.{Header}
@@ -22,7 +23,7 @@ use Rattle.fcs_model.specs.Fcs.{fcs_header, fcs_area, FcsOutcome, delivery, drop
 use Rattle.fcs_model.specs.Fcs.{fcs_outcome, frame_in}
 use Rattle.flip_law.specs.Single.{IsOneOrTwo, one, two}
 use Rattle.flip_law.specs.Flipped.{IsFrame}
-use Rattle.flip_law.proofs.CountLaws.{count-zeros}
+use Rattle.remainder.proofs.CountLaws.{count-zeros}
 use Rattle.flip_law.proofs.FlippedLaws.{length-flipped, flipped_below, octet_bits-flipped, flipped-append}
 use Rattle.flip_law.proofs.TypeLaws.{fcs_header_right, fcs_type_fault-right}
 use Rattle.session_model.specs.declared.TypeFault.{TypeFault}

@@ -3,7 +3,7 @@ use Rattle.std.proofs.Common.{◌≡◌, ℕ, ◌*◌, ◌<◌, Bool, false, Lis
 use Rattle.std.proofs.Common.{le_of_eq}
 use Rattle.std.proofs.lemmas.List.{length-append}
 use Rattle.remainder.specs.Bits.{octet_bits, octets_of, xors}
-use Rattle.remainder.proofs.XorLaws.{length_xors, xors_comm, xors_assoc, xors-zeros_right, xors-append}
+use Rattle.remainder.proofs.XorLaws.{length_xors, xors_assoc, xors-zeros_right, xors-append}
 use Rattle.remainder.proofs.OctetLaws.{octet_bits-append, length-octet_bits, length-octets_of, octets_of_below}
 use Rattle.remainder.proofs.OctetLaws.{octets_of-octet_bits, octet_bits-octets_of, octets_of-append}
 use Rattle.fcs_model.specs.Flips.{flipped}
@@ -45,10 +45,3 @@ pub flipped_twice : (first second : List Bool) (octets : List ℕ) → length fi
 flipped_twice first second octets e =
     ap₂ octets_of (length-flipped first octets)
     (ap (λ l. xors l second) (octet_bits-flipped first octets e) ∙ xors_assoc (octet_bits octets) first second)
-
--- exclusive or of four lists in another order
-pub xors_medial : (a b c d : List Bool) → xors (xors a b) (xors c d) ≡ xors (xors a c) (xors b d)
-xors_medial a b c d =
-    xors_assoc a b (xors c d)
-    ∙ ap (xors a) (sym (xors_assoc b c d) ∙ ap (λ l. xors l d) (xors_comm b c) ∙ xors_assoc c b d)
-    ∙ sym (xors_assoc a c (xors b d))

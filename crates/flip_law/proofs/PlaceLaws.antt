@@ -13,7 +13,8 @@ use Rattle.remainder.proofs.XorLaws.{length_xors}
 use Rattle.remainder.proofs.BitLaws.{bits-xor}
 use Rattle.remainder.proofs.OctetLaws.{octets_of-octet_bits}
 use Rattle.fcs_model.specs.Flips.{flipped}
-use Rattle.flip_law.specs.Places.{Flip, at, LiesIn, IsRising, turned, one_of, flips_of}
+use Rattle.fcs_model.specs.declared.Flip.{Flip}
+use Rattle.flip_law.specs.Places.{at, LiesIn, IsRising, turned, one_of, flips_of}
 use Rattle.flip_law.proofs.FlippedLaws.{length-flipped, flipped_below, flipped-none, flipped-append, flipped_twice}
 
 -- ---- one octet

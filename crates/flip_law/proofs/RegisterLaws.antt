@@ -9,11 +9,11 @@ use Rattle.remainder.specs.Remainder.{add_front, divide}
 use Rattle.remainder.proofs.XorLaws.{xors-append}
 use Rattle.remainder.proofs.DivisionLaws.{length-add_front, add_front-append, divide-zeros, divide-add, divide-append}
 use Rattle.remainder.proofs.DivisionLaws.{length-divide}
-use Rattle.fcs_model.specs.Flips.{count}
+use Rattle.remainder.specs.Count.{count}
 use Rattle.crc32.specs.Crc32.{crc32}
 use Rattle.crc32.proofs.CheckLaws.{length-crc32}
 use Rattle.flip_law.specs.Single.{IsOneOrTwo, one, two}
-use Rattle.flip_law.proofs.CountLaws.{count-append}
+use Rattle.remainder.proofs.CountLaws.{count-append}
 
 -- ---- a register with zeros behind it
 add_front_all : (front p : List Bool) → length front ≡ length p → add_front front p ≡ xors front p

@@ -23,15 +23,17 @@ use Rattle.session_model.proofs.AreaLaws.{descrambled_behind-single}
 use Rattle.gfp_delineate.proofs.HuntLaws.{header-window, search-confirmed}
 use Rattle.gfp_delineate.proofs.RunLaws.{follow-few, follow-whole, delineate_from, delineate-open}
 use Rattle.gfp_delineate.proofs.FrontLaws.{header_at-core}
-use Rattle.fcs_model.specs.Flips.{count, flipped}
+use Rattle.remainder.specs.Count.{count}
+use Rattle.fcs_model.specs.Flips.{flipped}
 use Rattle.fcs_model.specs.Near.{near}
 use Rattle.fcs_model.specs.Fcs.{fcs_area, fcs_outcome, frame_in}
 use Rattle.flip_law.specs.Flipped.{fcs_stream, IsFrame, fcs_delivered, area_size, area_flips, flips_after, window}
 use Rattle.flip_law.specs.Flipped.{AreFew, clear}
-use Rattle.flip_law.proofs.CountLaws.{count-zeros, none_or_one}
+use Rattle.remainder.proofs.CountLaws.{count-zeros, none_or_one}
 use Rattle.flip_law.proofs.FlippedLaws.{length-flipped, octet_bits-flipped, flipped-none, flipped-append}
 use Rattle.flip_law.proofs.PlaceLaws.{length-flips_of, turned-flipped}
-use Rattle.flip_law.specs.Places.{Flip, LiesIn, turned, flips_of}
+use Rattle.fcs_model.specs.declared.Flip.{Flip}
+use Rattle.flip_law.specs.Places.{LiesIn, turned, flips_of}
 use Rattle.std.specs.List.{fold}
 use Rattle.flip_law.proofs.NearLaws.{near-flipped}
 use Rattle.flip_law.proofs.WindowLaws.{descrambled-xors, left_in-area_none, left_in-area_one}

@@ -9,11 +9,11 @@ use Rattle.remainder.specs.Bits.{xors}
 use Rattle.remainder.proofs.XorLaws.{xors-zeros, xors-zeros_right, xors-append}
 use Rattle.session_model.specs.Scramble.{descrambled}
 use Rattle.session_model.proofs.ScrambleLaws.{xors-longer, descramble-append, length-descrambled}
-use Rattle.fcs_model.specs.Flips.{count}
+use Rattle.remainder.specs.Count.{count}
 use Rattle.flip_law.specs.Flipped.{window}
 use Rattle.flip_law.specs.Single.{IsOneOrTwo, one, two}
-use Rattle.flip_law.proofs.CountLaws.{OneAt, count_none, count_one}
-use Rattle.flip_law.proofs.FlippedLaws.{xors_medial}
+use Rattle.remainder.proofs.CountLaws.{OneAt, count_none, count_one}
+use Rattle.remainder.proofs.MedialLaws.{xors_medial}
 
 -- ---- descrambling is linear
 zeros_twice : (n : ℕ) → xors (replicate n false) (replicate n false) ≡ replicate n false

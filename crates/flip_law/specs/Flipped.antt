@@ -5,7 +5,7 @@ use Rattle.std.specs.List.{flat_map}
 use Rattle.session_model.specs.Core.{head}
 use Rattle.session_model.specs.Piece.{with_header, scrambled_areas}
 use Rattle.session_model.specs.Outcome.{outcomes_with}
-use Rattle.fcs_model.specs.Flips.{count}
+use Rattle.remainder.specs.Count.{count}
 use Rattle.fcs_model.specs.Near.{near}
 use Rattle.fcs_model.specs.Fcs.{fcs_area, fcs_outcome, frame_in}
 

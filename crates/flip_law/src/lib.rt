@@ -6,10 +6,13 @@
 ghost use Rattle.std.specs.Prelude.{◌∷◌, ◌==◌, slice_index_or, ◌≡◌, ◌≢◌, ◌↔◌, ◌<◌, ℕ, ◌+◌, ◌*◌, ◌≤◌, ◌++◌, Bool, false};
 ghost use Rattle.std.specs.Prelude.{List, [], true, length, take, drop, replicate, All, Option, Some, None};
 ghost use Rattle.session_model.specs.Core.{core_header, IsPli, pli_of};
-ghost use Rattle.fcs_model.specs.Flips.{count, flipped};
+ghost use Rattle.remainder.specs.Count.{count};
+ghost use Rattle.fcs_model.specs.Flips.{flipped};
 ghost use Rattle.std.specs.List.{fold, list_any};
-ghost use Rattle.flip_law.specs.Places.{Flip, at, LiesIn, IsRising, turned, flips_of};
-ghost use Rattle.fcs_model.specs.Near.{near, IsNear, IsFixed, check_of};
+ghost use Rattle.fcs_model.specs.declared.Flip.{Flip};
+ghost use Rattle.flip_law.specs.Places.{at, LiesIn, IsRising, turned, flips_of};
+ghost use Rattle.hec16.specs.Fixed.{IsFixed};
+ghost use Rattle.fcs_model.specs.Near.{near, IsNear, check_of};
 ghost use Rattle.crc32.specs.Crc32.{fcs_of};
 ghost use Rattle.fcs_model.specs.Fcs.{fcs_header, fcs_type_fault, fcs_area, delivery, fcs_outcome, frame_in};
 ghost use Rattle.flip_law.specs.Single.{IsOneOrTwo};

@@ -52,7 +52,8 @@ pub enum Phase {
     SyncPassing { left: u16, why: AreaWhy },
 }
 
-/// Finds the areas in a stream, whatever is in them. The public receivers of frames stand on it.
+/// Finds the payload areas in a stream, whatever is in them: what an area is, a receiver of frames judges. It keeps one
+/// area at a time.
 #[derive(Drop)]
 pub struct AreaReceiver {
     /// The most octets of an area that is kept.
@@ -115,6 +116,7 @@ impl AreaReceiver {
 
     /// Takes octets as `byte` does, up to and including the first at which it answers other than `Nothing`,
     /// or all of them. The answer is their number, and that step or `Nothing`.
+    #[inline]
     pub fn feed(&mut self, piece: &[u8]) -> (usize, AreaStep)
         ensures within { result.0 ≤ length piece.now }
         ensures some { 0 < length piece.now → 0 < result.0 }

@@ -4,6 +4,9 @@
 //! why the stream breaks. `Delineator` is the place to begin: `feed` and `byte` take octets, `frame` is the
 //! frame that they completed, and `broken` begins a new segment. `delivery_law` says what comes of a stream
 //! that is taken from its start.
+//!
+//! Below it `AreaReceiver` finds the payload areas, whatever is in them, and may correct headers in SYNC. Receivers
+//! of other kinds of frames stand on it too.
 #![tactic(auto)]
 
 ghost use Rattle.std.specs.Prelude.{◌≡◌, ◌≢◌, ℕ, ◌+◌, ◌-◌, ◌<◌, ◌≤◌, ◌↔◌, Bool, true, false, List, [], ◌∷◌, ◌++◌};

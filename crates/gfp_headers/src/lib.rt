@@ -1,6 +1,7 @@
 //! The core header and the type header of a GFP frame (G.7041): written, and read with what is wrong with
-//! them. Neither corrects a header, and neither scrambles. Begin with `core_bytes` and `read_core`; what a
-//! header is stands in session_model's `specs/Core.antt` and `specs/TypeHeader.antt`.
+//! them; the type header also as a frame with an FCS has it. Nothing here corrects a header, and nothing scrambles.
+//! Begin with `core_bytes` and `read_core`; what a header is stands in session_model's `specs/Core.antt` and
+//! `specs/TypeHeader.antt`, and that of a frame with an FCS in fcs_model's `specs/Fcs.antt`.
 #![tactic(auto)]
 
 mod header;
@@ -8,4 +9,4 @@ mod type_header;
 
 pub use header::{core_bytes, read_core};
 pub use session_model::TypeFault;
-pub use type_header::{read_type, type_bytes};
+pub use type_header::{read_type, read_type_fcs, type_bytes, type_bytes_fcs};

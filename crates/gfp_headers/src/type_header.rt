@@ -3,6 +3,7 @@
 ghost use Rattle.std.specs.Prelude.{◌≡◌, ◌≢◌, ◌↔◌, ℕ, ◌+◌, ◌*◌, MatchOption, IsOk};
 ghost use Rattle.hec16.specs.Hec.{hec_of};
 ghost use Rattle.session_model.specs.TypeHeader.{type_header, type_field, type_check, field_fault, type_fault};
+ghost use Rattle.fcs_model.specs.Fcs.{fcs_header, fcs_field_fault, fcs_type_fault};
 
 use hec16::hec;
 use session_model::TypeFault;
@@ -33,7 +34,39 @@ pub fn read_type(octets: &[u8; 4]) -> Result<(), TypeFault>
     if said != found {
         return Err(TypeFault::Check { said, found });
     }
-    match fault_of_field(field) {
+    match fault_of_field(field, 0) {
+        None => Ok(()),
+        Some(fault) => Err(fault),
+    }
+}
+
+/// The type header of an Ethernet frame with an FCS behind it, as it is before scrambling.
+#[inline]
+pub fn type_bytes_fcs() -> [u8; 4]
+    ensures { result ≡ fcs_header }
+{
+    [0x10, 0x01, 0x13, 0x52]
+}
+
+/// Whether these octets are the type header of an Ethernet frame with an FCS behind it, and what is wrong with them
+/// where they are not: the check (tHEC), or else the first field that differs. `PayloadFcs` says that there is no FCS.
+#[inline]
+pub fn read_type_fcs(octets: &[u8; 4]) -> Result<(), TypeFault>
+    ensures value { MatchOption (fcs_type_fault octets.now) (result ≡ Ok tt)
+        (λ fault. result ≡ Err fault) }
+    ensures check { (said found : ℕ) → (result ≡ Err (TypeFault.Check said found)) ↔
+        ((said ≡ type_check octets.now) × (found ≡ hec_of (type_field octets.now))
+        × (said ≢ found)) }
+    ensures ok { IsOk result ↔ (octets.now ≡ fcs_header) }
+{
+    let [a, b, c, d] = *octets;
+    let field = word(a, b);
+    let said = word(c, d);
+    let found = hec(field);
+    if said != found {
+        return Err(TypeFault::Check { said, found });
+    }
+    match fault_of_field(field, 1) {
         None => Ok(()),
         Some(fault) => Err(fault),
     }
@@ -47,16 +80,18 @@ fn word(upper: u8, lower: u8) -> u16
     u16::from_be_bytes([upper, lower])
 }
 
-// The first field of a type field (PTI, PFI, EXI, UPI) that is not that of an Ethernet frame.
-fn fault_of_field(field: u16) -> Option<TypeFault>
-    ensures { result ≡ field_fault field }
+// The first field of a type field (PTI, PFI, EXI, UPI) that is not that of an Ethernet frame with this PFI.
+#[inline]
+fn fault_of_field(field: u16, pfi: u16) -> Option<TypeFault>
+    ensures plain { pfi ≡ 0 → result ≡ field_fault field }
+    ensures checked { pfi ≡ 1 → result ≡ fcs_field_fault field }
 {
     let pti = (field >> 13) as u8;
     let exi = ((field >> 8) % 16) as u8;
     let upi = (field % 256) as u8;
     if pti != 0 {
         Some(TypeFault::NotClient { pti })
-    } else if (field >> 12) % 2 != 0 {
+    } else if (field >> 12) % 2 != pfi {
         Some(TypeFault::PayloadFcs)
     } else if exi != 0 {
         Some(TypeFault::Extension { exi })
@@ -97,6 +132,28 @@ mod tests {
         ];
         for (octets, fault) in faults {
             assert_eq!(rt; read_type(&octets), Err(fault));
+        }
+    }
+
+    #[test]
+    fn type_headers_with_fcs(rt: HostRuntime) {
+        assert_eq!(rt; read_type_fcs(&type_bytes_fcs()), Ok(()));
+        let faults = [
+            ([0x30, 0x01, 0x15, 0xb4], TypeFault::NotClient { pti: 1 }),
+            ([0x11, 0x01, 0x20, 0x63], TypeFault::Extension { exi: 1 }),
+            ([0x10, 0x02, 0x23, 0x31], TypeFault::NotEthernet { upi: 2 }),
+            (
+                [0x10, 0x01, 0x13, 0x53],
+                TypeFault::Check {
+                    said: 0x1353,
+                    found: 0x1352,
+                },
+            ),
+            ([0x00, 0x01, 0x10, 0x21], TypeFault::PayloadFcs),
+            ([0xff, 0xff, 0x1d, 0x0f], TypeFault::NotClient { pti: 7 }),
+        ];
+        for (octets, fault) in faults {
+            assert_eq!(rt; read_type_fcs(&octets), Err(fault));
         }
     }
 }

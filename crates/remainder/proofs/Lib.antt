@@ -4,3 +4,5 @@ pub mod RemainderLaws
 pub mod BitLaws
 pub mod OctetLaws
 pub mod TableLaws
+pub mod CountLaws
+pub mod MedialLaws

@@ -1,3 +1,4 @@
 pub mod Bits
 pub mod Remainder
 pub mod Table
+pub mod Count

@@ -15,13 +15,14 @@ use Rattle.command_parts.specs.Status.{HasRunAt}
 use Rattle.command_parts.specs.declared.stop.Stop.TheVariants.{Memory}
 use Rattle.command_parts.proofs.StopLaws.{made-beside, ends-no-memory}
 use Rattle.walk_command.specs.declared.command.WalkCommand.{WalkCommand}
-use Rattle.walk_command.specs.declared.command.WalkCommand.TheVariants.{Walk, Trace, Fates, Capture, Frames, Decode, Au4, Make, Stream}
+use Rattle.walk_command.specs.declared.command.WalkCommand.TheVariants.{Walk, Trace, Fates, Capture, Frames, Decode, Noise, Au4, Make, Stream}
 use Rattle.walk_command.specs.Walk.{word_at, is_word, walk_words}
 use Rattle.walk_command.specs.Trace.{trace_words}
 use Rattle.walk_command.specs.Fates.{fates_words}
 use Rattle.walk_command.specs.Capture.{capture_words}
 use Rattle.walk_command.specs.Frames.{frames_words}
 use Rattle.walk_command.specs.Decode.{decode_words}
+use Rattle.walk_command.specs.Noise.{noise_words}
 use Rattle.walk_command.specs.Au4.{au4_words}
 use Rattle.walk_command.specs.Make.{load_of, make_words}
 use Rattle.walk_command.specs.Stream.{ticks_of, rate_of, numbers_in, stream_words}
@@ -36,6 +37,7 @@ Fits Fates = Unit {0}
 Fits Capture = Unit {0}
 Fits Frames = Unit {0}
 Fits Decode = Unit {0}
+Fits Noise = Unit {0}
 Fits Au4 = Unit {0}
 Fits (Make number lines ticks) = IsWithin 1 64 lines × IsWithin 1 1000000 ticks
 Fits (Stream load) = IsRateLoad load
@@ -101,6 +103,9 @@ capture-fits words = if-fits (is_word (codes "capture") words) (Some Capture) tt
 frames-fits : (words : List (List ℕ)) → IfSome (frames_words words) Fits
 frames-fits words = if-fits (is_word (codes "frames") words) (Some Frames) tt
 
+noise-fits : (words : List (List ℕ)) → IfSome (noise_words words) Fits
+noise-fits words = if-fits (is_word (codes "noise") words) (Some Noise) tt
+
 au4-fits : (words : List (List ℕ)) → IfSome (au4_words words) Fits
 au4-fits words = if-fits (is_word (codes "au4") words) (Some Au4) tt
 
@@ -138,18 +143,20 @@ named-fits words =
     let captures = option_or fates (capture_words words) in
     let frames = option_or captures (frames_words words) in
     let decodes = option_or frames (decode_words words) in
-    let links = option_or decodes (au4_words words) in
+    let noises = option_or decodes (noise_words words) in
+    let links = option_or noises (au4_words words) in
     let makes = option_or links (make_words words) in
     or-fits makes (stream_words words)
     (or-fits links (make_words words)
-    (or-fits decodes (au4_words words)
+    (or-fits noises (au4_words words)
+    (or-fits decodes (noise_words words)
     (or-fits frames (decode_words words)
     (or-fits captures (frames_words words)
     (or-fits fates (capture_words words)
     (or-fits traces (fates_words words)
     (or-fits walks (trace_words words) (walk-fits words) (trace-fits words)) (fates-fits words)) (capture-fits words))
     (frames-fits words))
-    (decode-fits words)) (au4-fits words)) (make-fits words)) (stream-fits words)
+    (decode-fits words)) (noise-fits words)) (au4-fits words)) (make-fits words)) (stream-fits words)
 
 pub fits : (words : List (String Global)) (command : WalkCommand) → command_in words ≡ Some command → Fits command
 fits words command is =
@@ -177,6 +184,7 @@ is-command (Some Fates) some = tt
 is-command (Some Capture) some = tt
 is-command (Some Frames) some = tt
 is-command (Some Decode) some = tt
+is-command (Some Noise) some = tt
 is-command (Some Au4) some = tt
 is-command (Some (Make number lines ticks)) some = tt
 is-command (Some (Stream load)) some = tt

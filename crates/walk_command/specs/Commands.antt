@@ -8,30 +8,32 @@ use Rattle.command_parts.specs.Task.{Task, none, reads, makes}
 use Rattle.command_parts.specs.Ends.{Lent}
 use Rattle.walk_core.specs.Moved.{Walked}
 use Rattle.walk_command.specs.declared.command.WalkCommand.{WalkCommand}
-use Rattle.walk_command.specs.declared.command.WalkCommand.TheVariants.{Walk, Trace, Fates, Capture, Frames, Decode, Au4, Make, Stream}
+use Rattle.walk_command.specs.declared.command.WalkCommand.TheVariants.{Walk, Trace, Fates, Capture, Frames, Decode, Noise, Au4, Make, Stream}
 use Rattle.walk_command.specs.Walk.{walk_words, walk_answer}
 use Rattle.walk_command.specs.Trace.{trace_words, trace_answer}
 use Rattle.walk_command.specs.Capture.{capture_words, capture_answer}
 use Rattle.walk_command.specs.Frames.{frames_words, frames_answer}
 use Rattle.walk_command.specs.Fates.{fates_words, fates_answer}
 use Rattle.walk_command.specs.Decode.{decode_words, decode_answer}
+use Rattle.walk_command.specs.Noise.{noise_words, noise_answer}
 use Rattle.walk_command.specs.Au4.{au4_words, au4_answer}
 use Rattle.walk_command.specs.Make.{make_words, make_answer}
 use Rattle.walk_command.specs.Stream.{stream_words, stream_answer}
 use Rattle.walk_command.specs.Ended.{IsWalkOf, HandsScript}
 
 abbrev pub usage : List ℕ
-usage = codes "usage: vcat_walk walk, trace, fates, capture, frames, decode, au4, make NUMBER LINES TICKS, or stream OCTETS MBITS FIRST END NUMBER\n"
+usage = codes "usage: vcat_walk walk, trace, fates, capture, frames, decode, noise, au4, make NUMBER LINES TICKS, or stream OCTETS MBITS FIRST END NUMBER\n"
 
 -- ---- a line for each command
 abbrev pub command_of : List (List ℕ) → Option WalkCommand
 command_of words =
-    option_or (option_or (option_or (option_or (option_or (option_or (option_or (option_or (walk_words words)
+    option_or (option_or (option_or (option_or (option_or (option_or (option_or (option_or (option_or (walk_words words)
     (trace_words words))
     (fates_words words))
     (capture_words words))
     (frames_words words))
     (decode_words words))
+    (noise_words words))
     (au4_words words))
     (make_words words))
     (stream_words words)
@@ -43,6 +45,7 @@ task_at Fates = reads fates_answer
 task_at Capture = reads capture_answer
 task_at Frames = reads frames_answer
 task_at Decode = reads decode_answer
+task_at Noise = reads noise_answer
 task_at Au4 = reads au4_answer
 task_at (Make number lines ticks) = makes (make_answer number lines ticks)
 task_at (Stream load) = makes (stream_answer load)
@@ -54,6 +57,7 @@ HandsBack source walk Fates = HandsScript source walk
 HandsBack source walk Capture = HandsScript source walk
 HandsBack source walk Frames = walk ≡ None
 HandsBack source walk Decode = walk ≡ None
+HandsBack source walk Noise = walk ≡ None
 HandsBack source walk Au4 = walk ≡ None
 HandsBack source walk (Make number lines ticks) = IsWalkOf (load number lines ticks) walk
 HandsBack source walk (Stream rate) = walk ≡ None
@@ -66,6 +70,7 @@ RunsScript Fates = ⊥
 RunsScript Capture = ⊥
 RunsScript Frames = ⊥
 RunsScript Decode = ⊥
+RunsScript Noise = ⊥
 RunsScript Au4 = ⊥
 RunsScript (Make number lines ticks) = ⊥
 RunsScript (Stream rate) = ⊥

@@ -5,6 +5,7 @@ pub mod Fates
 pub mod Capture
 pub mod Frames
 pub mod Decode
+pub mod Noise
 pub mod Au4
 pub mod Make
 pub mod Stream

@@ -1,6 +1,6 @@
 //! The commands of the program, a line for each.
 
-use crate::{au4, capture, decode, fates, frames, make, stream, trace, walk};
+use crate::{au4, capture, decode, fates, frames, make, noise, stream, trace, walk};
 use cmd_words::FromWords;
 use rate_load::RateLoad;
 
@@ -19,6 +19,8 @@ pub enum WalkCommand {
     Frames,
     /// `decode`: write the control packets in H4 octets.
     Decode,
+    /// `noise`: send frames with an FCS, and write those that get through with bits turned over.
+    Noise,
     /// `au4`: carry numbered VC-4s over a link of AU-4 frames.
     Au4,
     /// `make`: make the walk of the load of a number, of 1 to 64 lines and 1 to 1,000,000 ticks.
@@ -39,6 +41,7 @@ impl FromWords for WalkCommand {
             .or(capture::words(words))
             .or(frames::words(words))
             .or(decode::words(words))
+            .or(noise::words(words))
             .or(au4::words(words))
             .or(make::words(words))
             .or(stream::words(words))

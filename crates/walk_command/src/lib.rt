@@ -1,5 +1,5 @@
 //! The program `vcat_walk` as a call: it runs the scripts and loads of a group on one thread, writes and reads captures, decodes
-//! the control packets of a line, carries VC-4s over a link of AU-4 frames, and writes the lines of a client at a rate.
+//! the control packets of a line, turns over bits of a stream of frames with FCS, carries VC-4s over a link of AU-4 frames, and writes the lines of a client at a rate.
 //! The program itself only makes its input and outputs and hands them over. Each command has a room: a module here for its words and its
 //! run, and one of specs/ for what it means. Begin with `walk_top`.
 #![tactic(auto)]
@@ -15,6 +15,7 @@ mod fates;
 mod frames;
 mod hex_lines;
 mod make;
+mod noise;
 mod ready;
 mod stream;
 mod top;

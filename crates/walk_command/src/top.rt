@@ -14,6 +14,7 @@ use crate::end::{WalkEnd, stopped};
 use crate::fates::fates;
 use crate::frames::frames;
 use crate::make::make;
+use crate::noise::noise;
 use crate::stream::stream;
 use crate::trace::trace;
 use crate::walk::walk;
@@ -27,7 +28,8 @@ use std::alloc::Global;
 /// these. `trace` does the same, and writes a line for each decision step of the source on `notes`. `make` runs the load of a number and
 /// writes three lines. `fates` makes the walk of a script and writes what became of each of its frames. `capture` makes the walk of a script and writes a capture of the frames that it delivers. `frames` reads a capture
 /// and writes the line of a script for each frame in it. `decode` reads the H4 octets of a line in hexadecimal digits and writes the control
-/// packets in them. `au4` reads what the pointers of AU-4 frames do, and writes a line of each numbered VC-4 that comes whole over them, and
+/// packets in them. `noise` reads frames and flips, and writes the frames with an FCS that get through when these bits of their stream are
+/// turned over, and the counts. `au4` reads what the pointers of AU-4 frames do, and writes a line of each numbered VC-4 that comes whole over them, and
 /// the counts. `stream` writes the script lines of a client that sends at a rate.
 ///
 /// The status is 2 where the words are no command, 3 where the input can't be read, 8 where it or the text of `stream` has more than
@@ -66,6 +68,7 @@ pub fn walk_top<S: ByteSource, K: ByteSink, E: ByteSink>(
         Ok(WalkCommand::Capture) => capture(alloc, script, out, notes),
         Ok(WalkCommand::Frames) => frames(alloc, script, out, notes),
         Ok(WalkCommand::Decode) => decode(alloc, script, out, notes),
+        Ok(WalkCommand::Noise) => noise(alloc, script, out, notes),
         Ok(WalkCommand::Au4) => au4(alloc, script, out, notes),
         Ok(
             WalkCommand::Make {
@@ -87,7 +90,7 @@ fn no_command<E: ByteSink>(notes: &mut E) -> WalkEnd
     ensures told { Tells E.written E.faults notes.old notes.new usage }
 {
     let text =
-        b"usage: vcat_walk walk, trace, fates, capture, frames, decode, au4, make NUMBER LINES TICKS, or stream OCTETS MBITS FIRST END NUMBER\n";
+        b"usage: vcat_walk walk, trace, fates, capture, frames, decode, noise, au4, make NUMBER LINES TICKS, or stream OCTETS MBITS FIRST END NUMBER\n";
     let status = tell_usage(text, notes);
     WalkEnd { status, walk: None }
 }

@@ -5,7 +5,7 @@ use Rattle.std.specs.Prelude.{nat_le}
 use Rattle.std.proofs.lemmas.Bool.Decides.{nat_tests}
 use Rattle.std.proofs.lemmas.List.{length-append, length-replicate}
 use Rattle.std.proofs.lemmas.List.Elements.{All-replicate}
-use Rattle.fcs_model.specs.Flips.{count}
+use Rattle.remainder.specs.Count.{count}
 use Rattle.flip_law.specs.Flipped.{fcs_stream, IsFrame, area_flips, flips_after, window, AreFew, clear, worked_frames}
 use Rattle.flip_law.specs.Flipped.{one_flip}
 use Rattle.flip_law.proofs.StreamLaws.{sizes, length-fcs_stream, delivered-clear}

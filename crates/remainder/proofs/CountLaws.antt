@@ -1,7 +1,7 @@
 -- Counts of bits, and lists with at most one.
 use Rattle.std.proofs.Common.{◌≡◌, ℕ, zero, suc, ◌+◌, ◌≤◌, ◌⊎◌, Bool, true, false, List, [], ◌∷◌, ◌++◌, length}
 use Rattle.std.proofs.Common.{replicate, refl, ap, arith}
-use Rattle.fcs_model.specs.Flips.{count}
+use Rattle.remainder.specs.Count.{count}
 
 pub count-append : (a b : List Bool) → count (a ++ b) ≡ count a + count b
 unfolding count

@@ -1,0 +1,28 @@
+-- The text of what was received.
+use Rattle.std.proofs.Common.{◌≡◌, ℕ, List, [], ◌++◌, length, refl, ◌∙◌, ap}
+use Rattle.report_text.specs.Report.{got_texts}
+use Rattle.session_model.specs.Run.{delineate_within}
+use Rattle.session_model.specs.Hunt.{hunt_within}
+use Rattle.gfp_fcs.specs.Delineator.{fcs_outcomes}
+use Rattle.noise_link.specs.declared.draft.Noise.{Noise}
+use Rattle.noise_link.specs.Text.{received, delivered, causes, counts_text, outcomes_text, noise_text}
+
+-- nothing comes of no octets
+pub none-come : fcs_outcomes [] ≡ []
+unfolding delineate_within hunt_within
+none-come = refl
+
+-- the lines of all frames, and then the counts
+pub text-is : (noise : Noise) (octets line : List ℕ) (frames flips got dropped : ℕ) → octets ≡ received noise
+    → frames ≡ length noise.frames → flips ≡ length noise.flips → got ≡ length (delivered (fcs_outcomes octets))
+    → dropped ≡ length (causes (fcs_outcomes octets)) → line ≡ counts_text frames flips got dropped
+    → got_texts (delivered (fcs_outcomes octets)) ++ line ≡ noise_text noise
+text-is noise octets line frames flips got dropped stream sent turned came lost is =
+    ap (λ l. got_texts (delivered (fcs_outcomes octets)) ++ l)
+    (is
+    ∙ ap (λ n. counts_text n flips got dropped) sent
+    ∙ ap (λ n. counts_text (length noise.frames) n got dropped) turned
+    ∙ ap (λ n. counts_text (length noise.frames) (length noise.flips) n dropped) came
+    ∙ ap (λ n. counts_text (length noise.frames) (length noise.flips) (length (delivered (fcs_outcomes octets))) n)
+        lost)
+    ∙ ap (λ l. outcomes_text (length noise.frames) (length noise.flips) (fcs_outcomes l)) stream

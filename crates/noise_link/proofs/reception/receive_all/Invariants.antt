@@ -1,0 +1,12 @@
+-- The octets so far were received.
+use Rattle.std.proofs.Common.{◌≡◌, ◌+◌, ◌≤◌, [], take}
+use Rattle.outside_io.specs.Start.{Start}
+use Rattle.noise_link.specs.Run.{Received}
+use Rattle.noise_link.proofs.reception.receive_all.Given as goal
+
+abbrev pub invariant-loop-o : goal.invariant-loop-o
+invariant-loop-o g l = record {
+  received : (start : Start) → Received g.K.ByteSink.written g.K.ByteSink.faults l.fn.reception start []
+      → Received g.K.ByteSink.written g.K.ByteSink.faults l.reception start (take l.o-index l.octets);
+  few : l.reception.got + l.reception.dropped ≤ l.o-index;
+}
