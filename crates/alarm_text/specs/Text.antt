@@ -14,7 +14,9 @@ kind_text Ends = codes "ends"
 
 -- its line: the line of the group, the place among the cells that it sent, and what it says
 abbrev pub alarm_text : Alarm → List ℕ
-alarm_text alarm = codes "alarm " ++ decimal alarm.line ++ codes " " ++ decimal alarm.place ++ codes " " ++ kind_text alarm.kind ++ codes "\n"
+alarm_text alarm =
+    codes "alarm " ++ decimal alarm.line ++ codes " " ++ decimal alarm.place ++ codes " " ++ kind_text alarm.kind
+    ++ codes "\n"
 
 abbrev pub alarm_texts : List Alarm → List ℕ
 alarm_texts alarms = flat_map alarm_text alarms

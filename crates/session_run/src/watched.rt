@@ -13,7 +13,7 @@ ghost use Rattle.session_parts.specs.Session.{IsEnded};
 ghost use Rattle.session_run.specs.Session.{IsGroupEnded};
 
 use crate::open::open;
-use crate::session::{Ended, run_opened};
+use crate::session::{Ended, Left, run_opened};
 use alarm_log::{AlarmList, make_log};
 use member_ring::Gate;
 use outside_io::ByteSink;
@@ -59,8 +59,9 @@ pub fn run_watched<R: Threads + Wait + Sync, K: ByteSink, G: Gate>(
     let (log, posts) = make_log(alloc, script.config.lines, QUEUE, MOST)?;
     let left =
         run_opened::<Brand, R, K, G>(rt, gate, &script, opened, posts, Some(log), out);
-    match left.log {
-        Some(log) => Ok((left.ended, log.finish(rt, left.posts))),
+    let Left { ended, posts, log } = left;
+    match log {
+        Some(log) => Ok((ended, log.finish(rt, posts))),
         None => unreachable!(),
     }
 }
