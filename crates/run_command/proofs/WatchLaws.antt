@@ -10,7 +10,7 @@ use Rattle.member_ring.specs.declared.alarm.Alarm.{Alarm}
 use Rattle.member_ring.specs.Alarms.{alarms_of_line}
 use Rattle.alarm_log.specs.Alarms.{of_line}
 use Rattle.alarm_text.specs.Text.{alarm_texts, lines_text}
-use Rattle.alarm_text.proofs.TextLaws.{texts-more}
+use Rattle.alarm_text.proofs.TextLaws.{texts_more}
 use Rattle.walk_law.specs.Rings.{line_cells}
 use Rattle.run_command.specs.Watch.{alarms_text}
 
@@ -20,7 +20,7 @@ texts-same f g (suc n) same =
     let more : n + 1 ≡ suc n = omega arith in
     let rest = texts-same f g n (λ m low. same m (omega (arith, low))) in
     subst (λ k. flat_map f (range_with_len 0 k) ≡ flat_map g (range_with_len 0 k)) more
-    (texts-more f n ∙ ap₂ (λ a b. a ++ b) rest (same n (omega arith)) ∙ sym (texts-more g n))
+    (texts_more f n ∙ ap₂ (λ a b. a ++ b) rest (same n (omega arith)) ∙ sym (texts_more g n))
 
 pub told-text : (script : Script) (list : List Alarm) → ((m : ℕ) → m < script.config.lines → of_line m list ≡ alarms_of_line m (line_cells script m)) →
     lines_text script.config.lines list ≡ alarms_text script

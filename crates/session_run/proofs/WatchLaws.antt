@@ -1,5 +1,5 @@
 -- Lines that are served with their posts, from the opening of a session to its end.
-use Rattle.std.proofs.Common.{◌≡◌, ℕ, zero, suc, ◌+◌, ◌<◌, ◌≤◌, ◌==◌, Bool, true, false, List, [], ◌∷◌, ◌++◌, map, length, vec_len, slice_get, slice_index_or, All, Some, refl, sym, ◌∙◌, ap, ap₂, subst, arith}
+use Rattle.std.proofs.Common.{◌≡◌, ℕ, zero, suc, ◌+◌, ◌<◌, ◌≤◌, ◌==◌, Bool, true, false, List, [], ◌∷◌, ◌++◌, map, length, vec_len, slice_get, Some, refl, sym, ◌∙◌, ap, ap₂, subst, arith}
 use Rattle.std.specs.Prelude.{Contains}
 use Rattle.std.specs.List.{AllZip}
 use Rattle.std.specs.Global.{Vec}
@@ -12,7 +12,7 @@ use Rattle.line_law.proofs.ListLaws.{slice_get-inside}
 use Rattle.session_model.specs.declared.script.Config.{Config}
 use Rattle.session_model.specs.declared.window.Window.{Window}
 use Rattle.session_model.specs.Damage.{AreWindows}
-use Rattle.session_model.specs.Valid.{HasFailures, IsNetwork}
+use Rattle.session_model.specs.Valid.{IsNetwork}
 use Rattle.member_ring.specs.Ends.{out_passed}
 use Rattle.member_ring.specs.declared.worker.LineWorker.{LineWorker}
 use Rattle.member_ring.specs.declared.ends.RingOut.{RingOut}
@@ -97,11 +97,6 @@ told-laid group group' lines lines' sink sink' posts laid told m worker post the
     told m mid post at here ∙ ap₂ (λ n l. alarms_of_line n l) (sym looked.number) (sym looked.pushed)
 
 -- ---- the opening
-all-index : {A : Type 0} (P : A → Type 0) (xs : List A) (m : ℕ) (d : A) → m < length xs → All P xs → P (slice_index_or xs m d)
-all-index P [] m d within all = absurd (omega arith)
-all-index P (x ∷ xs) zero d within all = all.0
-all-index P (x ∷ xs) (suc m) d within all = all-index P xs m d (omega arith) all.1
-
 none-raised : (m : ℕ) → alarms_of_line m [] ≡ []
 unfolding alarms_from
 none-raised m = refl
@@ -112,7 +107,7 @@ watchable config network tx workers rx opened log posts n made m worker post the
     let line = opened.lines m worker there in
     let fresh = made.fresh m post here in
     let inside = slice_get_within workers m worker there in
-    let failures = all-index (HasFailures config.ticks) config.windows m [] (omega (arith, inside, opened.workers_count, network.windows_each)) network.windows in
+    let failures = network.windows m [] (omega (arith, inside, opened.workers_count, network.windows_each)) in
     record {
       windows = subst (AreWindows 0) (sym line.windows) failures.apart;
       most = let size = ap (length {A = Window}) line.windows in omega (arith, size, failures.few, fresh.most);
