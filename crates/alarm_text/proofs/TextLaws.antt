@@ -1,6 +1,7 @@
 -- The texts of one alarm more, and of one line more.
-use Rattle.std.proofs.Common.{◌≡◌, ℕ, ◌+◌, ◌==◌, true, false, List, [], ◌∷◌, ◌++◌, sym, ◌∙◌, ap, arith}
+use Rattle.std.proofs.Common.{◌≡◌, ℕ, suc, ◌+◌, ◌<◌, ◌==◌, length, take, get_or, true, false, List, [], ◌∷◌, ◌++◌, sym, ◌∙◌, ap, arith}
 use Rattle.std.specs.List.{flat_map, range_with_len}
+use Rattle.std.proofs.Math.Seq.{take-suc}
 use Rattle.std.proofs.lemmas.Grind.{flat_map-append}
 use Rattle.std.proofs.lemmas.List.{append-nil, map-id}
 use Rattle.member_ring.specs.declared.alarm.Alarm.{Alarm}
@@ -33,3 +34,12 @@ own_text m alarm own = rw own (append-nil (alarm_text alarm))
 pub other_text : (m : ℕ) (alarm : Alarm) (before : List ℕ) → (alarm.line == m) ≡ false →
     before ++ alarm_texts (of_line m (alarm ∷ [])) ≡ before
 other_text m alarm before other = rw other (append-nil before)
+
+pub text_next : (m : ℕ) (alarms : List Alarm) (i : ℕ) (d : Alarm) → i < length alarms →
+    alarm_texts (of_line m (take (i + 1) alarms))
+    ≡ alarm_texts (of_line m (take i alarms)) ++ alarm_texts (of_line m (get_or alarms i d ∷ []))
+text_next m alarms i d within =
+    let more : i + 1 ≡ suc i = omega arith in
+    ap (λ (k : ℕ). alarm_texts (of_line m (take k alarms))) more
+    ∙ ap (λ l. alarm_texts (of_line m l)) (take-suc alarms i d within)
+    ∙ alarms_more m (take i alarms) (get_or alarms i d)

@@ -26,7 +26,6 @@ fn write_one<K: ByteSink>(line: u8, alarm: &Alarm, got: &mut GotLines<K>)
 }
 
 /// Writes the alarms of one line of the group, in their order.
-#[tactic(auto, using(crate::proofs::TextLaws::alarms_more))]
 fn write_line<K: ByteSink>(line: u8, alarms: &[Alarm], got: &mut GotLines<K>)
     ensures { (start : Start) (before : List ℕ) →
         HasText K.written K.faults got.old start before →
@@ -39,7 +38,6 @@ fn write_line<K: ByteSink>(line: u8, alarms: &[Alarm], got: &mut GotLines<K>)
 
 /// Writes the alarms of so many lines of a group, a line of text for each: those of line 0 in their order, then those of
 /// line 1, and so on.
-#[tactic(auto, using(crate::proofs::TextLaws::texts_more))]
 pub fn write_alarms<K: ByteSink>(lines: u8, alarms: &[Alarm], got: &mut GotLines<K>)
     ensures { (start : Start) (before : List ℕ) →
         HasText K.written K.faults got.old start before →
