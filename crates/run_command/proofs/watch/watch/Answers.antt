@@ -42,18 +42,15 @@ pub returns-then-failed-clause-handed : goal.returns-then-failed-clause-handed
 returns-then-failed-clause-handed g c run = rw c.cut.ensures.ended (c.in-Ok.script, c.in-Ok.ensures.script, (record { rings = c.in-Ok-run_watched.ensures.rings; group = c.in-Ok-run_watched.ensures.group }))
 
 -- ---- a write fails in the end of the report
-pub returns-in-Err-write_end-clause-ends : goal.returns-in-Err-write_end-clause-ends
-returns-in-Err-write_end-clause-ends g c =
+pub returns-in_default-write_end-clause-ends : goal.returns-in_default-write_end-clause-ends
+returns-in_default-write_end-clause-ends g c =
     ends-cut (lent g.S.ByteSource.left g.S.ByteSource.faults c.args.script.now c.read_whole_script.new.source) (lent g.K.ByteSink.written g.K.ByteSink.faults c.args.out.now c.write_end.new.out)
-    (lent g.E.ByteSink.written g.E.ByteSink.faults c.args.notes.now c.cut-in-Err-write_end.new.notes) (reads watch_answer) (answer c.in-Ok.script) c.args.notes.now c.cut-in-Err-write_end.result.status
-    (meets-script (lent g.S.ByteSource.left g.S.ByteSource.faults c.args.script.now c.read_whole_script.new.source) answer c.in-Ok.script c.in-Ok.ensures.script) c.cut-in-Err-write_end.ensures.status (inl (
+    (lent g.E.ByteSink.written g.E.ByteSink.faults c.args.notes.now c.cut-in_default-write_end.new.notes) (reads watch_answer) (answer c.in-Ok.script) c.args.notes.now c.cut-in_default-write_end.result.status
+    (meets-script (lent g.S.ByteSource.left g.S.ByteSource.faults c.args.script.now c.read_whole_script.new.source) answer c.in-Ok.script c.in-Ok.ensures.script) c.cut-in_default-write_end.ensures.status (inl (
       run-got g.K.ByteSink.written g.K.ByteSink.faults c.in-Ok.script c.args.out.now c.run_watched.new.out c.write_end.new.out
-          (c.in-Ok-run_watched.ensures.written (let a = c.failed.ensures in let b = c.if-failed.false in cc)) (c.in-Err-write_end.ensures.err c.in-Ok.script (record { rings = c.in-Ok-run_watched.ensures.rings; group = c.in-Ok-run_watched.ensures.group })),
+          (c.in-Ok-run_watched.ensures.written (let a = c.failed.ensures in let b = c.if-failed.false in cc)) (c.in_default-write_end.ensures.err c.in-Ok.script (record { rings = c.in-Ok-run_watched.ensures.rings; group = c.in-Ok-run_watched.ensures.group })),
       some-none g.E.ByteSink.written g.E.ByteSink.faults c.args.notes.now (alarms_text c.in-Ok.script),
-    )) c.cut-in-Err-write_end.ensures.told
-
-pub returns-in-Err-write_end-clause-handed : goal.returns-in-Err-write_end-clause-handed
-returns-in-Err-write_end-clause-handed g c run = rw c.cut-in-Err-write_end.ensures.ended (c.in-Ok.script, c.in-Ok.ensures.script, (record { rings = c.in-Ok-run_watched.ensures.rings; group = c.in-Ok-run_watched.ensures.group }))
+    )) c.cut-in_default-write_end.ensures.told
 
 -- ---- all is written, or a write fails in the alarms
 pub returns-in-Ok-tell_alarms-clause-ends : goal.returns-in-Ok-tell_alarms-clause-ends
@@ -70,8 +67,8 @@ returns-in-Ok-tell_alarms-clause-ends g c =
 pub returns-in-Ok-tell_alarms-clause-handed : goal.returns-in-Ok-tell_alarms-clause-handed
 returns-in-Ok-tell_alarms-clause-handed g c run = rw c.done.ensures.ended (c.in-Ok.script, c.in-Ok.ensures.script, (record { rings = c.in-Ok-run_watched.ensures.rings; group = c.in-Ok-run_watched.ensures.group }))
 
-pub returns-in-Err-tell_alarms-clause-ends : goal.returns-in-Err-tell_alarms-clause-ends
-returns-in-Err-tell_alarms-clause-ends g c =
+pub returns-clause-ends : goal.returns-clause-ends
+returns-clause-ends g c =
     ends-cut (lent g.S.ByteSource.left g.S.ByteSource.faults c.args.script.now c.read_whole_script.new.source) (lent g.K.ByteSink.written g.K.ByteSink.faults c.args.out.now c.write_end.new.out)
     (lent g.E.ByteSink.written g.E.ByteSink.faults c.args.notes.now c.cut-in-Err-tell_alarms.new.notes) (reads watch_answer) (answer c.in-Ok.script) c.tell_alarms.new.notes c.cut-in-Err-tell_alarms.result.status
     (meets-script (lent g.S.ByteSource.left g.S.ByteSource.faults c.args.script.now c.read_whole_script.new.source) answer c.in-Ok.script c.in-Ok.ensures.script) c.cut-in-Err-tell_alarms.ensures.status (inr (
@@ -81,6 +78,3 @@ returns-in-Err-tell_alarms-clause-ends g c =
       subst (AppendsPart g.E.ByteSink.written g.E.ByteSink.faults c.args.notes.now c.tell_alarms.new.notes)
           (told-text c.in-Ok.script (alarms_in c.in-Ok-run_watched.list) c.in-Ok-run_watched.ensures.alarms) c.in-Err-tell_alarms.ensures.err,
     )) c.cut-in-Err-tell_alarms.ensures.told
-
-pub returns-in-Err-tell_alarms-clause-handed : goal.returns-in-Err-tell_alarms-clause-handed
-returns-in-Err-tell_alarms-clause-handed g c run = rw c.cut-in-Err-tell_alarms.ensures.ended (c.in-Ok.script, c.in-Ok.ensures.script, (record { rings = c.in-Ok-run_watched.ensures.rings; group = c.in-Ok-run_watched.ensures.group }))
