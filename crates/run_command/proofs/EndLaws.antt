@@ -17,11 +17,10 @@ use Rattle.got_lines.specs.Told.{HasText}
 use Rattle.script_read.specs.declared.fault.ScriptFault.{ScriptFault}
 use Rattle.headline_law.specs.Headline.{IsRunHeadline}
 use Rattle.headline_law.proofs.HeadlineLaws.{run_headline}
-use Rattle.command_parts.specs.Task.{reads, writes}
+use Rattle.command_parts.specs.Task.{Answer, reads}
 use Rattle.command_parts.specs.Ends.{Lent, Takes, WritesAll, Ends}
-use Rattle.command_parts.specs.Scripts.{answer_of}
+use Rattle.command_parts.specs.Scripts.{answer_of, script_answer}
 use Rattle.command_parts.proofs.EndLaws.{is-done, known-text}
-use Rattle.run_command.specs.Run.{run_answer}
 use Rattle.run_command.specs.Ended.{end_text}
 
 -- what follows the got lines, of the session's own numbers
@@ -71,13 +70,18 @@ module _ {S K E : Type 0} (source : Lent S) (out : Lent K) (notes : Lent E) (sta
   abbrev IsHead : List ℕ → Type 0
   IsHead text = (written : List ℕ) × Takes out written × IsRunHeadline text written
 
-  told-by : (text : List ℕ) (of : Result Script ScriptFault) → script_of text ≡ of → length text ≤ 67108864 → WritesAll out notes (answer_of (λ script. writes (final_report script)) of)
-      → IsHead text
-  told-by text (Ok script) is few all = (final_report script, all.0, run_headline text script few is)
-  told-by text (Err fault) is few all = absurd all
+  -- whatever else is written, the report is
+  abbrev HasReport : (Script → Answer) → Type 0
+  HasReport answer = (script : Script) → WritesAll out notes (answer script) → Takes out (final_report script)
 
-  pub tells-headline : Ends source out notes (reads run_answer) status → status ≡ 0 → IfSome (source.octets source.old) IsHead
-  tells-headline ends at =
-      let it = is-done source out notes (reads run_answer) status ends at in
+  told-by : (answer : Script → Answer) → HasReport answer → (text : List ℕ) (of : Result Script ScriptFault) → script_of text ≡ of → length text ≤ 67108864
+      → WritesAll out notes (answer_of answer of) → IsHead text
+  told-by answer has text (Ok script) is few all = (final_report script, has script all, run_headline text script few is)
+  told-by answer has text (Err fault) is few all = absurd all
+
+  pub tells-headline : (answer : Script → Answer) → HasReport answer → Ends source out notes (reads (script_answer answer)) status → status ≡ 0
+      → IfSome (source.octets source.old) IsHead
+  tells-headline answer has ends at =
+      let it = is-done source out notes (reads (script_answer answer)) status ends at in
       let text = it.meets.0 in
-      known-text source IsHead text it.meets.1 (told-by text (script_of text) refl it.meets.1.fits (subst (WritesAll out notes) (sym it.meets.2) it.written))
+      known-text source IsHead text it.meets.1 (told-by answer has text (script_of text) refl it.meets.1.fits (subst (WritesAll out notes) (sym it.meets.2) it.written))

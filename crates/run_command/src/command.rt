@@ -1,6 +1,6 @@
 //! The commands of the program, a line for each.
 
-use crate::run;
+use crate::{run, watch};
 use cmd_words::FromWords;
 
 /// What the program is told to do.
@@ -8,6 +8,8 @@ use cmd_words::FromWords;
 pub enum RunCommand {
     /// `run`: run the session of a script with 1 to 64 line workers.
     Run { workers: u8 },
+    /// `watch`: the same, with the alarms of its lines.
+    Watch { workers: u8 },
 }
 
 impl FromWords for RunCommand {
@@ -16,6 +18,6 @@ impl FromWords for RunCommand {
     ghost named = { λ words. command_of words };
 
     fn from_words(words: &[String]) -> Option<RunCommand> {
-        run::words(words)
+        run::words(words).or(watch::words(words))
     }
 }

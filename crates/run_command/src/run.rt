@@ -55,7 +55,7 @@ fn totals(ended: &Ended) -> Totals
 }
 
 /// Writes what follows the lines of delivered frames.
-fn write_end<K: ByteSink>(ended: &Ended, out: &mut K) -> Result<(), Failed>
+pub fn write_end<K: ByteSink>(ended: &Ended, out: &mut K) -> Result<(), Failed>
     ensures ok { (script : Script) → HasEnded script ended.now → OnOk result
         (Appends K.written K.faults out.old out.new (end_text script)) }
     ensures err { (script : Script) → HasEnded script ended.now → OnErr result

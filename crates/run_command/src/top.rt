@@ -10,6 +10,7 @@ ghost use Rattle.run_command.specs.Ended.{HandsSession};
 use crate::command::RunCommand;
 use crate::end::{RunEnd, stopped};
 use crate::run::run;
+use crate::watch::watch;
 use cmd_words::{WordFault, read_words};
 use command_parts::{Stop, tell_usage};
 use member_ring::Gate;
@@ -21,11 +22,12 @@ use std::thread::Threads;
 /// Runs the command that the words say. `run WORKERS` reads a script and runs its session, the client, the operator, the source and the
 /// lines on threads, of which 1 to 64 are for the lines, and the sink here. It writes on `out` the got lines of the frames that are
 /// delivered, the lines of refused items, and the line of totals. Whatever the order in which the threads went on, the text is the same.
-/// Event lines of the script aren't looked at. That the call returns is not promised.
+/// Event lines of the script aren't looked at. `watch WORKERS` does the same, and writes on `notes` the alarms of each line: where it
+/// fails, where it returns, and where it ends. That the call returns is not promised.
 ///
 /// The status is 2 where the words are no command, 3 where the input can't be read, 8 where it has more than 67,108,864 octets, 5 where
 /// one of its lines is faulty, 6 where its slips, spread or lag don't fit its rings, 4 where the output can't be written, 7 where
-/// memory is short, and else 0. Of those that hold the first in this order is told; want of memory may come in the place of any but 2,
+/// memory is short, and else 0. For `watch` it's 4 too where `notes` can't be written. Of those that hold the first in this order is told; want of memory may come in the place of any but 2,
 /// before anything is written. A note says on `notes` what went wrong. After a fault nothing more is written but that note.
 pub fn run_top<R: Threads + Wait + Sync, S: ByteSource, K: ByteSink, E: ByteSink, G: Gate>(
     rt: &R,
@@ -55,6 +57,7 @@ pub fn run_top<R: Threads + Wait + Sync, S: ByteSource, K: ByteSink, E: ByteSink
 {
     match read_words(alloc, words) {
         Ok(RunCommand::Run { workers }) => run(rt, alloc, workers, script, out, notes, gate),
+        Ok(RunCommand::Watch { workers }) => watch(rt, alloc, workers, script, out, notes, gate),
         Err(WordFault::Usage) => no_command(notes),
         Err(WordFault::Memory) => stopped(Stop::Memory, notes),
     }
@@ -66,7 +69,7 @@ fn no_command<E: ByteSink>(notes: &mut E) -> RunEnd
     ensures ended { result.ended ≡ None }
     ensures told { Tells E.written E.faults notes.old notes.new usage }
 {
-    let status = tell_usage(b"usage: vcat_run run WORKERS\n", notes);
+    let status = tell_usage(b"usage: vcat_run run WORKERS or watch WORKERS\n", notes);
     RunEnd {
         status,
         ended: None,

@@ -2,6 +2,7 @@ pub mod DealLaws
 pub mod FlagLaws
 pub mod CollectLaws
 pub mod ZipLaws
+pub mod LogLaws
 pub mod RunLaws
 pub mod PairLaws
 pub mod EndedLaws

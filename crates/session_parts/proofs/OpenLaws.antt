@@ -44,16 +44,17 @@ none-opened config = record {
   rx_count = refl;
   unused = λ m out there. absurd cc;
   fresh = λ m into there. absurd cc;
+  silent = λ m worker there. absurd cc;
   lines = λ m worker there. absurd cc;
   sends = λ m out worker there. absurd cc;
   receives = λ m worker into there. absurd cc;
 }
 
 pub opened-more : (config : Config) (n : ℕ) (tx : List (RingOut Container)) (workers : List LineWorker) (rx : List (RingIn Cell))
-    (out : RingOut Container) (worker : LineWorker) (into : RingIn Cell) → AreOpened config n tx workers rx → out_passed out ≡ [] → in_passed into ≡ [] →
+    (out : RingOut Container) (worker : LineWorker) (into : RingIn Cell) → AreOpened config n tx workers rx → out_passed out ≡ [] → in_passed into ≡ [] → out_passed worker.producer ≡ [] →
     IsLineOf config n worker → AreEnds out worker.consumer → AreEnds worker.producer into →
     AreOpened config (n + 1) (tx ++ out ∷ []) (workers ++ worker ∷ []) (rx ++ into ∷ [])
-opened-more config n tx workers rx out worker into are unused fresh line send receive = record {
+opened-more config n tx workers rx out worker into are unused fresh quiet line send receive = record {
   tx_count = length-append tx (out ∷ []) ∙ ap (λ (k : ℕ). k + 1) are.tx_count;
   workers_count = length-append workers (worker ∷ []) ∙ ap (λ (k : ℕ). k + 1) are.workers_count;
   rx_count = length-append rx (into ∷ []) ∙ ap (λ (k : ℕ). k + 1) are.rx_count;
@@ -64,6 +65,10 @@ opened-more config n tx workers rx out worker into are unused fresh line send re
   fresh = λ m one there. elim (get-last rx into m one there) [
     | inl before ↦ are.fresh m one before
     | inr (at, is) ↦ ap in_passed is ∙ fresh
+  ];
+  silent = λ m one there. elim (get-last workers worker m one there) [
+    | inl before ↦ are.silent m one before
+    | inr (at, is) ↦ ap (λ (w : LineWorker). out_passed w.producer) is ∙ quiet
   ];
   lines = λ m one there. elim (get-last workers worker m one there) [
     | inl before ↦ are.lines m one before

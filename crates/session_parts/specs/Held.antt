@@ -2,21 +2,21 @@
 use Rattle.std.specs.Prelude.{◌≡◌, ℕ, List, slice_get, Some}
 use Rattle.std.specs.Global.{Vec}
 use Rattle.std.specs.List.{AllZip}
-use Rattle.member_ring.specs.declared.worker.LineWorker.{LineWorker}
+use Rattle.watched_line.specs.declared.served.ServedLine.{ServedLine}
 use Rattle.session_parts.specs.declared.line_thread.Held.{Held}
 use Rattle.session_parts.specs.declared.line_thread.Held.TheVariants.{There, Here}
 use Rattle.session_parts.specs.declared.flag.Flag.{Flag}
 use Rattle.session_parts.specs.Flags.{flag_of}
-use Rattle.session_parts.specs.Lines.{AreLater}
+use Rattle.watched_line.specs.Served.{AreServedLater}
 
 -- a thread was given these workers, and promises to give them back later; or they are here, later
-abbrev pub IsHeldOf : List LineWorker → Held → Type 0
+abbrev pub IsHeldOf : List ServedLine → Held → Type 0
 IsHeldOf workers (There child) = child.promise.0.value.items ≡ workers
-IsHeldOf workers (Here own) = AreLater workers own.items
+IsHeldOf workers (Here own) = AreServedLater workers own.items
 
 -- so it is with each share
-abbrev pub AreHeldOf : List (Vec LineWorker) → List Held → Type 0
-AreHeldOf shares held = AllZip (λ (share : Vec LineWorker) (one : Held). IsHeldOf share.items one) shares held
+abbrev pub AreHeldOf : List (Vec ServedLine) → List Held → Type 0
+AreHeldOf shares held = AllZip (λ (share : Vec ServedLine) (one : Held). IsHeldOf share.items one) shares held
 
 -- the thread looks at the flag of this number
 abbrev pub IsToldBy : ℕ → Held → Type 0

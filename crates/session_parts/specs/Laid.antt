@@ -7,10 +7,16 @@ use Rattle.member_ring.specs.declared.ends.RingOut.{RingOut}
 use Rattle.member_ring.specs.declared.ends.RingIn.{RingIn}
 use Rattle.member_ring.specs.Ends.{out_passed, in_passed, in_items, AreEnds, SameOut, SameIn}
 use Rattle.member_ring.specs.declared.worker.LineWorker.{LineWorker}
+use Rattle.watched_line.specs.declared.served.ServedLine.{ServedLine}
+use Rattle.watched_line.specs.Served.{worker_of}
 
 -- each worker has pushed the end
 abbrev pub AreDone : List LineWorker → Type 0
 AreDone workers = (m : ℕ) (worker : LineWorker) → slice_get workers m ≡ Some worker → Contains (out_passed worker.producer) End
+
+-- so it is with each line that is served
+abbrev pub AreServedDone : List ServedLine → Type 0
+AreServedDone lines = (m : ℕ) (line : ServedLine) → slice_get lines m ≡ Some line → Contains (out_passed (worker_of line).producer) End
 
 -- ---- ends of the same rings, by line
 abbrev pub AreSendEnds : List (RingOut Container) → List LineWorker → Type 0

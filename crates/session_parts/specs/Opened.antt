@@ -24,6 +24,7 @@ pub record AreOpened (config : Config) (n : ℕ) (tx : List (RingOut Container))
   pub rx_count : length rx ≡ n
   pub unused : (m : ℕ) (out : RingOut Container) → slice_get tx m ≡ Some out → out_passed out ≡ []
   pub fresh : (m : ℕ) (into : RingIn Cell) → slice_get rx m ≡ Some into → in_passed into ≡ []
+  pub silent : (m : ℕ) (worker : LineWorker) → slice_get workers m ≡ Some worker → out_passed worker.producer ≡ []
   pub lines : (m : ℕ) (worker : LineWorker) → slice_get workers m ≡ Some worker → IsLineOf config m worker
   pub sends : AreSendEnds tx workers
   pub receives : AreReceiveEnds workers rx

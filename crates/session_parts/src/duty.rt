@@ -1,10 +1,13 @@
 //! What the calling thread does while others run: a duty of its own. It owns what it writes to for that time, so that what was written is
 //! known once the duty comes back.
 ghost use Rattle.std.specs.Prelude.{◌≡◌};
+ghost use Rattle.session_parts.specs.Duty.{IsLogLater};
 
+use alarm_log::AlarmLog;
 use member_ring::OpenGate;
 use outside_io::ByteSink;
 use sink_worker::{SinkBurst, SinkWorker};
+use std::sync::Wait;
 
 /// What came of a turn.
 #[derive(Clone, Copy, Debug, PartialEq, Eq)]
@@ -33,46 +36,67 @@ pub trait Duty: Drop {
         ensures stays { is_over self.old → is_over self.new };
 }
 
-/// The duty of a sink: to take rows, and to write the lines of their frames.
+/// The duty of a sink: to take rows, and to write the lines of their frames. Where lines are watched it moves alarms from the queue of
+/// their log too.
 #[derive(Drop)]
-pub struct SinkDuty<'a, K> {
+pub struct SinkDuty<'a, R, K> {
+    rt: &'a R,
     sink: SinkWorker,
     out: &'a mut K,
+    log: Option<AlarmLog>,
 }
 
-impl<'a, K: ByteSink> SinkDuty<'a, K> {
-    /// The duty of a worker, and what it writes to.
-    pub fn new(sink: SinkWorker, out: &'a mut K) -> SinkDuty<'a, K>
+/// Moves some alarms from the queue of a log, where there is one.
+fn turn_log<R: Wait>(rt: &R, log: &mut Option<AlarmLog>)
+    ensures { IsLogLater log.old log.new }
+{
+    if let Some(log) = log {
+        log.turn(rt);
+    }
+}
+
+impl<'a, R: Wait, K: ByteSink> SinkDuty<'a, R, K> {
+    /// The duty of a worker, what it writes to, and the log of the lines, where they are watched.
+    pub fn new(
+        rt: &'a R,
+        sink: SinkWorker,
+        out: &'a mut K,
+        log: Option<AlarmLog>,
+    ) -> SinkDuty<'a, R, K>
         ensures sink { result.sink ≡ sink }
         ensures name { result.out.ghost_name ≡ out.entry.ghost_name }
         ensures now { result.out.now ≡ out.old }
+        ensures log { result.log ≡ log }
     {
-        SinkDuty { sink, out }
+        SinkDuty { rt, sink, out, log }
     }
 
-    /// The worker, and what it has written to.
-    pub fn into_parts(self) -> (SinkWorker, &'a mut K)
+    /// The worker, what it has written to, and the log.
+    pub fn into_parts(self) -> (SinkWorker, &'a mut K, Option<AlarmLog>)
         ensures sink { result.0 ≡ self.entry.sink }
         ensures name { result.1.ghost_name ≡ self.entry.out.ghost_name }
         ensures now { result.1.now ≡ self.entry.out.now }
+        ensures log { result.2 ≡ self.entry.log }
     {
-        let SinkDuty { sink, out } = self;
-        (sink, out)
+        let SinkDuty { sink, out, log, .. } = self;
+        (sink, out, log)
     }
 }
 
-impl<'a, K: ByteSink> Duty for SinkDuty<'a, K> {
+impl<'a, R: Wait, K: ByteSink> Duty for SinkDuty<'a, R, K> {
     ghost use Rattle.std.specs.Prelude.{◌≡◌};
     ghost use Rattle.got_lines.specs.Told.{seen};
     ghost use Rattle.sink_worker.specs.Worker.{taken_of, ticks_of};
-    ghost use Rattle.session_parts.specs.Duty.{HasRun};
+    ghost use Rattle.session_parts.specs.Duty.{HasRun, IsLogLater};
 
     ghost stands_for = { λ duty begun. (duty.out.ghost_name ≡ begun.name)
-        × HasRun begun duty.sink (seen (K.written duty.out.now) (K.faults duty.out.now)) };
+        × HasRun begun duty.sink (seen (K.written duty.out.now) (K.faults duty.out.now))
+        × IsLogLater begun.log duty.log };
 
     ghost is_over = { λ duty. taken_of duty.sink ≡ ticks_of duty.sink };
 
     fn turn(&mut self) -> Turned {
+        turn_log(self.rt, &mut self.log);
         match self.sink.burst(self.out, &OpenGate) {
             SinkBurst::Moved => Turned::Moved,
             SinkBurst::Idle(_) => Turned::Waits,

@@ -1,34 +1,36 @@
 //! The last bursts of lines, and the ends of their rings beside each other.
 ghost use Rattle.std.specs.Prelude.{◌≡◌, ◌↔◌, length, IsTrue, Contains};
 ghost use Rattle.member_ring.specs.Ends.{AreEnds, out_passed};
-ghost use Rattle.member_ring.specs.Worker.{IsLater};
-ghost use Rattle.session_parts.specs.Lines.{AreLater};
-ghost use Rattle.session_parts.specs.Laid.{AreDone, AreSendEnds, AreReceiveEnds, IsSendLaid, IsReceiveLaid, AreSendsLaid, AreReceivesLaid};
+ghost use Rattle.watched_line.specs.Served.{worker_of, IsServedLater, AreServedLater};
+ghost use Rattle.session_parts.specs.Laid.{AreServedDone, AreSendEnds, AreReceiveEnds, IsSendLaid, IsReceiveLaid, AreSendsLaid, AreReceivesLaid};
 
 use member_ring::{Burst, Gate, LineWorker, RingIn, RingOut};
+use std::sync::Wait;
 use vc_cell::{Cell, Container};
+use watched_line::ServedLine;
 
-/// Makes a burst of a worker, and says whether it had come to its end before.
-fn carry_one<G: Gate>(worker: &mut LineWorker, gate: &G) -> bool
-    ensures later { IsLater worker.old worker.new }
-    ensures done { IsTrue result ↔ Contains (out_passed worker.old.producer) Cell.End }
+/// Makes a burst of a line, and says whether it had come to its end before.
+fn carry_one<R: Wait, G: Gate>(rt: &R, worker: &mut ServedLine, gate: &G) -> bool
+    ensures later { IsServedLater worker.old worker.new }
+    ensures done { IsTrue result
+        ↔ Contains (out_passed (worker_of worker.old).producer) Cell.End }
     ensures stays { IsTrue result → worker.new ≡ worker.old }
 {
-    match worker.burst(gate) {
+    match worker.burst(rt, gate) {
         Burst::Done => true,
         Burst::Moved | Burst::Idle(_) => false,
     }
 }
 
-/// Makes a burst of each worker, and says whether all of them had come to their end before.
-pub fn carry_all<G: Gate>(workers: &mut Vec<LineWorker>, gate: &G) -> bool
-    ensures later { AreLater workers.old.items workers.new.items }
-    ensures done { IsTrue result ↔ AreDone workers.old.items }
+/// Makes a burst of each line, and says whether all of them had come to their end before.
+pub fn carry_all<R: Wait, G: Gate>(rt: &R, workers: &mut Vec<ServedLine>, gate: &G) -> bool
+    ensures later { AreServedLater workers.old.items workers.new.items }
+    ensures done { IsTrue result ↔ AreServedDone workers.old.items }
     ensures stays { IsTrue result → workers.new.items ≡ workers.old.items }
 {
     let mut done = true;
     for worker in workers.iter_mut() {
-        if !carry_one(worker, gate) {
+        if !carry_one(rt, worker, gate) {
             done = false;
         }
     }

@@ -2,37 +2,38 @@
 ghost use Rattle.std.specs.Prelude.{◌≡◌, ℕ, ◌≤◌, List, [], length, vec_len};
 ghost use Rattle.std.specs.Global.{Vec};
 ghost use Rattle.std.specs.Vec.{vec_capacity};
-ghost use Rattle.member_ring.specs.declared.worker.LineWorker.{LineWorker};
-ghost use Rattle.member_ring.specs.Worker.{IsLater};
-ghost use Rattle.session_parts.specs.Lines.{AreLater, SharesLater};
+ghost use Rattle.watched_line.specs.declared.served.ServedLine.{ServedLine};
+ghost use Rattle.watched_line.specs.Served.{AreServedLater, IsServedLater};
+ghost use Rattle.session_parts.specs.Lines.{SharesLater};
 ghost use Rattle.session_parts.specs.declared.flag.Flag.{Flag as OwnFlag};
 ghost use Rattle.session_parts.specs.Flags.{flag_of, heeded};
 ghost use Rattle.session_parts.specs.Held.{IsHeldOf, AreHeldOf, IsToldBy, AreToldBy};
 
 use crate::bell::Bell;
 use crate::flag::{Flag, Heed};
-use member_ring::{Burst, Gate, IdleCause, LineWorker};
+use member_ring::{Burst, Gate, IdleCause};
 use std::snapshot::Snapshot;
 use std::sync::{OnceToken, Wait};
 use std::thread::{Promise, PromisedHandle, Scope, Threads};
+use watched_line::ServedLine;
 
 /// What a line thread promises: it gives back the workers that it was given, each later, once this flag was stored.
 #[derive(Drop)]
-pub struct Kept(Snapshot<Vec<LineWorker>>, Snapshot<Flag>);
+pub struct Kept(Snapshot<Vec<ServedLine>>, Snapshot<Flag>);
 
-impl Promise<Vec<LineWorker>> for Kept {
-    ghost use Rattle.session_parts.specs.Lines.{AreLater};
+impl Promise<Vec<ServedLine>> for Kept {
+    ghost use Rattle.watched_line.specs.Served.{AreServedLater};
 
-    ghost kept_by = { λ kept back. AreLater kept.0.value.items back.items };
+    ghost kept_by = { λ kept back. AreServedLater kept.0.value.items back.items };
 }
 
 /// The workers of a share.
 #[derive(Drop)]
 pub enum Held {
     /// A thread serves them.
-    There(PromisedHandle<Vec<LineWorker>, Kept>),
+    There(PromisedHandle<Vec<ServedLine>, Kept>),
     /// No thread could be started for them.
-    Here(Vec<LineWorker>),
+    Here(Vec<ServedLine>),
 }
 
 /// What came of bursts.
@@ -60,16 +61,21 @@ impl Served {
     }
 }
 
-/// Makes a burst of a worker, but not where its flag is stored. Says what came of it.
-fn serve_one<G: Gate>(worker: &mut LineWorker, gate: &G, stop: Option<Heed<'_>>) -> Served
-    ensures { IsLater worker.old worker.new }
+/// Makes a burst of a line, but not where its flag is stored. Says what came of it.
+fn serve_one<R: Wait, G: Gate>(
+    rt: &R,
+    worker: &mut ServedLine,
+    gate: &G,
+    stop: Option<Heed<'_>>,
+) -> Served
+    ensures { IsServedLater worker.old worker.new }
 {
     if let Some(stop) = stop {
         if stop.told().is_some() {
             return Served::Empty;
         }
     }
-    match worker.burst(gate) {
+    match worker.burst(rt, gate) {
         Burst::Moved => Served::Moved,
         Burst::Idle(IdleCause::Full) => Served::Full,
         Burst::Idle(IdleCause::Empty) => Served::Empty,
@@ -77,13 +83,18 @@ fn serve_one<G: Gate>(worker: &mut LineWorker, gate: &G, stop: Option<Heed<'_>>)
     }
 }
 
-/// Makes a burst of each worker, as long as no flag is stored, and says what came of them.
-fn serve_once<G: Gate>(workers: &mut Vec<LineWorker>, gate: &G, stop: Option<Heed<'_>>) -> Served
-    ensures { AreLater workers.old.items workers.new.items }
+/// Makes a burst of each line, as long as no flag is stored, and says what came of them.
+fn serve_once<R: Wait, G: Gate>(
+    rt: &R,
+    workers: &mut Vec<ServedLine>,
+    gate: &G,
+    stop: Option<Heed<'_>>,
+) -> Served
+    ensures { AreServedLater workers.old.items workers.new.items }
 {
     let mut served = Served::Done;
     for worker in workers.iter_mut() {
-        served = served.and(serve_one(worker, gate, stop));
+        served = served.and(serve_one(rt, worker, gate, stop));
     }
     served
 }
@@ -107,16 +118,16 @@ fn serve<'s, R: Wait, G: Gate>(
     stop: Heed<'s>,
     source: &Bell,
     sink: &Bell,
-    workers: &mut Vec<LineWorker>,
+    workers: &mut Vec<ServedLine>,
 ) -> OnceToken<'s, ()>
     ensures told { result.of ≡ heeded stop.entry }
-    ensures later { AreLater workers.old.items workers.new.items }
+    ensures later { AreServedLater workers.old.items workers.new.items }
 {
     for _ in rt.forever() {
         if let Some(told) = stop.note() {
             return told;
         }
-        let served = serve_once(workers, gate, Some(stop));
+        let served = serve_once(rt, workers, gate, Some(stop));
         if served == Served::Done {
             return stop.wait(rt);
         }
@@ -132,9 +143,9 @@ fn serve_until<R: Wait, G: Gate>(
     flag: &Flag,
     source: &Bell,
     sink: &Bell,
-    workers: Vec<LineWorker>,
-) -> Vec<LineWorker>
-    ensures { AreLater workers.items result.items }
+    workers: Vec<ServedLine>,
+) -> Vec<ServedLine>
+    ensures { AreServedLater workers.items result.items }
 {
     let stop = flag.heed();
     let mut own = workers;
@@ -151,7 +162,7 @@ fn start_share<'s, 'e, R: Wait + Sync, G: Gate>(
     flag: &'s Flag,
     source: &'s Bell,
     sink: &'s Bell,
-    workers: Vec<LineWorker>,
+    workers: Vec<ServedLine>,
 ) -> Held
     ensures held { IsHeldOf workers.items result }
     ensures told { IsToldBy (flag_of flag.now) result }
@@ -177,7 +188,7 @@ pub fn start_shares<'s, 'e, R: Wait + Sync, G: Gate>(
     flags: &'s [Flag],
     source: &'s Bell,
     sink: &'s Bell,
-    shares: Vec<Vec<LineWorker>>,
+    shares: Vec<Vec<ServedLine>>,
     room: Vec<Held>,
 ) -> Vec<Held>
     requires flags { vec_len shares ≤ length flags.now }
@@ -194,32 +205,32 @@ pub fn start_shares<'s, 'e, R: Wait + Sync, G: Gate>(
 }
 
 /// Makes a burst of each worker of a share that no thread serves.
-fn serve_here<G: Gate>(held: &mut Held, gate: &G)
-    ensures held { (workers : List LineWorker) → IsHeldOf workers held.old →
+fn serve_here<R: Wait, G: Gate>(rt: &R, held: &mut Held, gate: &G)
+    ensures held { (workers : List ServedLine) → IsHeldOf workers held.old →
         IsHeldOf workers held.new }
     ensures told { (flag : ℕ) → IsToldBy flag held.old → IsToldBy flag held.new }
 {
     if let Held::Here(workers) = held {
-        serve_once(workers, gate, None);
+        serve_once(rt, workers, gate, None);
     }
 }
 
 /// Makes a burst of each worker that no thread serves.
-pub fn serve_all_here<G: Gate>(held: &mut Vec<Held>, gate: &G)
-    ensures held { (shares : List (Vec LineWorker)) → AreHeldOf shares held.old.items →
+pub fn serve_all_here<R: Wait, G: Gate>(rt: &R, held: &mut Vec<Held>, gate: &G)
+    ensures held { (shares : List (Vec ServedLine)) → AreHeldOf shares held.old.items →
         AreHeldOf shares held.new.items }
     ensures told { (flags : List OwnFlag) → AreToldBy flags held.old.items →
         AreToldBy flags held.new.items }
 {
     for share in held.iter_mut() {
-        serve_here(share, gate);
+        serve_here(rt, share, gate);
     }
 }
 
 /// The workers of a share, once its thread has ended. It is waited for with the evidence that its flag is stored.
-fn take_back<R: Threads>(rt: &R, held: Held, stored: &OnceToken<'_, ()>) -> Vec<LineWorker>
+fn take_back<R: Threads>(rt: &R, held: Held, stored: &OnceToken<'_, ()>) -> Vec<ServedLine>
     requires { IsToldBy stored.now.of held }
-    ensures { (workers : List LineWorker) → IsHeldOf workers held → AreLater workers result.items }
+    ensures { (workers : List ServedLine) → IsHeldOf workers held → AreServedLater workers result.items }
 {
     match held {
         Held::There(child) => child.join(rt),
@@ -232,12 +243,12 @@ pub fn take_all_back<R: Threads + Wait>(
     rt: &R,
     flags: &[Flag],
     held: Vec<Held>,
-    room: Vec<Vec<LineWorker>>,
-) -> Vec<Vec<LineWorker>>
+    room: Vec<Vec<ServedLine>>,
+) -> Vec<Vec<ServedLine>>
     requires room { (room.items ≡ []) × (vec_len held ≤ vec_capacity room) }
     requires flags { vec_len held ≤ length flags.now }
     requires told { AreToldBy flags.now held.items }
-    ensures { (shares : List (Vec LineWorker)) → AreHeldOf shares held.items →
+    ensures { (shares : List (Vec ServedLine)) → AreHeldOf shares held.items →
         SharesLater shares result.items }
 {
     let mut shares = room;

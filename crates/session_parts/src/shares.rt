@@ -1,13 +1,14 @@
 //! The workers of lines are dealt to shares, one for each line thread, and come back in their order.
 ghost use Rattle.std.specs.Prelude.{◌≡◌, ◌+◌, ◌<◌, ◌≤◌, List, [], ◌∷◌, ◌++◌, length, vec_len};
 ghost use Rattle.std.specs.Vec.{vec_capacity};
-ghost use Rattle.member_ring.specs.declared.worker.LineWorker.{LineWorker};
-ghost use Rattle.session_parts.specs.Lines.{AreNumbered, AreDealt, AreBack, AreLater, HaveRoom};
+ghost use Rattle.watched_line.specs.declared.served.ServedLine.{ServedLine};
+ghost use Rattle.session_parts.specs.Lines.{AreNumbered, AreDealt, AreBack, HaveRoom};
+ghost use Rattle.watched_line.specs.Served.{AreServedLater};
 
-use member_ring::LineWorker;
+use watched_line::ServedLine;
 
 /// Deals the workers of all lines: share `w` of `n` gets those of the lines `m` with `m mod n = w`.
-pub fn deal(lines: Vec<LineWorker>, shares: Vec<Vec<LineWorker>>) -> Vec<Vec<LineWorker>>
+pub fn deal(lines: Vec<ServedLine>, shares: Vec<Vec<ServedLine>>) -> Vec<Vec<ServedLine>>
     requires some { 0 < vec_len shares }
     requires numbers { AreNumbered 0 lines.items }
     requires room { HaveRoom (vec_len lines) shares.items }
@@ -25,9 +26,9 @@ pub fn deal(lines: Vec<LineWorker>, shares: Vec<Vec<LineWorker>>) -> Vec<Vec<Lin
 }
 
 /// Moves the last worker of a share to the end of the lines, if there is one.
-fn take_last(share: &mut Vec<LineWorker>, lines: &mut Vec<LineWorker>)
+fn take_last(share: &mut Vec<ServedLine>, lines: &mut Vec<ServedLine>)
     requires { vec_len lines.old < vec_capacity lines.old }
-    ensures moved { (rest : List LineWorker) (last : LineWorker) → share.old.items ≡ rest ++ last ∷ [] →
+    ensures moved { (rest : List ServedLine) (last : ServedLine) → share.old.items ≡ rest ++ last ∷ [] →
         (share.new.items ≡ rest) × (lines.new.items ≡ lines.old.items ++ last ∷ []) }
     ensures most { vec_len lines.new ≤ vec_len lines.old + 1 }
     ensures capacity { vec_capacity lines.new ≡ vec_capacity lines.old }
@@ -38,11 +39,11 @@ fn take_last(share: &mut Vec<LineWorker>, lines: &mut Vec<LineWorker>)
 }
 
 /// Brings the workers of so many lines back into the order of the lines.
-pub fn collect(shares: Vec<Vec<LineWorker>>, count: usize, room: Vec<LineWorker>) -> Vec<LineWorker>
+pub fn collect(shares: Vec<Vec<ServedLine>>, count: usize, room: Vec<ServedLine>) -> Vec<ServedLine>
     requires some { 0 < vec_len shares }
     requires room { (room.items ≡ []) × (count ≤ vec_capacity room) }
-    ensures { (workers : List LineWorker) → length workers ≡ count → AreNumbered 0 workers →
-        AreBack workers (vec_len shares) shares.items → AreLater workers result.items }
+    ensures { (workers : List ServedLine) → length workers ≡ count → AreNumbered 0 workers →
+        AreBack workers (vec_len shares) shares.items → AreServedLater workers result.items }
 {
     let mut shares = shares;
     let mut lines = room;

@@ -6,3 +6,4 @@ pub mod ToldLaws
 pub mod EndLaws
 pub mod LayLaws
 pub mod RunLaws
+pub mod WatchLaws

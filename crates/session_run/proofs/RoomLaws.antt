@@ -6,7 +6,7 @@ use Rattle.vc_cell.specs.declared.Cell.{Cell}
 use Rattle.member_ring.specs.declared.ends.RingIn.{RingIn}
 use Rattle.member_ring.specs.Ends.{in_passed}
 use Rattle.sink_worker.specs.Received.{received}
-use Rattle.member_ring.specs.declared.worker.LineWorker.{LineWorker}
+use Rattle.watched_line.specs.declared.served.ServedLine.{ServedLine}
 use Rattle.session_parts.specs.Lines.{HaveRoom}
 use Rattle.session_parts.proofs.OpenLaws.{get-last}
 
@@ -14,10 +14,10 @@ use Rattle.session_parts.proofs.OpenLaws.{get-last}
 pub room-none : (most : ℕ) → HaveRoom most []
 room-none most w share there = absurd cc
 
-pub room-more : (most : ℕ) (shares : List (Vec LineWorker)) (next : Vec LineWorker) → HaveRoom most shares → next.items ≡ [] → most ≤ vec_capacity next → HaveRoom most (shares ++ next ∷ [])
+pub room-more : (most : ℕ) (shares : List (Vec ServedLine)) (next : Vec ServedLine) → HaveRoom most shares → next.items ≡ [] → most ≤ vec_capacity next → HaveRoom most (shares ++ next ∷ [])
 room-more most shares next room empty has w share there = elim (get-last shares next w share there) [
   | inl before ↦ room w share before
-  | inr (at, is) ↦ subst (λ (one : Vec LineWorker). (one.items ≡ []) × (most ≤ vec_capacity one)) (sym is) (empty, has)
+  | inr (at, is) ↦ subst (λ (one : Vec ServedLine). (one.items ≡ []) × (most ≤ vec_capacity one)) (sym is) (empty, has)
 ]
 
 -- ---- rings through which nothing has passed

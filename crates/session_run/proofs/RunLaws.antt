@@ -24,6 +24,7 @@ use Rattle.sink_worker.specs.Told.{Writes}
 use Rattle.sink_worker.specs.Worker.{Stands, parts_of, cells_of, size_of, taken_of, has_failed, ticks_of as rows_of}
 use Rattle.sink_worker.specs.Worker.{IsLater as IsSinkLater}
 use Rattle.sink_worker.proofs.PartsLaws.{later-refl, frames-none}
+use Rattle.alarm_log.specs.declared.log.AlarmLog.{AlarmLog}
 use Rattle.group_lock.specs.declared.group.GroupState.{GroupState}
 use Rattle.group_lock.specs.Group.{ticks_of, total_of}
 use Rattle.group_lock.specs.Session.{IsBound}
@@ -44,8 +45,8 @@ bound-own named tx back script first group is bound =
     (subst (λ l. IsBound script l back group) is.sends (subst (λ s. IsBound s tx back group) is.script bound))
 
 -- the worker of a sink where a session begins
-pub run-begins : (script : Script) (sink : SinkWorker) (first : Seen) (name : ℕ) → IsSinkOf script sink → HasRun (record { first = first; name = name; sink = sink }) sink first
-run-begins script sink first name is =
+pub run-begins : (script : Script) (sink : SinkWorker) (first : Seen) (name : ℕ) (log : Option AlarmLog) → IsSinkOf script sink → HasRun (record { first = first; name = name; sink = sink; log = log }) sink first
+run-begins script sink first name log is =
     let none : given_frames (size_of sink) (cells_of sink) (taken_of sink) ≡ [] =
     nil_from_length (given_frames (size_of sink) (cells_of sink) (taken_of sink)) (frames-none (size_of sink) (cells_of sink) (taken_of sink) is.taken) in
     record {
@@ -57,8 +58,8 @@ run-begins script sink first name is =
 
 module _ {K : Type 0} (written : K → Option (List ℕ)) (faults : K → ℕ) where
   -- how a session begins
-  abbrev pub begun_of : K → ℕ → SinkWorker → Begun
-  begun_of old name sink = record { first = seen (written old) (faults old); name = name; sink = sink }
+  abbrev pub begun_of : K → ℕ → SinkWorker → Option AlarmLog → Begun
+  begun_of old name sink log = record { first = seen (written old) (faults old); name = name; sink = sink; log = log }
 
   -- a worker that is handed on, with what it writes to
   pub handed-on : (begun : Begun) (a b : SinkWorker) (old new : K) → b ≡ a → new ≡ old → HasRun begun a (seen (written old) (faults old)) → HasRun begun b (seen (written new) (faults new))

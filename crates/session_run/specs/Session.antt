@@ -16,7 +16,8 @@ use Rattle.walk_law.specs.Promise.{numbered}
 use Rattle.group_lock.specs.declared.group.GroupState.{GroupState}
 use Rattle.group_lock.specs.Group.{IsOf, ticks_of, total_of, frames_of, commands_of, journal_of, refusals_of, totals_of}
 use Rattle.group_lock.specs.Session.{AreItemsOf, IsBound, HasLandedOf}
-use Rattle.session_parts.specs.Laid.{AreDone, AreSendEnds, AreReceiveEnds}
+use Rattle.watched_line.specs.declared.served.ServedLine.{ServedLine}
+use Rattle.session_parts.specs.Laid.{AreDone, AreServedDone, AreSendEnds, AreReceiveEnds}
 use Rattle.session_parts.specs.Opened.{IsLineOf, AreOpened}
 
 -- ---- the opening
@@ -38,9 +39,9 @@ pub record IsOpen (script : Script) (group : GroupState) (workers : List LineWor
 
 -- ---- the end, as far as the workers themselves say
 -- all frames are made, all lines have come to their end, all rows are taken
-pub record IsAllDone (group : GroupState) (workers : List LineWorker) (sink : SinkWorker) : Type 0 where
+pub record IsAllDone (group : GroupState) (lines : List ServedLine) (sink : SinkWorker) : Type 0 where
   pub made : total_of group ≤ ticks_of group
-  pub carried : AreDone workers
+  pub carried : AreServedDone lines
   pub taken : taken_of sink ≡ rows_of sink
 
 -- the same, and the two ends of each ring say the same

@@ -2,18 +2,19 @@
 ghost use Rattle.std.specs.Prelude.{◌≡◌, ◌≤◌, List, [], length, vec_len, IfSome, IsTrue};
 ghost use Rattle.std.specs.Global.{Vec};
 ghost use Rattle.std.specs.Vec.{vec_capacity};
-ghost use Rattle.member_ring.specs.declared.worker.LineWorker.{LineWorker};
+ghost use Rattle.watched_line.specs.declared.served.ServedLine.{ServedLine};
 ghost use Rattle.session_parts.specs.Duty.{Begun};
 ghost use Rattle.session_parts.specs.declared.flag.Flag.{Flag as OwnFlag};
 ghost use Rattle.session_parts.specs.Flags.{flag_of, heeded, comes_by};
 ghost use Rattle.session_parts.specs.Held.{AreHeldOf, AreToldBy};
-ghost use Rattle.session_parts.specs.Lines.{AreLater, SharesLater, AreNumbered};
+ghost use Rattle.session_parts.specs.Lines.{SharesLater, AreNumbered};
+ghost use Rattle.watched_line.specs.Served.{AreServedLater};
 ghost use Rattle.session_run.specs.Room.{HasRoomFor};
 
 use crate::room::{Flags, Room};
 use crate::turns::{land_all, tick_all};
 use group_lock::{BoundGroup, Session};
-use member_ring::{Gate, LineWorker, Who};
+use member_ring::{Gate, Who};
 use session_model::Item;
 use session_parts::{
     Bell, Comes, Duty, Flag, Held, Turned, collect, deal, serve_all_here, start_shares,
@@ -22,6 +23,7 @@ use session_parts::{
 use std::sync::{Mutex, OnceToken, Wait};
 use std::thread;
 use std::thread::{PromisedHandle, Scope, Threads};
+use watched_line::ServedLine;
 
 /// A thread that comes back with evidence that its flag was stored.
 type Child<'s> = PromisedHandle<OnceToken<'s, ()>, Comes>;
@@ -89,7 +91,7 @@ fn attend<R: Wait, G: Gate, D: Duty>(
     ensures over { IsTrue wanted → D.is_over result.0 }
     ensures told { (flags : List OwnFlag) → AreToldBy flags held.items →
         AreToldBy flags result.1.items }
-    ensures held { (shares : List (Vec LineWorker)) → AreHeldOf shares held.items →
+    ensures held { (shares : List (Vec ServedLine)) → AreHeldOf shares held.items →
         AreHeldOf shares result.1.items }
 {
     let mut duty = duty;
@@ -99,7 +101,7 @@ fn attend<R: Wait, G: Gate, D: Duty>(
     }
     for _ in rt.forever() {
         flags.sink.note();
-        serve_all_here(&mut held, gate);
+        serve_all_here(rt, &mut held, gate);
         gate.pass(Who::Sink);
         match duty.turn() {
             Turned::Over => return (duty, held),
@@ -121,11 +123,11 @@ fn shares_beside<'x, Y: Session, R: Threads + Wait + Sync, G: Gate, D: Duty>(
     lock: &'x Mutex<BoundGroup<Y>>,
     flags: &'x Flags,
     items: &'x [Item],
-    shares: Vec<Vec<LineWorker>>,
+    shares: Vec<Vec<ServedLine>>,
     held_room: Vec<Held>,
-    back_room: Vec<Vec<LineWorker>>,
+    back_room: Vec<Vec<ServedLine>>,
     duty: D,
-) -> (Vec<Vec<LineWorker>>, D)
+) -> (Vec<Vec<ServedLine>>, D)
     requires items { items.now ≡ Y.script.items }
     requires flags { vec_len shares ≤ vec_len flags.now.lines }
     requires held { (held_room.items ≡ []) × (vec_len shares ≤ vec_capacity held_room) }
@@ -137,7 +139,7 @@ fn shares_beside<'x, Y: Session, R: Threads + Wait + Sync, G: Gate, D: Duty>(
     thread::scope(
         thread::scope_env(),
         rt,
-        |scope| -> (Vec<Vec<LineWorker>>, D)
+        |scope| -> (Vec<Vec<ServedLine>>, D)
             requires items { items.now ≡ Y.script.items }
             requires flags { vec_len shares ≤ length lines.now }
             requires held { (held_room.items ≡ []) × (vec_len shares ≤ vec_capacity held_room) }
@@ -196,14 +198,14 @@ pub(crate) fn lines_beside<Y: Session, R: Threads + Wait + Sync, G: Gate, D: Dut
     lock: &Mutex<BoundGroup<Y>>,
     flags: &Flags,
     items: &[Item],
-    lines: Vec<LineWorker>,
+    lines: Vec<ServedLine>,
     room: Room,
     duty: D,
-) -> (Vec<LineWorker>, D)
+) -> (Vec<ServedLine>, D)
     requires items { items.now ≡ Y.script.items }
     requires numbers { AreNumbered 0 lines.items }
     requires room { HasRoomFor (vec_len lines) (vec_len flags.now.lines) room }
-    ensures lines { AreLater lines.items result.0.items }
+    ensures lines { AreServedLater lines.items result.0.items }
     ensures duty { (begun : Begun) → D.stands_for duty begun → D.stands_for result.1 begun }
 {
     let Room {

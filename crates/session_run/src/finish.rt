@@ -3,17 +3,18 @@ ghost use Rattle.std.specs.Prelude.{◌≡◌, ◌≤◌, ◌↔◌, true};
 ghost use Rattle.got_lines.specs.Told.{seen};
 ghost use Rattle.group_lock.specs.Group.{ticks_of, total_of};
 ghost use Rattle.session_parts.specs.Duty.{Begun, HasRun};
-ghost use Rattle.session_parts.specs.Lines.{AreLater};
+ghost use Rattle.watched_line.specs.Served.{AreServedLater};
 ghost use Rattle.session_run.specs.Session.{IsAllDone};
 
 use crate::turns::{hand_in, who_brings};
 use group_lock::{BoundGroup, Session, TickAnswer};
-use member_ring::{Gate, LineWorker, Who};
+use member_ring::{Gate, Who};
 use outside_io::ByteSink;
 use session_model::Item;
 use session_parts::carry_all;
 use sink_worker::{SinkBurst, SinkWorker};
 use std::sync::Wait;
+use watched_line::ServedLine;
 
 /// Makes the next frame where it can be made, or else lands the item that holds it. Says whether all were made before.
 fn tick_or_land<Y: Session, G: Gate>(gate: &G, group: &mut BoundGroup<Y>, items: &[Item]) -> bool
@@ -45,24 +46,25 @@ fn land_held<Y: Session, G: Gate>(gate: &G, group: &mut BoundGroup<Y>, items: &[
 }
 
 /// Makes a turn of each: of the source or of who holds it, of the lines and of the sink. Says whether all was done before.
-fn round<Y: Session, K: ByteSink, G: Gate>(
+fn round<Y: Session, R: Wait, K: ByteSink, G: Gate>(
+    rt: &R,
     gate: &G,
     items: &[Item],
     group: &mut BoundGroup<Y>,
-    lines: &mut Vec<LineWorker>,
+    lines: &mut Vec<ServedLine>,
     sink: &mut SinkWorker,
     out: &mut K,
 ) -> bool
     requires { items.now ≡ Y.script.items }
     ensures done { result ≡ true ↔ IsAllDone group.old.state lines.old.items sink.old }
     ensures stays { result ≡ true → IsAllDone group.new.state lines.new.items sink.new }
-    ensures lines { AreLater lines.old.items lines.new.items }
+    ensures lines { AreServedLater lines.old.items lines.new.items }
     ensures run { (begun : Begun) →
         HasRun begun sink.old (seen (K.written out.old) (K.faults out.old)) →
         HasRun begun sink.new (seen (K.written out.new) (K.faults out.new)) }
 {
     let made = tick_or_land::<Y, G>(gate, group, items);
-    let carried = carry_all(lines, gate);
+    let carried = carry_all(rt, lines, gate);
     let taken = sink.burst(out, gate) == SinkBurst::Done;
     made && carried && taken
 }
@@ -73,19 +75,19 @@ pub(crate) fn finish<Y: Session, R: Wait, K: ByteSink, G: Gate>(
     gate: &G,
     items: &[Item],
     group: &mut BoundGroup<Y>,
-    lines: &mut Vec<LineWorker>,
+    lines: &mut Vec<ServedLine>,
     sink: &mut SinkWorker,
     out: &mut K,
 )
     requires items { items.now ≡ Y.script.items }
     ensures done { IsAllDone group.new.state lines.new.items sink.new }
-    ensures lines { AreLater lines.old.items lines.new.items }
+    ensures lines { AreServedLater lines.old.items lines.new.items }
     ensures run { (begun : Begun) →
         HasRun begun sink.old (seen (K.written out.old) (K.faults out.old)) →
         HasRun begun sink.new (seen (K.written out.new) (K.faults out.new)) }
 {
     for _ in rt.forever() {
-        if round::<Y, K, G>(gate, items, group, lines, sink, out) {
+        if round::<Y, R, K, G>(rt, gate, items, group, lines, sink, out) {
             return;
         }
     }

@@ -7,11 +7,11 @@ ghost use Rattle.member_ring.specs.Ends.{AreEnds, out_passed, in_passed};
 ghost use Rattle.sink_worker.specs.Received.{received};
 ghost use Rattle.group_lock.specs.Rings.{AreUnused};
 ghost use Rattle.group_lock.specs.Session.{octets_in, IsBound};
-ghost use Rattle.session_run.specs.Room.{HasRoomFor};
+ghost use Rattle.session_run.specs.Room.{HasRoomFor, HasPlacesFor};
 ghost use Rattle.session_run.specs.Session.{IsOpen, IsSinkOf};
 ghost use Rattle.session_model.specs.Limits.{longest_input};
 
-use crate::room::{Flags, Room};
+use crate::room::{Flags, Places, Room};
 use group_lock::GroupState;
 use member_ring::{LineWorker, RingIn, RingOut, back_ring};
 use session_model::{Item, ItemKind, Script};
@@ -28,6 +28,7 @@ pub(crate) struct Opened {
     pub(crate) sink: SinkWorker,
     pub(crate) flags: Flags,
     pub(crate) room: Room,
+    pub(crate) places: Places,
 }
 
 /// The octets of an item's frame.
@@ -130,9 +131,11 @@ pub(crate) fn open(alloc: Global, script: &Script, workers: u8) -> Result<Opened
     ensures open { IfOk result (λ o. IsOpen script.now o.group o.lines.items o.sink) }
     ensures room { IfOk result (λ o.
         HasRoomFor (vec_len o.lines) (vec_len o.flags.lines) o.room) }
+    ensures places { IfOk result (λ o. HasPlacesFor (vec_len o.lines) o.places) }
 {
     let flags = Flags::new(alloc, workers)?;
     let room = Room::new(alloc, script.config.lines, workers)?;
+    let places = Places::new(alloc, script.config.lines)?;
     let lines = open_lines(alloc, &script.config)?;
     let (group, sink) = open_ends(alloc, script, lines.tx, lines.rx)?;
     Ok(Opened {
@@ -141,5 +144,6 @@ pub(crate) fn open(alloc: Global, script: &Script, workers: u8) -> Result<Opened
         sink,
         flags,
         room,
+        places,
     })
 }

@@ -4,10 +4,12 @@ ghost use Rattle.std.specs.Vec.{vec_capacity};
 ghost use Rattle.session_parts.specs.Lines.{HaveRoom};
 ghost use Rattle.session_run.specs.Room.{HasRoomFor};
 
+use alarm_log::AlarmPost;
 use member_ring::LineWorker;
 use session_parts::{Bell, Flag, Held};
 use std::alloc::{AllocError, Global};
 use std::sync::Wait;
+use watched_line::ServedLine;
 
 /// The flags at which threads look before each turn, each with its bell, and the bell of the sink, which is told by none.
 #[derive(Drop)]
@@ -71,20 +73,20 @@ impl Flags {
     }
 }
 
-/// Places for the workers of lines while they are dealt to threads and come back.
+/// Places for the lines while they are dealt to threads and come back.
 #[derive(Drop)]
 pub(crate) struct Room {
-    pub(crate) shares: Vec<Vec<LineWorker>>,
+    pub(crate) shares: Vec<Vec<ServedLine>>,
     pub(crate) held: Vec<Held>,
-    pub(crate) back: Vec<Vec<LineWorker>>,
-    pub(crate) lines: Vec<LineWorker>,
+    pub(crate) back: Vec<Vec<ServedLine>>,
+    pub(crate) lines: Vec<ServedLine>,
 }
 
 impl Room {
     ghost use Rattle.std.specs.Prelude.{◌<◌, IfOk};
     ghost use Rattle.session_run.specs.Room.{HasRoomFor};
 
-    /// Room for the workers of so many lines and for so many threads.
+    /// Room for so many lines and for so many threads.
     pub(crate) fn new(alloc: Global, lines: u8, workers: u8) -> Result<Room, AllocError>
         requires { 0 < workers }
         ensures { IfOk result (λ room. HasRoomFor lines workers room) }
@@ -100,12 +102,37 @@ impl Room {
     }
 }
 
-/// So many shares that are empty, each with room for so many workers.
+/// Places for lines that are put together of their workers and posts, and taken apart again.
+#[derive(Drop)]
+pub(crate) struct Places {
+    pub(crate) lines: Vec<ServedLine>,
+    pub(crate) workers: Vec<LineWorker>,
+    pub(crate) posts: Vec<AlarmPost>,
+}
+
+impl Places {
+    ghost use Rattle.std.specs.Prelude.{IfOk};
+    ghost use Rattle.session_run.specs.Room.{HasPlacesFor};
+
+    /// Places for so many lines.
+    pub(crate) fn new(alloc: Global, lines: u8) -> Result<Places, AllocError>
+        ensures { IfOk result (λ places. HasPlacesFor lines places) }
+    {
+        let count = usize::from(lines);
+        Ok(Places {
+            lines: Vec::with_capacity(alloc, count)?,
+            workers: Vec::with_capacity(alloc, count)?,
+            posts: Vec::with_capacity(alloc, count)?,
+        })
+    }
+}
+
+/// So many shares that are empty, each with room for so many lines.
 fn empty_shares(
     alloc: Global,
     lines: usize,
     workers: u8,
-) -> Result<Vec<Vec<LineWorker>>, AllocError>
+) -> Result<Vec<Vec<ServedLine>>, AllocError>
     ensures count { IfOk result (λ shares. vec_len shares ≡ workers) }
     ensures room { IfOk result (λ shares. HaveRoom lines shares.items) }
 {

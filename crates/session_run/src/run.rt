@@ -45,5 +45,7 @@ pub fn run_session<R: Threads + Wait + Sync, K: ByteSink, G: Gate>(
     ensures nothing { IfErr result (λ _. out.new ≡ out.old) }
 {
     let opened = open(alloc, &script, workers)?;
-    Ok(run_opened::<Brand, R, K, G>(rt, gate, &script, opened, out))
+    let posts = Vec::new(alloc);
+    let left = run_opened::<Brand, R, K, G>(rt, gate, &script, opened, posts, None, out);
+    Ok(left.ended)
 }

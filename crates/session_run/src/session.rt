@@ -1,5 +1,5 @@
 //! A session from its opening to its end.
-ghost use Rattle.std.specs.Prelude.{◌≡◌, [], ◌∷◌, ◌++◌, List, ℕ, Some, slice_get, length, false, vec_len};
+ghost use Rattle.std.specs.Prelude.{◌≡◌, ◌≤◌, [], ◌∷◌, ◌++◌, List, ℕ, Some, slice_get, length, false, vec_len};
 ghost use Rattle.vc_cell.specs.declared.Container.{Container};
 ghost use Rattle.vc_cell.specs.declared.BackCell.{BackCell};
 ghost use Rattle.session_model.specs.declared.script.Script.{Script};
@@ -11,14 +11,20 @@ ghost use Rattle.sink_core.specs.Given.{given_frames};
 ghost use Rattle.sink_worker.specs.Told.{Writes};
 ghost use Rattle.sink_worker.specs.Worker.{cells_of, size_of, taken_of, has_failed};
 ghost use Rattle.group_lock.specs.Session.{IsBound};
+ghost use Rattle.std.specs.List.{AllZip};
+ghost use Rattle.alarm_log.specs.Posts.{SamePost};
+ghost use Rattle.watched_line.specs.Served.{AreWatchable, AreTold};
+ghost use Rattle.session_parts.specs.Duty.{IsLogLater};
 ghost use Rattle.session_parts.specs.Laid.{AreSendEnds, AreReceiveEnds};
-ghost use Rattle.session_run.specs.Room.{HasRoomFor};
+ghost use Rattle.session_run.specs.Room.{HasRoomFor, HasPlacesFor};
 ghost use Rattle.session_run.specs.Session.{IsOpen, HasComeToEnd};
 ghost use Rattle.session_run.specs.Beside.{AreLaid, IsSessionOf};
 
 use crate::beside::lines_beside;
 use crate::finish::finish;
 use crate::open::{Opened, items_of};
+use crate::room::Places;
+use alarm_log::{AlarmLog, AlarmPost};
 use group_lock::{BoundGroup, GroupState, Session};
 use member_ring::{Gate, LineWorker};
 use outside_io::ByteSink;
@@ -27,6 +33,7 @@ use session_parts::{SinkDuty, lay_receives, lay_sends, take_back};
 use sink_worker::SinkWorker;
 use std::sync::{Mutex, Wait};
 use std::thread::Threads;
+use watched_line::{serve_lines, split_lines};
 
 /// A session that has ended: both ends of each of its rings.
 #[derive(Drop)]
@@ -37,6 +44,14 @@ pub struct Ended {
     pub lines: Vec<LineWorker>,
     /// The worker of the sink.
     pub sink: SinkWorker,
+}
+
+/// What is left of a session: its end, and the posts and the log of its lines, where they were watched.
+#[derive(Drop)]
+pub(crate) struct Left {
+    pub(crate) ended: Ended,
+    pub(crate) posts: Vec<AlarmPost>,
+    pub(crate) log: Option<AlarmLog>,
 }
 
 /// Lays both ends of each ring beside each other.
@@ -57,21 +72,33 @@ fn lay_beside(group: GroupState, lines: Vec<LineWorker>, sink: SinkWorker) -> En
     Ended { group, lines, sink }
 }
 
-/// Runs a session that was opened: its threads beside each other, and then what they haven't done.
+/// Runs a session that was opened: its threads beside each other, and then what they haven't done. Each line is watched through the post
+/// at its place, where there is one.
 pub(crate) fn run_opened<Y: Session, R: Threads + Wait + Sync, K: ByteSink, G: Gate>(
     rt: &R,
     gate: &G,
     script: &Script,
     opened: Opened,
+    posts: Vec<AlarmPost>,
+    log: Option<AlarmLog>,
     out: &mut K,
-) -> Ended
+) -> Left
     requires session { IsSessionOf Y.script Y.tx Y.back script.now opened.group }
     requires open { IsOpen script.now opened.group opened.lines.items opened.sink }
     requires room { HasRoomFor (vec_len opened.lines) (vec_len opened.flags.lines) opened.room }
-    ensures end { HasComeToEnd script.now result.group result.lines.items result.sink }
-    ensures written { Writes K.written K.faults false (has_failed result.sink) out.old out.new
-        (got_texts (given_frames (size_of result.sink) (cells_of result.sink)
-        (taken_of result.sink))) }
+    requires places { HasPlacesFor (vec_len opened.lines) opened.places }
+    requires few { vec_len posts ≤ vec_len opened.lines }
+    requires watch { AreWatchable opened.lines.items posts.items }
+    ensures end { HasComeToEnd script.now result.ended.group result.ended.lines.items
+        result.ended.sink }
+    ensures written { Writes K.written K.faults false (has_failed result.ended.sink)
+        out.old out.new
+        (got_texts (given_frames (size_of result.ended.sink) (cells_of result.ended.sink)
+        (taken_of result.ended.sink))) }
+    ensures posts { AllZip SamePost posts.items result.posts.items }
+    ensures log { IsLogLater log result.log }
+    ensures told { vec_len posts ≡ vec_len opened.lines →
+        AreTold result.ended.lines.items result.posts.items }
 {
     let Opened {
         group,
@@ -79,16 +106,28 @@ pub(crate) fn run_opened<Y: Session, R: Threads + Wait + Sync, K: ByteSink, G: G
         sink,
         flags,
         room,
+        places,
     } = opened;
+    let Places {
+        lines: served,
+        workers,
+        posts: given_back,
+    } = places;
     let items = items_of(script);
     let lock = Mutex::new(BoundGroup::<Y>::new(group));
-    let duty = SinkDuty::new(sink, out);
-    let (mut lines, duty) = lines_beside::<Y, R, G, SinkDuty<'_, K>>(
+    let duty = SinkDuty::new(rt, sink, out, log);
+    let lines = serve_lines(lines, posts, served);
+    let (mut lines, duty) = lines_beside::<Y, R, G, SinkDuty<'_, R, K>>(
         rt, gate, &lock, &flags, items, lines, room, duty,
     );
-    let (mut sink, place) = duty.into_parts();
+    let (mut sink, place, log) = duty.into_parts();
     let mut group = lock.into_inner();
     finish::<Y, R, K, G>(rt, gate, items, &mut group, &mut lines, &mut sink, place);
     take_back(place);
-    lay_beside(group.into_state(), lines, sink)
+    let (lines, posts) = split_lines(lines, workers, given_back);
+    Left {
+        ended: lay_beside(group.into_state(), lines, sink),
+        posts,
+        log,
+    }
 }

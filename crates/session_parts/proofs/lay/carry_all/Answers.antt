@@ -6,12 +6,11 @@ use Rattle.std.proofs.lemmas.Bool.{cases_Bool}
 use Rattle.std.proofs.lemmas.List.{with_items_is}
 use Rattle.std.proofs.lemmas.Option.{slice_get_within, slice_get-get_or}
 use Rattle.vc_cell.specs.declared.Cell.TheVariants.{End}
-use Rattle.member_ring.specs.declared.worker.LineWorker.{LineWorker}
+use Rattle.watched_line.specs.declared.served.ServedLine.{ServedLine}
 use Rattle.member_ring.specs.Ends.{out_passed}
-use Rattle.member_ring.specs.Worker.{IsLater}
-use Rattle.member_ring.proofs.LaterLaws.{later-refl, later-then}
-use Rattle.session_parts.specs.Lines.{AreLater}
-use Rattle.session_parts.specs.Laid.{AreDone}
+use Rattle.watched_line.specs.Served.{worker_of, AreServedLater, IsServedLater}
+use Rattle.watched_line.proofs.ServedLaws.{served-refl, served-then}
+use Rattle.session_parts.specs.Laid.{AreServedDone}
 use Rattle.session_parts.proofs.ZipLaws.{zip-refl, zip-set}
 use Rattle.session_parts.proofs.DealLaws.{set-found, set-same}
 use Rattle.session_parts.proofs.lay.carry_all.Goals as goal
@@ -22,7 +21,7 @@ below-it m n low other = omega (arith, low, other)
 
 pub loop-worker-init : goal.loop-worker-init
 loop-worker-init g c = record {
-  later = subst (AreLater c.args.workers.now.items) (sym c.deref_mut-worker-items.ensures.value) (zip-refl IsLater later-refl c.args.workers.now.items);
+  later = subst (AreServedLater c.args.workers.now.items) (sym c.deref_mut-worker-items.ensures.value) (zip-refl IsServedLater served-refl c.args.workers.now.items);
   done = λ yes m worker low there. absurd (omega (arith, low));
   same = λ yes. c.deref_mut-worker-items.ensures.value;
   left = λ no. absurd cc;
@@ -34,17 +33,17 @@ loop-worker-preserved g c =
     let before = c.loop-worker.invariant in
     let items = c.loop-worker.worker-items in
     let i = c.loop-worker.worker-index in
-    let was : LineWorker = get_or items i c.worker-item.result in
+    let was : ServedLine = get_or items i c.worker-item.result in
     let within : i < length items = omega (arith, c.loop-worker-test.true, c.loop-worker.auto.worker-items) in
     let there : slice_get items i ≡ Some was = slice_get-get_or items i c.worker-item.result within in
     record {
-      later = zip-set IsLater c.args.workers.now.items items i c.worker-item.result c.carry_one.new.worker
-          within (λ x later. later-then x _ c.carry_one.new.worker later c.carry_one.ensures.later) before.later;
+      later = zip-set IsServedLater c.args.workers.now.items items i c.worker-item.result c.carry_one.new.worker
+          within (λ x later. served-then x _ c.carry_one.new.worker later c.carry_one.ensures.later) before.later;
       done = elim c.if-not-carry_one.branch [
         | then-not-carry_one w ↦ λ yes. absurd (let no' = w.done-is in cc)
         | else-not-carry_one w ↦ λ yes m worker low found.
             elim (set-found items i m c.carry_one.new.worker worker within found) [
-              | inl (at, is) ↦ subst (λ (one : LineWorker). Contains (out_passed one.producer) End)
+              | inl (at, is) ↦ subst (λ (one : ServedLine). Contains (out_passed (worker_of one).producer) End)
                   (sym (is ∙ c.carry_one.ensures.stays w.if-not-carry_one.false)) (c.carry_one.ensures.done.0 w.if-not-carry_one.false)
               | inr (other, is) ↦ before.done (sym w.done-is ∙ yes) m worker (below-it m i low other) is
             ]
@@ -73,11 +72,11 @@ pub returns-clause-later : goal.returns-clause-later
 returns-clause-later g c =
     let v = c.args.workers.now in
     let items = c.loop-worker.worker-items in
-    subst (AreLater v.items) (sym (with_items_is v items (omega (arith, c.loop-worker.auto.worker-items, ap (length {A = LineWorker}) c.deref_mut-worker-items.ensures.value, v.ok.0)))) c.loop-worker.invariant.later
+    subst (AreServedLater v.items) (sym (with_items_is v items (omega (arith, c.loop-worker.auto.worker-items, ap (length {A = ServedLine}) c.deref_mut-worker-items.ensures.value, v.ok.0)))) c.loop-worker.invariant.later
 
 pub returns-clause-done : goal.returns-clause-done
 returns-clause-done g c = (
-  λ yes. subst AreDone (c.loop-worker.invariant.same yes)
+  λ yes. subst AreServedDone (c.loop-worker.invariant.same yes)
       (λ m worker there. c.loop-worker.invariant.done yes m worker
       (let inside = slice_get_within c.loop-worker.worker-items m worker there in omega (arith, inside, c.loop-worker-test.false, c.loop-worker.auto.worker-items)) there),
   λ all. by_done c.loop-worker.done (λ no. c.loop-worker.invariant.left no all),
@@ -90,4 +89,4 @@ pub returns-clause-stays : goal.returns-clause-stays
 returns-clause-stays g c = λ yes.
     let v = c.args.workers.now in
     let items = c.loop-worker.worker-items in
-    with_items_is v items (omega (arith, c.loop-worker.auto.worker-items, ap (length {A = LineWorker}) c.deref_mut-worker-items.ensures.value, v.ok.0)) ∙ c.loop-worker.invariant.same yes
+    with_items_is v items (omega (arith, c.loop-worker.auto.worker-items, ap (length {A = ServedLine}) c.deref_mut-worker-items.ensures.value, v.ok.0)) ∙ c.loop-worker.invariant.same yes

@@ -1,6 +1,6 @@
 -- The workers are later than those that were given.
-use Rattle.session_parts.specs.Lines.{AreLater}
+use Rattle.watched_line.specs.Served.{AreServedLater}
 use Rattle.session_parts.proofs.line_thread.serve.Given as goal
 
 abbrev pub invariant-loop : goal.invariant-loop
-invariant-loop g l = AreLater l.fn.workers.items l.workers.items
+invariant-loop g l = AreServedLater l.fn.workers.items l.workers.items

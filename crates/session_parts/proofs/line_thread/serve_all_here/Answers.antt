@@ -2,7 +2,7 @@
 use Rattle.std.proofs.Common.{sym, subst, ap, length, arith}
 use Rattle.std.proofs.lemmas.List.{with_items_is}
 use Rattle.std.specs.Global.{Vec}
-use Rattle.member_ring.specs.declared.worker.LineWorker.{LineWorker}
+use Rattle.watched_line.specs.declared.served.ServedLine.{ServedLine}
 use Rattle.session_parts.specs.declared.line_thread.Held.{Held}
 use Rattle.session_parts.specs.Held.{IsHeldOf, AreHeldOf, AreToldBy}
 use Rattle.session_parts.proofs.ZipLaws.{zip-set}
@@ -18,7 +18,7 @@ loop-share-init g c = record {
 pub loop-share-preserved : goal.loop-share-preserved
 loop-share-preserved g c = record {
   held = λ shares held.
-      zip-set (λ (share : Vec LineWorker) (one : Held). IsHeldOf share.items one) shares c.loop-share.share-items c.loop-share.share-index c.share-item.result c.serve_here.new.held
+      zip-set (λ (share : Vec ServedLine) (one : Held). IsHeldOf share.items one) shares c.loop-share.share-items c.loop-share.share-index c.share-item.result c.serve_here.new.held
       (omega (arith, c.loop-share-test.true, c.loop-share.auto.share-items)) (λ share one. c.serve_here.ensures.held share.items one) (c.loop-share.invariant.held shares held);
   told = λ flags told.
       told-set flags c.loop-share.share-items c.loop-share.share-index c.share-item.result c.serve_here.new.held

@@ -1,13 +1,13 @@
 -- What is held is held of the same workers, and looks at the same flags.
 use Rattle.std.proofs.Common.{List}
 use Rattle.std.specs.Global.{Vec}
-use Rattle.member_ring.specs.declared.worker.LineWorker.{LineWorker}
+use Rattle.watched_line.specs.declared.served.ServedLine.{ServedLine}
 use Rattle.session_parts.specs.declared.flag.Flag.{Flag}
 use Rattle.session_parts.specs.Held.{AreHeldOf, AreToldBy}
 use Rattle.session_parts.proofs.line_thread.serve_all_here.Given as goal
 
 abbrev pub invariant-loop-share : goal.invariant-loop-share
 invariant-loop-share g l = record {
-  held : (shares : List (Vec LineWorker)) → AreHeldOf shares l.fn.held.items → AreHeldOf shares l.share-items;
+  held : (shares : List (Vec ServedLine)) → AreHeldOf shares l.fn.held.items → AreHeldOf shares l.share-items;
   told : (flags : List Flag) → AreToldBy flags l.fn.held.items → AreToldBy flags l.share-items;
 }

@@ -4,7 +4,7 @@ use Rattle.std.proofs.lemmas.List.{append-nil, nil_from_length}
 use Rattle.std.proofs.lemmas.Option.{slice_get_read}
 use Rattle.std.specs.Global.{Vec}
 use Rattle.std.specs.Vec.Iter.{into_iter_items}
-use Rattle.member_ring.specs.declared.worker.LineWorker.{LineWorker}
+use Rattle.watched_line.specs.declared.served.ServedLine.{ServedLine}
 use Rattle.session_parts.specs.declared.line_thread.Held.{Held}
 use Rattle.session_parts.specs.Lines.{SharesLater}
 use Rattle.session_parts.specs.Held.{IsHeldOf, IsToldBy, AreHeldOf}
@@ -37,10 +37,10 @@ loop-share-preserved g c =
           before.told (suc k) flag one (ap (slice_get c.args.flags.now) (omega (arith, c.push_reserved.ensures.len)) ∙ at) (ap (λ l. slice_get l (suc k)) steps.0 ∙ there);
       each = λ given held.
           let (rest, holds, grows) = before.each given held in
-          let (share, others, is, one, all) = zip-first (λ (share : Vec LineWorker) (one : Held). IsHeldOf share.items one) rest c.in-Some.share left (subst (AreHeldOf rest) steps.0 holds) in (
+          let (share, others, is, one, all) = zip-first (λ (share : Vec ServedLine) (one : Held). IsHeldOf share.items one) rest c.in-Some.share left (subst (AreHeldOf rest) steps.0 holds) in (
             others,
             all,
-            λ (future : List (Vec LineWorker)) later.
+            λ (future : List (Vec ServedLine)) later.
                 subst (SharesLater given) (sym (ap (λ l. l ++ future) c.push_reserved.ensures.items ∙ append_assoc old (taken ∷ []) future))
                 (grows (taken ∷ future) (subst (λ l. SharesLater l (taken ∷ future)) (sym is) (c.take_back.ensures share.items one, later))),
           );
@@ -51,5 +51,5 @@ returns g c = λ given held.
     let size : length (into_iter_items c.loop-share.share-iterator) ≡ 0 = search rules in
     let none = nil_from_length (into_iter_items c.loop-share.share-iterator) size in
     let (rest, holds, grows) = c.loop-share.invariant.each given held in
-    let over = zip-none (λ (share : Vec LineWorker) (one : Held). IsHeldOf share.items one) rest (subst (AreHeldOf rest) none holds) in
+    let over = zip-none (λ (share : Vec ServedLine) (one : Held). IsHeldOf share.items one) rest (subst (AreHeldOf rest) none holds) in
     subst (SharesLater given) (append-nil c.loop-share.shares.items) (grows [] (subst (λ l. SharesLater l []) (sym over) tt))

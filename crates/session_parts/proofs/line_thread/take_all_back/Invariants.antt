@@ -3,7 +3,7 @@ use Rattle.std.proofs.Common.{◌≡◌, ℕ, ◌+◌, List, ◌++◌, vec_len, 
 use Rattle.std.specs.Global.{Vec}
 use Rattle.std.specs.Vec.{vec_capacity}
 use Rattle.std.specs.Vec.Iter.{into_iter_items, into_iter_len}
-use Rattle.member_ring.specs.declared.worker.LineWorker.{LineWorker}
+use Rattle.watched_line.specs.declared.served.ServedLine.{ServedLine}
 use Rattle.session_parts.specs.Lines.{SharesLater}
 use Rattle.session_parts.specs.declared.flag.Flag.{Flag}
 use Rattle.session_parts.specs.declared.line_thread.Held.{Held}
@@ -17,7 +17,7 @@ invariant-loop-share g l = record {
   room : vec_capacity l.shares ≡ vec_capacity l.fn.room;
   told : (k : ℕ) (flag : Flag) (one : Held) → slice_get l.flags (vec_len l.shares + k) ≡ Some flag → slice_get (into_iter_items l.share-iterator) k ≡ Some one →
       IsToldBy (flag_of flag) one;
-  each : (given : List (Vec LineWorker)) → AreHeldOf given l.fn.held.items →
-      (rest : List (Vec LineWorker)) × AreHeldOf rest (into_iter_items l.share-iterator)
-      × ((future : List (Vec LineWorker)) → SharesLater rest future → SharesLater given (l.shares.items ++ future));
+  each : (given : List (Vec ServedLine)) → AreHeldOf given l.fn.held.items →
+      (rest : List (Vec ServedLine)) × AreHeldOf rest (into_iter_items l.share-iterator)
+      × ((future : List (Vec ServedLine)) → SharesLater rest future → SharesLater given (l.shares.items ++ future));
 }

@@ -1,7 +1,7 @@
 -- A line is opened over fresh rings.
 use Rattle.std.proofs.Common.{◌≡◌, [], ℕ, sym, ◌∙◌, ap, subst, slice_index_or}
 use Rattle.member_ring.specs.declared.ends.RingOut.{RingOut}
-use Rattle.member_ring.specs.Ends.{AreEnds}
+use Rattle.member_ring.specs.Ends.{out_passed, AreEnds}
 use Rattle.vc_cell.specs.declared.Cell.{Cell}
 use Rattle.session_parts.proofs.OpenLaws.{none-opened, opened-more, opened-own}
 use Rattle.session_parts.proofs.open.open_lines.Goals as goal
@@ -18,7 +18,7 @@ loop-line-preserved c =
     let same : c.from.result ≡ c.loop-line.line = c.from.ensures in
     rw (c.in_ok-push.ensures.items, c.in_ok-push-2.ensures.items, c.in_ok-push-3.ensures.items)
     (opened-more config c.loop-line.line c.loop-line.tx.items c.loop-line.workers.items c.loop-line.rx.items ends.tx worker ends.rx_out c.loop-line.invariant
-    c.in_ok-ends.ensures.send.pushed c.in_ok-ends.ensures.receive.popped
+    c.in_ok-ends.ensures.send.pushed c.in_ok-ends.ensures.receive.popped (ap out_passed c.new.ensures.ends.1 ∙ c.in_ok-ends.ensures.receive.pushed)
     (record {
       number = c.new.ensures.line;
       delay = c.new.ensures.delay ∙ stands.delay ∙ ap (λ (k : ℕ). slice_index_or config.delays k 0) same;

@@ -1,7 +1,8 @@
 -- The last worker of a share is that of the next line.
 use Rattle.std.proofs.Common.{◌≡◌, ℕ, suc, ◌-◌, ◌%◌, ◌<◌, length, vec_len, take, drop, sym, ◌∙◌, ap, subst, arith}
 use Rattle.std.specs.Prelude.{reverse}
-use Rattle.session_parts.specs.Lines.{AreBack, AreLater}
+use Rattle.session_parts.specs.Lines.{AreBack}
+use Rattle.watched_line.specs.Served.{AreServedLater}
 use Rattle.session_parts.proofs.CollectLaws.{taken-back}
 use Rattle.session_parts.proofs.shares.collect.Goals as goal
 
@@ -23,5 +24,5 @@ loop-line-preserved c =
           let had = before.back workers size numbers back in
           taken-back workers m n place shares.items c.index_mut.result.now c.take_last.new.share c.loop-line.lines.items c.take_last.new.lines.items
           (omega (arith, size, before.most, next)) numbers (ap (λ (k : ℕ). m % k) c.len-shares_count.ensures) within c.index_mut.ensures.value c.take_last.ensures.moved
-          (subst (λ (k : ℕ). AreBack (take k workers) n shares.items × AreLater (drop k workers) (reverse c.loop-line.lines.items)) (sym next) had);
+          (subst (λ (k : ℕ). AreBack (take k workers) n shares.items × AreServedLater (drop k workers) (reverse c.loop-line.lines.items)) (sym next) had);
     }

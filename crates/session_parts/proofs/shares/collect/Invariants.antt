@@ -2,8 +2,9 @@
 use Rattle.std.proofs.Common.{◌≡◌, ◌+◌, ◌≤◌, List, length, vec_len, take, drop}
 use Rattle.std.specs.Prelude.{reverse}
 use Rattle.std.specs.Vec.{vec_capacity}
-use Rattle.member_ring.specs.declared.worker.LineWorker.{LineWorker}
-use Rattle.session_parts.specs.Lines.{AreNumbered, AreBack, AreLater}
+use Rattle.watched_line.specs.declared.served.ServedLine.{ServedLine}
+use Rattle.session_parts.specs.Lines.{AreNumbered, AreBack}
+use Rattle.watched_line.specs.Served.{AreServedLater}
 use Rattle.session_parts.proofs.shares.collect.Given as goal
 
 abbrev pub invariant-loop-line : goal.invariant-loop-line
@@ -11,8 +12,8 @@ invariant-loop-line l = record {
   count : vec_len l.shares ≡ vec_len l.fn.shares;
   most : vec_len l.lines + l.line ≤ l.fn.count;
   room : vec_capacity l.lines ≡ vec_capacity l.fn.room;
-  back : (workers : List LineWorker) → length workers ≡ l.fn.count → AreNumbered 0 workers → AreBack workers (vec_len l.fn.shares) l.fn.shares.items →
-      AreBack (take l.line workers) (vec_len l.fn.shares) l.shares.items × AreLater (drop l.line workers) (reverse l.lines.items);
+  back : (workers : List ServedLine) → length workers ≡ l.fn.count → AreNumbered 0 workers → AreBack workers (vec_len l.fn.shares) l.fn.shares.items →
+      AreBack (take l.line workers) (vec_len l.fn.shares) l.shares.items × AreServedLater (drop l.line workers) (reverse l.lines.items);
 }
 
 abbrev pub decreases-loop-line : goal.decreases-loop-line

@@ -6,19 +6,19 @@ use Rattle.std.proofs.lemmas.Option.{slice_get_read}
 use Rattle.std.specs.Global.{Vec}
 use Rattle.std.specs.Vec.{vec_capacity}
 use Rattle.std.specs.Vec.Iter.{into_iter_items}
-use Rattle.member_ring.specs.declared.worker.LineWorker.{LineWorker}
-use Rattle.member_ring.specs.Worker.{number_of}
+use Rattle.watched_line.specs.declared.served.ServedLine.{ServedLine}
+use Rattle.watched_line.specs.Served.{line_of}
 use Rattle.session_parts.specs.Lines.{AreNumbered, share_of}
 use Rattle.session_parts.proofs.DealLaws.{dealt-step, set-found}
 use Rattle.session_parts.proofs.shares.deal.Goals as goal
 
-numbered-rest : (from next : ℕ) (first : LineWorker) (rest all : List LineWorker) → all ≡ first ∷ rest → next ≡ from + 1 → AreNumbered from all → AreNumbered next rest
+numbered-rest : (from next : ℕ) (first : ServedLine) (rest all : List ServedLine) → all ≡ first ∷ rest → next ≡ from + 1 → AreNumbered from all → AreNumbered next rest
 numbered-rest from next first rest all is more numbered k worker there =
     let numbers : AreNumbered from (first ∷ rest) = subst (AreNumbered from) is numbered in
     let h = numbers (suc k) worker there in
     omega (arith, h, more)
 
-numbered-first : (from : ℕ) (first : LineWorker) (rest all : List LineWorker) → all ≡ first ∷ rest → AreNumbered from all → number_of first ≡ from
+numbered-first : (from : ℕ) (first : ServedLine) (rest all : List ServedLine) → all ≡ first ∷ rest → AreNumbered from all → line_of first ≡ from
 numbered-first from first rest all is numbered =
     let numbers : AreNumbered from (first ∷ rest) = subst (AreNumbered from) is numbered in
     let h = numbers 0 first refl in
@@ -37,7 +37,7 @@ loop-worker-init c =
       count = (c.len-count.ensures, refl);
       left = search rules;
       numbers = subst (AreNumbered 0) (sym gives.0) c.requires.numbers;
-      room = λ w share there. let room = c.requires.room w share there in (omega (arith, ap (length {A = LineWorker}) room.0), room.1);
+      room = λ w share there. let room = c.requires.room w share there in (omega (arith, ap (length {A = ServedLine}) room.0), room.1);
       dealt = λ w share there.
           ap (λ l. l ++ share_of (vec_len c.args.shares) w (into_iter_items c.into_iter-worker-iterator.result)) (c.requires.room w share there).0
           ∙ ap (share_of (vec_len c.args.shares) w) gives.0;
@@ -63,14 +63,14 @@ loop-worker-preserved c =
       room = λ w share there. elim (set-found c.loop-worker.shares.items place w now share within there) [
         | inl (at, is) ↦
             let room = before.room place own (slice_get_read c.loop-worker.shares.items (length c.loop-worker.shares.items) place own refl within c.index_mut.ensures.value) in
-            let size : length share.items ≡ length own.items + 1 = ap (λ (v : Vec LineWorker). length v.items) is ∙ ap length c.push_reserved.ensures.items ∙ length-append own.items (worker ∷ []) in
-            (omega (arith, room.0, size), subst (λ (v : Vec LineWorker). vec_len c.args.lines ≤ vec_capacity v) (sym is) (omega (arith, room.1, c.push_reserved.ensures.capacity)))
+            let size : length share.items ≡ length own.items + 1 = ap (λ (v : Vec ServedLine). length v.items) is ∙ ap length c.push_reserved.ensures.items ∙ length-append own.items (worker ∷ []) in
+            (omega (arith, room.0, size), subst (λ (v : Vec ServedLine). vec_len c.args.lines ≤ vec_capacity v) (sym is) (omega (arith, room.1, c.push_reserved.ensures.capacity)))
         | inr (other, is) ↦ let room = before.room w share is in (omega (arith, room.0), room.1)
       ];
-      dealt = dealt-step (λ (share : Vec LineWorker). share.items) (λ w (one : LineWorker). number_of one % shares == w)
+      dealt = dealt-step (λ (share : Vec ServedLine). share.items) (λ w (one : ServedLine). line_of one % shares == w)
           c.loop-worker.shares.items place own now worker rest c.args.lines.items within c.index_mut.ensures.value c.push_reserved.ensures.items
-          (test-true (number_of worker % shares) place (ap (λ (n : ℕ). n % shares) number ∙ ap (λ (n : ℕ). c.loop-worker.line % n) (sym same)))
-          (λ w other. test-false (number_of worker % shares) w (λ e. other (sym (sym (ap (λ (n : ℕ). n % shares) number ∙ ap (λ (n : ℕ). c.loop-worker.line % n) (sym same)) ∙ e))))
+          (test-true (line_of worker % shares) place (ap (λ (n : ℕ). n % shares) number ∙ ap (λ (n : ℕ). c.loop-worker.line % n) (sym same)))
+          (λ w other. test-false (line_of worker % shares) w (λ e. other (sym (sym (ap (λ (n : ℕ). n % shares) number ∙ ap (λ (n : ℕ). c.loop-worker.line % n) (sym same)) ∙ e))))
           (λ w share there. ap (λ l. share.items ++ share_of shares w l) (sym steps.0) ∙ before.dealt w share there);
     }
 

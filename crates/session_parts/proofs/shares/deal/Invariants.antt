@@ -3,7 +3,7 @@ use Rattle.std.proofs.Common.{◌≡◌, ℕ, ◌+◌, ◌≤◌, ◌++◌, leng
 use Rattle.std.specs.Global.{Vec}
 use Rattle.std.specs.Vec.{vec_capacity}
 use Rattle.std.specs.Vec.Iter.{into_iter_items, into_iter_len}
-use Rattle.member_ring.specs.declared.worker.LineWorker.{LineWorker}
+use Rattle.watched_line.specs.declared.served.ServedLine.{ServedLine}
 use Rattle.session_parts.specs.Lines.{AreNumbered, share_of}
 use Rattle.session_parts.proofs.shares.deal.Given as goal
 
@@ -12,7 +12,7 @@ invariant-loop-worker l = record {
   count : (l.count ≡ vec_len l.fn.shares) × (vec_len l.shares ≡ vec_len l.fn.shares);
   left : l.line + into_iter_len l.worker-iterator ≡ vec_len l.fn.lines;
   numbers : AreNumbered l.line (into_iter_items l.worker-iterator);
-  room : (w : ℕ) (share : Vec LineWorker) → slice_get l.shares.items w ≡ Some share → (length share.items ≤ l.line) × (vec_len l.fn.lines ≤ vec_capacity share);
-  dealt : (w : ℕ) (share : Vec LineWorker) → slice_get l.shares.items w ≡ Some share →
+  room : (w : ℕ) (share : Vec ServedLine) → slice_get l.shares.items w ≡ Some share → (length share.items ≤ l.line) × (vec_len l.fn.lines ≤ vec_capacity share);
+  dealt : (w : ℕ) (share : Vec ServedLine) → slice_get l.shares.items w ≡ Some share →
       share.items ++ share_of (vec_len l.fn.shares) w (into_iter_items l.worker-iterator) ≡ share_of (vec_len l.fn.shares) w l.fn.lines.items;
 }

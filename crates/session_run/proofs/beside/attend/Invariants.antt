@@ -1,7 +1,7 @@
 -- The duty was done turn by turn, and what has no thread went on.
 use Rattle.std.proofs.Common.{List}
 use Rattle.std.specs.Global.{Vec}
-use Rattle.member_ring.specs.declared.worker.LineWorker.{LineWorker}
+use Rattle.watched_line.specs.declared.served.ServedLine.{ServedLine}
 use Rattle.session_parts.specs.Duty.{Begun}
 use Rattle.session_parts.specs.declared.flag.Flag.{Flag}
 use Rattle.session_parts.specs.Held.{AreHeldOf, AreToldBy}
@@ -11,5 +11,5 @@ abbrev pub invariant-loop : goal.invariant-loop
 invariant-loop g l = record {
   duty : (begun : Begun) → g.D.Duty.stands_for l.fn.duty begun → g.D.Duty.stands_for l.duty begun;
   told : (flags : List Flag) → AreToldBy flags l.fn.held.items → AreToldBy flags l.held.items;
-  held : (shares : List (Vec LineWorker)) → AreHeldOf shares l.fn.held.items → AreHeldOf shares l.held.items;
+  held : (shares : List (Vec ServedLine)) → AreHeldOf shares l.fn.held.items → AreHeldOf shares l.held.items;
 }

@@ -1,8 +1,9 @@
 -- The shares that come back have the workers that were dealt, later.
 use Rattle.std.proofs.Common.{◌≡◌, ℕ, length, vec_len, sym, subst, arith}
 use Rattle.std.specs.Global.{Vec}
-use Rattle.member_ring.specs.declared.worker.LineWorker.{LineWorker}
-use Rattle.session_parts.specs.Lines.{AreLater, AreBack}
+use Rattle.watched_line.specs.declared.served.ServedLine.{ServedLine}
+use Rattle.session_parts.specs.Lines.{AreBack}
+use Rattle.watched_line.specs.Served.{AreServedLater}
 use Rattle.session_parts.proofs.ZipLaws.{zip-length}
 use Rattle.session_run.proofs.BackLaws.{back-dealt}
 use Rattle.session_run.proofs.beside.lines_beside.Goals as goal
@@ -14,7 +15,7 @@ returns-clause-lines g c =
     let dealt = c.deal-shares.result in
     let back = c.shares_beside-shares.result.0 in
     let later = c.shares_beside-shares.ensures.shares in
-    let long = zip-length (λ (a b : Vec LineWorker). AreLater a.items b.items) dealt.items back.items later in
+    let long = zip-length (λ (a b : Vec ServedLine). AreServedLater a.items b.items) dealt.items back.items later in
     let same : vec_len back ≡ vec_len shares = omega (arith, long, c.deal-shares.ensures.count, back.ok.0, dealt.ok.0) in
     let size : length lines ≡ c.len-count.result = omega (arith, c.len-count.ensures, c.args.lines.ok.0) in
     c.collect.ensures lines size c.requires.numbers

@@ -1,20 +1,20 @@
 -- Each round goes on where the last one ended.
-use Rattle.member_ring.specs.Worker.{IsLater}
-use Rattle.member_ring.proofs.LaterLaws.{later-refl, later-then}
+use Rattle.watched_line.specs.Served.{IsServedLater}
+use Rattle.watched_line.proofs.ServedLaws.{served-refl, served-then}
 use Rattle.session_parts.proofs.ZipLaws.{zip-refl, zip-then}
 use Rattle.session_run.proofs.finish.finish.Goals as goal
 
 pub loop-init : goal.loop-init
-loop-init g c = record { lines = zip-refl IsLater later-refl _; run = λ begun run. run }
+loop-init g c = record { lines = zip-refl IsServedLater served-refl _; run = λ begun run. run }
 
 pub loop-preserved : goal.loop-preserved
 loop-preserved g c = record {
-  lines = zip-then IsLater later-then _ _ _ c.loop.invariant.lines c.round.ensures.lines;
+  lines = zip-then IsServedLater served-then _ _ _ c.loop.invariant.lines c.round.ensures.lines;
   run = λ begun first. c.round.ensures.run begun (c.loop.invariant.run begun first);
 }
 
 pub returns-then-round-clause-lines : goal.returns-then-round-clause-lines
-returns-then-round-clause-lines g c = zip-then IsLater later-then _ _ _ c.loop.invariant.lines c.round.ensures.lines
+returns-then-round-clause-lines g c = zip-then IsServedLater served-then _ _ _ c.loop.invariant.lines c.round.ensures.lines
 
 pub returns-then-round-clause-run : goal.returns-then-round-clause-run
 returns-then-round-clause-run g c = λ begun first. c.round.ensures.run begun (c.loop.invariant.run begun first)

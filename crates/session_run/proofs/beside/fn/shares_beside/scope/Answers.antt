@@ -1,7 +1,7 @@
 -- As many shares are held as were given, and each looks at the flag of its place.
 use Rattle.std.proofs.Common.{arith}
 use Rattle.std.specs.Global.{Vec}
-use Rattle.member_ring.specs.declared.worker.LineWorker.{LineWorker}
+use Rattle.watched_line.specs.declared.served.ServedLine.{ServedLine}
 use Rattle.session_parts.specs.declared.line_thread.Held.{Held}
 use Rattle.session_parts.specs.Held.{IsHeldOf, AreHeldOf}
 use Rattle.session_parts.proofs.ZipLaws.{zip-length}
@@ -12,7 +12,7 @@ take_all_back-back-requires g c =
     let shares = c.captures.shares in
     let held = c.attend-duty.result.1 in
     let are : AreHeldOf shares.items held.items = c.attend-duty.ensures.held shares.items c.start_shares-held.ensures.held in
-    let long = zip-length (λ (share : Vec LineWorker) (one : Held). IsHeldOf share.items one) shares.items held.items are in
+    let long = zip-length (λ (share : Vec ServedLine) (one : Held). IsHeldOf share.items one) shares.items held.items are in
     record {
       room = (c.requires.back.0, omega (arith, long, c.requires.back.1, held.ok.0, shares.ok.0));
       flags = omega (arith, long, c.requires.flags, held.ok.0, shares.ok.0);

@@ -1,0 +1,67 @@
+//! The call that runs a session of which each line is watched.
+ghost use Rattle.std.specs.Prelude.{◌≡◌, ℕ, ◌<◌, ◌≤◌, true, false, IfOk, IfErr};
+ghost use Rattle.outside_io.specs.Transfer.{Appends, AppendsPart};
+ghost use Rattle.report_text.specs.Report.{got_texts};
+ghost use Rattle.session_model.specs.Valid.{IsValid};
+ghost use Rattle.member_ring.specs.Alarms.{alarms_of_line};
+ghost use Rattle.alarm_log.specs.Alarms.{of_line};
+ghost use Rattle.alarm_log.specs.Logs.{alarms_in};
+ghost use Rattle.sink_worker.specs.Worker.{has_failed};
+ghost use Rattle.walk_law.specs.Delivered.{delivered_of};
+ghost use Rattle.walk_law.specs.Rings.{line_cells};
+ghost use Rattle.session_parts.specs.Session.{IsEnded};
+ghost use Rattle.session_run.specs.Session.{IsGroupEnded};
+
+use crate::open::open;
+use crate::session::{Ended, Left, run_opened};
+use alarm_log::{AlarmList, make_log};
+use member_ring::Gate;
+use outside_io::ByteSink;
+use session_model::Script;
+use std::alloc::{AllocError, Global};
+use std::marker::Brand;
+use std::sync::Wait;
+use std::thread::Threads;
+
+/// How many alarms the queue of the log has room for.
+const QUEUE: u32 = 1024;
+
+/// The most alarms of a line: two for each of 256 windows, and one for its end.
+const MOST: u32 = 513;
+
+/// Runs the session of a script as `run_session` does, and beside it collects the alarms of each line in the order in which the line
+/// raised them: each line posts those of a burst through a post of its own, and they come to one list through one queue.
+pub fn run_watched<R: Threads + Wait + Sync, K: ByteSink, G: Gate>(
+    rt: &R,
+    alloc: Global,
+    script: Script,
+    workers: u8,
+    out: &mut K,
+    gate: &G,
+) -> Result<(Ended, AlarmList), AllocError>
+    requires script { IsValid script }
+    requires least { 1 ≤ workers }
+    requires most { workers ≤ 64 }
+    ensures rings { IfOk result (λ w.
+        IsEnded script w.0.group.tx.items w.0.group.back w.0.lines.items w.0.sink) }
+    ensures group { IfOk result (λ w. IsGroupEnded script w.0.group) }
+    ensures written { IfOk result (λ w. has_failed w.0.sink ≡ false →
+        Appends K.written K.faults out.old out.new
+        (got_texts (delivered_of script script.config.ticks))) }
+    ensures part { IfOk result (λ w. has_failed w.0.sink ≡ true →
+        AppendsPart K.written K.faults out.old out.new
+        (got_texts (delivered_of script script.config.ticks))) }
+    ensures alarms { IfOk result (λ w. (m : ℕ) → m < script.config.lines →
+        of_line m (alarms_in w.1) ≡ alarms_of_line m (line_cells script m)) }
+    ensures nothing { IfErr result (λ _. out.new ≡ out.old) }
+{
+    let opened = open(alloc, &script, workers)?;
+    let (log, posts) = make_log(alloc, script.config.lines, QUEUE, MOST)?;
+    let left =
+        run_opened::<Brand, R, K, G>(rt, gate, &script, opened, posts, Some(log), out);
+    let Left { ended, posts, log } = left;
+    match log {
+        Some(log) => Ok((ended, log.finish(rt, posts))),
+        None => unreachable!(),
+    }
+}
