@@ -41,7 +41,7 @@ gfp-more before row octets pli frame size length_is =
     ∙ ap (λ n. gfp_capture before ++ head ++ (plain_header n ++ type_header) ++ frame) length_is
     ∙ three-behind (gfp_capture before) head (plain ++ type_header) frame
     ∙ ap (λ l. gfp_capture before ++ l)
-        (append_assoc head (plain ++ type_header) frame ∙ ap (λ l. head ++ l) (append_assoc plain type_header frame)
-        ∙ sym (append-nil (gfp_record own)))
+    (append_assoc head (plain ++ type_header) frame ∙ ap (λ l. head ++ l) (append_assoc plain type_header frame)
+    ∙ sym (append-nil (gfp_record own)))
     ∙ append_assoc gfp_head (flat_map gfp_record before) (flat_map gfp_record (own ∷ []))
     ∙ ap (λ l. gfp_head ++ l) (sym (flat_map-append gfp_record before (own ∷ [])))

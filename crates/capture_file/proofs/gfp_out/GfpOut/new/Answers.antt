@@ -15,5 +15,5 @@ returns-clause-fresh g c =
     let start : Start = start_at g.K.ByteSink.written g.K.ByteSink.faults c.args.out.now (name_of c.new-got.result) in
     let has = c.line.ensures start [] c.new-got.ensures.fresh in
     let N : ℕ → Type 0 = λ n. HasText g.K.ByteSink.written g.K.ByteSink.faults c.line.new.self
-            (start_at g.K.ByteSink.written g.K.ByteSink.faults c.args.out.now n) gfp_head in
+    (start_at g.K.ByteSink.written g.K.ByteSink.faults c.args.out.now n) gfp_head in
     subst N (sym has.0) has
