@@ -1,7 +1,8 @@
 #!/bin/sh
 # Looks at captures with the tools of Wireshark, which check them by themselves. Of each example script that is walked, tshark takes the
 # capture of its frames apart, and has to find as many frames as come out, with times that rise, and each FCS good where the script has a
-# good one. Captures that text2pcap and editcap wrote are read by frames, in each form that they write, and in the other order of
+# good one. Of that of its GFP frames it has to find those that fates doesn't tell to wait, with their rows, each core HEC and type HEC
+# good, and each FCS that the script has. Captures that text2pcap and editcap wrote are read by frames, in each form that they write, and in the other order of
 # octets. Nothing is installed; what is missing is said. The status is 0 where all is well.
 cd "$(dirname "$0")/.." || exit 1
 program=$PWD/crates/vcat_walk/out/vcat_walk
@@ -17,8 +18,25 @@ complain() {
     wrong=$((wrong + 1))
 }
 
+# Of each line of digits whether its octets end with their FCS. As capture_file has it, so does this: a frame whose FCS isn't right in the
+# script is bad in the capture, and no other.
+sums() {
+    perl -ne '
+        chomp; my @octets = map { hex } /../g; my $crc = 0xffffffff;
+        for my $octet (@octets) { $crc ^= $octet; $crc = $crc & 1 ? ($crc >> 1) ^ 0xedb88320 : $crc >> 1 for 1 .. 8 }
+        print $crc == 0xdebb20e3 ? "1\n" : "0\n"'
+}
+# The digits of the items of a script whose numbers stand in a file.
+items() {
+    perl -e '
+        open my $numbers, "<", $ARGV[0] or die; my %wanted = map { chomp; $_ => 1 } <$numbers>;
+        open my $script, "<", $ARGV[1] or die; my $item = 0;
+        while (<$script>) { my @words = split; next unless @words && $words[0] =~ /^(frame|add|remove)$/; print "$words[2]\n" if $wanted{$item}; $item++ }
+    ' "$1" "$2"
+}
+
 # ---- capture
-scripts=0 frames=0 good=0
+scripts=0 frames=0 good=0 sent=0 right=0
 for script in examples/*.vcat; do
     "$program" walk < "$script" > "$work/text" 2> "$work/notes" || continue
     "$program" capture < "$script" > "$work/got.pcap" || complain "$script: no capture"
@@ -28,16 +46,26 @@ for script in examples/*.vcat; do
         complain "$script: tshark: $(cat "$work/notes")"
     [ "$(wc -l < "$work/fields")" = "$count" ] || complain "$script: $count frames come out, and tshark finds $(wc -l < "$work/fields")"
     sort -n -s -k 1,1 "$work/fields" | cmp -s - "$work/fields" || complain "$script: times fall"
-    # As capture_file has it, so do these: a frame whose FCS isn't right in the script is bad in the capture, and no other.
-    sed -n 's/^got //p' "$work/text" | perl -ne '
-        chomp; my @octets = map { hex } /../g; my $crc = 0xffffffff;
-        for my $octet (@octets) { $crc ^= $octet; $crc = $crc & 1 ? ($crc >> 1) ^ 0xedb88320 : $crc >> 1 for 1 .. 8 }
-        print $crc == 0xdebb20e3 ? "1\n" : "0\n"' > "$work/wanted"
+    sed -n 's/^got //p' "$work/text" | sums > "$work/wanted"
     cut -f 2 "$work/fields" | sed 's/Good/1/; s/Bad/0/' | cmp -s - "$work/wanted" || complain "$script: an FCS is not as it should be"
     frames=$((frames + count))
     good=$((good + $(grep -c 1 "$work/wanted")))
+
+    # ---- gfp
+    "$program" gfp < "$script" > "$work/sent.pcap" || complain "$script: no capture of GFP frames"
+    "$program" fates < "$script" | grep -E '^frame .* (cut|unconfirmed|hunting|unsettled|got) ' > "$work/fates"
+    cut -d ' ' -f 2 "$work/fates" > "$work/items"
+    items "$work/items" "$script" | sums > "$work/sums"
+    cut -d ' ' -f 7 "$work/fates" | awk '{ printf "%d.%06d000\n", $1 * 125 / 1000000, $1 * 125 % 1000000 }' > "$work/times"
+    sed 's/.*/1/' "$work/sums" | paste "$work/times" - "$work/sums" | awk '{ print $1 "\t" $2 "\t" $2 "\t" $3 }' > "$work/wanted"
+    tshark -r "$work/sent.pcap" -o eth.check_fcs:TRUE -T fields -e frame.time_epoch -e gfp.chec.status -e gfp.thec.status -e eth.fcs.status \
+        > "$work/fields" 2> "$work/notes" || complain "$script: tshark: $(cat "$work/notes")"
+    sed 's/Good/1/g; s/Bad/0/g' "$work/fields" | cmp -s - "$work/wanted" || complain "$script: tshark finds other GFP frames, times or checks"
+    sent=$((sent + $(wc -l < "$work/sums")))
+    right=$((right + $(grep -c 1 "$work/sums")))
 done
 echo "capture: $scripts scripts, $frames frames, $good with a good FCS"
+echo "gfp: the same scripts, $sent frames, $right with a good FCS"
 
 # ---- frames
 # Three Ethernet frames without FCS, the second one 250 microseconds after the first, and the third a second after that.

@@ -1,5 +1,6 @@
 pub mod Form
 pub mod Written
+pub mod Gfp
 pub mod Reading
 pub mod Texts
 pub mod Clock

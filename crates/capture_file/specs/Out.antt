@@ -1,9 +1,11 @@
--- What is written so far of a capture by a `CaptureOut`. `written` and `faults` are a sink's.
+-- What is written so far of a capture by a `CaptureOut`, or by a `GfpOut`. `written` and `faults` are a sink's.
 use Rattle.std.specs.Prelude.{◌≡◌, ℕ, List, ◌∷◌, ◌++◌, length, take, drop, map, slice_index, Option}
 use Rattle.outside_io.specs.Start.{Start}
 use Rattle.got_lines.specs.Told.{HasText}
 use Rattle.capture_file.specs.Written.{RowFrame, records_octets, ethernet_capture}
+use Rattle.capture_file.specs.Gfp.{gfp_capture}
 use Rattle.capture_file.specs.declared.capture_out.CaptureOut.{CaptureOut}
+use Rattle.capture_file.specs.declared.gfp_out.GfpOut.{GfpOut}
 
 -- by which reference it writes, and the row that is being taken
 abbrev pub name_of : {K : Type 0} → CaptureOut K → ℕ
@@ -15,6 +17,13 @@ row_at out = out.row
 -- the capture of these frames was written since a start, or waits
 abbrev pub HasCapture : {K : Type 0} → (K → Option (List ℕ)) → (K → ℕ) → CaptureOut K → Start → List RowFrame → Type 0
 HasCapture written faults out start frames = HasText written faults out.got start (ethernet_capture frames)
+
+-- the same of GFP frames that hold client frames
+abbrev pub gfp_name_of : {K : Type 0} → GfpOut K → ℕ
+gfp_name_of out = out.got.out.ghost_name
+
+abbrev pub HasGfp : {K : Type 0} → (K → Option (List ℕ)) → (K → ℕ) → GfpOut K → Start → List RowFrame → Type 0
+HasGfp written faults out start frames = HasText written faults out.got start (gfp_capture frames)
 
 -- frames that the taking of one row gave
 abbrev pub at_row : ℕ → List (List ℕ) → List RowFrame

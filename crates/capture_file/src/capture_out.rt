@@ -17,8 +17,8 @@ static ETHERNET_HEAD: [u8; 24] = [
     0xff, 0xff, 0x00, 0x00, 0x01, 0x00, 0x00, 0x24,
 ];
 
-/// Writes the head of a record, of a frame that the taking of a row gave.
-fn add_head<K: ByteSink>(row: u32, octets: u32, got: &mut GotLines<K>)
+/// Writes the head of a record, of a frame of a row.
+pub(crate) fn add_head<K: ByteSink>(row: u32, octets: u32, got: &mut GotLines<K>)
     ensures { (start : Start) (before : List ℕ) → HasText K.written K.faults got.old start before →
         HasText K.written K.faults got.new start (before ++ record_head row octets) }
 {

@@ -15,11 +15,12 @@ use Rattle.command_parts.specs.Status.{HasRunAt}
 use Rattle.command_parts.specs.declared.stop.Stop.TheVariants.{Memory}
 use Rattle.command_parts.proofs.StopLaws.{made-beside, ends-no-memory}
 use Rattle.walk_command.specs.declared.command.WalkCommand.{WalkCommand}
-use Rattle.walk_command.specs.declared.command.WalkCommand.TheVariants.{Walk, Trace, Fates, Capture, Frames, Decode, Noise, Au4, Make, Stream}
+use Rattle.walk_command.specs.declared.command.WalkCommand.TheVariants.{Walk, Trace, Fates, Capture, Gfp, Frames, Decode, Noise, Au4, Make, Stream}
 use Rattle.walk_command.specs.Walk.{word_at, is_word, walk_words}
 use Rattle.walk_command.specs.Trace.{trace_words}
 use Rattle.walk_command.specs.Fates.{fates_words}
 use Rattle.walk_command.specs.Capture.{capture_words}
+use Rattle.walk_command.specs.Gfp.{gfp_words}
 use Rattle.walk_command.specs.Frames.{frames_words}
 use Rattle.walk_command.specs.Decode.{decode_words}
 use Rattle.walk_command.specs.Noise.{noise_words}
@@ -35,6 +36,7 @@ Fits Walk = Unit {0}
 Fits Trace = Unit {0}
 Fits Fates = Unit {0}
 Fits Capture = Unit {0}
+Fits Gfp = Unit {0}
 Fits Frames = Unit {0}
 Fits Decode = Unit {0}
 Fits Noise = Unit {0}
@@ -100,6 +102,9 @@ fates-fits words = if-fits (is_word (codes "fates") words) (Some Fates) tt
 capture-fits : (words : List (List ℕ)) → IfSome (capture_words words) Fits
 capture-fits words = if-fits (is_word (codes "capture") words) (Some Capture) tt
 
+gfp-fits : (words : List (List ℕ)) → IfSome (gfp_words words) Fits
+gfp-fits words = if-fits (is_word (codes "gfp") words) (Some Gfp) tt
+
 frames-fits : (words : List (List ℕ)) → IfSome (frames_words words) Fits
 frames-fits words = if-fits (is_word (codes "frames") words) (Some Frames) tt
 
@@ -141,7 +146,8 @@ named-fits words =
     let traces = option_or walks (trace_words words) in
     let fates = option_or traces (fates_words words) in
     let captures = option_or fates (capture_words words) in
-    let frames = option_or captures (frames_words words) in
+    let gfps = option_or captures (gfp_words words) in
+    let frames = option_or gfps (frames_words words) in
     let decodes = option_or frames (decode_words words) in
     let noises = option_or decodes (noise_words words) in
     let links = option_or noises (au4_words words) in
@@ -151,10 +157,12 @@ named-fits words =
     (or-fits noises (au4_words words)
     (or-fits decodes (noise_words words)
     (or-fits frames (decode_words words)
-    (or-fits captures (frames_words words)
+    (or-fits gfps (frames_words words)
+    (or-fits captures (gfp_words words)
     (or-fits fates (capture_words words)
     (or-fits traces (fates_words words)
     (or-fits walks (trace_words words) (walk-fits words) (trace-fits words)) (fates-fits words)) (capture-fits words))
+    (gfp-fits words))
     (frames-fits words))
     (decode-fits words)) (noise-fits words)) (au4-fits words)) (make-fits words)) (stream-fits words)
 
@@ -182,6 +190,7 @@ is-command (Some Walk) some = tt
 is-command (Some Trace) some = tt
 is-command (Some Fates) some = tt
 is-command (Some Capture) some = tt
+is-command (Some Gfp) some = tt
 is-command (Some Frames) some = tt
 is-command (Some Decode) some = tt
 is-command (Some Noise) some = tt

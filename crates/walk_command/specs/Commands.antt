@@ -8,10 +8,11 @@ use Rattle.command_parts.specs.Task.{Task, none, reads, makes}
 use Rattle.command_parts.specs.Ends.{Lent}
 use Rattle.walk_core.specs.Moved.{Walked}
 use Rattle.walk_command.specs.declared.command.WalkCommand.{WalkCommand}
-use Rattle.walk_command.specs.declared.command.WalkCommand.TheVariants.{Walk, Trace, Fates, Capture, Frames, Decode, Noise, Au4, Make, Stream}
+use Rattle.walk_command.specs.declared.command.WalkCommand.TheVariants.{Walk, Trace, Fates, Capture, Gfp, Frames, Decode, Noise, Au4, Make, Stream}
 use Rattle.walk_command.specs.Walk.{walk_words, walk_answer}
 use Rattle.walk_command.specs.Trace.{trace_words, trace_answer}
 use Rattle.walk_command.specs.Capture.{capture_words, capture_answer}
+use Rattle.walk_command.specs.Gfp.{gfp_words, gfp_answer}
 use Rattle.walk_command.specs.Frames.{frames_words, frames_answer}
 use Rattle.walk_command.specs.Fates.{fates_words, fates_answer}
 use Rattle.walk_command.specs.Decode.{decode_words, decode_answer}
@@ -22,15 +23,16 @@ use Rattle.walk_command.specs.Stream.{stream_words, stream_answer}
 use Rattle.walk_command.specs.Ended.{IsWalkOf, HandsScript}
 
 abbrev pub usage : List ℕ
-usage = codes "usage: vcat_walk walk, trace, fates, capture, frames, decode, noise, au4, make NUMBER LINES TICKS, or stream OCTETS MBITS FIRST END NUMBER\n"
+usage = codes "usage: vcat_walk walk, trace, fates, capture, gfp, frames, decode, noise, au4, make NUMBER LINES TICKS, or stream OCTETS MBITS FIRST END NUMBER\n"
 
 -- ---- a line for each command
 abbrev pub command_of : List (List ℕ) → Option WalkCommand
 command_of words =
-    option_or (option_or (option_or (option_or (option_or (option_or (option_or (option_or (option_or (walk_words words)
+    option_or (option_or (option_or (option_or (option_or (option_or (option_or (option_or (option_or (option_or (walk_words words)
     (trace_words words))
     (fates_words words))
     (capture_words words))
+    (gfp_words words))
     (frames_words words))
     (decode_words words))
     (noise_words words))
@@ -43,6 +45,7 @@ task_at Walk = reads walk_answer
 task_at Trace = reads trace_answer
 task_at Fates = reads fates_answer
 task_at Capture = reads capture_answer
+task_at Gfp = reads gfp_answer
 task_at Frames = reads frames_answer
 task_at Decode = reads decode_answer
 task_at Noise = reads noise_answer
@@ -55,6 +58,7 @@ HandsBack source walk Walk = HandsScript source walk
 HandsBack source walk Trace = HandsScript source walk
 HandsBack source walk Fates = HandsScript source walk
 HandsBack source walk Capture = HandsScript source walk
+HandsBack source walk Gfp = HandsScript source walk
 HandsBack source walk Frames = walk ≡ None
 HandsBack source walk Decode = walk ≡ None
 HandsBack source walk Noise = walk ≡ None
@@ -68,6 +72,7 @@ RunsScript Walk = Unit {0}
 RunsScript Trace = Unit {0}
 RunsScript Fates = ⊥
 RunsScript Capture = ⊥
+RunsScript Gfp = ⊥
 RunsScript Frames = ⊥
 RunsScript Decode = ⊥
 RunsScript Noise = ⊥

@@ -3,6 +3,7 @@ pub mod Walk
 pub mod Trace
 pub mod Fates
 pub mod Capture
+pub mod Gfp
 pub mod Frames
 pub mod Decode
 pub mod Noise

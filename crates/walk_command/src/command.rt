@@ -1,6 +1,6 @@
 //! The commands of the program, a line for each.
 
-use crate::{au4, capture, decode, fates, frames, make, noise, stream, trace, walk};
+use crate::{au4, capture, decode, fates, frames, gfp, make, noise, stream, trace, walk};
 use cmd_words::FromWords;
 use rate_load::RateLoad;
 
@@ -15,6 +15,8 @@ pub enum WalkCommand {
     Fates,
     /// `capture`: make the walk of a script, and write a capture of the frames that it delivers.
     Capture,
+    /// `gfp`: make the walk of a script, and write a capture of the GFP frames of its client.
+    Gfp,
     /// `frames`: write the lines of a script for the frames of a capture.
     Frames,
     /// `decode`: write the control packets in H4 octets.
@@ -39,6 +41,7 @@ impl FromWords for WalkCommand {
             .or(trace::words(words))
             .or(fates::words(words))
             .or(capture::words(words))
+            .or(gfp::words(words))
             .or(frames::words(words))
             .or(decode::words(words))
             .or(noise::words(words))

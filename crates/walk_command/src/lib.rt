@@ -13,6 +13,7 @@ mod events;
 mod fate_turns;
 mod fates;
 mod frames;
+mod gfp;
 mod hex_lines;
 mod make;
 mod noise;

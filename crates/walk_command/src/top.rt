@@ -13,6 +13,7 @@ use crate::decode::decode;
 use crate::end::{WalkEnd, stopped};
 use crate::fates::fates;
 use crate::frames::frames;
+use crate::gfp::gfp;
 use crate::make::make;
 use crate::noise::noise;
 use crate::stream::stream;
@@ -26,10 +27,13 @@ use std::alloc::Global;
 /// Runs the command that the words say. `walk` reads a script, makes its walk and writes on `out` the got lines of the frames that it
 /// delivers, the lines of refused items, and the line of totals; without event lines the walk drains, and with event lines it makes just
 /// these. `trace` does the same, and writes a line for each decision step of the source on `notes`. `make` runs the load of a number and
-/// writes three lines. `fates` makes the walk of a script and writes what became of each of its frames. `capture` makes the walk of a script and writes a capture of the frames that it delivers. `frames` reads a capture
-/// and writes the line of a script for each frame in it. `decode` reads the H4 octets of a line in hexadecimal digits and writes the control
-/// packets in them. `noise` reads frames and flips, and writes the frames with an FCS that get through when these bits of their stream are
-/// turned over, and the counts. `au4` reads what the pointers of AU-4 frames do, and writes a line of each numbered VC-4 that comes whole over them, and
+/// writes three lines. `fates` makes the walk of a script and writes what became of each of its frames. `capture`
+/// makes the walk of a script and writes a capture of the frames that it delivers, `gfp` one of the GFP frames that
+/// its source sent and the taken rows carry. `frames` reads a capture and writes the line of a script for each frame
+/// in it. `decode` reads the H4 octets of a line in hexadecimal digits and writes the control packets in them.
+/// `noise` reads frames and flips, and writes the frames with an FCS that get through when these bits of their stream
+/// are turned over, and the counts. `au4` reads what the pointers of AU-4 frames do, and writes a line of each
+/// numbered VC-4 that comes whole over them, and
 /// the counts. `stream` writes the script lines of a client that sends at a rate.
 ///
 /// The status is 2 where the words are no command, 3 where the input can't be read, 8 where it or the text of `stream` has more than
@@ -66,6 +70,7 @@ pub fn walk_top<S: ByteSource, K: ByteSink, E: ByteSink>(
         Ok(WalkCommand::Trace) => trace(alloc, script, out, notes),
         Ok(WalkCommand::Fates) => fates(alloc, script, out, notes),
         Ok(WalkCommand::Capture) => capture(alloc, script, out, notes),
+        Ok(WalkCommand::Gfp) => gfp(alloc, script, out, notes),
         Ok(WalkCommand::Frames) => frames(alloc, script, out, notes),
         Ok(WalkCommand::Decode) => decode(alloc, script, out, notes),
         Ok(WalkCommand::Noise) => noise(alloc, script, out, notes),
@@ -90,7 +95,7 @@ fn no_command<E: ByteSink>(notes: &mut E) -> WalkEnd
     ensures told { Tells E.written E.faults notes.old notes.new usage }
 {
     let text =
-        b"usage: vcat_walk walk, trace, fates, capture, frames, decode, noise, au4, make NUMBER LINES TICKS, or stream OCTETS MBITS FIRST END NUMBER\n";
+        b"usage: vcat_walk walk, trace, fates, capture, gfp, frames, decode, noise, au4, make NUMBER LINES TICKS, or stream OCTETS MBITS FIRST END NUMBER\n";
     let status = tell_usage(text, notes);
     WalkEnd { status, walk: None }
 }

@@ -7,6 +7,6 @@ mod lines;
 mod places;
 mod seen;
 
-pub use lines::write_fates;
+pub use lines::{accepted_fate, write_fates};
 pub use places::place_frames;
 pub use seen::{SeenRows, SeenWalk, is_step, nothing_seen, see_since};

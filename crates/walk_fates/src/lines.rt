@@ -100,7 +100,7 @@ fn write_segments<K: ByteSink>(walk: &Walk, seen: &SeenWalk, got: &mut GotLines<
 }
 
 /// What became of an accepted frame, counted from 0 as they were accepted.
-fn accepted_fate(frame: u32, walk: &Walk, seen: &SeenWalk) -> Fate
+pub fn accepted_fate(frame: u32, walk: &Walk, seen: &SeenWalk) -> Fate
     requires { SeesWalk walk.now.script walk.now.counts seen.now }
     ensures { result ≡ fates_in walk.now.script walk.now.counts.rows frame }
 {

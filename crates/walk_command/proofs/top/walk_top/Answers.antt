@@ -3,7 +3,7 @@ use Rattle.std.proofs.Common.{rules, Err, refl, ap, arith}
 use Rattle.headline_law.specs.Texts.{walk_text}
 use Rattle.command_parts.specs.Task.{writes, writes_both}
 use Rattle.command_parts.specs.Ends.{lent}
-use Rattle.walk_command.specs.declared.command.WalkCommand.TheVariants.{Walk, Trace, Fates, Capture, Make, Stream}
+use Rattle.walk_command.specs.declared.command.WalkCommand.TheVariants.{Walk, Trace, Fates, Capture, Gfp, Make, Stream}
 use Rattle.walk_command.specs.Trace.{trace_text}
 use Rattle.walk_command.specs.Make.{make_answer}
 use Rattle.walk_command.specs.Stream.{stream_answer}
@@ -35,6 +35,9 @@ returns-in-Ok-Fates-clause-handed g c = some-command _ (command_in c.args.words.
 
 pub returns-in-Ok-Capture-clause-handed : goal.returns-in-Ok-Capture-clause-handed
 returns-in-Ok-Capture-clause-handed g c = some-command _ (command_in c.args.words.now) Capture (search rules) c.capture.ensures.handed
+
+pub returns-in-Ok-Gfp-clause-handed : goal.returns-in-Ok-Gfp-clause-handed
+returns-in-Ok-Gfp-clause-handed g c = some-command _ (command_in c.args.words.now) Gfp (search rules) c.gfp.ensures.handed
 
 pub make-requires-clause-lines : goal.make-requires-clause-lines
 make-requires-clause-lines g c = (fits c.args.words.now (Make c.in-Ok-Make.number c.in-Ok-Make.lines c.in-Ok-Make.ticks) (search rules)).0

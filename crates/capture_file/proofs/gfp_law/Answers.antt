@@ -1,0 +1,18 @@
+-- PLI and its check have four octets; the rest is computed.
+use Rattle.std.proofs.Common.{refl, length}
+use Rattle.remainder.specs.Bits.{bits, number_behind}
+use Rattle.remainder.specs.Remainder.{add_front, divide}
+use Rattle.hec16.specs.Hec.{hec_of}
+use Rattle.session_model.specs.Piece.{client, area_of}
+use Rattle.capture_file.proofs.GfpLaws.{pattern-on}
+use Rattle.capture_file.proofs.gfp_law.Goals as goal
+
+pub returns-clause-header : goal.returns-clause-header
+returns-clause-header c frame = pattern-on (length (area_of (client frame)))
+
+pub returns-clause-area : goal.returns-clause-area
+returns-clause-area c frame = refl
+
+pub returns-clause-worked : goal.returns-clause-worked
+unfolding hec_of bits divide add_front number_behind
+returns-clause-worked c = refl

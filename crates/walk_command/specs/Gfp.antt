@@ -1,0 +1,15 @@
+-- `gfp`: a script's walk, and the capture of the GFP frames that its source sent and the taken rows carry.
+use Rattle.std.specs.Prelude.{ℕ, List, codes, Option, Some, None, if◌then◌else◌}
+use Rattle.headline_law.specs.Texts.{counts_in}
+use Rattle.walk_gfp.specs.Carried.{sent_capture}
+use Rattle.command_parts.specs.Task.{Answer, writes}
+use Rattle.command_parts.specs.Scripts.{script_answer}
+use Rattle.walk_command.specs.declared.command.WalkCommand.{WalkCommand}
+use Rattle.walk_command.specs.declared.command.WalkCommand.TheVariants.{Gfp}
+use Rattle.walk_command.specs.Walk.{is_word}
+
+abbrev pub gfp_words : List (List ℕ) → Option WalkCommand
+gfp_words words = if is_word (codes "gfp") words then Some Gfp else None
+
+abbrev pub gfp_answer : List ℕ → Answer
+gfp_answer = script_answer (λ script. writes (sent_capture script (counts_in script)))

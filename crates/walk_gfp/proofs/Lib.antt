@@ -1,0 +1,3 @@
+pub mod CarriedLaws
+pub mod HeaderLaws
+pub mod LandedLaws
