@@ -21,6 +21,8 @@ if [ "$(id -u)" = 0 ] && [ ! -d /run/sshd ]; then
 fi
 work=$(mktemp -d) || exit 1
 servers=
+# It is called by the trap.
+# shellcheck disable=SC2317
 end() {
     for server in $servers; do kill "$server" 2> /dev/null; done
     rm -rf "$work"

@@ -1,5 +1,7 @@
 -- Which actions are accepted: three Keep behind one that isn't, or none before.
-use Rattle.std.proofs.Common.{◌≡◌, ℕ, zero, suc, ◌+◌, ◌-◌, ◌<◌, ◌≤◌, Bool, true, nat_le, if◌then◌else◌, List, [], ◌∷◌, ◌++◌, length, replicate, Option, None, Some, refl, sym, ◌∙◌, ap, subst, arith, append_assoc, append-nil, length-append}
+use Rattle.std.proofs.Common.{◌≡◌, ℕ, zero, suc, ◌+◌, ◌-◌, ◌<◌, ◌≤◌, Bool, true, nat_le, if◌then◌else◌, List, [], ◌∷◌}
+use Rattle.std.proofs.Common.{◌++◌, length, replicate, Option, None, Some, refl, sym, ◌∙◌, ap, subst, arith}
+use Rattle.std.proofs.Common.{append_assoc, append-nil, length-append}
 use Rattle.std.specs.List.{fold}
 use Rattle.std.proofs.lemmas.Bool.Decides.{nat_tests}
 use Rattle.std.proofs.lemmas.List.{length-replicate}
@@ -51,7 +53,8 @@ new-within p soon small =
     let yes : nat_le p 782 ≡ true = grind (arith, nat_tests, small) in
     ap (λ (b : Bool). if b then soon else Some (Range p)) yes
 
-module _ (actions : List Action) (frame : ℕ) (inside : length actions ≤ frame) (early : least_next actions ≤ frame) where
+module _ (actions : List Action) (frame : ℕ) (inside : length actions ≤ frame)
+    (early : least_next actions ≤ frame) where
   abbrev before : List Action
   before = actions ++ replicate (frame - length actions) Keep
 

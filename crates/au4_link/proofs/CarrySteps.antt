@@ -27,7 +27,8 @@ pub record Counted (start : ℕ) (actions : List Action) (asked : List (List ℕ
   pub low : back ≤ next
 
 pub counted-by : {K : Type 0} (written : K → Option (List ℕ)) (faults : K → ℕ) (src : source.Source) (snk : sink.Sink)
-    (feed : NumberedVcs) (out : VcLines K) (behind to : Start) (start : ℕ) (actions : List Action) (asked : List (List ℕ))
+    (feed : NumberedVcs) (out : VcLines K) (behind to : Start) (start : ℕ) (actions : List Action)
+    (asked : List (List ℕ))
     → Carries feeds (gives written faults) src snk feed out behind to start actions asked → length actions ≤ 100000
     → Counted start actions asked feed.next out.back
 counted-by written faults src snk feed out behind to start actions asked c few =
@@ -36,7 +37,8 @@ counted-by written faults src snk feed out behind to start actions asked c few =
     let fed = c.fed (omega (arith, size, less, few)) in
     let enough : begun (part_after start actions) ≤ length asked = omega (arith, size) in
     let all = counted start actions asked enough in
-    let came = c.given.count (let e : length (whole start actions asked) < 18446744073709551616 = omega (arith, all, size, less, few) in e) in
+    let came = c.given.count (let e : length (whole start actions asked) < 18446744073709551616 =
+    omega (arith, all, size, less, few) in e) in
     record {
       first = fed.1 ∙ ap first_vcs (sym fed.0);
       enough = enough;

@@ -1,10 +1,12 @@
 -- All VC-4s that begin come whole, are cut, or are in progress at the end.
-use Rattle.std.proofs.Common.{◌≡◌, ℕ, ◌+◌, ◌*◌, ◌≤◌, List, [], ◌∷◌, ◌++◌, length, drop, ◌∙◌, ap, arith, length-append, append-nil}
+use Rattle.std.proofs.Common.{◌≡◌, ℕ, ◌+◌, ◌*◌, ◌≤◌, List, [], ◌∷◌, ◌++◌, length, drop, ◌∙◌, ap, arith, length-append}
+use Rattle.std.proofs.Common.{append-nil}
 use Rattle.std.specs.List.{flat_map, fold}
 use Rattle.std.proofs.lemmas.List.{length-take-le, length-drop}
 use Rattle.au4_pointer.specs.declared.Action.{Action}
 use Rattle.au4_pointer.specs.declared.Action.TheVariants.{Keep, Up, Down, New}
-use Rattle.au4_pointer.specs.Part.{Part, begins, ends, begun, next_part, first_part, part_after, parts_from, ending, whole}
+use Rattle.au4_pointer.specs.Part.{Part, begins, ends, begun, next_part, first_part, part_after, parts_from, ending}
+use Rattle.au4_pointer.specs.Part.{whole}
 use Rattle.au4_pointer.proofs.WholeLaws.{begun-after}
 use Rattle.au4_link.specs.Text.{in_progress, cut_by, cuts_from, cuts, cut_after}
 
@@ -25,7 +27,8 @@ counted-from : (part : Part) (actions : List Action) (vcs : List (List ℕ))
     → length (flat_map (ending vcs) (parts_from part actions)) + cuts_from part actions
     + in_progress (fold next_part part actions) + part.first ≡ begun (fold next_part part actions)
 counted-from part [] vcs enough =
-    let size : length (ending vcs part ++ []) ≡ ends part = ap length (append-nil (ending vcs part)) ∙ length-ending part vcs enough in
+    let size : length (ending vcs part ++ []) ≡ ends part = ap length (append-nil (ending vcs part))
+    ∙ length-ending part vcs enough in
     let less = fewer part in
     omega (arith, size, less)
 counted-from part (Keep ∷ more) vcs enough =

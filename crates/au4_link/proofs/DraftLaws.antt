@@ -1,5 +1,6 @@
 -- The lines of a text, one line on and at the end; what a draft meets, the draft after one more line meets as well.
-use Rattle.std.proofs.Common.{◌≡◌, ℕ, ◌+◌, ◌-◌, ◌<◌, ◌≤◌, true, false, List, [], ◌∷◌, ◌++◌, length, replicate, refl, sym, ◌∙◌, ap, arith, length-append}
+use Rattle.std.proofs.Common.{◌≡◌, ℕ, ◌+◌, ◌-◌, ◌<◌, ◌≤◌, true, false, List, [], ◌∷◌, ◌++◌, length, replicate, refl}
+use Rattle.std.proofs.Common.{sym, ◌∙◌, ap, arith, length-append}
 use Rattle.std.specs.Prelude.{None, Some, Ok, Err, nat_lt}
 use Rattle.std.proofs.lemmas.Bool.Decides.{nat_tests}
 use Rattle.std.proofs.lemmas.List.{length-replicate, replicate-append-replicate, append_assoc}
@@ -29,7 +30,8 @@ line_said n d new all l ls said first none says is =
     line_sound link_lines n d new all l ls first none (is ∙ ap (λ (r : Statement). after d r) says)
 
 -- a line that has one
-pub line_told : (text : List ℕ) (n : ℕ) (d : Draft) (all : List (List ℕ)) (l : List ℕ) (ls : List (List ℕ)) (fault : LineFault)
+pub line_told : (text : List ℕ) (n : ℕ) (d : Draft) (all : List (List ℕ)) (l : List ℕ) (ls : List (List ℕ))
+    (fault : LineFault)
     → said_by link_lines text ≡ said_from link_lines n d all → all ≡ l ∷ ls → words_fault d (words l) ≡ Some fault
     → link_of text ≡ Err (n, fault)
 line_told text n d all l ls fault same first fails =

@@ -50,4 +50,5 @@ abbrev pub Fits : Draft → Statement → Type 0
 Fits d says.Nothing = ⊤
 Fits d (says.Start value) = (d.next ≡ 0) × (value ≤ 782)
 Fits d (says.Frames count) = (d.next ≡ 1) × (1 ≤ count) × (count ≤ 100000)
-Fits d (says.Act frame a) = (d.next ≡ 2) × (length d.actions ≤ frame) × (frame < d.frames) × (least_next d.actions ≤ frame) × IsAct frame a
+Fits d (says.Act frame a) = (d.next ≡ 2) × (length d.actions ≤ frame) × (frame < d.frames) ×
+    (least_next d.actions ≤ frame) × IsAct frame a

@@ -1,6 +1,8 @@
--- The lines of a link's text: what each may say after those before it, which fault it has first, and what it adds to them. This language is
+-- The lines of a link's text: what each may say after those before it, which fault it has first, and what it adds to
+-- them. This language is
 -- this project's own.
-use Rattle.std.specs.Prelude.{ℕ, ◌+◌, ◌-◌, ◌==◌, ◌&&◌, nat_lt, not, Bool, false, List, [], ◌∷◌, ◌++◌, length, replicate, Option, Some, None, drop, option_map, codes, bytes_eq, if◌then◌else◌}
+use Rattle.std.specs.Prelude.{ℕ, ◌+◌, ◌-◌, ◌==◌, ◌&&◌, nat_lt, not, Bool, false, List, [], ◌∷◌, ◌++◌, length, replicate}
+use Rattle.std.specs.Prelude.{Option, Some, None, drop, option_map, codes, bytes_eq, if◌then◌else◌}
 use Rattle.std.specs.Option.{option_or}
 use Rattle.text_lines.specs.Words.{word_at, is_skipped, number_at}
 use Rattle.text_lines.specs.Fields.{Field, within, where_true, fields_fault}
@@ -38,7 +40,8 @@ place word.New = 2
 abbrev pub awaited : ℕ → Keyword
 awaited next = if next == 0 then word.Start else word.Frames
 
--- before place 2 each line has its place; from there on none comes back to an earlier part. The line before is that of `before`
+-- before place 2 each line has its place; from there on none comes back to an earlier part. The line before is that of
+-- `before`
 abbrev pub place_fault : ℕ → Keyword → Keyword → Option LineFault
 place_fault next k before =
     option_or (where_true (nat_lt next 2 && not (place k == next)) (wrong.Missing (awaited next)))
@@ -54,7 +57,8 @@ fields d word.Down = within 1 (d.frames - 1) ∷ []
 fields d word.New = within 0 (d.frames - 1) ∷ within 0 782 ∷ []
 
 -- ---- what the lines before it leave no room for
--- the least frame that a line may name, where these are the actions up to the last frame that one named: three frames lie between two
+-- the least frame that a line may name, where these are the actions up to the last frame that one named: three frames
+-- lie between two
 abbrev pub least_next : List Action → ℕ
 least_next [] = 0
 least_next (a ∷ more) = length (a ∷ more) + 3

@@ -1,5 +1,6 @@
 //! The reader of a whole text.
-ghost use Rattle.std.specs.Prelude.{◌≡◌, ◌≤◌, ◌-◌, ◌++◌, ◌∷◌, [], length, vec_len, replicate, IfOk, IfErr, OnOk, Ok, Err};
+ghost use Rattle.std.specs.Prelude.{◌≡◌, ◌≤◌, ◌-◌, ◌++◌, ◌∷◌, [], length, vec_len, replicate, IfOk, IfErr, OnOk, Ok};
+ghost use Rattle.std.specs.Prelude.{Err};
 ghost use Rattle.text_lines.specs.Language.{said_by};
 ghost use Rattle.session_model.specs.Limits.{longest_input};
 ghost use Rattle.au4_pointer.specs.declared.Action.TheVariants.{Keep};
@@ -131,8 +132,8 @@ fn finished(draft: Draft) -> Result<Link, AllocError>
     Ok(Link { start, actions })
 }
 
-/// The link that a text of at most 67,108,864 octets says. Else its first fault: that of the first faulty line. Want of memory may come in
-/// place of any answer. No action of the link is refused.
+/// The link that a text of at most 67,108,864 octets says. Else its first fault: that of the first faulty
+/// line. Want of memory may come in place of any answer. No action of the link is refused.
 pub fn read_link(alloc: Global, text: &[u8]) -> Result<Link, LinkFault>
     requires { length text.now ≤ longest_input }
     ensures link { IfOk result (λ link. link_of text.now ≡ Ok link) }

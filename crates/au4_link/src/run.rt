@@ -13,7 +13,8 @@ use au4_pointer::{Action, AuFrame, PointerSink, PointerSource, VC, relay};
 use got_lines::GotLines;
 use outside_io::{ByteSink, Failed};
 
-/// How many VC-4s are cut with a frame more, where so many began before it and so many came whole: a new pointer cuts those in progress.
+/// How many VC-4s are cut with a frame more, where so many began before it and so many came whole: a new
+/// pointer cuts those in progress.
 fn cut_after(cut: u64, begun: u64, back: u64, a: Action) -> u64
     requires { back ≤ begun }
     ensures { result ≡ cut_after cut begun back a }
@@ -86,8 +87,8 @@ fn write_actions<K: ByteSink>(start: u16, actions: &[Action], out: &mut K) -> Re
     end
 }
 
-/// Carries VC-4s in the order of their numbers over all frames of a link, and writes the line of each that comes whole, and last the counts.
-/// No call takes memory.
+/// Carries VC-4s in the order of their numbers over all frames of a link, and writes the line of each that
+/// comes whole, and last the counts. No call takes memory.
 pub fn write_link<K: ByteSink>(link: &Link, out: &mut K) -> Result<(), Failed>
     requires { IsLink link.now }
     ensures ok { OnOk result (Appends K.written K.faults out.old out.new (link_text link.now)) }

@@ -1,15 +1,21 @@
 -- What an end says, fact by fact.
-use Rattle.std.proofs.Common.{◌≡◌, ◌≢◌, ◌⊎◌, ℕ, ◌<◌, ◌≤◌, List, ◌++◌, length, Option, Some, None, IfSome, IsTrue, refl, sym, ◌∙◌, ap, subst, inl, inr, arith, codes, append-nil}
+use Rattle.std.proofs.Common.{◌≡◌, ◌≢◌, ◌⊎◌, ℕ, ◌<◌, ◌≤◌, List, ◌++◌, length, Option, Some, None, IfSome, IsTrue, refl}
+use Rattle.std.proofs.Common.{sym, ◌∙◌, ap, subst, inl, inr, arith, codes, append-nil}
 use Rattle.std.specs.Io.KnownBytes.{prepend_known, IsAtEnd}
 use Rattle.outside_io.specs.Faults.{one_more}
 use Rattle.command_parts.specs.declared.stop.Refusal.{Refusal}
 use Rattle.command_parts.specs.declared.stop.Refusal.TheVariants.{Line, Limit}
-use Rattle.command_parts.specs.Task.{Answer, Task, writes, writes_both, refuses, exceeds, none, reads, makes, IsCommand, Reads, IsGood, IsQuiet, IsQuietTask, refused_status}
-use Rattle.command_parts.specs.Ends.{Lent, Kept, Quiet, FailedOnce, IsTold, HasRead, IsLong, Meets, WritesAll, WritesPart, until, since, IsDone, IsNoCommand, IsUnread, IsCut, IsRefused, IsShort, IsTooLong, IsBeyond, Ends, done, no_command, unread, cut, refused, short, too_long, beyond}
+use Rattle.command_parts.specs.Task.{Answer, Task, writes, writes_both, refuses, exceeds, none, reads, makes, IsCommand}
+use Rattle.command_parts.specs.Task.{Reads, IsGood, IsQuiet, IsQuietTask, refused_status}
+use Rattle.command_parts.specs.Ends.{Lent, Kept, Quiet, FailedOnce, IsTold, HasRead, IsLong, Meets, WritesAll}
+use Rattle.command_parts.specs.Ends.{WritesPart, until, since, IsDone, IsNoCommand, IsUnread, IsCut, IsRefused, IsShort}
+use Rattle.command_parts.specs.Ends.{IsTooLong, IsBeyond, Ends, done, no_command, unread, cut, refused, short, too_long}
+use Rattle.command_parts.specs.Ends.{beyond}
 use Rattle.command_parts.specs.Status.{is_status, HasReadAt, Rises}
 
 -- ---- the text that was read is the one that the source tells, where it tells it
-same-text : (old new : Option (List ℕ)) (text own : List ℕ) → old ≡ prepend_known text new → IsAtEnd new → old ≡ Some own → text ≡ own
+same-text : (old new : Option (List ℕ)) (text own : List ℕ) → old ≡ prepend_known text new → IsAtEnd new →
+    old ≡ Some own → text ≡ own
 same-text old None text own given end is = absurd (let e : None ≡ Some own = sym given ∙ is in cc)
 same-text old (Some rest) text own given end is =
     let e : Some (text ++ rest) ≡ Some own = sym given ∙ is in
@@ -20,40 +26,51 @@ if-some : {X : Type 0} (P : X → Type 0) (o : Option X) → ((x : X) → o ≡ 
 if-some P None f = tt
 if-some P (Some x) f = f x refl
 
-pub known-text : {S : Type 0} (source : Lent S) (P : List ℕ → Type 0) (text : List ℕ) → HasRead source text → P text → IfSome (source.octets source.old) P
+pub known-text : {S : Type 0} (source : Lent S) (P : List ℕ → Type 0) (text : List ℕ) → HasRead source text → P text →
+    IfSome (source.octets source.old) P
 known-text source P text read holds =
-    if-some P (source.octets source.old) (λ own is. subst P (same-text (source.octets source.old) (source.octets source.new) text own read.given.given read.given.end is) holds)
+    if-some P (source.octets source.old)
+    (λ own is. subst P (same-text (source.octets source.old) (source.octets source.new) text own read.given.given
+    read.given.end is) holds)
 
 rises-one : (old new : ℕ) → new ≡ one_more old → Rises old new
 rises-one old new is = omega (arith, is)
 
 -- a count that rose stays up while a note is told
-rises-then : {E : Type 0} (notes : Lent E) (middle : E) (text : List ℕ) → notes.faults middle ≡ one_more (notes.faults notes.old) → IsTold (since middle notes) text
+rises-then : {E : Type 0} (notes : Lent E) (middle : E) (text : List ℕ) →
+    notes.faults middle ≡ one_more (notes.faults notes.old) → IsTold (since middle notes) text
     → Rises (notes.faults notes.old) (notes.faults notes.new)
 rises-then notes middle text one (inl all) = let a = all.quiet in omega (arith, one, a)
 rises-then notes middle text one (inr part) = let a = part.counted in omega (arith, one, a)
 
 -- what was written in part shows a fault
-part-rises : {K E : Type 0} (out : Lent K) (notes : Lent E) (middle : E) (answer : Answer) (text : List ℕ) → WritesPart out (until middle notes) answer → IsTold (since middle notes) text
+part-rises : {K E : Type 0} (out : Lent K) (notes : Lent E) (middle : E) (answer : Answer) (text : List ℕ) →
+    WritesPart out (until middle notes) answer → IsTold (since middle notes) text
     → Rises (out.faults out.old) (out.faults out.new) ⊎ Rises (notes.faults notes.old) (notes.faults notes.new)
-part-rises out notes middle (writes o) text part told = inl (rises-one (out.faults out.old) (out.faults out.new) part.0.counted)
-part-rises out notes middle (writes_both o n) text (inl part) told = inl (rises-one (out.faults out.old) (out.faults out.new) part.0.counted)
-part-rises out notes middle (writes_both o n) text (inr part) told = inr (rises-then notes middle text part.1.counted told)
+part-rises out notes middle (writes o) text part told =
+    inl (rises-one (out.faults out.old) (out.faults out.new) part.0.counted)
+part-rises out notes middle (writes_both o n) text (inl part) told =
+    inl (rises-one (out.faults out.old) (out.faults out.new) part.0.counted)
+part-rises out notes middle (writes_both o n) text (inr part) told =
+    inr (rises-then notes middle text part.1.counted told)
 part-rises out notes middle (refuses w n) text part told = absurd part
 part-rises out notes middle exceeds text part told = absurd part
 
-quiet-answer : {S : Type 0} (source : Lent S) (task : Task) (answer : Answer) → Meets source task answer → IsQuietTask task → IsQuiet answer
+quiet-answer : {S : Type 0} (source : Lent S) (task : Task) (answer : Answer) → Meets source task answer →
+    IsQuietTask task → IsQuiet answer
 quiet-answer source (none usage) answer meets quiet = absurd meets
 quiet-answer source (reads make) answer meets quiet = subst IsQuiet meets.2 (quiet meets.0)
 quiet-answer source (makes own) answer meets quiet = subst IsQuiet meets.1 quiet
 
-quiet-all : {K E : Type 0} (out : Lent K) (notes : Lent E) (answer : Answer) → WritesAll out notes answer → IsQuiet answer → Kept notes
+quiet-all : {K E : Type 0} (out : Lent K) (notes : Lent E) (answer : Answer) → WritesAll out notes answer →
+    IsQuiet answer → Kept notes
 quiet-all out notes (writes o) all quiet = all.1
 quiet-all out notes (writes_both o n) all quiet = absurd quiet
 quiet-all out notes (refuses w n) all quiet = absurd all
 quiet-all out notes exceeds all quiet = absurd all
 
-quiet-part : {K E : Type 0} (out : Lent K) (notes : Lent E) (answer : Answer) → WritesPart out notes answer → IsQuiet answer → FailedOnce out × Kept notes
+quiet-part : {K E : Type 0} (out : Lent K) (notes : Lent E) (answer : Answer) → WritesPart out notes answer →
+    IsQuiet answer → FailedOnce out × Kept notes
 quiet-part out notes (writes o) part quiet = (part.0.counted, part.1)
 quiet-part out notes (writes_both o n) part quiet = absurd quiet
 quiet-part out notes (refuses w n) part quiet = absurd part
@@ -70,26 +87,31 @@ meets-quiet source (none usage) answer meets = absurd meets
 meets-quiet source (reads make) answer meets = meets.1.quiet
 meets-quiet source (makes own) answer meets = ap source.faults meets.0
 
-meets-command : {S : Type 0} (source : Lent S) (task : Task) (answer : Answer) → Meets source task answer → IsCommand task
+meets-command : {S : Type 0} (source : Lent S) (task : Task) (answer : Answer) → Meets source task answer →
+    IsCommand task
 meets-command source (none usage) answer meets = absurd meets
 meets-command source (reads make) answer meets = tt
 meets-command source (makes own) answer meets = tt
 
-meets-unread : {S : Type 0} (source : Lent S) (task : Task) (answer : Answer) → Meets source task answer → (¬ Reads task) → Kept source
+meets-unread : {S : Type 0} (source : Lent S) (task : Task) (answer : Answer) → Meets source task answer →
+    (¬ Reads task) → Kept source
 meets-unread source (none usage) answer meets never = absurd meets
 meets-unread source (reads make) answer meets never = absurd (never tt)
 meets-unread source (makes own) answer meets never = meets.0
 
 -- the text, where one is read
-meets-text : {S : Type 0} (source : Lent S) (task : Task) (answer : Answer) → Meets source task answer → Reads task → (text : List ℕ) × HasRead source text
+meets-text : {S : Type 0} (source : Lent S) (task : Task) (answer : Answer) → Meets source task answer → Reads task →
+    (text : List ℕ) × HasRead source text
 meets-text source (none usage) answer meets does = absurd meets
 meets-text source (reads make) answer meets does = (meets.0, meets.1)
 meets-text source (makes own) answer meets does = absurd does
 
 -- the answer is the input's
-meets-known : {S : Type 0} (source : Lent S) (make : List ℕ → Answer) (answer : Answer) (P : Answer → Type 0) → Meets source (reads make) answer → P answer
+meets-known : {S : Type 0} (source : Lent S) (make : List ℕ → Answer) (answer : Answer) (P : Answer → Type 0) →
+    Meets source (reads make) answer → P answer
     → IfSome (source.octets source.old) (λ text. P (make text))
-meets-known source make answer P meets holds = known-text source (λ text. P (make text)) meets.0 meets.1 (subst P (sym meets.2) holds)
+meets-known source make answer P meets holds =
+    known-text source (λ text. P (make text)) meets.0 meets.1 (subst P (sym meets.2) holds)
 
 reads-none : (usage : List ℕ) (task : Task) → Reads task → task ≡ none usage → ⊥
 reads-none usage (none other) does is = does
@@ -107,7 +129,8 @@ refused-is Limit = inr refl
 
 -- a refusal is none of the other statuses
 pub not-refused : (why : Refusal) (s n : ℕ) → s ≡ refused_status why → s ≡ n → n ≢ 5 → n ≢ 6 → ⊥
-not-refused why s n is at five six = elim (refused-is why) [ inl e ↦ five (sym at ∙ is ∙ e) | inr e ↦ six (sym at ∙ is ∙ e) ]
+not-refused why s n is at five six =
+    elim (refused-is why) [ inl e ↦ five (sym at ∙ is ∙ e) | inr e ↦ six (sym at ∙ is ∙ e) ]
 
 module _ {S K E : Type 0} (source : Lent S) (out : Lent K) (notes : Lent E) (task : Task) (s : ℕ) where
   pub known : Ends source out notes task s → IsTrue (is_status s)
@@ -180,22 +203,31 @@ module _ {S K E : Type 0} (source : Lent S) (out : Lent K) (notes : Lent E) (tas
   is-long (too_long is it) at = inl it
   is-long (beyond is it) at = inr it
 
-  pub is-refused : Ends source out notes task s → (s ≡ 5) ⊎ (s ≡ 6) → (why : Refusal) × (s ≡ refused_status why) × IsRefused source out notes task why
-  is-refused (done is it) either = elim either [ inl at ↦ absurd (omega (arith, is, at)) | inr at ↦ absurd (omega (arith, is, at)) ]
-  is-refused (no_command is it) either = elim either [ inl at ↦ absurd (omega (arith, is, at)) | inr at ↦ absurd (omega (arith, is, at)) ]
-  is-refused (unread is it) either = elim either [ inl at ↦ absurd (omega (arith, is, at)) | inr at ↦ absurd (omega (arith, is, at)) ]
-  is-refused (cut is it) either = elim either [ inl at ↦ absurd (omega (arith, is, at)) | inr at ↦ absurd (omega (arith, is, at)) ]
+  pub is-refused : Ends source out notes task s → (s ≡ 5) ⊎ (s ≡ 6) → (why : Refusal) × (s ≡ refused_status why) ×
+      IsRefused source out notes task why
+  is-refused (done is it) either =
+      elim either [ inl at ↦ absurd (omega (arith, is, at)) | inr at ↦ absurd (omega (arith, is, at)) ]
+  is-refused (no_command is it) either =
+      elim either [ inl at ↦ absurd (omega (arith, is, at)) | inr at ↦ absurd (omega (arith, is, at)) ]
+  is-refused (unread is it) either =
+      elim either [ inl at ↦ absurd (omega (arith, is, at)) | inr at ↦ absurd (omega (arith, is, at)) ]
+  is-refused (cut is it) either =
+      elim either [ inl at ↦ absurd (omega (arith, is, at)) | inr at ↦ absurd (omega (arith, is, at)) ]
   is-refused (refused why is it) either = (why, is, it)
-  is-refused (short is it) either = elim either [ inl at ↦ absurd (omega (arith, is, at)) | inr at ↦ absurd (omega (arith, is, at)) ]
-  is-refused (too_long is it) either = elim either [ inl at ↦ absurd (omega (arith, is, at)) | inr at ↦ absurd (omega (arith, is, at)) ]
-  is-refused (beyond is it) either = elim either [ inl at ↦ absurd (omega (arith, is, at)) | inr at ↦ absurd (omega (arith, is, at)) ]
+  is-refused (short is it) either =
+      elim either [ inl at ↦ absurd (omega (arith, is, at)) | inr at ↦ absurd (omega (arith, is, at)) ]
+  is-refused (too_long is it) either =
+      elim either [ inl at ↦ absurd (omega (arith, is, at)) | inr at ↦ absurd (omega (arith, is, at)) ]
+  is-refused (beyond is it) either =
+      elim either [ inl at ↦ absurd (omega (arith, is, at)) | inr at ↦ absurd (omega (arith, is, at)) ]
 
   pub none-is : Ends source out notes task s → (usage : List ℕ) → task ≡ none usage → s ≡ 2
   none-is (done is it) usage e = absurd (command-none usage task (meets-command source task it.answer it.meets) e)
   none-is (no_command is it) usage e = is
   none-is (unread is it) usage e = absurd (reads-none usage task it.reads e)
   none-is (cut is it) usage e = absurd (command-none usage task (meets-command source task it.answer it.meets) e)
-  none-is (refused why is it) usage e = absurd (command-none usage task (meets-command source task (refuses why it.note) it.meets) e)
+  none-is (refused why is it) usage e =
+      absurd (command-none usage task (meets-command source task (refuses why it.note) it.meets) e)
   none-is (short is it) usage e = absurd (command-none usage task it.command e)
   none-is (too_long is it) usage e = absurd (reads-none usage task it.reads e)
   none-is (beyond is it) usage e = absurd (command-none usage task (meets-command source task exceeds it.meets) e)
@@ -242,18 +274,60 @@ module _ {S K E : Type 0} (source : Lent S) (out : Lent K) (notes : Lent E) (tas
 
   pub read-text : Ends source out notes task s → Reads task → HasReadAt s → (text : List ℕ) × HasRead source text
   read-text (done is it) does at = meets-text source task it.answer it.meets does
-  read-text (no_command is it) does at = elim at [ inl a ↦ absurd (omega (arith, is, a)) | inr x ↦ elim x [ inl a ↦ absurd (omega (arith, is, a)) | inr y ↦ elim y [ inl a ↦ absurd (omega (arith, is, a)) | inr a ↦ absurd (omega (arith, is, a)) ] ] ]
-  read-text (unread is it) does at = elim at [ inl a ↦ absurd (omega (arith, is, a)) | inr x ↦ elim x [ inl a ↦ absurd (omega (arith, is, a)) | inr y ↦ elim y [ inl a ↦ absurd (omega (arith, is, a)) | inr a ↦ absurd (omega (arith, is, a)) ] ] ]
+  read-text (no_command is it) does at =
+      elim at [
+        | inl a ↦ absurd (omega (arith, is, a))
+        | inr x ↦ elim x [
+          | inl a ↦ absurd (omega (arith, is, a))
+          | inr y ↦ elim y
+              [ inl a ↦ absurd (omega (arith, is, a)) | inr a ↦ absurd (omega (arith, is, a)) ]
+        ]
+      ]
+  read-text (unread is it) does at =
+      elim at [
+        | inl a ↦ absurd (omega (arith, is, a))
+        | inr x ↦ elim x [
+          | inl a ↦ absurd (omega (arith, is, a))
+          | inr y ↦ elim y
+              [ inl a ↦ absurd (omega (arith, is, a)) | inr a ↦ absurd (omega (arith, is, a)) ]
+        ]
+      ]
   read-text (cut is it) does at = meets-text source task it.answer it.meets does
   read-text (refused why is it) does at = meets-text source task (refuses why it.note) it.meets does
-  read-text (short is it) does at = elim at [ inl a ↦ absurd (omega (arith, is, a)) | inr x ↦ elim x [ inl a ↦ absurd (omega (arith, is, a)) | inr y ↦ elim y [ inl a ↦ absurd (omega (arith, is, a)) | inr a ↦ absurd (omega (arith, is, a)) ] ] ]
-  read-text (too_long is it) does at = elim at [ inl a ↦ absurd (omega (arith, is, a)) | inr x ↦ elim x [ inl a ↦ absurd (omega (arith, is, a)) | inr y ↦ elim y [ inl a ↦ absurd (omega (arith, is, a)) | inr a ↦ absurd (omega (arith, is, a)) ] ] ]
-  read-text (beyond is it) does at = elim at [ inl a ↦ absurd (omega (arith, is, a)) | inr x ↦ elim x [ inl a ↦ absurd (omega (arith, is, a)) | inr y ↦ elim y [ inl a ↦ absurd (omega (arith, is, a)) | inr a ↦ absurd (omega (arith, is, a)) ] ] ]
+  read-text (short is it) does at =
+      elim at [
+        | inl a ↦ absurd (omega (arith, is, a))
+        | inr x ↦ elim x [
+          | inl a ↦ absurd (omega (arith, is, a))
+          | inr y ↦ elim y
+              [ inl a ↦ absurd (omega (arith, is, a)) | inr a ↦ absurd (omega (arith, is, a)) ]
+        ]
+      ]
+  read-text (too_long is it) does at =
+      elim at [
+        | inl a ↦ absurd (omega (arith, is, a))
+        | inr x ↦ elim x [
+          | inl a ↦ absurd (omega (arith, is, a))
+          | inr y ↦ elim y
+              [ inl a ↦ absurd (omega (arith, is, a)) | inr a ↦ absurd (omega (arith, is, a)) ]
+        ]
+      ]
+  read-text (beyond is it) does at =
+      elim at [
+        | inl a ↦ absurd (omega (arith, is, a))
+        | inr x ↦ elim x [
+          | inl a ↦ absurd (omega (arith, is, a))
+          | inr y ↦ elim y
+              [ inl a ↦ absurd (omega (arith, is, a)) | inr a ↦ absurd (omega (arith, is, a)) ]
+        ]
+      ]
 
   -- ---- reading
-  pub fits : Ends source out notes task s → Reads task → HasReadAt s → IfSome (source.octets source.old) (λ text. length text ≤ 67108864)
+  pub fits : Ends source out notes task s → Reads task → HasReadAt s →
+      IfSome (source.octets source.old) (λ text. length text ≤ 67108864)
   fits ends does at =
-      let (text, read) = read-text ends does at in known-text source (λ text. length text ≤ 67108864) text read read.fits
+      let (text, read) = read-text ends does at in known-text source (λ text. length text ≤ 67108864) text read
+      read.fits
 
   pub ended : Ends source out notes task s → Reads task → HasReadAt s → IsAtEnd (source.octets source.new)
   ended ends does at = let (text, read) = read-text ends does at in read.given.end
@@ -269,46 +343,71 @@ module _ {S K E : Type 0} (source : Lent S) (out : Lent K) (notes : Lent E) (tas
   told-long ends at = elim (is-long ends at) [ inl it ↦ it.told | inr it ↦ it.told ]
 
   -- ---- writing
-  pub write-failed : Ends source out notes task s → s ≡ 4 → Rises (out.faults out.old) (out.faults out.new) ⊎ Rises (notes.faults notes.old) (notes.faults notes.new)
-  write-failed ends at = let it = is-cut ends at in part-rises out notes it.middle it.answer (codes "fault: write failed\n") it.part it.told
+  pub write-failed : Ends source out notes task s → s ≡ 4 →
+      Rises (out.faults out.old) (out.faults out.new) ⊎ Rises (notes.faults notes.old) (notes.faults notes.new)
+  write-failed ends at = let it = is-cut ends at in
+      part-rises out notes it.middle it.answer (codes "fault: write failed\n") it.part it.told
 
   pub write-counted : Ends source out notes task s → IsQuietTask task → s ≡ 4 → FailedOnce out
   write-counted ends quiet at =
-      let it = is-cut ends at in (quiet-part out (until it.middle notes) it.answer it.part (quiet-answer source task it.answer it.meets quiet)).0
+      let it = is-cut ends at in (quiet-part out (until it.middle notes) it.answer it.part
+      (quiet-answer source task it.answer it.meets quiet)).0
 
   pub quiet-notes : Ends source out notes task s → IsQuietTask task → s ≡ 0 → Kept notes
-  quiet-notes ends quiet at = let it = is-done ends at in quiet-all out notes it.answer it.written (quiet-answer source task it.answer it.meets quiet)
+  quiet-notes ends quiet at = let it = is-done ends at in
+      quiet-all out notes it.answer it.written (quiet-answer source task it.answer it.meets quiet)
 
-  pub told-write : Ends source out notes task s → IsQuietTask task → s ≡ 4 → IsTold notes (codes "fault: write failed\n")
+  pub told-write : Ends source out notes task s → IsQuietTask task → s ≡ 4 →
+      IsTold notes (codes "fault: write failed\n")
   told-write ends quiet at =
       let it = is-cut ends at in
-      let kept = (quiet-part out (until it.middle notes) it.answer it.part (quiet-answer source task it.answer it.meets quiet)).1 in
+      let kept = (quiet-part out (until it.middle notes) it.answer it.part
+      (quiet-answer source task it.answer it.meets quiet)).1 in
       let P : E → Type 0 = λ middle. IsTold (since middle notes) (codes "fault: write failed\n") in subst P kept it.told
 
 -- ---- by what a task answers
 module _ {S K E : Type 0} (source : Lent S) (out : Lent K) (notes : Lent E) (answer : List ℕ → Answer) (s : ℕ) where
-  pub all-written : Ends source out notes (reads answer) s → s ≡ 0 → IfSome (source.octets source.old) (λ text. WritesAll out notes (answer text))
-  all-written ends at = let it = is-done source out notes (reads answer) s ends at in meets-known source answer it.answer (WritesAll out notes) it.meets it.written
+  pub all-written : Ends source out notes (reads answer) s → s ≡ 0 →
+      IfSome (source.octets source.old) (λ text. WritesAll out notes (answer text))
+  all-written ends at = let it = is-done source out notes (reads answer) s ends at in
+      meets-known source answer it.answer (WritesAll out notes) it.meets it.written
 
   pub part-written : Ends source out notes (reads answer) s → s ≡ 4
-      → (middle : E) × IfSome (source.octets source.old) (λ text. WritesPart out (until middle notes) (answer text)) × IsTold (since middle notes) (codes "fault: write failed\n")
+      → (middle : E) × IfSome (source.octets source.old) (λ text. WritesPart out (until middle notes) (answer text)) ×
+      IsTold (since middle notes) (codes "fault: write failed\n")
   part-written ends at =
-      let it = is-cut source out notes (reads answer) s ends at in
-      (it.middle, meets-known source answer it.answer (WritesPart out (until it.middle notes)) it.meets it.part, it.told)
+      let it = is-cut source out notes (reads answer) s ends at in (
+        it.middle,
+        meets-known source answer it.answer (WritesPart out (until it.middle notes)) it.meets it.part,
+        it.told,
+      )
 
   pub why-refused : Ends source out notes (reads answer) s → (s ≡ 5) ⊎ (s ≡ 6)
-      → (why : Refusal) × (note : List ℕ) × (s ≡ refused_status why) × IfSome (source.octets source.old) (λ text. answer text ≡ refuses why note) × IsTold notes note
+      → (why : Refusal) × (note : List ℕ) × (s ≡ refused_status why) ×
+      IfSome (source.octets source.old) (λ text. answer text ≡ refuses why note) × IsTold notes note
   why-refused ends either =
-      let (why, is, it) = is-refused source out notes (reads answer) s ends either in
-      (why, it.note, is, meets-known source answer (refuses why it.note) (λ own. own ≡ refuses why it.note) it.meets refl, it.told)
+      let (why, is, it) = is-refused source out notes (reads answer) s ends either in (
+        why,
+        it.note,
+        is,
+        meets-known source answer (refuses why it.note) (λ own. own ≡ refuses why it.note) it.meets
+            refl,
+        it.told,
+      )
 
   -- an input that is good is answered, or wants for memory, where no fault comes
-  pub complete : Ends source out notes (reads answer) s → IfSome (source.octets source.old) (λ text. length text ≤ 67108864 → IsGood (answer text)
-      → (s ≡ 0) ⊎ ((s ≡ 7) ⊎ (Rises (source.faults source.old) (source.faults source.new) ⊎ (Rises (out.faults out.old) (out.faults out.new) ⊎ Rises (notes.faults notes.old) (notes.faults notes.new)))))
+  pub complete : Ends source out notes (reads answer) s →
+      IfSome (source.octets source.old) (λ text. length text ≤ 67108864 → IsGood (answer text)
+      → (s ≡ 0) ⊎ ((s ≡ 7) ⊎ (Rises (source.faults source.old) (source.faults source.new) ⊎
+      (Rises (out.faults out.old) (out.faults out.new) ⊎ Rises (notes.faults notes.old) (notes.faults notes.new)))))
   complete (done is it) = if-some _ (source.octets source.old) (λ text known few good. inl is)
   complete (no_command is it) = absurd (let e = it.none in cc)
-  complete (unread is it) = if-some _ (source.octets source.old) (λ text known few good. inr (inr (inl (rises-one (source.faults source.old) (source.faults source.new) it.failed))))
-  complete (cut is it) = if-some _ (source.octets source.old) (λ text known few good. inr (inr (inr (part-rises out notes it.middle it.answer (codes "fault: write failed\n") it.part it.told))))
+  complete (unread is it) = if-some _ (source.octets source.old)
+      (λ text known few good. inr (inr
+      (inl (rises-one (source.faults source.old) (source.faults source.new) it.failed))))
+  complete (cut is it) = if-some _ (source.octets source.old)
+      (λ text known few good. inr (inr
+      (inr (part-rises out notes it.middle it.answer (codes "fault: write failed\n") it.part it.told))))
   complete (refused why is it) =
       known-text source _ it.meets.0 it.meets.1 (λ few good. absurd (subst IsGood it.meets.2 good))
   complete (beyond is it) =
@@ -316,27 +415,35 @@ module _ {S K E : Type 0} (source : Lent S) (out : Lent K) (notes : Lent E) (ans
   complete (short is it) = if-some _ (source.octets source.old) (λ text known few good. inr (inl is))
   complete (too_long is it) = long-good (source.octets source.old) it.long.much
     where
-      long-good : (o : Option (List ℕ)) → IfSome o (λ text. 67108864 < length text) → IfSome o (λ text. length text ≤ 67108864 → IsGood (answer text)
-          → (s ≡ 0) ⊎ ((s ≡ 7) ⊎ (Rises (source.faults source.old) (source.faults source.new) ⊎ (Rises (out.faults out.old) (out.faults out.new) ⊎ Rises (notes.faults notes.old) (notes.faults notes.new)))))
+      long-good : (o : Option (List ℕ)) → IfSome o (λ text. 67108864 < length text) →
+          IfSome o (λ text. length text ≤ 67108864 → IsGood (answer text)
+          → (s ≡ 0) ⊎ ((s ≡ 7) ⊎ (Rises (source.faults source.old) (source.faults source.new) ⊎
+          (Rises (out.faults out.old) (out.faults out.new) ⊎ Rises (notes.faults notes.old)
+          (notes.faults notes.new)))))
       long-good None much = tt
       long-good (Some text) much = λ few good. absurd (omega (arith, much, few))
 
 module _ {S K E : Type 0} (source : Lent S) (out : Lent K) (notes : Lent E) (answer : Answer) (s : ℕ) where
   pub made-all : Ends source out notes (makes answer) s → s ≡ 0 → WritesAll out notes answer
   made-all ends at =
-      let it = is-done source out notes (makes answer) s ends at in let P : Answer → Type 0 = λ answer. WritesAll out notes answer in subst P (sym it.meets.1) it.written
+      let it = is-done source out notes (makes answer) s ends at in
+      let P : Answer → Type 0 = λ answer. WritesAll out notes answer in subst P (sym it.meets.1) it.written
 
-  pub made-part : Ends source out notes (makes answer) s → s ≡ 4 → (middle : E) × WritesPart out (until middle notes) answer × IsTold (since middle notes) (codes "fault: write failed\n")
+  pub made-part : Ends source out notes (makes answer) s → s ≡ 4 → (middle : E) ×
+      WritesPart out (until middle notes) answer × IsTold (since middle notes) (codes "fault: write failed\n")
   made-part ends at =
       let it = is-cut source out notes (makes answer) s ends at in
-      let P : Answer → Type 0 = λ answer. WritesPart out (until it.middle notes) answer in (it.middle, subst P (sym it.meets.1) it.part, it.told)
+      let P : Answer → Type 0 = λ answer. WritesPart out (until it.middle notes) answer in
+      (it.middle, subst P (sym it.meets.1) it.part, it.told)
 
   pub complete-made : Ends source out notes (makes answer) s → IsGood answer
-      → (s ≡ 0) ⊎ ((s ≡ 7) ⊎ (Rises (out.faults out.old) (out.faults out.new) ⊎ Rises (notes.faults notes.old) (notes.faults notes.new)))
+      → (s ≡ 0) ⊎ ((s ≡ 7) ⊎ (Rises (out.faults out.old) (out.faults out.new) ⊎ Rises (notes.faults notes.old)
+      (notes.faults notes.new)))
   complete-made (done is it) good = inl is
   complete-made (no_command is it) good = absurd (let e = it.none in cc)
   complete-made (unread is it) good = absurd it.reads
-  complete-made (cut is it) good = inr (inr (part-rises out notes it.middle it.answer (codes "fault: write failed\n") it.part it.told))
+  complete-made (cut is it) good =
+      inr (inr (part-rises out notes it.middle it.answer (codes "fault: write failed\n") it.part it.told))
   complete-made (refused why is it) good = absurd (subst IsGood it.meets.1 good)
   complete-made (short is it) good = inr (inl is)
   complete-made (too_long is it) good = absurd it.reads
@@ -344,10 +451,13 @@ module _ {S K E : Type 0} (source : Lent S) (out : Lent K) (notes : Lent E) (ans
 
   -- a text that is too long is not written
   pub made-beyond : Ends source out notes (makes answer) s → answer ≡ exceeds → (s ≡ 7) ⊎ (s ≡ 8)
-  made-beyond (done is it) e = absurd (let P : Answer → Type 0 = λ answer. WritesAll out notes answer in subst P (sym it.meets.1 ∙ e) it.written)
+  made-beyond (done is it) e = absurd
+      (let P : Answer → Type 0 = λ answer. WritesAll out notes answer in subst P (sym it.meets.1 ∙ e) it.written)
   made-beyond (no_command is it) e = absurd (let f = it.none in cc)
   made-beyond (unread is it) e = absurd it.reads
-  made-beyond (cut is it) e = absurd (let P : Answer → Type 0 = λ answer. WritesPart out (until it.middle notes) answer in subst P (sym it.meets.1 ∙ e) it.part)
+  made-beyond (cut is it) e = absurd
+      (let P : Answer → Type 0 = λ answer. WritesPart out (until it.middle notes) answer in subst P
+      (sym it.meets.1 ∙ e) it.part)
   made-beyond (refused why is it) e = absurd (let f : exceeds ≡ refuses why it.note = sym e ∙ it.meets.1 in cc)
   made-beyond (short is it) e = inl is
   made-beyond (too_long is it) e = inr is
@@ -355,4 +465,5 @@ module _ {S K E : Type 0} (source : Lent S) (out : Lent K) (notes : Lent E) (ans
 
   -- and only such a one
   pub beyond-made : Ends source out notes (makes answer) s → s ≡ 8 → answer ≡ exceeds
-  beyond-made ends at = elim (is-long source out notes (makes answer) s ends at) [ inl it ↦ absurd it.reads | inr it ↦ it.meets.1 ]
+  beyond-made ends at = elim (is-long source out notes (makes answer) s ends at)
+      [ inl it ↦ absurd it.reads | inr it ↦ it.meets.1 ]

@@ -8,7 +8,8 @@ use Rattle.script_read.specs.Script.{script_of}
 use Rattle.command_parts.specs.declared.stop.Stop.{Stop}
 use Rattle.command_parts.specs.declared.stop.Stop.TheVariants.{Read, TooLong, Refused, Write, Memory}
 use Rattle.command_parts.specs.Task.{Answer, Task, refuses, exceeds, none, reads, makes, IsCommand}
-use Rattle.command_parts.specs.Ends.{Lent, Kept, Quiet, IsTold, HasRead, Meets, WritesAll, WritesPart, until, since, Ends, no_source, done, no_command, cut, refused, unread, short, too_long, beyond}
+use Rattle.command_parts.specs.Ends.{Lent, Kept, Quiet, IsTold, HasRead, Meets, WritesAll, WritesPart, until, since}
+use Rattle.command_parts.specs.Ends.{Ends, no_source, done, no_command, cut, refused, unread, short, too_long, beyond}
 use Rattle.command_parts.specs.Faults.{IsRefusedFor}
 use Rattle.command_parts.specs.declared.stop.Fault.{Fault}
 use Rattle.command_parts.specs.declared.stop.Refusal.{Refusal}
@@ -18,7 +19,8 @@ use Rattle.command_parts.specs.Scripts.{HasScript, answer_of, script_answer}
 use Rattle.command_parts.specs.Stops.{StopsReading, note_of, status_at}
 
 -- ---- a text that says no script
-refused-for : {S : Type 0} (source : Lent S) (writes : Script → Answer) (text : List ℕ) (own : ScriptFault) (stop : Stop) → HasRead source text
+refused-for : {S : Type 0} (source : Lent S) (writes : Script → Answer) (text : List ℕ) (own : ScriptFault)
+    (stop : Stop) → HasRead source text
     → script_of text ≡ Err own → IsRefusedFor own stop → StopsReading source (script_answer writes) stop
 refused-for source writes text own Read read says is = absurd is
 refused-for source writes text own TooLong read says is = absurd is
@@ -27,90 +29,157 @@ refused-for source writes text own (Refused it) read says is =
 refused-for source writes text own Write read says is = absurd is
 refused-for source writes text own Memory read says is = absurd is
 
-short-stop : {S : Type 0} (source : Lent S) (answer : List ℕ → Answer) (stop : Stop) → Quiet source → stop ≡ Memory → StopsReading source answer stop
-short-stop source answer stop quiet is = let P : Stop → Type 0 = λ stop. StopsReading source answer stop in subst P (sym is) quiet
+short-stop : {S : Type 0} (source : Lent S) (answer : List ℕ → Answer) (stop : Stop) → Quiet source → stop ≡ Memory →
+    StopsReading source answer stop
+short-stop source answer stop quiet is = let P : Stop → Type 0 = λ stop. StopsReading source answer stop in
+    subst P (sym is) quiet
 
-pub refused-script : {S : Type 0} (source : Lent S) (writes : Script → Answer) (text : List ℕ) (own : ScriptFault) (stop : Stop) → HasRead source text
-    → (own ≡ fault.Memory) ⊎ (script_of text ≡ Err own) → (own ≢ fault.Memory → IsRefusedFor own stop) → (own ≡ fault.Memory → stop ≡ Memory)
+pub refused-script : {S : Type 0} (source : Lent S) (writes : Script → Answer) (text : List ℕ) (own : ScriptFault)
+    (stop : Stop) → HasRead source text
+    → (own ≡ fault.Memory) ⊎ (script_of text ≡ Err own) → (own ≢ fault.Memory → IsRefusedFor own stop) →
+    (own ≡ fault.Memory → stop ≡ Memory)
     → StopsReading source (script_answer writes) stop
 refused-script source writes text (Line n k) stop read (inl e) for lack = absurd cc
-refused-script source writes text (Line n k) stop read (inr says) for lack = refused-for source writes text (Line n k) stop read says (for (λ e. absurd cc))
+refused-script source writes text (Line n k) stop read (inr says) for lack =
+    refused-for source writes text (Line n k) stop read says (for (λ e. absurd cc))
 refused-script source writes text (Slip l w x) stop read (inl e) for lack = absurd cc
-refused-script source writes text (Slip l w x) stop read (inr says) for lack = refused-for source writes text (Slip l w x) stop read says (for (λ e. absurd cc))
+refused-script source writes text (Slip l w x) stop read (inr says) for lack =
+    refused-for source writes text (Slip l w x) stop read says (for (λ e. absurd cc))
 refused-script source writes text (Spread a b c d) stop read (inl e) for lack = absurd cc
-refused-script source writes text (Spread a b c d) stop read (inr says) for lack = refused-for source writes text (Spread a b c d) stop read says (for (λ e. absurd cc))
+refused-script source writes text (Spread a b c d) stop read (inr says) for lack =
+    refused-for source writes text (Spread a b c d) stop read says (for (λ e. absurd cc))
 refused-script source writes text (Lag a b x y) stop read (inl e) for lack = absurd cc
-refused-script source writes text (Lag a b x y) stop read (inr says) for lack = refused-for source writes text (Lag a b x y) stop read says (for (λ e. absurd cc))
-refused-script source writes text fault.Memory stop read either for lack = short-stop source (script_answer writes) stop read.quiet (lack refl)
+refused-script source writes text (Lag a b x y) stop read (inr says) for lack =
+    refused-for source writes text (Lag a b x y) stop read says (for (λ e. absurd cc))
+refused-script source writes text fault.Memory stop read either for lack =
+    short-stop source (script_answer writes) stop read.quiet (lack refl)
 
 -- ---- a script is answered
-pub meets-script : {S : Type 0} (source : Lent S) (writes : Script → Answer) (script : Script) → HasScript source script → Meets source (reads (script_answer writes)) (writes script)
+pub meets-script : {S : Type 0} (source : Lent S) (writes : Script → Answer) (script : Script) →
+    HasScript source script → Meets source (reads (script_answer writes)) (writes script)
 meets-script source writes script has = (has.text, has.read, ap (answer_of writes) has.says)
 
 -- ---- the ends
 module _ {S K E : Type 0} (source : Lent S) (out : Lent K) (notes : Lent E) where
   -- what is read, is read in vain
-  pub ends-stopped : (answer : List ℕ → Answer) (stop : Stop) (status : ℕ) → StopsReading source answer stop → status ≡ status_at stop → Kept out → IsTold notes (note_of stop)
+  pub ends-stopped : (answer : List ℕ → Answer) (stop : Stop) (status : ℕ) → StopsReading source answer stop →
+      status ≡ status_at stop → Kept out → IsTold notes (note_of stop)
       → Ends source out notes (reads answer) status
-  ends-stopped answer Read status stops is nothing told = unread is (record { reads = tt; failed = stops; nothing = nothing; told = told })
-  ends-stopped answer TooLong status stops is nothing told = too_long is (record { reads = tt; long = stops; nothing = nothing; told = told })
-  ends-stopped answer (Refused it) status stops is nothing told = refused it.why is (record { note = it.note.items; meets = stops; nothing = nothing; told = told })
+  ends-stopped answer Read status stops is nothing told =
+      unread is (record { reads = tt; failed = stops; nothing = nothing; told = told })
+  ends-stopped answer TooLong status stops is nothing told =
+      too_long is (record { reads = tt; long = stops; nothing = nothing; told = told })
+  ends-stopped answer (Refused it) status stops is nothing told =
+      refused it.why is (record { note = it.note.items; meets = stops; nothing = nothing; told = told })
   ends-stopped answer Write status stops is nothing told = absurd stops
   ends-stopped answer Memory status stops is nothing told =
-      short is (record { command = tt; quiet = stops; unread = λ never. absurd (never tt); nothing = nothing; told = told })
+      short is (record {
+        command = tt;
+        quiet = stops;
+        unread = λ never. absurd (never tt);
+        nothing = nothing;
+        told =
+            told;
+      })
 
   -- all is written
-  pub ends-done : (task : Task) (answer : Answer) (status : ℕ) → Meets source task answer → status ≡ 0 → WritesAll out notes answer → Ends source out notes task status
+  pub ends-done : (task : Task) (answer : Answer) (status : ℕ) → Meets source task answer → status ≡ 0 →
+      WritesAll out notes answer → Ends source out notes task status
   ends-done task answer status meets is all = done is (record { answer = answer; meets = meets; written = all })
 
   -- a part is written, and then the note
-  pub ends-cut : (task : Task) (answer : Answer) (middle : E) (status : ℕ) → Meets source task answer → status ≡ 4 → WritesPart out (until middle notes) answer
+  pub ends-cut : (task : Task) (answer : Answer) (middle : E) (status : ℕ) → Meets source task answer → status ≡ 4 →
+      WritesPart out (until middle notes) answer
       → IsTold (since middle notes) (note_of Write) → Ends source out notes task status
-  ends-cut task answer middle status meets is part told = cut is (record { answer = answer; meets = meets; middle = middle; part = part; told = told })
+  ends-cut task answer middle status meets is part told =
+      cut is (record { answer = answer; meets = meets; middle = middle; part = part; told = told })
 
   -- the text to be written is too long
-  pub ends-beyond : (task : Task) (status : ℕ) → Meets source task exceeds → status ≡ 8 → Kept out → IsTold notes (note_of TooLong) → Ends source out notes task status
+  pub ends-beyond : (task : Task) (status : ℕ) → Meets source task exceeds → status ≡ 8 → Kept out →
+      IsTold notes (note_of TooLong) → Ends source out notes task status
   ends-beyond task status meets is nothing told = beyond is (record { meets = meets; nothing = nothing; told = told })
 
   -- memory was short behind an input that was read, or where none is read
-  pub ends-short : (task : Task) (answer : Answer) (status : ℕ) → Meets source task answer → status ≡ 7 → Kept out → IsTold notes (note_of Memory)
+  pub ends-short : (task : Task) (answer : Answer) (status : ℕ) → Meets source task answer → status ≡ 7 → Kept out →
+      IsTold notes (note_of Memory)
       → Ends source out notes task status
   ends-short (none usage) is status meets at nothing told = absurd meets
   ends-short (reads answer) is status meets at nothing told =
-      short at (record { command = tt; quiet = meets.1.quiet; unread = λ never. absurd (never tt); nothing = nothing; told = told })
+      short at (record {
+        command = tt;
+        quiet = meets.1.quiet;
+        unread = λ never. absurd (never tt);
+        nothing = nothing;
+        told = told;
+      })
   ends-short (makes answer) is status meets at nothing told =
-      short at (record { command = tt; quiet = ap source.faults meets.0; unread = λ never. meets.0; nothing = nothing; told = told })
+      short at (record {
+        command = tt;
+        quiet = ap source.faults meets.0;
+        unread = λ never. meets.0;
+        nothing = nothing;
+        told = told;
+      })
 
   -- memory was short before anything was read
-  pub ends-no-memory : (task : Task) (status : ℕ) → IsCommand task → status ≡ 7 → Kept source → Kept out → IsTold notes (note_of Memory) → Ends source out notes task status
+  pub ends-no-memory : (task : Task) (status : ℕ) → IsCommand task → status ≡ 7 → Kept source → Kept out →
+      IsTold notes (note_of Memory) → Ends source out notes task status
   ends-no-memory task status command at kept nothing told =
-      short at (record { command = command; quiet = ap source.faults kept; unread = λ never. kept; nothing = nothing; told = told })
+      short at (record {
+        command = command;
+        quiet = ap source.faults kept;
+        unread = λ never. kept;
+        nothing = nothing;
+        told = told;
+      })
 
   -- what reads nothing, does so beside any source
-  pub made-beside : (answer : Answer) (status : ℕ) → Kept source → Ends no_source out notes (makes answer) status → Ends source out notes (makes answer) status
-  made-beside answer status kept (done is it) = done is (record { answer = it.answer; meets = (kept, it.meets.1); written = it.written })
+  pub made-beside : (answer : Answer) (status : ℕ) → Kept source → Ends no_source out notes (makes answer) status →
+      Ends source out notes (makes answer) status
+  made-beside answer status kept (done is it) =
+      done is (record { answer = it.answer; meets = (kept, it.meets.1); written = it.written })
   made-beside answer status kept (no_command is it) = absurd (let e = it.none in cc)
   made-beside answer status kept (unread is it) = absurd it.reads
-  made-beside answer status kept (cut is it) = cut is (record { answer = it.answer; meets = (kept, it.meets.1); middle = it.middle; part = it.part; told = it.told })
-  made-beside answer status kept (refused why is it) = refused why is (record { note = it.note; meets = (kept, it.meets.1); nothing = it.nothing; told = it.told })
+  made-beside answer status kept (cut is it) =
+      cut is (record {
+        answer = it.answer;
+        meets = (kept, it.meets.1);
+        middle = it.middle;
+        part = it.part;
+        told =
+            it.told;
+      })
+  made-beside answer status kept (refused why is it) =
+      refused why is (record { note = it.note; meets = (kept, it.meets.1); nothing = it.nothing; told = it.told })
   made-beside answer status kept (short is it) =
-      short is (record { command = tt; quiet = ap source.faults kept; unread = λ never. kept; nothing = it.nothing; told = it.told })
+      short is (record {
+        command = tt;
+        quiet = ap source.faults kept;
+        unread = λ never. kept;
+        nothing = it.nothing;
+        told = it.told;
+      })
   made-beside answer status kept (too_long is it) = absurd it.reads
-  made-beside answer status kept (beyond is it) = beyond is (record { meets = (kept, it.meets.1); nothing = it.nothing; told = it.told })
+  made-beside answer status kept (beyond is it) =
+      beyond is (record { meets = (kept, it.meets.1); nothing = it.nothing; told = it.told })
 
 -- what stopped while it read has run nothing
-pub stops-not-run : {S : Type 0} (source : Lent S) (answer : List ℕ → Answer) (stop : Stop) (status : ℕ) → StopsReading source answer stop → status ≡ status_at stop → HasRunAt status → ⊥
+pub stops-not-run : {S : Type 0} (source : Lent S) (answer : List ℕ → Answer) (stop : Stop) (status : ℕ) →
+    StopsReading source answer stop → status ≡ status_at stop → HasRunAt status → ⊥
 stops-not-run source answer Read status stops is (inl at) = omega (arith, is, at)
 stops-not-run source answer Read status stops is (inr at) = omega (arith, is, at)
 stops-not-run source answer TooLong status stops is (inl at) = omega (arith, is, at)
 stops-not-run source answer TooLong status stops is (inr at) = omega (arith, is, at)
-stops-not-run source answer (Refused it) status stops is (inl at) = not-refused it.why status 0 is at (λ z. omega (arith, z)) (λ z. omega (arith, z))
-stops-not-run source answer (Refused it) status stops is (inr at) = not-refused it.why status 4 is at (λ z. omega (arith, z)) (λ z. omega (arith, z))
+stops-not-run source answer (Refused it) status stops is (inl at) =
+    not-refused it.why status 0 is at (λ z. omega (arith, z)) (λ z. omega (arith, z))
+stops-not-run source answer (Refused it) status stops is (inr at) =
+    not-refused it.why status 4 is at (λ z. omega (arith, z)) (λ z. omega (arith, z))
 stops-not-run source answer Write status stops is at = stops
 stops-not-run source answer Memory status stops is (inl at) = omega (arith, is, at)
 stops-not-run source answer Memory status stops is (inr at) = omega (arith, is, at)
 
 -- a line that is refused
-pub refused-line : {S : Type 0} (source : Lent S) (answer : List ℕ → Answer) (text : List ℕ) (it : Fault) (why : Refusal) (note : List ℕ) → HasRead source text
+pub refused-line : {S : Type 0} (source : Lent S) (answer : List ℕ → Answer) (text : List ℕ) (it : Fault)
+    (why : Refusal) (note : List ℕ) → HasRead source text
     → it.why ≡ why → it.note.items ≡ note → answer text ≡ refuses why note → StopsReading source answer (Refused it)
 refused-line source answer text it why note read a b says = (text, read, says ∙ ap₂ refuses (sym a) (sym b))

@@ -4,11 +4,13 @@ use Rattle.outside_io.specs.Faults.{one_more}
 use Rattle.outside_io.specs.Transfer.{GivesAll, Appends, AppendsPart, Tells}
 use Rattle.got_lines.specs.Told.{AppendsSome}
 use Rattle.command_parts.specs.declared.stop.Refusal.{Refusal}
-use Rattle.command_parts.specs.Task.{Answer, Task, writes, writes_both, refuses, exceeds, none, reads, makes, IsCommand, Reads, refused_status}
+use Rattle.command_parts.specs.Task.{Answer, Task, writes, writes_both, refuses, exceeds, none, reads, makes, IsCommand}
+use Rattle.command_parts.specs.Task.{Reads, refused_status}
 use Rattle.session_model.specs.Limits.{longest_input}
 
 -- ---- the source and the two sinks
--- what was lent to a call: before it, after it, what it tells of its octets, where it tells them, and its count of faults
+-- what was lent to a call: before it, after it, what it tells of its octets, where it tells them, and its count of
+-- faults
 pub record Lent (X : Type 0) : Type 0 where
   pub octets : X → Option (List ℕ)
   pub faults : X → ℕ
@@ -71,7 +73,8 @@ WritesAll out notes exceeds = ⊥
 -- a part of it, up to the first call that failed on either sink
 abbrev pub WritesPart : {K E : Type 0} → Lent K → Lent E → Answer → Type 0
 WritesPart out notes (writes text) = TakesPart out text × Kept notes
-WritesPart out notes (writes_both text told) = (TakesPart out text × TakesSome notes told) ⊎ (TakesSome out text × TakesPart notes told)
+WritesPart out notes (writes_both text told) =
+    (TakesPart out text × TakesSome notes told) ⊎ (TakesSome out text × TakesPart notes told)
 WritesPart out notes (refuses why note) = ⊥
 WritesPart out notes exceeds = ⊥
 
@@ -113,7 +116,8 @@ pub record IsCut {S K E : Type 0} (source : Lent S) (out : Lent K) (notes : Lent
   pub told : IsTold (since middle notes) (codes "fault: write failed\n")
 
 -- 5, 6: the input was read, and isn't what the command takes
-pub record IsRefused {S K E : Type 0} (source : Lent S) (out : Lent K) (notes : Lent E) (task : Task) (why : Refusal) : Type 0 where
+pub record IsRefused {S K E : Type 0} (source : Lent S) (out : Lent K) (notes : Lent E) (task : Task)
+    (why : Refusal) : Type 0 where
   pub note : List ℕ
   pub meets : Meets source task (refuses why note)
   pub nothing : Kept out
@@ -141,12 +145,14 @@ pub record IsBeyond {S K E : Type 0} (source : Lent S) (out : Lent K) (notes : L
   pub told : IsTold notes (codes "fault: too long\n")
 
 -- by the status, which is one of these
-pub data Ends {S K E : Type 0} (source : Lent S) (out : Lent K) (notes : Lent E) (task : Task) (status : ℕ) : Type 0 where
+pub data Ends {S K E : Type 0} (source : Lent S) (out : Lent K) (notes : Lent E) (task : Task)
+    (status : ℕ) : Type 0 where
   done : status ≡ 0 → IsDone source out notes task → Ends source out notes task status
   no_command : status ≡ 2 → IsNoCommand source out notes task → Ends source out notes task status
   unread : status ≡ 3 → IsUnread source out notes task → Ends source out notes task status
   cut : status ≡ 4 → IsCut source out notes task → Ends source out notes task status
-  refused : (why : Refusal) → status ≡ refused_status why → IsRefused source out notes task why → Ends source out notes task status
+  refused : (why : Refusal) → status ≡ refused_status why → IsRefused source out notes task why →
+      Ends source out notes task status
   short : status ≡ 7 → IsShort source out notes task → Ends source out notes task status
   too_long : status ≡ 8 → IsTooLong source out notes task → Ends source out notes task status
   beyond : status ≡ 8 → IsBeyond source out notes task → Ends source out notes task status

@@ -45,12 +45,15 @@ line_text number kind help =
 abbrev pub fault_text : ScriptFault → List ℕ
 fault_text (Line number fault) = line_text number (kind_of fault) (line_help_text fault)
 fault_text (Slip line window slip) =
-    codes "fault: slip line " ++ decimal line ++ codes " window " ++ decimal window ++ codes "\nhelp: " ++ slip_help_text slip ++ codes "\n"
+    codes "fault: slip line " ++ decimal line ++ codes " window " ++ decimal window ++ codes "\nhelp: " ++
+    slip_help_text slip ++ codes "\n"
 fault_text (Spread slow fast slip ring) =
-    codes "fault: spread " ++ decimal slow ++ codes " " ++ decimal fast ++ codes " " ++ decimal slip ++ codes " " ++ decimal ring
+    codes "fault: spread " ++ decimal slow ++ codes " " ++ decimal fast ++ codes " " ++ decimal slip ++ codes " " ++
+    decimal ring
     ++ codes "\nhelp: " ++ spread_help_text slow fast slip ++ codes "\n"
 fault_text (Lag lag least slow slip) =
-    codes "fault: lag " ++ decimal lag ++ codes " least " ++ decimal least ++ codes "\nhelp: " ++ lag_help_text slow slip least ++ codes "\n"
+    codes "fault: lag " ++ decimal lag ++ codes " least " ++ decimal least ++ codes "\nhelp: " ++ lag_help_text slow
+    slip least ++ codes "\n"
 fault_text Memory = codes "fault: no memory\n"
 
 -- a line is faulty, or slips, spread or lag don't fit

@@ -3,7 +3,8 @@ use Rattle.std.specs.Prelude.{ℕ, List}
 use Rattle.command_parts.specs.declared.stop.Refusal.{Refusal}
 use Rattle.command_parts.specs.declared.stop.Refusal.TheVariants.{Line, Limit}
 
--- what a command makes of its input: the text that it writes on `out`; its texts on `out` and on notes; why the input isn't what it
+-- what a command makes of its input: the text that it writes on `out`; its texts on `out` and on notes; why the input
+-- isn't what it
 -- takes, and the note on that; or that the text would be longer than an input may be
 pub data Answer : Type 0 where
   writes : (out : List ℕ) → Answer

@@ -2,12 +2,15 @@
 ghost use Rattle.std.specs.Prelude.{◌≡◌, ◌≢◌, ◌⊎◌, ◌↔◌, ◌≤◌, ℕ, List, length, IfSome, IsTrue, codes};
 ghost use Rattle.std.specs.Io.KnownBytes.{IsAtEnd};
 ghost use Rattle.command_parts.specs.declared.stop.Refusal.{Refusal};
-ghost use Rattle.command_parts.specs.Task.{Answer, Task, none, reads, makes, refuses, exceeds, Reads, IsGood, IsQuietTask, refused_status};
-ghost use Rattle.command_parts.specs.Ends.{Lent, Kept, Quiet, FailedOnce, IsTold, IsLong, Meets, WritesAll, WritesPart, until, since, Ends};
+ghost use Rattle.command_parts.specs.Task.{Answer, Task, none, reads, makes, refuses, exceeds, Reads, IsGood};
+ghost use Rattle.command_parts.specs.Task.{IsQuietTask, refused_status};
+ghost use Rattle.command_parts.specs.Ends.{Lent, Kept, Quiet, FailedOnce, IsTold, IsLong, Meets, WritesAll, WritesPart};
+ghost use Rattle.command_parts.specs.Ends.{until, since, Ends};
 ghost use Rattle.command_parts.specs.Status.{is_status, HasReadAt, Rises};
 ghost use Rattle.session_model.specs.Limits.{longest_input};
 
-/// What an end says of any task: which statuses there are, what was read and written, which faults were counted, and what was told.
+/// What an end says of any task: which statuses there are, what was read and written, which faults were
+/// counted, and what was told.
 pub fn end_law<S, K, E>()
     // Which status comes.
     ensures known { (source : Lent S) (out : Lent K) (notes : Lent E) (task : Task) (s : ℕ) →

@@ -1,6 +1,7 @@
-//! What the commands of the programs have in common: the words after a program's name, an input that is read whole, why a command stops,
-//! its exit status and what is said of that on notes, and the end of a report. What a command means is a `Task` of specs/, and how it
-//! ends is `Ends`. Which command is run, and how, is the programs' own. Begin with `Stop`, `read_whole_script` and `tell`.
+//! What the commands of the programs have in common: the words after a program's name, an input that is read
+//! whole, why a command stops, its exit status and what is said of that on notes, and the end of a report.
+//! What a command means is a `Task` of specs/, and how it ends is `Ends`. Which command is run, and how, is
+//! the programs' own. Begin with `Stop`, `read_whole_script` and `tell`.
 #![tactic(auto)]
 
 mod help;

@@ -70,8 +70,9 @@ fn put_note<E: ByteSink>(note: &[u8], notes: &mut E)
     let _ = put_all(notes, note);
 }
 
-/// Says on `notes` why a command stopped, as far as they take it, and answers the exit status: 3 and 8 for an input that can't be read
-/// or is too long, 5 and 6 for one that isn't what the command takes, 4 for an output that can't be written, and 7 where memory is short.
+/// Says on `notes` why a command stopped, as far as they take it, and answers the exit status: 3 and 8 for an
+/// input that can't be read or is too long, 5 and 6 for one that isn't what the command takes, 4 for an
+/// output that can't be written, and 7 where memory is short.
 pub fn tell<E: ByteSink>(stop: &Stop, notes: &mut E) -> u8
     ensures status { result ≡ status_at stop.now }
     ensures told { Tells E.written E.faults notes.old notes.new (note_of stop.now) }
@@ -100,7 +101,8 @@ pub fn tell<E: ByteSink>(stop: &Stop, notes: &mut E) -> u8
     }
 }
 
-/// Says on `notes` which commands a program has, as far as they take it, and answers the exit status for words that are none of them.
+/// Says on `notes` which commands a program has, as far as they take it, and answers the exit status for
+/// words that are none of them.
 pub fn tell_usage<E: ByteSink>(usage: &[u8], notes: &mut E) -> u8
     ensures status { result ≡ 2 }
     ensures told { Tells E.written E.faults notes.old notes.new usage.now }

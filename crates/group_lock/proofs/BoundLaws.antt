@@ -1,5 +1,7 @@
 -- A tick leaves a group bound to its session.
-use Rattle.std.proofs.Common.{◌≡◌, ℕ, zero, suc, ◌+◌, ◌-◌, ◌≤◌, Bool, true, false, if◌then◌else◌, not, ◌&&◌, List, [], ◌∷◌, ◌++◌, filter, take, drop, length, slice_get, get_or, All, Option, Some, is_none, option_map, inl, inr, refl, sym, ◌∙◌, ap, subst, arith}
+use Rattle.std.proofs.Common.{◌≡◌, ℕ, zero, suc, ◌+◌, ◌-◌, ◌≤◌, Bool, true, false, if◌then◌else◌, not, ◌&&◌, List, []}
+use Rattle.std.proofs.Common.{◌∷◌, ◌++◌, filter, take, drop, length, slice_get, get_or, All, Option, Some, is_none}
+use Rattle.std.proofs.Common.{option_map, inl, inr, refl, sym, ◌∙◌, ap, subst, arith}
 use Rattle.std.specs.List.{flat_map}
 use Rattle.std.proofs.Math.Logic.{∥∥₁_map, ∥∥₁_elim}
 use Rattle.std.proofs.Props.{props}
@@ -32,21 +34,26 @@ use Rattle.group_lock.specs.Journal.{items_in}
 use Rattle.group_source.specs.Inbox.{told_from}
 use Rattle.group_lock.specs.Rings.{SameOuts, SameIns}
 use Rattle.group_lock.specs.Parts.{AreSent, ArePast}
-use Rattle.group_lock.specs.Group.{IsOf, SameScript, is_ticked, lines_of, lag_of, lost_of, items_of, ticks_of, frames_of, commands_of, slots_of, bytes_of, taken_of, source_of}
+use Rattle.group_lock.specs.Group.{IsOf, SameScript, is_ticked, lines_of, lag_of, lost_of, items_of, ticks_of}
+use Rattle.group_lock.specs.Group.{frames_of, commands_of, slots_of, bytes_of, taken_of, source_of}
 use Rattle.group_lock.specs.Calls.{Ticks}
-use Rattle.group_lock.specs.Session.{counts_of, refusal_by, refusals_by, accepted_frames_by, accepted_commands_by, octets_in, AreItemsOf, HasLandedOf, IsBound}
+use Rattle.group_lock.specs.Session.{counts_of, refusal_by, refusals_by, accepted_frames_by, accepted_commands_by}
+use Rattle.group_lock.specs.Session.{octets_in, AreItemsOf, HasLandedOf, IsBound}
 use Rattle.group_source.proofs.BareLaws.{bare-dues}
 use Rattle.group_source.proofs.CellLaws.{taken-more}
 use Rattle.group_lock.proofs.AlikeLaws.{alike-cells, refusal-alike, container-alike, sent-alike, sent-next}
 use Rattle.group_lock.proofs.KeepLaws.{there-at}
 
 -- ---- lists of items by which something is the same
-pub same-each : {Y : Type 0} (f g : Numbered → List Y) (items : List Numbered) → ((i : ℕ) (item : Numbered) → slice_get items i ≡ Some item → f item ≡ g item) → flat_map f items ≡ flat_map g items
+pub same-each : {Y : Type 0} (f g : Numbered → List Y) (items : List Numbered) →
+    ((i : ℕ) (item : Numbered) → slice_get items i ≡ Some item → f item ≡ g item) → flat_map f items ≡ flat_map g items
 same-each f g [] each = refl
 same-each f g (item ∷ items) each =
-    ap (λ l. l ++ flat_map f items) (each 0 item refl) ∙ ap (λ l. g item ++ l) (same-each f g items (λ i other there. each (suc i) other there))
+    ap (λ l. l ++ flat_map f items) (each 0 item refl)
+    ∙ ap (λ l. g item ++ l) (same-each f g items (λ i other there. each (suc i) other there))
 
-pub same-filter : (p q : Numbered → Bool) (items : List Numbered) → ((i : ℕ) (item : Numbered) → slice_get items i ≡ Some item → p item ≡ q item) → filter p items ≡ filter q items
+pub same-filter : (p q : Numbered → Bool) (items : List Numbered) →
+    ((i : ℕ) (item : Numbered) → slice_get items i ≡ Some item → p item ≡ q item) → filter p items ≡ filter q items
 same-filter p q [] each = refl
 same-filter p q (item ∷ items) each =
     ap (λ b. if b then item ∷ filter p items else filter p items) (each 0 item refl)
@@ -73,10 +80,13 @@ outs-then a b d s t = record {
       out-then old mid new (s.each m old mid was there) (t.each m mid new there is);
 }
 
-pub ins-then : (ends : List (RingIn BackCell)) (a b : RingIn BackCell) → SameIns ends (a ∷ []) → SameIn a b → SameIns ends (b ∷ [])
+pub ins-then : (ends : List (RingIn BackCell)) (a b : RingIn BackCell) → SameIns ends (a ∷ []) → SameIn a b →
+    SameIns ends (b ∷ [])
 ins-then ends a b s same = record { count = s.count; each = λ m old new was is. by_place m old new was is } where
-  by_place : (m : ℕ) (old new : RingIn BackCell) → slice_get ends m ≡ Some old → slice_get (b ∷ []) m ≡ Some new → SameIn old new
-  by_place zero old new was is = subst (SameIn old) (let e : b ≡ new = cc in e) (in-then old a b (s.each zero old a was refl) same)
+  by_place : (m : ℕ) (old new : RingIn BackCell) → slice_get ends m ≡ Some old → slice_get (b ∷ []) m ≡ Some new →
+      SameIn old new
+  by_place zero old new was is = subst (SameIn old) (let e : b ≡ new = cc in e)
+      (in-then old a b (s.each zero old a was refl) same)
   by_place (suc m) old new was is = absurd cc
 
 -- ---- the last tick
@@ -87,7 +97,8 @@ ticked-is (TxFull line) e = absurd cc
 ticked-is (BackMissing packet) e = absurd cc
 ticked-is Done e = absurd cc
 
-module _ (script : Script) (a b : GroupState) (answer : TickAnswer) (of_script : IsOf script a) (has : HasLandedOf script a) (call : Ticks a b answer) where
+module _ (script : Script) (a b : GroupState) (answer : TickAnswer) (of_script : IsOf script a)
+    (has : HasLandedOf script a) (call : Ticks a b answer) where
   abbrev session : Scenario
   session = scenario_of script
 
@@ -97,27 +108,35 @@ module _ (script : Script) (a b : GroupState) (answer : TickAnswer) (of_script :
       let lag = call.script.lag in
       let u : ℕ = used_in (lag_of a) (ticks_of a) in
       let more : used_in (lag_of a) (ticks_of a) ≤ used_in (lag_of b) (ticks_of b) = omega arith in
-      let n : steps_in (ticks_of a) - script.config.lag ≡ used_in (lag_of a) (ticks_of a) = ap (λ l. steps_in (ticks_of a) - l) (sym of_script.lag) in
-      let first : take u (taken_of a) ≡ taken_of a = take-take u u (told_from (lost_of a) (in_passed a.back)) (omega arith) in
+      let n : steps_in (ticks_of a) - script.config.lag ≡ used_in (lag_of a) (ticks_of a) =
+      ap (λ l. steps_in (ticks_of a) - l) (sym of_script.lag) in
+      let first : take u (taken_of a) ≡ taken_of a =
+      take-take u u (told_from (lost_of a) (in_passed a.back)) (omega arith) in
       let second : take u (taken_of b) ≡ taken_of a =
       take-take u (used_in (lag_of b) (ticks_of b)) (told_from (lost_of b) (in_passed b.back)) more
-      ∙ ap (λ l. take u (told_from l (in_passed b.back))) call.script.lost ∙ ap (λ l. take u (told_from (lost_of a) l)) (sym call.received.1)
+      ∙ ap (λ l. take u (told_from l (in_passed b.back))) call.script.lost
+      ∙ ap (λ l. take u (told_from (lost_of a) l)) (sym call.received.1)
       ∙ taken-more (lost_of a) (lag_of a) (ticks_of a) (in_passed a.back) call.received.0 a.keeps.come.within in
       ap (λ k. take k (taken_of a)) n ∙ first ∙ sym second ∙ sym (ap (λ k. take k (taken_of b)) n)
 
   alike : Alike session (taken_of a) session (taken_of b) (ticks_of a)
   alike = alike-cells session (taken_of a) (taken_of b) (ticks_of a) agree
 
-  refusal-same : (item : Numbered) → item.item.due ≤ ticks_of a → refusal_by script (taken_of a) item ≡ refusal_by script (taken_of b) item
-  refusal-same item low = refusal-alike session (taken_of a) session (taken_of b) (ticks_of a) item.item.due (take item.number script.items) item.item.kind alike low
+  refusal-same : (item : Numbered) → item.item.due ≤ ticks_of a →
+      refusal_by script (taken_of a) item ≡ refusal_by script (taken_of b) item
+  refusal-same item low = refusal-alike session (taken_of a) session (taken_of b) (ticks_of a) item.item.due
+      (take item.number script.items) item.item.kind alike low
 
   landed-same : landed_items script (counts_of b) ≡ landed_items script (counts_of a)
-  landed-same = ap (λ n. landed_from n (commands_of b) 0 script.items) call.landed.frames ∙ ap (λ n. landed_from (frames_of a) n 0 script.items) call.landed.commands
+  landed-same = ap (λ n. landed_from n (commands_of b) 0 script.items) call.landed.frames
+      ∙ ap (λ n. landed_from (frames_of a) n 0 script.items) call.landed.commands
 
   scenario-same : landed_scenario script (counts_of b) ≡ landed_scenario script (counts_of a)
   scenario-same =
-      ap (λ n. with_items session (take (commands_of b) (orders_of script.items)) (take n (offers_of script.items))) call.landed.frames
-      ∙ ap (λ n. with_items session (take n (orders_of script.items)) (take (frames_of a) (offers_of script.items))) call.landed.commands
+      ap (λ n. with_items session (take (commands_of b) (orders_of script.items)) (take n (offers_of script.items)))
+      call.landed.frames
+      ∙ ap (λ n. with_items session (take n (orders_of script.items)) (take (frames_of a) (offers_of script.items)))
+      call.landed.commands
 
   windows : lines_of a ≡ length script.config.windows
   windows = ∥∥₁_elim has.made (hlevel props) (λ made. made.lines)
@@ -129,11 +148,15 @@ module _ (script : Script) (a b : GroupState) (answer : TickAnswer) (of_script :
       let size = length-drop (frames_of a) (offers_of script.items) in
       let frames = call.landed.frames in
       let here : slice_get (frame_dues (dues_of (items_of b))) n ≡ Some (get_or (offers_of script.items) n d).due =
-      ap (λ (l : List Item). slice_get (frame_dues (dues_of l)) n) (call.script.items ∙ of_script.items) ∙ ap (λ l. slice_get (frame_dues l) n) (bare-dues script.items)
-      ∙ ap (λ l. slice_get l n) (frame-dues script.items) ∙ slice_get-map (λ (offer : DueFrame). offer.due) (offers_of script.items) n
-      ∙ ap (option_map (λ (offer : DueFrame). offer.due)) (slice_get-get_or (offers_of script.items) n d (omega arith)) in
+      ap (λ (l : List Item). slice_get (frame_dues (dues_of l)) n) (call.script.items ∙ of_script.items)
+      ∙ ap (λ l. slice_get (frame_dues l) n) (bare-dues script.items)
+      ∙ ap (λ l. slice_get l n) (frame-dues script.items)
+      ∙ slice_get-map (λ (offer : DueFrame). offer.due) (offers_of script.items) n
+      ∙ ap (option_map (λ (offer : DueFrame). offer.due)) (slice_get-get_or (offers_of script.items) n d (omega arith))
+      in
       let late = b.keeps.ahead.of_frames n (get_or (offers_of script.items) n d).due (omega arith) here in
-      subst (λ (offer : DueFrame). ticks_of b ≤ offer.due) (sym (get_or-drop (frames_of a) (offers_of script.items) k d)) late
+      subst (λ (offer : DueFrame). ticks_of b ≤ offer.due)
+      (sym (get_or-drop (frames_of a) (offers_of script.items) k d)) late
 
   orders-late : All (λ (order : DueCommand). ticks_of b ≤ order.due) (drop (commands_of a) (orders_of script.items))
   orders-late k d inside =
@@ -141,16 +164,21 @@ module _ (script : Script) (a b : GroupState) (answer : TickAnswer) (of_script :
       let size = length-drop (commands_of a) (orders_of script.items) in
       let commands = call.landed.commands in
       let here : slice_get (command_dues (dues_of (items_of b))) n ≡ Some (get_or (orders_of script.items) n d).due =
-      ap (λ (l : List Item). slice_get (command_dues (dues_of l)) n) (call.script.items ∙ of_script.items) ∙ ap (λ l. slice_get (command_dues l) n) (bare-dues script.items)
-      ∙ ap (λ l. slice_get l n) (command-dues script.items) ∙ slice_get-map (λ (order : DueCommand). order.due) (orders_of script.items) n
-      ∙ ap (option_map (λ (order : DueCommand). order.due)) (slice_get-get_or (orders_of script.items) n d (omega arith)) in
+      ap (λ (l : List Item). slice_get (command_dues (dues_of l)) n) (call.script.items ∙ of_script.items)
+      ∙ ap (λ l. slice_get (command_dues l) n) (bare-dues script.items)
+      ∙ ap (λ l. slice_get l n) (command-dues script.items)
+      ∙ slice_get-map (λ (order : DueCommand). order.due) (orders_of script.items) n
+      ∙ ap (option_map (λ (order : DueCommand). order.due))
+      (slice_get-get_or (orders_of script.items) n d (omega arith)) in
       let late = b.keeps.ahead.of_commands n (get_or (orders_of script.items) n d).due (omega arith) here in
-      subst (λ (order : DueCommand). ticks_of b ≤ order.due) (sym (get_or-drop (commands_of a) (orders_of script.items) k d)) late
+      subst (λ (order : DueCommand). ticks_of b ≤ order.due)
+      (sym (get_or-drop (commands_of a) (orders_of script.items) k d)) late
 
   comes : ComesAlike (landed_scenario script (counts_of a)) session (ticks_of b)
   comes = first-alike session (commands_of a) (frames_of a) (ticks_of b) orders-late offers-late
 
-  before : (m : ℕ) (old : RingOut Container) → slice_get a.tx.items m ≡ Some old → out_passed old ≡ containers_of session (taken_of b) m (ticks_of a)
+  before : (m : ℕ) (old : RingOut Container) → slice_get a.tx.items m ≡ Some old →
+      out_passed old ≡ containers_of session (taken_of b) m (ticks_of a)
   before m old was =
       let inside = slice_get_within a.tx.items m old was in
       let rings = a.keeps.rings in
@@ -162,8 +190,10 @@ module _ (script : Script) (a b : GroupState) (answer : TickAnswer) (of_script :
       let inside = slice_get_within b.tx.items m new there in
       let count = call.sends.count in
       let (old, was) = there-at a.tx.items m (omega arith) in
-      let ticks : ticks_of b ≡ ticks_of a = call.ticks ∙ ap (λ b_. ticks_of a + (if b_ then 1 else 0)) none ∙ (let e : ticks_of a + 0 ≡ ticks_of a = omega arith in e) in
-      call.rest (λ e. absurd (let f : false ≡ true = sym none ∙ ap is_ticked e in cc)) m old new was there ∙ before m old was
+      let ticks : ticks_of b ≡ ticks_of a = call.ticks ∙ ap (λ b_. ticks_of a + (if b_ then 1 else 0)) none
+      ∙ (let e : ticks_of a + 0 ≡ ticks_of a = omega arith in e) in
+      call.rest (λ e. absurd (let f : false ≡ true = sym none ∙ ap is_ticked e in cc)) m old new was there
+      ∙ before m old was
       ∙ ap (containers_of session (taken_of b) m) (sym ticks)
 
   sent-on : is_ticked answer ≡ true → AreSent session (taken_of b) (ticks_of b) b.tx.items
@@ -174,11 +204,17 @@ module _ (script : Script) (a b : GroupState) (answer : TickAnswer) (of_script :
       let rings = a.keeps.rings in
       let lines = windows in
       let ticks : ticks_of b ≡ ticks_of a + 1 = call.ticks ∙ ap (λ b_. ticks_of a + (if b_ then 1 else 0)) went in
-      let pushed : out_passed new ≡ out_passed old ++ container_of (landed_scenario script (counts_of a)) (taken_of b) m (ticks_of a) ∷ [] =
-      ∥∥₁_elim has.made (hlevel props) (λ made. call.alike (landed_scenario script (counts_of a)) (ticked-is answer went) made m old new was there) in
-      let landed = alike-landed (landed_scenario script (counts_of a)) session (taken_of b) (taken_of b) (ticks_of b) comes refl in
-      let same = container-alike (landed_scenario script (counts_of a)) (taken_of b) session (taken_of b) (ticks_of b) m (ticks_of a) landed (omega arith) (omega arith) in
-      pushed ∙ ap (λ (l : List Container). l ++ container_of (landed_scenario script (counts_of a)) (taken_of b) m (ticks_of a) ∷ []) (before m old was)
+      let pushed : out_passed new ≡ out_passed old ++ container_of (landed_scenario script (counts_of a)) (taken_of b) m
+      (ticks_of a) ∷ [] =
+      ∥∥₁_elim has.made (hlevel props)
+      (λ made. call.alike (landed_scenario script (counts_of a)) (ticked-is answer went) made m old new was there)
+      in
+      let landed = alike-landed (landed_scenario script (counts_of a)) session (taken_of b) (taken_of b)
+      (ticks_of b) comes refl in
+      let same = container-alike (landed_scenario script (counts_of a)) (taken_of b) session (taken_of b) (ticks_of b) m
+      (ticks_of a) landed (omega arith) (omega arith) in
+      pushed ∙ ap (λ (l : List Container). l ++ container_of (landed_scenario script (counts_of a)) (taken_of b) m
+      (ticks_of a) ∷ []) (before m old was)
       ∙ ap (λ (c : Container). containers_of session (taken_of b) m (ticks_of a) ++ c ∷ []) same
       ∙ sym (ap (containers_of session (taken_of b) m) ticks ∙ sent-next session (taken_of b) m (ticks_of a))
 
@@ -189,24 +225,33 @@ module _ (script : Script) (a b : GroupState) (answer : TickAnswer) (of_script :
         entries = subst (AreItemsOf script) (sym call.landed.journal) has.entries;
         most_frames = omega (arith, has.most_frames, call.landed.frames);
         most_commands = omega (arith, has.most_commands, call.landed.commands);
-        past = subst (ArePast (ticks_of b)) (sym landed-same) (λ i item there. let low = has.past i item there in let ticks = call.ticks in omega arith);
+        past = subst (ArePast (ticks_of b)) (sym landed-same)
+            (λ i item there. let low = has.past i item there in let ticks = call.ticks in omega arith);
         refusals = call.landed.refusals ∙ has.refusals
-            ∙ same-each (λ item. refused_by item.number (refusal_by script (taken_of a) item)) (λ item. refused_by item.number (refusal_by script (taken_of b) item)) items
+            ∙ same-each (λ item. refused_by item.number (refusal_by script (taken_of a) item))
+            (λ item. refused_by item.number (refusal_by script (taken_of b) item)) items
             (λ i item there. ap (refused_by item.number) (refusal-same item (has.past i item there)))
             ∙ sym (ap (refusals_by script (taken_of b)) landed-same);
         frames = ap (λ (l : List Numbered). length (offers_of (items_in l))) call.landed.journal ∙ has.frames
-            ∙ ap length (same-filter (λ item. is_client item.item.kind && is_none (refusal_by script (taken_of a) item)) (λ item. is_client item.item.kind && is_none (refusal_by script (taken_of b) item)) items
-            (λ i item there. ap (λ (why : Option Refusal). is_client item.item.kind && is_none why) (refusal-same item (has.past i item there))))
+            ∙ ap length (same-filter (λ item. is_client item.item.kind && is_none (refusal_by script (taken_of a) item))
+            (λ item. is_client item.item.kind && is_none (refusal_by script (taken_of b) item)) items
+            (λ i item there. ap (λ (why : Option Refusal). is_client item.item.kind && is_none why)
+            (refusal-same item (has.past i item there))))
             ∙ sym (ap (λ (l : List Numbered). length (accepted_frames_by script (taken_of b) l)) landed-same);
         commands = ap (λ (l : List Numbered). length (orders_of (items_in l))) call.landed.journal ∙ has.commands
-            ∙ ap length (same-filter (λ item. not (is_client item.item.kind) && is_none (refusal_by script (taken_of a) item)) (λ item. not (is_client item.item.kind) && is_none (refusal_by script (taken_of b) item)) items
-            (λ i item there. ap (λ (why : Option Refusal). not (is_client item.item.kind) && is_none why) (refusal-same item (has.past i item there))))
+            ∙ ap length (same-filter (λ item. not (is_client item.item.kind) && is_none
+            (refusal_by script (taken_of a) item))
+            (λ item. not (is_client item.item.kind) && is_none (refusal_by script (taken_of b) item)) items
+            (λ i item there. ap (λ (why : Option Refusal). not (is_client item.item.kind) && is_none why)
+            (refusal-same item (has.past i item there))))
             ∙ sym (ap (λ (l : List Numbered). length (accepted_commands_by script (taken_of b) l)) landed-same);
         sent = elim (cases_Bool (is_ticked answer)) [ inl e ↦ sent-on e | inr e ↦ sent-still e ];
-        made = ∥∥₁_map has.made (λ made. subst (λ (s : Scenario). HasMade (source_of b) s (taken_of b)) (sym scenario-same) (call.made (landed_scenario script (counts_of a)) made));
+        made = ∥∥₁_map has.made (λ made. subst (λ (s : Scenario). HasMade (source_of b) s (taken_of b))
+            (sym scenario-same) (call.made (landed_scenario script (counts_of a)) made));
       }
 
-pub bound-ticks : (script : Script) (tx : List (RingOut Container)) (back : List (RingIn BackCell)) (a b : GroupState) (answer : TickAnswer) → IsBound script tx back a → Ticks a b answer → IsBound script tx back b
+pub bound-ticks : (script : Script) (tx : List (RingOut Container)) (back : List (RingIn BackCell)) (a b : GroupState)
+    (answer : TickAnswer) → IsBound script tx back a → Ticks a b answer → IsBound script tx back b
 bound-ticks script tx back a b answer is call =
     let frames = call.landed.frames in
     let commands = call.landed.commands in
@@ -219,8 +264,10 @@ bound-ticks script tx back a b answer is call =
       sends = outs-then tx a.tx.items b.tx.items is.sends call.sends;
       returns = ins-then back a.back b.back is.returns call.returns;
       room = record {
-        entries = subst (λ n. length (drop n (offers_of script.items)) + length (drop (commands_of b) (orders_of script.items)) ≤ slots_of b) (sym frames)
-            (subst (λ n. length (drop (frames_of a) (offers_of script.items)) + length (drop n (orders_of script.items)) ≤ slots_of b) (sym commands) (omega arith));
+        entries = subst (λ n. length (drop n (offers_of script.items)) + length
+            (drop (commands_of b) (orders_of script.items)) ≤ slots_of b) (sym frames)
+            (subst (λ n. length (drop (frames_of a) (offers_of script.items)) + length
+            (drop n (orders_of script.items)) ≤ slots_of b) (sym commands) (omega arith));
         octets = subst (λ n. octets_in (drop n (offers_of script.items)) ≤ bytes_of b) (sym frames) (omega arith);
       };
       landed = landed-ticks script a b answer is.of_script is.landed call;

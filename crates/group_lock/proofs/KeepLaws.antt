@@ -128,7 +128,8 @@ keeps-refused at size landed k items frames commands behind refused = record {
   legal = k.legal;
   due = λ i entry there. k.due i entry there ∙ ap (λ (l : List Item). due_at l entry.number) (sym items);
   past = k.past;
-  ahead = ahead-more at.landed.items landed.items at.source.ticks at.landed.frames at.landed.commands landed.frames landed.commands items frames commands k.ahead;
+  ahead = ahead-more at.landed.items landed.items at.source.ticks at.landed.frames at.landed.commands landed.frames
+      landed.commands items frames commands k.ahead;
   behind = subst (λ (l : List Item). AreBehind (dues_of l) at.source.ticks landed.frames landed.commands)
       (sym items) behind;
   refused = subst (λ (l : List Item). AreRefused (scenario_in at)
@@ -168,7 +169,8 @@ pub keeps-accepted : (at : Parts) (size : ℕ) (source : Terminal) (landed : Lan
     AreBehind (dues_of at.landed.items) at.source.ticks landed.frames landed.commands →
     IsPlaced number [] at.landed.refusals landed.refusals →
     Keeps (record at { source = source; landed = landed; journal = journal }) size
-keeps-accepted at size source landed journal number kind k items frames commands entries ticks same make none due behind placed =
+keeps-accepted at size source landed journal number kind k items frames commands entries ticks same make none due behind
+    placed =
     let next : Parts = record at { source = source; landed = landed; journal = journal } in
     let entry : Numbered = entry_of number at.source.ticks kind in
     let one : Scenario = scenario_in at in
@@ -219,7 +221,8 @@ keeps-accepted at size source landed journal number kind k items frames commands
           (push-cases (λ i (e : Numbered). e.item.due ≤ source.ticks) at.journal.entries entry
           (λ i e there. let low = k.past i e there in omega arith) (omega arith));
       ahead = subst (λ n. AreAhead (dues_of landed.items) n landed.frames landed.commands) (sym ticks)
-          (ahead-more at.landed.items landed.items at.source.ticks at.landed.frames at.landed.commands landed.frames landed.commands items frames commands k.ahead);
+          (ahead-more at.landed.items landed.items at.source.ticks at.landed.frames at.landed.commands landed.frames
+          landed.commands items frames commands k.ahead);
       behind = subst (λ n. AreBehind (dues_of landed.items) n landed.frames landed.commands) (sym ticks)
           (subst (λ (l : List Item). AreBehind (dues_of l) at.source.ticks landed.frames landed.commands)
           (sym items) behind);
@@ -418,7 +421,8 @@ module _ (at : Parts) (size : ℕ) (source : Terminal) (inbox : Inbox) (tx : Lis
         room = made.room ∙ k.room ∙ ap (λ n. n + 1) (sym made.same.lag);
         fits = (let fewer = made.fewer in let room = made.room in let fits = k.fits in omega arith);
         come = subst (HasCome inbox (in_passed at.back))
-            (sym (ap (λ n. used_in n source.ticks) made.same.lag ∙ ap (used_in at.source.lag) made.ticks)) made.takes.come;
+            (sym (ap (λ n. used_in n source.ticks) made.same.lag ∙ ap (used_in at.source.lag) made.ticks))
+            made.takes.come;
         made = ∥∥₁_map k.made (λ m. subst (λ (s : Scenario). HasMade source s (told_in_parts next)) (sym scenario)
             (subst (HasMade source one) (sym told) (made.make one (told_in_parts at) m)));
         sent = λ m new there.
@@ -451,7 +455,8 @@ module _ (at : Parts) (size : ℕ) (source : Terminal) (inbox : Inbox) (tx : Lis
             (subst (λ c. AreRefused one c source.ticks at.landed.items at.journal.entries at.landed.refusals) (sym told)
             (subst (λ l. AreRefused one cells source.ticks at.landed.items l at.landed.refusals)
             (append-nil at.journal.entries)
-            (refused-on one (told_in_parts at) one cells at.source.ticks source.ticks at.landed.items at.journal.entries [] at.landed.refusals alike (omega arith) k.refused)));
+            (refused-on one (told_in_parts at) one cells at.source.ticks source.ticks at.landed.items at.journal.entries
+            [] at.landed.refusals alike (omega arith) k.refused)));
       }
 
 -- the count of return cells stays small

@@ -19,19 +19,23 @@ use Rattle.group_lock.specs.Journal.{IsLegal}
 use Rattle.group_lock.specs.Parts.{Parts, parts, scenario_in, told_in_parts, AreRefused, Keeps}
 use Rattle.group_lock.specs.Group.{ticks_of, lag_of, lost_of, source_of, taken_of}
 use Rattle.group_lock.specs.Rings.{SameOuts}
-use Rattle.group_lock.specs.Session.{counts_of, refusals_by, accepted_frames_by, accepted_commands_by, HasLandedOf, IsBound}
+use Rattle.group_lock.specs.Session.{counts_of, refusals_by, accepted_frames_by, accepted_commands_by, HasLandedOf}
+use Rattle.group_lock.specs.Session.{IsBound}
 use Rattle.group_lock.proofs.KeepLaws.{there-at}
 use Rattle.group_lock.proofs.BoundLaws.{outs-then, ins-then}
 
 -- the same ends of send rings, through which nothing has passed since
 pub record AreStill (tx tx' : List (RingOut Container)) : Type 0 where
   pub same : SameOuts tx tx'
-  pub passed : (m : ℕ) (old new : RingOut Container) → slice_get tx m ≡ Some old → slice_get tx' m ≡ Some new → out_passed new ≡ out_passed old
+  pub passed : (m : ℕ) (old new : RingOut Container) → slice_get tx m ≡ Some old → slice_get tx' m ≡ Some new →
+      out_passed new ≡ out_passed old
 
-pub keeps-laid : (at : Parts) (size : ℕ) (tx : List (RingOut Container)) (back : RingIn BackCell) → Keeps at size → AreStill at.tx tx → in_passed back ≡ in_passed at.back →
+pub keeps-laid : (at : Parts) (size : ℕ) (tx : List (RingOut Container)) (back : RingIn BackCell) → Keeps at size →
+    AreStill at.tx tx → in_passed back ≡ in_passed at.back →
     Keeps (record at { tx = tx; back = back }) size
 keeps-laid at size tx back k still popped =
-    let told : told_in_parts (record at { tx = tx; back = back }) ≡ told_in_parts at = ap (told_taken at.inbox.lost at.source.lag at.source.ticks) popped in
+    let told : told_in_parts (record at { tx = tx; back = back }) ≡ told_in_parts at =
+    ap (told_taken at.inbox.lost at.source.lag at.source.ticks) popped in
     record {
       total = k.total;
       ticks = k.ticks;
@@ -46,17 +50,20 @@ keeps-laid at size tx back k still popped =
       sent = λ m out there.
           let inside = slice_get_within tx m out there in
           let (old, was) = there-at at.tx m (omega (arith, inside, still.same.count)) in
-          still.passed m old out was there ∙ k.sent m old was ∙ ap (λ cells. containers_of (scenario_in at) cells m at.source.ticks) (sym told);
+          still.passed m old out was there ∙ k.sent m old was
+          ∙ ap (λ cells. containers_of (scenario_in at) cells m at.source.ticks) (sym told);
       legal = subst (λ cells. IsLegal (scenario_in at) cells at.journal.entries) (sym told) k.legal;
       due = k.due;
       past = k.past;
       ahead = k.ahead;
       behind = k.behind;
-      refused = subst (λ cells. AreRefused (scenario_in at) cells at.source.ticks at.landed.items at.journal.entries at.landed.refusals) (sym told) k.refused;
+      refused = subst (λ cells. AreRefused (scenario_in at) cells at.source.ticks at.landed.items at.journal.entries
+          at.landed.refusals) (sym told) k.refused;
     }
 
 module _ (script : Script) (g : GroupState) (tx : Vec (RingOut Container)) (back : RingIn BackCell)
-    (keeps : Keeps (parts g.source.core g.source.total g.source.landed g.journal g.source.inbox tx.items back) (length g.frame.items)) (still : AreStill g.tx.items tx.items) (same : SameIn g.back back)
+    (keeps : Keeps (parts g.source.core g.source.total g.source.landed g.journal g.source.inbox tx.items back)
+    (length g.frame.items)) (still : AreStill g.tx.items tx.items) (same : SameIn g.back back)
     (popped : in_passed back ≡ in_passed g.back) where
   told : taken_of (record g { tx = tx; back = back; keeps = keeps }) ≡ taken_of g
   told = ap (told_taken (lost_of g) (lag_of g) (ticks_of g)) popped
@@ -68,16 +75,20 @@ module _ (script : Script) (g : GroupState) (tx : Vec (RingOut Container)) (back
     most_frames = has.most_frames;
     most_commands = has.most_commands;
     refusals = has.refusals ∙ ap (λ cells. refusals_by script cells (landed_items script (counts_of g))) (sym told);
-    frames = has.frames ∙ ap (λ cells. length (accepted_frames_by script cells (landed_items script (counts_of g)))) (sym told);
-    commands = has.commands ∙ ap (λ cells. length (accepted_commands_by script cells (landed_items script (counts_of g)))) (sym told);
+    frames = has.frames ∙ ap (λ cells. length (accepted_frames_by script cells (landed_items script (counts_of g))))
+        (sym told);
+    commands = has.commands ∙ ap (λ cells. length
+        (accepted_commands_by script cells (landed_items script (counts_of g)))) (sym told);
     sent = λ m out there.
         let inside = slice_get_within tx.items m out there in
         let (old, was) = there-at g.tx.items m (omega (arith, inside, still.same.count)) in
-        still.passed m old out was there ∙ has.sent m old was ∙ ap (λ cells. containers_of (scenario_of script) cells m (ticks_of g)) (sym told);
+        still.passed m old out was there ∙ has.sent m old was
+        ∙ ap (λ cells. containers_of (scenario_of script) cells m (ticks_of g)) (sym told);
     made = subst (λ cells. ∥ HasMade (source_of g) (landed_scenario script (counts_of g)) cells ∥₁) (sym told) has.made;
   }
 
-  pub bound-laid : (ends : List (RingOut Container)) (ins : List (RingIn BackCell)) → IsBound script ends ins g → IsBound script ends ins (record g { tx = tx; back = back; keeps = keeps })
+  pub bound-laid : (ends : List (RingOut Container)) (ins : List (RingIn BackCell)) → IsBound script ends ins g →
+      IsBound script ends ins (record g { tx = tx; back = back; keeps = keeps })
   bound-laid ends ins is = record {
     of_script = record {
       lines = is.of_script.lines;

@@ -13,19 +13,26 @@ one-counted : (client : Bool) → counted_by client true + counted_by (not clien
 one-counted true = refl
 one-counted false = refl
 
-most-by : (offers orders frames commands frames' commands' one other : ℕ) → one + other ≡ 1 → frames' ≡ frames + one → commands' ≡ commands + other →
-    (offers - frames) + (orders - commands) ≡ (offers - frames') + (orders - commands') + 1 → frames ≤ offers → commands ≤ orders → (frames' ≤ offers) × (commands' ≤ orders)
-most-by offers orders frames commands frames' commands' one other sum more more' less most most' = (omega arith, omega arith)
+most-by : (offers orders frames commands frames' commands' one other : ℕ) → one + other ≡ 1 → frames' ≡ frames + one →
+    commands' ≡ commands + other →
+    (offers - frames) + (orders - commands) ≡ (offers - frames') + (orders - commands') + 1 → frames ≤ offers →
+    commands ≤ orders → (frames' ≤ offers) × (commands' ≤ orders)
+most-by offers orders frames commands frames' commands' one other sum more more' less most most' =
+    (omega arith, omega arith)
 
 -- an item has landed, and one less is left
-pub most-next : (script : Script) (a b : GroupState) (kind : ItemKind) → HasLandedOf script a → HasCounted a b kind true →
+pub most-next : (script : Script) (a b : GroupState) (kind : ItemKind) → HasLandedOf script a →
+    HasCounted a b kind true →
     length (drop (frames_of a) (offers_of script.items)) + length (drop (commands_of a) (orders_of script.items))
-    ≡ length (drop (frames_of b) (offers_of script.items)) + length (drop (commands_of b) (orders_of script.items)) + 1 →
+    ≡ length (drop (frames_of b) (offers_of script.items)) + length (drop (commands_of b) (orders_of script.items)) + 1
+    →
     (frames_of b ≤ length (offers_of script.items)) × (commands_of b ≤ length (orders_of script.items))
 most-next script a b kind has counted less =
     let offers = length-drop (frames_of a) (offers_of script.items) in
     let offers' = length-drop (frames_of b) (offers_of script.items) in
     let orders = length-drop (commands_of a) (orders_of script.items) in
     let orders' = length-drop (commands_of b) (orders_of script.items) in
-    most-by (length (offers_of script.items)) (length (orders_of script.items)) (frames_of a) (commands_of a) (frames_of b) (commands_of b)
-    (counted_by (is_client kind) true) (counted_by (not (is_client kind)) true) (one-counted (is_client kind)) counted.frames counted.commands (omega arith) has.most_frames has.most_commands
+    most-by (length (offers_of script.items)) (length (orders_of script.items)) (frames_of a) (commands_of a)
+    (frames_of b) (commands_of b)
+    (counted_by (is_client kind) true) (counted_by (not (is_client kind)) true)
+    (one-counted (is_client kind)) counted.frames counted.commands (omega arith) has.most_frames has.most_commands

@@ -1,5 +1,6 @@
 -- Looks at the ends of send rings, and pushes into them.
-use Rattle.std.proofs.Common.{◌≡◌, ℕ, zero, suc, ◌<◌, ◌≤◌, Bool, List, [], ◌∷◌, slice_get, slice_set, IsTrue, IsFalse, Some, inl, inr, refl, sym, ◌∙◌, ap, subst, arith}
+use Rattle.std.proofs.Common.{◌≡◌, ℕ, zero, suc, ◌<◌, ◌≤◌, Bool, List, [], ◌∷◌, slice_get, slice_set, IsTrue, IsFalse}
+use Rattle.std.proofs.Common.{Some, inl, inr, refl, sym, ◌∙◌, ap, subst, arith}
 use Rattle.std.proofs.lemmas.Bool.{cases_Bool, cases_eq}
 use Rattle.outside_io.specs.Faults.{one_more}
 use Rattle.vc_cell.specs.declared.Container.{Container}
@@ -8,7 +9,8 @@ use Rattle.member_ring.specs.declared.ends.RingOut.{RingOut}
 use Rattle.member_ring.specs.Ends.{out_passed, out_free, out_misses, SameOut}
 use Rattle.group_lock.specs.Rings.{HasLooked, HaveLooked}
 
-pub set-there : {X : Type 0} (xs : List X) (m : ℕ) (x y : X) → slice_get xs m ≡ Some y → slice_get (slice_set xs m x) m ≡ Some x
+pub set-there : {X : Type 0} (xs : List X) (m : ℕ) (x y : X) → slice_get xs m ≡ Some y →
+    slice_get (slice_set xs m x) m ≡ Some x
 set-there [] m x y e = absurd cc
 set-there (z ∷ xs) zero x y e = refl
 set-there (z ∷ xs) (suc m) x y e = set-there xs m x y e
@@ -16,8 +18,10 @@ set-there (z ∷ xs) (suc m) x y e = set-there xs m x y e
 pub less : (a b : ℕ) → a ≤ b → (b ≡ a → ⊥) → a < b
 less a b low other = omega arith
 
-pub has-looked : (old new : RingOut Container) (found : Bool) → SameOut old new → out_passed new ≡ out_passed old → out_free old ≤ out_free new →
-    (IsFalse found → out_misses new ≡ one_more (out_misses old)) → (IsTrue found → out_misses new ≡ out_misses old) → HasLooked old new
+pub has-looked : (old new : RingOut Container) (found : Bool) → SameOut old new → out_passed new ≡ out_passed old →
+    out_free old ≤ out_free new →
+    (IsFalse found → out_misses new ≡ one_more (out_misses old)) → (IsTrue found → out_misses new ≡ out_misses old) →
+    HasLooked old new
 has-looked old new found same passed free counted quiet = record {
   same = same;
   passed = passed;
@@ -26,7 +30,8 @@ has-looked old new found same passed free counted quiet = record {
 }
 
 -- what holds of each end of two rows, when one that was as it was is changed
-pub each-set : {X Y : Type 0} (R : X → Y → Type 0) (a : List X) (b : List Y) (m : ℕ) (old : X) (new : Y) → slice_get a m ≡ Some old → R old new →
+pub each-set : {X Y : Type 0} (R : X → Y → Type 0) (a : List X) (b : List Y) (m : ℕ) (old : X) (new : Y) →
+    slice_get a m ≡ Some old → R old new →
     ((k : ℕ) (x : X) (y : Y) → slice_get a k ≡ Some x → slice_get b k ≡ Some y → R x y) →
     (k : ℕ) (x : X) (y : Y) → slice_get a k ≡ Some x → slice_get (slice_set b m new) k ≡ Some y → R x y
 each-set R a b m old new was is each k x y here there =
@@ -39,7 +44,8 @@ each-set R a b m old new was is each k x y here there =
       | inr other ↦ each k x y here (sym (set-other b m k new other) ∙ there)
     ]
 
-pub looked-set : (a b : List (RingOut Container)) (m : ℕ) (old new : RingOut Container) → slice_get a m ≡ Some old → HasLooked old new → HaveLooked a b → HaveLooked a (slice_set b m new)
+pub looked-set : (a b : List (RingOut Container)) (m : ℕ) (old new : RingOut Container) → slice_get a m ≡ Some old →
+    HasLooked old new → HaveLooked a b → HaveLooked a (slice_set b m new)
 looked-set a b m old new was is looked = record {
   count = length-slice_set b m new ∙ looked.count;
   each = each-set HasLooked a b m old new was is looked.each;

@@ -54,7 +54,8 @@ use Rattle.group_lock.proofs.BoundLaws.{of-then}
 use Rattle.group_lock.proofs.MostLaws.{most-next}
 use Rattle.group_source.specs.Landed.{next_number, due_at}
 use Rattle.group_source.specs.Lands.{with_kind}
-use Rattle.group_lock.specs.Group.{IsOf, HasCounted, counted_by, parts_of, items_of, ticks_of, frames_of, commands_of, taken_of}
+use Rattle.group_lock.specs.Group.{IsOf, HasCounted, counted_by, parts_of, items_of, ticks_of, frames_of, commands_of}
+use Rattle.group_lock.specs.Group.{taken_of}
 use Rattle.group_lock.specs.Group.{source_of, next_of, refusal_of, is_number, fault_met, fault_in, slots_of, bytes_of}
 use Rattle.group_lock.specs.Group.{journal_of, refusals_of, lag_of, lost_of, entries_by, with_landed, room_for}
 use Rattle.group_lock.specs.Session.{counts_of, IsItemOf, octets_in, HasRoom, HasLandedOf}

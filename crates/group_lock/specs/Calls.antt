@@ -14,9 +14,13 @@ use Rattle.group_lock.specs.Answer.{has_landed, refusal_told}
 use Rattle.group_source.specs.Landed.{due_at}
 use Rattle.group_lock.specs.Rings.{SameOuts, IsFirstFull, HaveLooked}
 use Rattle.group_lock.specs.declared.group.GroupState.{GroupState}
-use Rattle.group_lock.specs.Group.{SameScript, inbox_of, ticks_of, total_of, journal_of, refusals_of, items_of, taken_of, source_of, replay_of, Stands, fault_in, entries_by, HasCounted, LeavesRoom, with_landed, SameRings, SameLanded, is_ticked, held_of, IsFreeToTick, AreMoved, IsMissing, ArePushedOf, NothingPushed}
+use Rattle.group_lock.specs.Group.{SameScript, inbox_of, ticks_of, total_of, journal_of, refusals_of, items_of}
+use Rattle.group_lock.specs.Group.{taken_of, source_of, replay_of, Stands, fault_in, entries_by, HasCounted, LeavesRoom}
+use Rattle.group_lock.specs.Group.{with_landed, SameRings, SameLanded, is_ticked, held_of, IsFreeToTick, AreMoved}
+use Rattle.group_lock.specs.Group.{IsMissing, ArePushedOf, NothingPushed}
 
--- an item was handed in, which isn't accepted for this fault, or is accepted. A fault by which it hasn't landed changes nothing
+-- an item was handed in, which isn't accepted for this fault, or is accepted. A fault by which it hasn't landed changes
+-- nothing
 pub record Submits (a b : GroupState) (number : ℕ) (kind : ItemKind) (answer : Option SubmitFault) : Type 0 where
   pub fault : answer ≡ fault_in a number kind
   pub unchanged : has_landed answer ≡ false → b ≡ a
@@ -24,7 +28,8 @@ pub record Submits (a b : GroupState) (number : ℕ) (kind : ItemKind) (answer :
   pub landed : HasCounted a b kind (has_landed answer)
   pub journal : journal_of b ≡ journal_of a ++ entries_by answer number (ticks_of a) kind
   pub room : LeavesRoom a b kind answer
-  pub refusals : has_landed answer ≡ true → IsPlaced number (refused_by number (refusal_told answer)) (refusals_of a) (refusals_of b)
+  pub refusals : has_landed answer ≡ true →
+      IsPlaced number (refused_by number (refusal_told answer)) (refusals_of a) (refusals_of b)
   pub script : SameScript a b
   pub rings : SameRings a b
   pub made : (scenario : Scenario) (cells : List (Option Told)) → HasMade (source_of a) scenario cells →
@@ -48,8 +53,10 @@ pub record Ticks (a b : GroupState) (answer : TickAnswer) : Type 0 where
   pub returns : SameIn a.back b.back
   pub received : IsPrefix (in_passed a.back) (in_passed b.back)
   pub moved : AreMoved a b
-  pub made : (scenario : Scenario) → HasMade (source_of a) scenario (taken_of a) → HasMade (source_of b) scenario (taken_of b)
-  pub alike : (scenario : Scenario) → answer ≡ Ticked → HasMade (source_of a) scenario (taken_of a) → ArePushedOf scenario a b
+  pub made : (scenario : Scenario) → HasMade (source_of a) scenario (taken_of a) →
+      HasMade (source_of b) scenario (taken_of b)
+  pub alike : (scenario : Scenario) → answer ≡ Ticked → HasMade (source_of a) scenario (taken_of a) →
+      ArePushedOf scenario a b
   pub stands : Stands b
 
 -- ---- the parts of a tick
@@ -80,6 +87,7 @@ pub record Makes (a b : GroupState) : Type 0 where
   pub ticks : ticks_of b ≡ ticks_of a + 1
   pub sends : SameOuts a.tx.items b.tx.items
   pub back : b.back ≡ a.back
-  pub made : (scenario : Scenario) → HasMade (source_of a) scenario (taken_of a) → HasMade (source_of b) scenario (taken_of b)
+  pub made : (scenario : Scenario) → HasMade (source_of a) scenario (taken_of a) →
+      HasMade (source_of b) scenario (taken_of b)
   pub pushed : (scenario : Scenario) → HasMade (source_of a) scenario (taken_of a) → ArePushedOf scenario a b
   pub own : ArePushedOf (replay_of a) a b

@@ -5,7 +5,8 @@ use Rattle.session_model.specs.declared.script.ItemKind.TheVariants.{Frame, Add,
 use Rattle.session_model.specs.Scenario.{offers_of}
 use Rattle.walk_law.specs.Landed.{Numbered}
 use Rattle.group_lock.specs.declared.journal.Entered.{Entered}
-use Rattle.group_lock.specs.declared.journal.Entered.TheVariants.{Frame as frame_entered, Add as add_entered, Remove as remove_entered}
+use Rattle.group_lock.specs.declared.journal.Entered.TheVariants.{Frame as frame_entered, Add as add_entered}
+use Rattle.group_lock.specs.declared.journal.Entered.TheVariants.{Remove as remove_entered}
 use Rattle.group_lock.specs.declared.journal.Entry.{Entry}
 use Rattle.group_lock.specs.Journal.{entry_of, items_in}
 
@@ -27,8 +28,10 @@ IsThere size (frame_entered from end_) = (from ≤ end_) × (end_ ≤ size)
 IsThere size (add_entered line) = Unit {0}
 IsThere size (remove_entered line) = Unit {0}
 
--- of a journal: its octets and entries; how many more of both there is room for; the room; how many of the entries are frames
-pub record AreEntries (octets : List ℕ) (entries : List Entry) (slots bytes entry_room octet_room frame_count : ℕ) : Type 0 where
+-- of a journal: its octets and entries; how many more of both there is room for; the room; how many of the entries are
+-- frames
+pub record AreEntries (octets : List ℕ) (entries : List Entry) (slots bytes entry_room octet_room frame_count : ℕ) :
+    Type 0 where
   pub there : All (λ (entry : Entry). IsThere (length octets) entry.what) entries
   pub room : length entries + slots ≤ entry_room
   pub space : length octets + bytes ≤ octet_room

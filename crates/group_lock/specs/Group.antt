@@ -1,5 +1,6 @@
 -- What contracts say of a group.
-use Rattle.std.specs.Prelude.{◌≡◌, ◌⊎◌, ℕ, ◌+◌, ◌<◌, ◌==◌, not, nat_lt, Bool, true, false, if◌then◌else◌, List, [], ◌∷◌, ◌++◌, length, slice_get, Option, Some, None}
+use Rattle.std.specs.Prelude.{◌≡◌, ◌⊎◌, ℕ, ◌+◌, ◌<◌, ◌==◌, not, nat_lt, Bool, true, false, if◌then◌else◌, List, [], ◌∷◌}
+use Rattle.std.specs.Prelude.{◌++◌, length, slice_get, Option, Some, None}
 use Rattle.outside_io.specs.Faults.{one_more}
 use Rattle.vc_cell.specs.declared.Container.{Container}
 use Rattle.vc_cell.specs.declared.BackCell.{BackCell}
@@ -133,8 +134,10 @@ totals_of g = record {
 abbrev pub replay_of : GroupState → Scenario
 replay_of g = scenario_in (parts_of g)
 
--- the journal is legal, and the source stands where it leads; each send ring has passed the containers of the frames made; and each entry
--- landed when it was due. Each item that was refused is one that the source refuses when it is due; nothing that is overdue is left, and
+-- the journal is legal, and the source stands where it leads; each send ring has passed the containers of the frames
+-- made; and each entry
+-- landed when it was due. Each item that was refused is one that the source refuses when it is due; nothing that is
+-- overdue is left, and
 -- nothing has landed before it was due
 pub record Stands (g : GroupState) : Type 0 where
   pub legal : IsLegal (replay_of g) (taken_of g) (journal_of g)
@@ -158,7 +161,8 @@ next_of g kind = next_number (parts_of g).landed (is_client kind)
 abbrev pub refusal_of : GroupState → ItemKind → Option Refusal
 refusal_of g kind = kind_refusal (replay_of g) (taken_of g) (ticks_of g) (items_in (journal_of g)) kind
 
--- why it isn't accepted though it is due: the source refuses it, or else the journal has no room for it, with so many entries and octets left
+-- why it isn't accepted though it is due: the source refuses it, or else the journal has no room for it, with so many
+-- entries and octets left
 abbrev pub fault_met : Option Refusal → Bool → ℕ → ℕ → Option SubmitFault
 fault_met (Some why) fits slots bytes = Some (fault_of why)
 fault_met None fits slots bytes = if fits then None else Some (JournalFull slots bytes)
@@ -231,11 +235,13 @@ pub record IsFreeToTick (g : GroupState) : Type 0 where
   pub left : ticks_of g < total_of g
   pub held : held_of g ≡ None
 
--- return cells were moved until a look missed, or until the inbox was full: as many have come as the ticks made have taken and it has room for
+-- return cells were moved until a look missed, or until the inbox was full: as many have come as the ticks made have
+-- taken and it has room for
 abbrev pub AreMoved : GroupState → GroupState → Type 0
 AreMoved a b = IsDrained a.back b.back ⊎ (length (in_passed b.back) ≡ used_in (lag_of a) (ticks_of a) + (lag_of a + 1))
 
--- a slot of each send ring is free; the next tick needs this return cell; it isn't in the inbox, and a look at the return ring missed
+-- a slot of each send ring is free; the next tick needs this return cell; it isn't in the inbox, and a look at the
+-- return ring missed
 pub record IsMissing (packet : ℕ) (a b : GroupState) : Type 0 where
   pub room : AreFree b.tx.items
   pub needs : needed (source_of a) ≡ Some packet
@@ -244,10 +250,12 @@ pub record IsMissing (packet : ℕ) (a b : GroupState) : Type 0 where
 
 -- each line was pushed its container of the next frame of a session
 abbrev pub ArePushedOf : Scenario → GroupState → GroupState → Type 0
-ArePushedOf scenario a b = (m : ℕ) (old new : RingOut Container) → slice_get a.tx.items m ≡ Some old → slice_get b.tx.items m ≡ Some new →
+ArePushedOf scenario a b = (m : ℕ) (old new : RingOut Container) → slice_get a.tx.items m ≡ Some old →
+    slice_get b.tx.items m ≡ Some new →
     out_passed new ≡ out_passed old ++ container_of scenario (taken_of b) m (ticks_of a) ∷ []
 
 -- no line was
 abbrev pub NothingPushed : GroupState → GroupState → Type 0
-NothingPushed a b = (m : ℕ) (old new : RingOut Container) → slice_get a.tx.items m ≡ Some old → slice_get b.tx.items m ≡ Some new →
+NothingPushed a b = (m : ℕ) (old new : RingOut Container) → slice_get a.tx.items m ≡ Some old →
+    slice_get b.tx.items m ≡ Some new →
     out_passed new ≡ out_passed old

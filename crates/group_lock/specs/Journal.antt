@@ -1,5 +1,6 @@
 -- The journal of what a group has accepted, and the session of that alone.
-use Rattle.std.specs.Prelude.{◌≡◌, ℕ, ◌&&◌, nat_lt, nat_le, Bool, List, [], map, take, replicate, slice_get, Option, Some, None}
+use Rattle.std.specs.Prelude.{◌≡◌, ℕ, ◌&&◌, nat_lt, nat_le, Bool, List, [], map, take, replicate, slice_get, Option}
+use Rattle.std.specs.Prelude.{Some, None}
 use Rattle.session_model.specs.declared.script.Item.{Item}
 use Rattle.session_model.specs.declared.script.ItemKind.{ItemKind}
 use Rattle.session_model.specs.Scenario.{Scenario, offers_of, orders_of}
@@ -11,7 +12,8 @@ use Rattle.group_source.specs.Item.{size_of}
 abbrev pub entry_of : ℕ → ℕ → ItemKind → Numbered
 entry_of number ticks kind = record { number = number; item = record { due = ticks; kind = kind } }
 
--- the accepted items in the order in which they landed; how many more entries there is room for, and how many octets of frames
+-- the accepted items in the order in which they landed; how many more entries there is room for, and how many octets of
+-- frames
 pub record Journal : Type 0 where
   pub entries : List Numbered
   pub slots : ℕ
@@ -25,7 +27,8 @@ abbrev pub fits : Journal → ItemKind → Bool
 fits journal kind = nat_lt 0 journal.slots && nat_le (size_of kind) journal.bytes
 
 -- ---- the session of a journal
--- how many lines there are; the lag in packets; how many ticks there are; the payload octets of a container; the return windows
+-- how many lines there are; the lag in packets; how many ticks there are; the payload octets of a container; the return
+-- windows
 pub record Setting : Type 0 where
   pub lines : ℕ
   pub lag : ℕ
@@ -33,7 +36,8 @@ pub record Setting : Type 0 where
   pub size : ℕ
   pub lost : List (ℕ × ℕ)
 
--- what was accepted is all that lands, each after the ticks of its entry. No line fails: what a source makes doesn't depend on failures
+-- what was accepted is all that lands, each after the ticks of its entry. No line fails: what a source makes doesn't
+-- depend on failures
 abbrev pub journal_scenario : Setting → List Numbered → Scenario
 journal_scenario setting entries = record {
   lag = setting.lag;

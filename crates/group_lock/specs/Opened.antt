@@ -6,7 +6,8 @@ use Rattle.source_core.specs.Given.{IsFresh, Stands as HasMade}
 use Rattle.group_lock.specs.declared.opening.Opened.{Opened}
 use Rattle.group_lock.specs.declared.group.GroupState.{GroupState}
 use Rattle.group_source.specs.Source.{IsUnused}
-use Rattle.group_lock.specs.Group.{IsOf, lines_of, lag_of, size_of, ticks_of, frames_of, commands_of, journal_of, refusals_of, inbox_of, source_of}
+use Rattle.group_lock.specs.Group.{IsOf, lines_of, lag_of, size_of, ticks_of, frames_of, commands_of, journal_of}
+use Rattle.group_lock.specs.Group.{refusals_of, inbox_of, source_of}
 
 -- the source of the script, an empty journal, and a box for each line
 pub record IsOpened (script : Script) (opened : Opened) : Type 0 where
@@ -22,4 +23,5 @@ pub record IsBegun (of_script : Script) (g : GroupState) : Type 0 where
   pub journal : journal_of g ≡ []
   pub refusals : refusals_of g ≡ []
   pub inbox : inbox_of g ≡ []
-  pub made : (scenario : Scenario) → IsFresh scenario (lines_of g) (lag_of g) (size_of g) → HasMade (source_of g) scenario []
+  pub made : (scenario : Scenario) → IsFresh scenario (lines_of g) (lag_of g) (size_of g) →
+      HasMade (source_of g) scenario []

@@ -53,18 +53,22 @@ told_in_parts at = told_taken at.inbox.lost at.source.lag at.source.ticks (in_pa
 -- each line was sent its containers of the first frames of a session, and no more
 abbrev pub AreSent : Scenario → List (Option Told) → ℕ → List (RingOut Container) → Type 0
 AreSent scenario cells ticks ends =
-    (m : ℕ) (out : RingOut Container) → slice_get ends m ≡ Some out → out_passed out ≡ containers_of scenario cells m ticks
+    (m : ℕ) (out : RingOut Container) → slice_get ends m ≡ Some out →
+    out_passed out ≡ containers_of scenario cells m ticks
 
 -- each entry landed after as many ticks as its item is due
 abbrev pub AreDue : List Item → List Numbered → Type 0
-AreDue items entries = (i : ℕ) (entry : Numbered) → slice_get entries i ≡ Some entry → entry.item.due ≡ due_at items entry.number
+AreDue items entries = (i : ℕ) (entry : Numbered) → slice_get entries i ≡ Some entry →
+    entry.item.due ≡ due_at items entry.number
 
 -- each entry landed after no more ticks than these
 abbrev pub ArePast : ℕ → List Numbered → Type 0
 ArePast ticks entries = (i : ℕ) (entry : Numbered) → slice_get entries i ≡ Some entry → entry.item.due ≤ ticks
 
--- the source refuses an item for this cause when it is due, after so many of these entries: what was handed in is of the item's kind
-pub record IsRefused (scenario : Scenario) (cells : List (Option Told)) (items : List Item) (entries : List Numbered) (number : ℕ) (why : Refusal) : Type 0 where
+-- the source refuses an item for this cause when it is due, after so many of these entries: what was handed in is of
+-- the item's kind
+pub record IsRefused (scenario : Scenario) (cells : List (Option Told)) (items : List Item) (entries : List Numbered)
+    (number : ℕ) (why : Refusal) : Type 0 where
   pub handed : ItemKind
   pub kind : (item : Item) → slice_get items number ≡ Some item → is_client handed ≡ is_client item.kind
   pub before : ℕ
@@ -74,9 +78,11 @@ pub record IsRefused (scenario : Scenario) (cells : List (Option Told)) (items :
 -- each item that was refused was due after no more ticks than these, and the source refuses it
 abbrev pub AreRefused : Scenario → List (Option Told) → ℕ → List Item → List Numbered → List (ℕ × Refusal) → Type 0
 AreRefused scenario cells ticks items entries refusals =
-    All (λ (refused : ℕ × Refusal). (due_at items refused.0 ≤ ticks) × ∥ IsRefused scenario cells items entries refused.0 refused.1 ∥₁) refusals
+    All (λ (refused : ℕ × Refusal). (due_at items refused.0 ≤ ticks) ×
+    ∥ IsRefused scenario cells items entries refused.0 refused.1 ∥₁) refusals
 
--- the source was given the journal, and its containers were sent; the inbox holds the rest of the return cells. There is a place for a
+-- the source was given the journal, and its containers were sent; the inbox holds the rest of the return cells. There
+-- is a place for a
 -- container of each line
 pub record Keeps (at : Parts) (size : ℕ) : Type 0 where
   pub total : at.total ≤ 1000000
@@ -95,4 +101,5 @@ pub record Keeps (at : Parts) (size : ℕ) : Type 0 where
   pub past : ArePast at.source.ticks at.journal.entries
   pub ahead : AreAhead (dues_of at.landed.items) at.source.ticks at.landed.frames at.landed.commands
   pub behind : AreBehind (dues_of at.landed.items) at.source.ticks at.landed.frames at.landed.commands
-  pub refused : AreRefused (scenario_in at) (told_in_parts at) at.source.ticks at.landed.items at.journal.entries at.landed.refusals
+  pub refused : AreRefused (scenario_in at) (told_in_parts at) at.source.ticks at.landed.items at.journal.entries
+      at.landed.refusals

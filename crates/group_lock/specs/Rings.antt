@@ -36,7 +36,8 @@ pub record HasLooked (old new : RingOut Container) : Type 0 where
 
 pub record HaveLooked (a b : List (RingOut Container)) : Type 0 where
   pub count : length b ≡ length a
-  pub each : (m : ℕ) (old new : RingOut Container) → slice_get a m ≡ Some old → slice_get b m ≡ Some new → HasLooked old new
+  pub each : (m : ℕ) (old new : RingOut Container) → slice_get a m ≡ Some old → slice_get b m ≡ Some new →
+      HasLooked old new
 
 -- the first line of which no slot was known to be free, and a look at its ring missed
 pub record IsFirstFull (a b : List (RingOut Container)) (line : ℕ) : Type 0 where

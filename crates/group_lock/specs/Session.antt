@@ -1,5 +1,6 @@
 -- A group of a script over its rings: what is known of it whenever the lock is free.
-use Rattle.std.specs.Prelude.{◌≡◌, ℕ, ◌+◌, ◌≤◌, List, [], ◌∷◌, drop, length, slice_get, take, sum_by, Option, Some, filter, not, ◌&&◌, is_none}
+use Rattle.std.specs.Prelude.{◌≡◌, ℕ, ◌+◌, ◌≤◌, List, [], ◌∷◌, drop, length, slice_get, take, sum_by, Option, Some}
+use Rattle.std.specs.Prelude.{filter, not, ◌&&◌, is_none}
 use Rattle.std.specs.List.{flat_map}
 use Rattle.vc_cell.specs.declared.Container.{Container}
 use Rattle.vc_cell.specs.declared.BackCell.{BackCell}
@@ -18,7 +19,8 @@ use Rattle.group_lock.specs.Journal.{items_in}
 use Rattle.group_lock.specs.Rings.{SameOuts, SameIns}
 use Rattle.group_lock.specs.Parts.{AreSent, ArePast}
 use Rattle.group_lock.specs.declared.group.GroupState.{GroupState}
-use Rattle.group_lock.specs.Group.{IsOf, ticks_of, frames_of, commands_of, journal_of, slots_of, bytes_of, refusals_of, taken_of, source_of}
+use Rattle.group_lock.specs.Group.{IsOf, ticks_of, frames_of, commands_of, journal_of, slots_of, bytes_of, refusals_of}
+use Rattle.group_lock.specs.Group.{taken_of, source_of}
 
 -- how many ticks were made and items have landed
 abbrev pub counts_of : GroupState → Counts
@@ -43,10 +45,12 @@ refusals_by script cells items = flat_map (λ item. refused_by item.number (refu
 
 -- those that are accepted
 abbrev pub accepted_frames_by : Script → List (Option Told) → List Numbered → List Numbered
-accepted_frames_by script cells items = filter (λ item. is_client item.item.kind && is_none (refusal_by script cells item)) items
+accepted_frames_by script cells items =
+    filter (λ item. is_client item.item.kind && is_none (refusal_by script cells item)) items
 
 abbrev pub accepted_commands_by : Script → List (Option Told) → List Numbered → List Numbered
-accepted_commands_by script cells items = filter (λ item. not (is_client item.item.kind) && is_none (refusal_by script cells item)) items
+accepted_commands_by script cells items =
+    filter (λ item. not (is_client item.item.kind) && is_none (refusal_by script cells item)) items
 
 -- how many octets some frames have
 abbrev pub octets_in : List DueFrame → ℕ
@@ -59,28 +63,35 @@ IsItemOf script number kind = (item : Item) → slice_get script.items number �
 
 -- each entry is the item of its number
 abbrev pub AreItemsOf : Script → List Numbered → Type 0
-AreItemsOf script entries = (i : ℕ) (entry : Numbered) → slice_get entries i ≡ Some entry → slice_get script.items entry.number ≡ Some entry.item
+AreItemsOf script entries = (i : ℕ) (entry : Numbered) → slice_get entries i ≡ Some entry →
+    slice_get script.items entry.number ≡ Some entry.item
 
 -- there is room in the journal for all items that haven't landed
 pub record HasRoom (script : Script) (g : GroupState) : Type 0 where
-  pub entries : length (drop (frames_of g) (offers_of script.items)) + length (drop (commands_of g) (orders_of script.items)) ≤ slots_of g
+  pub entries : length (drop (frames_of g) (offers_of script.items)) + length
+      (drop (commands_of g) (orders_of script.items)) ≤ slots_of g
   pub octets : octets_in (drop (frames_of g) (offers_of script.items)) ≤ bytes_of g
 
--- what has come of the script so far: no more has landed than there is; the entries and the refusals are those of its items that have landed,
--- by the return cells that decision steps have taken; and each send ring has passed the script's containers of the frames made
+-- what has come of the script so far: no more has landed than there is; the entries and the refusals are those of its
+-- items that have landed,
+-- by the return cells that decision steps have taken; and each send ring has passed the script's containers of the
+-- frames made
 pub record HasLandedOf (script : Script) (g : GroupState) : Type 0 where
   pub entries : AreItemsOf script (journal_of g)
   pub past : ArePast (ticks_of g) (landed_items script (counts_of g))
   pub most_frames : frames_of g ≤ length (offers_of script.items)
   pub most_commands : commands_of g ≤ length (orders_of script.items)
   pub refusals : refusals_of g ≡ refusals_by script (taken_of g) (landed_items script (counts_of g))
-  pub frames : length (offers_of (items_in (journal_of g))) ≡ length (accepted_frames_by script (taken_of g) (landed_items script (counts_of g)))
-  pub commands : length (orders_of (items_in (journal_of g))) ≡ length (accepted_commands_by script (taken_of g) (landed_items script (counts_of g)))
+  pub frames : length (offers_of (items_in (journal_of g))) ≡ length
+      (accepted_frames_by script (taken_of g) (landed_items script (counts_of g)))
+  pub commands : length (orders_of (items_in (journal_of g))) ≡ length
+      (accepted_commands_by script (taken_of g) (landed_items script (counts_of g)))
   pub sent : AreSent (scenario_of script) (taken_of g) (ticks_of g) g.tx.items
   pub made : ∥ HasMade (source_of g) (landed_scenario script (counts_of g)) (taken_of g) ∥₁
 
 -- a group is bound to a script and to the ends of its rings as they were made
-pub record IsBound (script : Script) (tx : List (RingOut Container)) (back : List (RingIn BackCell)) (g : GroupState) : Type 0 where
+pub record IsBound (script : Script) (tx : List (RingOut Container)) (back : List (RingIn BackCell))
+    (g : GroupState) : Type 0 where
   pub of_script : IsOf script g
   pub sends : SameOuts tx g.tx.items
   pub returns : SameIns back (g.back ∷ [])

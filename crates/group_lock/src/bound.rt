@@ -8,8 +8,8 @@ use crate::group::GroupState;
 use group_source::ItemRef;
 use std::marker::{Brand, PhantomData};
 
-/// Which session it is: its script, and the ends of the rings of its group as they were made. Each call of the function that makes the
-/// lock picks them.
+/// Which session it is: its script, and the ends of the rings of its group as they were made. Each call of
+/// the function that makes the lock picks them.
 pub trait Session: Send + Sync {
     ghost use Rattle.std.specs.Prelude.{List};
     ghost use Rattle.vc_cell.specs.declared.Container.{Container};
@@ -66,7 +66,8 @@ impl<Y: Session> BoundGroup<Y> {
         }
     }
 
-    /// Lands an item, which is the one of this number in the session's script, as `GroupState::submit` does. The journal has room for it.
+    /// Lands an item, which is the one of this number in the session's script, as `GroupState::submit` does.
+    /// The journal has room for it.
     pub fn submit(&mut self, number: u32, item: ItemRef) -> Result<(), SubmitFault>
         requires { IsItemOf Y.script number (kind_of item) }
         ensures submits { Submits self.old.state self.new.state number (kind_of item.entry)

@@ -1,6 +1,7 @@
 //! A group: its source, the ends of its rings, what has landed, and the journal of what was accepted.
 
-ghost use Rattle.std.specs.Prelude.{◌≡◌, ◌↔◌, ◌+◌, ◌<◌, if◌then◌else◌, List, Option, None, length, drop, slice_get, IsSome, IfOk};
+ghost use Rattle.std.specs.Prelude.{◌≡◌, ◌↔◌, ◌+◌, ◌<◌, if◌then◌else◌, List, Option, None, length, drop, slice_get};
+ghost use Rattle.std.specs.Prelude.{IsSome, IfOk};
 ghost use Rattle.session_model.specs.Scenario.{Scenario};
 ghost use Rattle.source_core.specs.Given.{Stands as HasMade};
 ghost use Rattle.group_source.specs.Item.{kind_of};
@@ -18,8 +19,9 @@ use session_model::Script;
 use std::alloc::{AllocError, Global};
 use vc_cell::{BackCell, Container, HeldContainer};
 
-/// A group. It takes the client's frames and the operator's commands in the order of its script, each kind by itself, and makes a frame
-/// at each tick; what is due at a tick lands before it. Only its making takes memory.
+/// A group. It takes the client's frames and the operator's commands in the order of its script, each kind by
+/// itself, and makes a frame at each tick; what is due at a tick lands before it. Only its making takes
+/// memory.
 #[derive(Drop)]
 pub struct GroupState {
     source: GroupSource,
@@ -34,7 +36,8 @@ pub struct GroupState {
 }
 
 impl GroupState {
-    ghost use Rattle.std.specs.Prelude.{◌≡◌, ◌≢◌, ◌<◌, ◌≤◌, ◌||◌, true, [], length, Some, None, IsSome, IfOk, MatchOption};
+    ghost use Rattle.std.specs.Prelude.{◌≡◌, ◌≢◌, ◌<◌, ◌≤◌, ◌||◌, true, [], length, Some, None, IsSome, IfOk};
+    ghost use Rattle.std.specs.Prelude.{MatchOption};
     ghost use Rattle.std.specs.Option.{is_some};
     ghost use Rattle.session_model.specs.Valid.{IsValid};
     ghost use Rattle.session_model.specs.Accepted.{refusal_in};
@@ -43,12 +46,14 @@ impl GroupState {
     ghost use Rattle.group_lock.specs.Journal.{fits};
     ghost use Rattle.group_source.specs.Landed.{due_at};
     ghost use Rattle.group_lock.specs.Rings.{AreUnused, AreFree, IsFirstFull};
-    ghost use Rattle.group_lock.specs.Group.{parts_of, side_of, lines_of, lag_of, size_of, IsOf, ticks_of, total_of, items_of, frames_of, commands_of, journal_of, slots_of, bytes_of, refusals_of, inbox_of, source_of, totals_of, next_of, refusal_of, held_of};
+    ghost use Rattle.group_lock.specs.Group.{parts_of, side_of, lines_of, lag_of, size_of, IsOf, ticks_of, total_of};
+    ghost use Rattle.group_lock.specs.Group.{items_of, frames_of, commands_of, journal_of, slots_of, bytes_of};
+    ghost use Rattle.group_lock.specs.Group.{refusals_of, inbox_of, source_of, totals_of, next_of, refusal_of, held_of};
     ghost use Rattle.group_lock.specs.Opened.{IsOpened, IsBegun};
     ghost use Rattle.group_lock.specs.Calls.{Submits, Ticks, Comes, Looks, Makes};
 
-    /// A group of a script, over a fresh send ring for each line and a fresh return ring, with room for so many entries of the journal
-    /// and so many octets of frames.
+    /// A group of a script, over a fresh send ring for each line and a fresh return ring, with room for so
+    /// many entries of the journal and so many octets of frames.
     pub fn new(
         alloc: Global,
         script: &Script,
@@ -98,9 +103,9 @@ impl GroupState {
         self.source.landing().refusals()
     }
 
-    /// Lands an item, of this number in the script. Of each kind, the client's frames and the operator's commands, the next one lands, once
-    /// it is due. One that the source refuses has landed, and its refusal is kept; the journal needs room only for one that the source
-    /// takes. Each other fault changes nothing.
+    /// Lands an item, of this number in the script. Of each kind, the client's frames and the operator's
+    /// commands, the next one lands, once it is due. One that the source refuses has landed, and its refusal
+    /// is kept; the journal needs room only for one that the source takes. Each other fault changes nothing.
     pub fn submit(&mut self, number: u32, item: ItemRef) -> Result<(), SubmitFault>
         ensures { Submits self.old self.new number (kind_of item.entry) (refusal_in result) }
     {
@@ -120,9 +125,10 @@ impl GroupState {
         self.land(number, item)
     }
 
-    /// Moves return cells into the inbox, until a look finds none or the inbox is full. Then it makes the next frame, a container for each
-    /// line, where ticks are left, no item that is due waits, each send ring has a slot, and the return cell is there that the tick needs,
-    /// if it needs one. The first of these that fails is told, and then nothing is made.
+    /// Moves return cells into the inbox, until a look finds none or the inbox is full. Then it makes the
+    /// next frame, a container for each line, where ticks are left, no item that is due waits, each send ring
+    /// has a slot, and the return cell is there that the tick needs, if it needs one. The first of these that
+    /// fails is told, and then nothing is made.
     pub fn tick(&mut self) -> TickAnswer
         ensures { Ticks self.old self.new result }
     {

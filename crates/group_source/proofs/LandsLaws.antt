@@ -185,7 +185,8 @@ met-frame core script s cells number octets made alike earlier =
   where
     kind_met : List DueFrame → Option Refusal
     kind_met offers =
-        option_map frame_refused (frame_refusal octets (fold offered (stream_before (scenario_of script) cells core.ticks)
+        option_map frame_refused (frame_refusal octets
+        (fold offered (stream_before (scenario_of script) cells core.ticks)
         (map (λ (offer : DueFrame). offer.frame) (filter (comes_at core.ticks) offers))))
 
 met-command : (core : Terminal) (script : Script) (s : Counts) (cells : List (Option Told)) (number : ℕ)

@@ -1,5 +1,6 @@
 -- The return cells that come to the source of a group.
-use Rattle.std.specs.Prelude.{◌≡◌, ℕ, suc, ◌+◌, ◌≤◌, Bool, true, false, List, [], ◌∷◌, ◌++◌, ◌&&◌, nat_le, nat_lt, map, drop, take, length, slice_get, if◌then◌else◌, Option, None}
+use Rattle.std.specs.Prelude.{◌≡◌, ℕ, suc, ◌+◌, ◌≤◌, Bool, true, false, List, [], ◌∷◌, ◌++◌, ◌&&◌, nat_le, nat_lt, map}
+use Rattle.std.specs.Prelude.{drop, take, length, slice_get, if◌then◌else◌, Option, None}
 use Rattle.std.specs.List.{list_any}
 use Rattle.std.specs.Option.{is_some}
 use Rattle.vc_cell.specs.declared.BackCell.{BackCell}
@@ -10,7 +11,8 @@ use Rattle.session_model.specs.Counts.{used_in}
 use Rattle.source_core.specs.Terminal.{needed_at}
 use Rattle.source_core.specs.Given.{with_cell}
 
--- the return windows; the return cells that no decision step has taken, oldest first, and how many there is room for; how many have come
+-- the return windows; the return cells that no decision step has taken, oldest first, and how many there is room for;
+-- how many have come
 pub record Inbox : Type 0 where
   pub lost : List (ℕ × ℕ)
   pub cells : List BackCell
@@ -44,7 +46,8 @@ told_taken lost lag ticks cells = take (used_in lag ticks) (told_from lost cells
 
 -- one more has come
 abbrev pub with_come : Inbox → BackCell → Inbox
-with_come inbox cell = record inbox { cells = inbox.cells ++ come_by (is_lost_in inbox.lost inbox.come) cell ∷ []; come = inbox.come + 1 }
+with_come inbox cell = record inbox
+    { cells = inbox.cells ++ come_by (is_lost_in inbox.lost inbox.come) cell ∷ []; come = inbox.come + 1 }
 
 -- what a tick takes: the first cell of the inbox, where one is needed; and what it leaves
 abbrev pub cell_for : Bool → List BackCell → Option BackCell

@@ -4,7 +4,8 @@ use Rattle.session_model.specs.declared.script.Item.{Item}
 use Rattle.session_model.specs.declared.script.ItemKind.{ItemKind}
 use Rattle.session_model.specs.declared.script.ItemKind.TheVariants.{Frame, Add, Remove}
 use Rattle.group_source.specs.declared.item.ItemRef.{ItemRef}
-use Rattle.group_source.specs.declared.item.ItemRef.TheVariants.{Frame as frame_ref, Add as add_ref, Remove as remove_ref}
+use Rattle.group_source.specs.declared.item.ItemRef.TheVariants.{Frame as frame_ref, Add as add_ref}
+use Rattle.group_source.specs.declared.item.ItemRef.TheVariants.{Remove as remove_ref}
 
 -- what it is
 abbrev pub kind_of : ItemRef → ItemKind

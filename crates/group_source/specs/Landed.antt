@@ -1,5 +1,6 @@
 -- What has landed in a group.
-use Rattle.std.specs.Prelude.{◌≡◌, ℕ, ◌+◌, ◌<◌, ◌≤◌, nat_lt, ◌&&◌, not, Bool, true, false, if◌then◌else◌, List, [], ◌∷◌, length, slice_get, All, Option, Some, None}
+use Rattle.std.specs.Prelude.{◌≡◌, ℕ, ◌+◌, ◌<◌, ◌≤◌, nat_lt, ◌&&◌, not, Bool, true, false, if◌then◌else◌, List, [], ◌∷◌}
+use Rattle.std.specs.Prelude.{length, slice_get, All, Option, Some, None}
 use Rattle.std.specs.List.Sorted.{IsNonDecreasing}
 use Rattle.session_model.specs.declared.script.Item.{Item}
 use Rattle.session_model.specs.Counts.{Due, dues_of, frame_dues, command_dues}
@@ -8,7 +9,8 @@ use Rattle.walk_law.specs.Landed.{is_client}
 use Rattle.group_source.specs.Place.{is_frame, is_command, place_of}
 use Rattle.session_model.specs.Limits.{longest_input}
 
--- the items, without the octets of frames; how many frames and commands have landed, and how many of each were refused; the items that were refused, in their order,
+-- the items, without the octets of frames; how many frames and commands have landed, and how many of each were refused;
+-- the items that were refused, in their order,
 -- and why
 pub record Landed : Type 0 where
   pub items : List Item
@@ -19,7 +21,14 @@ pub record Landed : Type 0 where
   pub refusals : List (ℕ × Refusal)
 
 abbrev pub none_landed : List Item → Landed
-none_landed items = record { items = items; frames = 0; commands = 0; refused_frames = 0; refused_commands = 0; refusals = [] }
+none_landed items = record {
+  items = items;
+  frames = 0;
+  commands = 0;
+  refused_frames = 0;
+  refused_commands = 0;
+  refusals = [];
+}
 
 -- ---- what lands next
 -- the place of the next frame, or of the next command; the number of items where there is none

@@ -1,5 +1,6 @@
 -- Where the items of a kind stand in a script: frames land in their order, and commands in theirs.
-use Rattle.std.specs.Prelude.{ℕ, zero, suc, ◌+◌, ◌&&◌, ◌||◌, not, nat_le, nat_lt, Bool, true, false, if◌then◌else◌, List, [], ◌∷◌, Option, Some, None}
+use Rattle.std.specs.Prelude.{ℕ, zero, suc, ◌+◌, ◌&&◌, ◌||◌, not, nat_le, nat_lt, Bool, true, false, if◌then◌else◌}
+use Rattle.std.specs.Prelude.{List, [], ◌∷◌, Option, Some, None}
 use Rattle.session_model.specs.declared.script.Item.{Item}
 use Rattle.session_model.specs.declared.script.ItemKind.{ItemKind}
 use Rattle.session_model.specs.declared.script.ItemKind.TheVariants.{Frame, Add, Remove}
@@ -25,7 +26,9 @@ abbrev pub due_by : ℕ → Option Item → Bool
 due_by ticks None = false
 due_by ticks (Some item) = nat_le item.due ticks
 
--- of a frame and a command at these places, each due or not, the least place of one that is due, where places are counted from i
+-- of a frame and a command at these places, each due or not, the least place of one that is due, where places are
+-- counted from i
 abbrev pub least_held : ℕ → ℕ → ℕ → Bool → Bool → Option ℕ
 least_held i frame command client operator =
-    if client && (nat_lt frame command || not operator) then Some (i + frame) else (if operator then Some (i + command) else None)
+    if client && (nat_lt frame command || not operator) then Some
+    (i + frame) else (if operator then Some (i + command) else None)

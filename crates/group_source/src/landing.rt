@@ -8,7 +8,8 @@ ghost use Rattle.session_model.specs.Counts.{dues_of, frame_dues, command_dues, 
 ghost use Rattle.session_model.specs.Limits.{longest_input};
 ghost use Rattle.group_source.specs.Item.{bare, bare_items};
 ghost use Rattle.walk_law.specs.Landed.{IsPlaced, refused_by};
-ghost use Rattle.group_source.specs.Landed.{none_landed, next_place, next_number, due_at, landed_of, refused_of, HasPassed, AreOthers, AreBefore, AreAfter};
+ghost use Rattle.group_source.specs.Landed.{none_landed, next_place, next_number, due_at, landed_of, refused_of};
+ghost use Rattle.group_source.specs.Landed.{HasPassed, AreOthers, AreBefore, AreAfter};
 
 use crate::items::{held_item, next_command, next_frame};
 use report_text::Refusal;

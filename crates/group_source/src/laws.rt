@@ -10,8 +10,9 @@ ghost use Rattle.walk_law.specs.Landed.{IsPlaced};
 ghost use Rattle.group_source.specs.Inbox.{Inbox, told_taken, with_come, cell_for, rest_for, HasCome, Takes};
 ghost use Rattle.group_source.specs.Source.{missing_by};
 
-/// The refusal of an item has one place among those of others. The inbox holds what has come, in its order: a cell more is put behind, a tick
-/// takes the first one where it needs one, and what ticks have taken stays the same whatever comes later.
+/// The refusal of an item has one place among those of others. The inbox holds what has come, in its order: a
+/// cell more is put behind, a tick takes the first one where it needs one, and what ticks have taken stays
+/// the same whatever comes later.
 pub fn source_law()
     ensures placed { (number : ℕ) (put was now other : List (ℕ × Refusal)) →
         IsPlaced number put was now → IsPlaced number put was other → now ≡ other }

@@ -1,6 +1,6 @@
-//! The source side of a group, whatever engine moves it: its terminal, what of its items lands next, what was refused, why no tick comes, and
-//! which return cells have come that no decision step has taken. Begin with `GroupSource`. Where its frames go, and when an engine ticks, is
-//! not said here.
+//! The source side of a group, whatever engine moves it: its terminal, what of its items lands next, what was
+//! refused, why no tick comes, and which return cells have come that no decision step has taken. Begin with
+//! `GroupSource`. Where its frames go, and when an engine ticks, is not said here.
 #![tactic(auto)]
 
 mod boxes;

@@ -1,6 +1,7 @@
 //! The source side of a group: its terminal, what has landed, and the inbox.
 
-ghost use Rattle.std.specs.Prelude.{◌≡◌, ◌+◌, ◌<◌, ◌≤◌, ◌&&◌, not, if◌then◌else◌, List, Option, None, Some, length, slice_get, IsSome, IfOk};
+ghost use Rattle.std.specs.Prelude.{◌≡◌, ◌+◌, ◌<◌, ◌≤◌, ◌&&◌, not, if◌then◌else◌, List, Option, None, Some, length};
+ghost use Rattle.std.specs.Prelude.{slice_get, IsSome, IfOk};
 ghost use Rattle.std.specs.Option.{is_some};
 ghost use Rattle.vc_cell.specs.Held.{held};
 ghost use Rattle.session_model.specs.Scenario.{Scenario, steps_in};
@@ -39,8 +40,9 @@ pub enum EarlyCause {
     },
 }
 
-/// The source side of a group. It takes the client's frames and the operator's commands in the order of its items, each kind by itself, and
-/// makes a frame at each tick; what is due at a tick lands before it. Only its making takes memory.
+/// The source side of a group. It takes the client's frames and the operator's commands in the order of its
+/// items, each kind by itself, and makes a frame at each tick; what is due at a tick lands before it. Only
+/// its making takes memory.
 #[derive(Drop)]
 pub struct GroupSource {
     core: SourceCore,
@@ -135,8 +137,8 @@ impl GroupSource {
         }
     }
 
-    /// Lands an item, which is the next of its kind and has this number. Answers why it is refused, where it is; then the terminal is as it
-    /// was.
+    /// Lands an item, which is the next of its kind and has this number. Answers why it is refused, where it
+    /// is; then the terminal is as it was.
     pub fn land(&mut self, number: u32, item: ItemRef) -> Option<Refusal>
         requires { next_number self.old.landed (is_client (kind_of item)) ≡ Some number }
         ensures met { result ≡ met_by self.old.core (kind_of item.entry) }

@@ -1,7 +1,7 @@
 //! What is said of how to write a line that is faulty, in any language of lines.
 //!
-//! Each text is put together at the front of a slice that the caller gives, and nothing is written to an output here. What a language alone
-//! has to say stands with its commands. Begin with `field_help`.
+//! Each text is put together at the front of a slice that the caller gives, and nothing is written to an
+//! output here. What a language alone has to say stands with its commands. Begin with `field_help`.
 #![tactic(auto)]
 
 mod help;

@@ -18,7 +18,8 @@ delay_faults at (w ∷ ws) = option_or (number_fault at 0 2047 w) (delay_faults 
 abbrev pub line_faults : ℕ → List (List ℕ) → Option LineFault
 line_faults at ws = option_map Field (delay_faults at ws)
 
-pub delays_as_fields : (at before : ℕ) (ws : List (List ℕ)) → fields_fault (replicate (length ws) (within 0 2047)) at before ws ≡ delay_faults at ws
+pub delays_as_fields : (at before : ℕ) (ws : List (List ℕ)) →
+    fields_fault (replicate (length ws) (within 0 2047)) at before ws ≡ delay_faults at ws
 delays_as_fields at before [] = refl
 delays_as_fields at before (w ∷ ws) =
     ap (λ (f : Option FieldFault). option_or (number_fault at 0 2047 w) f) (delays_as_fields (at + 1) (number_of w) ws)
@@ -29,10 +30,13 @@ counted n m same = grind (arith, nat_tests)
 pub delays_said : (n : ℕ) (ws : List (List ℕ)) → length ws ≡ n → delays_fault n ws ≡ line_faults 2 ws
 delays_said n ws count =
     subst (λ (k : ℕ). delays_fault k ws ≡ line_faults 2 ws) count
-    (rw (counted (length ws) (length ws) refl) (ap (λ (f : Option FieldFault). option_map Field f) (delays_as_fields 2 0 ws)))
+    (rw (counted (length ws) (length ws) refl)
+    (ap (λ (f : Option FieldFault). option_map Field f) (delays_as_fields 2 0 ws)))
 
-pub delay_fails : (at place : ℕ) (ws more : List (List ℕ)) (w : List ℕ) (fault : FieldFault) → ws ≡ w ∷ more → at ≡ place → number_fault at 0 2047 w ≡ Some fault
+pub delay_fails : (at place : ℕ) (ws more : List (List ℕ)) (w : List ℕ) (fault : FieldFault) → ws ≡ w ∷ more →
+    at ≡ place → number_fault at 0 2047 w ≡ Some fault
     → line_faults place ws ≡ Some (Field fault)
 delay_fails at place ws more w fault first same fails =
     ap (λ (n : ℕ). line_faults n ws) (let e : place ≡ at = omega (arith, same) in e)
-    ∙ ap (λ (x : List (List ℕ)). line_faults at x) first ∙ ap (λ (f : Option FieldFault). option_map Field (option_or f (delay_faults (at + 1) more))) fails
+    ∙ ap (λ (x : List (List ℕ)). line_faults at x) first
+    ∙ ap (λ (f : Option FieldFault). option_map Field (option_or f (delay_faults (at + 1) more))) fails

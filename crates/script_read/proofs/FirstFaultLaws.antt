@@ -1,5 +1,6 @@
 -- The first fault of a text, and the script that one without a fault says.
-use Rattle.std.proofs.Common.{◌≡◌, ◌↔◌, ℕ, ◌+◌, ◌-◌, nat_le, Bool, true, false, List, [], ◌∷◌, ap, ap₂, sym, ◌∙◌, refl, inl, inr}
+use Rattle.std.proofs.Common.{◌≡◌, ◌↔◌, ℕ, ◌+◌, ◌-◌, nat_le, Bool, true, false, List, [], ◌∷◌, ap, ap₂, sym, ◌∙◌, refl}
+use Rattle.std.proofs.Common.{inl, inr}
 use Rattle.std.specs.Prelude.{Option, None, Some, Result, Ok, Err}
 use Rattle.std.specs.Str.Lines.{lines}
 use Rattle.std.proofs.lemmas.Bool.{cases_Bool}
@@ -15,7 +16,9 @@ use Rattle.script_read.specs.declared.fault.ScriptFault.{ScriptFault}
 use Rattle.script_read.specs.declared.fault.ScriptFault.TheVariants as fault
 use Rattle.script_read.specs.declared.draft.Draft.{Draft}
 use Rattle.script_read.specs.Statements.{at_first}
-use Rattle.script_read.specs.Script.{script_lines, fault_or, windows_fault, slip_fault, spread_fault, least_lag, lag_fault, config_fault, script_in, script_unless, script_of_draft, script_of, IsScriptOf}
+use Rattle.script_read.specs.Script.{script_lines, fault_or, windows_fault, slip_fault, spread_fault, least_lag}
+use Rattle.script_read.specs.Script.{lag_fault, config_fault, script_in, script_unless, script_of_draft, script_of}
+use Rattle.script_read.specs.Script.{IsScriptOf}
 use Rattle.script_read.proofs.DraftLaws.{line_told, config_whole, whole_config}
 
 -- ---- the tests of a configuration tell no line

@@ -1,5 +1,6 @@
 -- What a draft meets, the draft after one more line meets as well.
-use Rattle.std.proofs.Common.{◌≡◌, ℕ, ◌+◌, ◌<◌, ◌≤◌, List, [], ◌∷◌, ◌++◌, length, ap, sym, ◌∙◌, arith, refl, slice_set, replicate, subst, All, inr}
+use Rattle.std.proofs.Common.{◌≡◌, ℕ, ◌+◌, ◌<◌, ◌≤◌, List, [], ◌∷◌, ◌++◌, length, ap, sym, ◌∙◌, arith, refl, slice_set}
+use Rattle.std.proofs.Common.{replicate, subst, All, inr}
 use Rattle.std.specs.List.Sorted.{IsNonDecreasing}
 use Rattle.std.proofs.lemmas.List.{length-append, length-set, length-replicate, append-nil}
 use Rattle.std.proofs.lemmas.List.Elements.{All-set, All-get_or, All-replicate}
@@ -15,7 +16,8 @@ use Rattle.script_read.specs.declared.draft.Statement.TheVariants as says
 use Rattle.script_read.specs.Statements.{windows_of, after, after_item, at_first}
 use Rattle.session_model.specs.Valid.{HasLosses, IsItem, AreItems, IsEvent, AreApart}
 use Rattle.script_read.specs.Drafts.{AreInOrder, AreFailures, HasConfig, IsDraft, IsNext, IsNextLost, Fits}
-use Rattle.script_read.proofs.RowLaws.{All-none, All-one, rising-none, rising-one, most-one, most-up, frames-one, commands-one, order-one, apart-one}
+use Rattle.script_read.proofs.RowLaws.{All-none, All-one, rising-none, rising-one, most-one, most-up, frames-one}
+use Rattle.script_read.proofs.RowLaws.{commands-one, order-one, apart-one}
 
 no_windows : (ticks : ℕ) → AreFailures ticks []
 unfolding AreInOrder

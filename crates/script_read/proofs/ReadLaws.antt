@@ -21,19 +21,24 @@ record IsRead (before : ℕ) (now : Draft) : Type 0 where
   pub draft : IsDraft now
   pub few : length now.items ≤ before
 
-sound_draft : (ls : List (List ℕ)) (d now : Draft) → IsDraft d → AreSound script_lines d ls now → IsRead (length d.items + length ls) now
+sound_draft : (ls : List (List ℕ)) (d now : Draft) → IsDraft d → AreSound script_lines d ls now →
+    IsRead (length d.items + length ls) now
 unfolding AreSound
-sound_draft [] d now is sound = subst (λ (x : Draft). IsRead (length d.items + 0) x) sound (record { draft = is; few = omega arith })
+sound_draft [] d now is sound =
+    subst (λ (x : Draft). IsRead (length d.items + 0) x) sound (record { draft = is; few = omega arith })
 sound_draft (l ∷ ls) d now is sound =
     let next : Draft = after d (words_said (words l)) in
-    let rest = sound_draft ls next now (IsDraft-after d (words_said (words l)) is (fits_words d (words l) is sound.0)) sound.1 in
+    let rest = sound_draft ls next now (IsDraft-after d (words_said (words l)) is (fits_words d (words l) is sound.0))
+    sound.1 in
     let one = items_after d (words_said (words l)) in
     let few = rest.few in
     record { draft = rest.draft; few = omega (arith, one, few) }
 
-pub valid_text : (text : List ℕ) (script : Script) → length text ≤ 67108864 → script_of text ≡ Ok script → IsValid script
+pub valid_text : (text : List ℕ) (script : Script) → length text ≤ 67108864 → script_of text ≡ Ok script →
+    IsValid script
 valid_text text script short said =
     let is = (said_script text script).0 said in
     let read = sound_draft (lines text) at_first is.now IsDraft-first is.sound in
     let few = read.few in
-    subst IsValid (sym is.is) (IsValid-draft is.now read.draft is.whole (let less = lines_few text in omega (arith, few, less, short)) is.passes)
+    subst IsValid (sym is.is) (IsValid-draft is.now read.draft is.whole
+    (let less = lines_few text in omega (arith, few, less, short)) is.passes)

@@ -1,5 +1,6 @@
 -- A draft that passes the tests is a script that meets all that is said of one.
-use Rattle.std.proofs.Common.{◌≡◌, ℕ, zero, suc, ◌+◌, ◌-◌, ◌<◌, ◌≤◌, nat_le, Bool, true, false, List, [], ◌∷◌, length, ap, sym, ◌∙◌, arith, refl, All, inl, inr, if◌then◌else◌}
+use Rattle.std.proofs.Common.{◌≡◌, ℕ, zero, suc, ◌+◌, ◌-◌, ◌<◌, ◌≤◌, nat_le, Bool, true, false, List, [], ◌∷◌, length}
+use Rattle.std.proofs.Common.{ap, sym, ◌∙◌, arith, refl, All, inl, inr, if◌then◌else◌}
 use Rattle.std.specs.Prelude.{Option, None, Some}
 use Rattle.std.proofs.lemmas.Bool.{cases_Bool}
 use Rattle.std.proofs.lemmas.Bool.Decides.{nat_tests}
@@ -10,7 +11,8 @@ use Rattle.session_model.specs.Plan.{FitsRing, FitsLag, greatest, least, greates
 use Rattle.script_read.specs.declared.fault.ScriptFault.{ScriptFault}
 use Rattle.script_read.specs.declared.fault.ScriptFault.TheVariants as fault
 use Rattle.script_read.specs.declared.draft.Draft.{Draft}
-use Rattle.script_read.specs.Script.{fault_or, windows_fault, slip_fault, spread_fault, least_lag, lag_fault, config_fault, script_in}
+use Rattle.script_read.specs.Script.{fault_or, windows_fault, slip_fault, spread_fault, least_lag, lag_fault}
+use Rattle.script_read.specs.Script.{config_fault, script_in}
 use Rattle.session_model.specs.Valid.{HasFailures, IsValid}
 use Rattle.script_read.specs.Drafts.{AreInOrder, AreFailures, IsDraft}
 
@@ -23,20 +25,27 @@ none_later None later is = is
 none_later (Some f) later is = absurd cc
 
 -- ---- slips
-slips : (m i : ℕ) (w : Window) (ws : List Window) → nat_le (w.end - w.first) w.slip ≡ true → windows_fault m i (w ∷ ws) ≡ None
+slips : (m i : ℕ) (w : Window) (ws : List Window) → nat_le (w.end - w.first) w.slip ≡ true →
+    windows_fault m i (w ∷ ws) ≡ None
     → Some (fault.Slip m i w.slip) ≡ None
-slips m i w ws far none = ap (λ (b : Bool). if b then Some (fault.Slip m i w.slip) else windows_fault m (i + 1) ws) (sym far) ∙ none
+slips m i w ws far none = ap (λ (b : Bool). if b then Some (fault.Slip m i w.slip) else windows_fault m (i + 1) ws)
+    (sym far) ∙ none
 
-goes_on : (m i : ℕ) (w : Window) (ws : List Window) → nat_le (w.end - w.first) w.slip ≡ false → windows_fault m i (w ∷ ws) ≡ None
+goes_on : (m i : ℕ) (w : Window) (ws : List Window) → nat_le (w.end - w.first) w.slip ≡ false →
+    windows_fault m i (w ∷ ws) ≡ None
     → windows_fault m (i + 1) ws ≡ None
-goes_on m i w ws near none = ap (λ (b : Bool). if b then Some (fault.Slip m i w.slip) else windows_fault m (i + 1) ws) (sym near) ∙ none
+goes_on m i w ws near none = ap (λ (b : Bool). if b then Some (fault.Slip m i w.slip) else windows_fault m (i + 1) ws)
+    (sym near) ∙ none
 
 no_slip : (m i : ℕ) (w : Window) (ws : List Window) → windows_fault m i (w ∷ ws) ≡ None
     → (w.slip < w.end - w.first) × (windows_fault m (i + 1) ws ≡ None)
 no_slip m i w ws none =
     elim (cases_Bool (nat_le (w.end - w.first) w.slip)) [
       | inl far ↦ absurd (let bad : Some (fault.Slip m i w.slip) ≡ None = slips m i w ws far none in cc)
-      | inr near ↦ ((let less : w.slip < w.end - w.first = grind (arith, nat_tests, near) in less), goes_on m i w ws near none)
+      | inr near ↦ (
+        (let less : w.slip < w.end - w.first = grind (arith, nat_tests, near) in less),
+        goes_on m i w ws near none,
+      )
     ]
 
 signs : (m i from : ℕ) (ws : List Window) → AreInOrder from ws → windows_fault m i ws ≡ None → AreWindows from ws
@@ -62,35 +71,46 @@ failures ticks m lists are none i d within =
     record { few = is.few; apart = all_signs ticks m lists are none i d within; ends = is.ends; slips = is.slips }
 
 -- ---- spread and lag
-wide_fails : (c : Config) → nat_le (greatest c.delays - least c.delays + greatest_slip c.windows + 1) c.ring ≡ false → spread_fault c ≡ None
+wide_fails : (c : Config) → nat_le (greatest c.delays - least c.delays + greatest_slip c.windows + 1) c.ring ≡ false →
+    spread_fault c ≡ None
     → Some (fault.Spread (greatest c.delays) (least c.delays) (greatest_slip c.windows) c.ring) ≡ None
 wide_fails c wide none =
-    ap (λ (b : Bool). if b then None else Some (fault.Spread (greatest c.delays) (least c.delays) (greatest_slip c.windows) c.ring)) (sym wide) ∙ none
+    ap (λ (b : Bool). if b then None else Some
+    (fault.Spread (greatest c.delays) (least c.delays) (greatest_slip c.windows) c.ring)) (sym wide) ∙ none
 
-short_fails : (c : Config) → nat_le (least_lag c) c.lag ≡ false → lag_fault c ≡ None → Some (fault.Lag c.lag (least_lag c) (greatest c.delays) (greatest_slip c.windows)) ≡ None
-short_fails c short none = ap (λ (b : Bool). if b then None else Some (fault.Lag c.lag (least_lag c) (greatest c.delays) (greatest_slip c.windows))) (sym short) ∙ none
+short_fails : (c : Config) → nat_le (least_lag c) c.lag ≡ false → lag_fault c ≡ None →
+    Some (fault.Lag c.lag (least_lag c) (greatest c.delays) (greatest_slip c.windows)) ≡ None
+short_fails c short none = ap (λ (b : Bool). if b then None else Some
+    (fault.Lag c.lag (least_lag c) (greatest c.delays) (greatest_slip c.windows))) (sym short) ∙ none
 
 ring_fits : (c : Config) → spread_fault c ≡ None → FitsRing c
 ring_fits c none =
     elim (cases_Bool (nat_le (greatest c.delays - least c.delays + greatest_slip c.windows + 1) c.ring)) [
-      | inl fits ↦ (let less : greatest c.delays - least c.delays + greatest_slip c.windows + 1 ≤ c.ring = grind (arith, nat_tests, fits) in less)
-      | inr wide ↦ absurd (let bad : Some (fault.Spread (greatest c.delays) (least c.delays) (greatest_slip c.windows) c.ring) ≡ None = wide_fails c wide none in cc)
+      | inl fits ↦ (let less : greatest c.delays - least c.delays + greatest_slip c.windows + 1 ≤ c.ring =
+          grind (arith, nat_tests, fits) in less)
+      | inr wide ↦ absurd (let bad : Some
+          (fault.Spread (greatest c.delays) (least c.delays) (greatest_slip c.windows) c.ring) ≡ None =
+          wide_fails c wide none in cc)
     ]
 
 lag_fits : (c : Config) → lag_fault c ≡ None → FitsLag c
 lag_fits c none =
     elim (cases_Bool (nat_le (least_lag c) c.lag)) [
       | inl fits ↦ (let less : least_lag c ≤ c.lag = grind (arith, nat_tests, fits) in omega (arith, less))
-      | inr short ↦ absurd (let bad : Some (fault.Lag c.lag (least_lag c) (greatest c.delays) (greatest_slip c.windows)) ≡ None = short_fails c short none in cc)
+      | inr short ↦ absurd (let bad : Some (fault.Lag c.lag (least_lag c) (greatest c.delays) (greatest_slip c.windows))
+          ≡ None = short_fails c short none in cc)
     ]
 
 -- ---- the script
-pub IsValid-draft : (d : Draft) → IsDraft d → 6 ≤ d.next → length d.items ≤ 67108864 → config_fault d.config ≡ None → IsValid (script_in d)
+pub IsValid-draft : (d : Draft) → IsDraft d → 6 ≤ d.next → length d.items ≤ 67108864 → config_fault d.config ≡ None →
+    IsValid (script_in d)
 IsValid-draft d is whole few none =
     let has = is.config in
     let lines = has.lines (omega (arith, whole)) in
-    let slips = none_first (slip_fault 0 d.config.windows) (fault_or (spread_fault d.config) (lag_fault d.config)) none in
-    let rings = none_later (slip_fault 0 d.config.windows) (fault_or (spread_fault d.config) (lag_fault d.config)) none in
+    let slips = none_first (slip_fault 0 d.config.windows) (fault_or (spread_fault d.config) (lag_fault d.config)) none
+    in
+    let rings = none_later (slip_fault 0 d.config.windows) (fault_or (spread_fault d.config) (lag_fault d.config)) none
+    in
     record {
       network = record {
         lines = (lines.0, has.few);

@@ -1,5 +1,6 @@
 -- What a draft meets, and what a line may say that stands after those of a draft.
-use Rattle.std.specs.Prelude.{◌≡◌, ◌⊎◌, ⊤, ℕ, ◌-◌, ◌==◌, ◌<◌, ◌≤◌, not, nat_lt, List, [], ◌∷◌, length, replicate, Option, option_map, All}
+use Rattle.std.specs.Prelude.{◌≡◌, ◌⊎◌, ⊤, ℕ, ◌-◌, ◌==◌, ◌<◌, ◌≤◌, not, nat_lt, List, [], ◌∷◌, length, replicate}
+use Rattle.std.specs.Prelude.{Option, option_map, All}
 use Rattle.std.specs.Option.{option_or}
 use Rattle.session_model.specs.declared.window.Window.{Window}
 use Rattle.session_model.specs.declared.script.Config.{Config}
@@ -39,7 +40,8 @@ container_fault ws =
 
 abbrev pub delays_fault : ℕ → List (List ℕ) → Option LineFault
 delays_fault n ws =
-    option_or (count_fault word.Delays n ws) (option_map wrong.Field (fields_fault (replicate n (within 0 2047)) 2 0 ws))
+    option_or (count_fault word.Delays n ws)
+    (option_map wrong.Field (fields_fault (replicate n (within 0 2047)) 2 0 ws))
 
 abbrev pub one_fault : Keyword → ℕ → ℕ → List (List ℕ) → Option LineFault
 one_fault k least most ws =

@@ -1,5 +1,6 @@
 -- The script that a text says, or its first fault.
-use Rattle.std.specs.Prelude.{◌≡◌, ◌≤◌, ℕ, ◌+◌, ◌-◌, ◌/◌, nat_le, nat_lt, List, [], ◌∷◌, Option, Some, None, Result, Ok, Err, if◌then◌else◌}
+use Rattle.std.specs.Prelude.{◌≡◌, ◌≤◌, ℕ, ◌+◌, ◌-◌, ◌/◌, nat_le, nat_lt, List, [], ◌∷◌, Option, Some, None, Result, Ok}
+use Rattle.std.specs.Prelude.{Err, if◌then◌else◌}
 use Rattle.script_read.specs.declared.fault.LineFault.{LineFault}
 use Rattle.script_read.specs.declared.fault.LineFault.TheVariants.{Missing}
 use Rattle.text_lines.specs.Fields.{where_true}
@@ -23,7 +24,8 @@ fault_or None later = later
 abbrev pub windows_fault : ℕ → ℕ → List Window → Option ScriptFault
 windows_fault m i [] = None
 windows_fault m i (window ∷ windows) =
-    if nat_le (window.end - window.first) window.slip then Some (fault.Slip m i window.slip) else windows_fault m (i + 1) windows
+    if nat_le (window.end - window.first) window.slip then Some (fault.Slip m i window.slip) else windows_fault m
+    (i + 1) windows
 
 -- and that of the lines, numbered from m
 abbrev pub slip_fault : ℕ → List (List Window) → Option ScriptFault

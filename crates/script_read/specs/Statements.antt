@@ -1,5 +1,7 @@
 -- The lines of a script: what each may say after those before it, which fault it has first, and what it adds to them.
-use Rattle.std.specs.Prelude.{unwrap_or, ℕ, ◌-◌, ◌==◌, ◌&&◌, ◌||◌, nat_le, nat_lt, not, Bool, false, List, [], ◌∷◌, ◌++◌, length, map, replicate, Option, Some, None, option_map, slice_index_or, slice_set, drop, codes, bytes_eq, if◌then◌else◌}
+use Rattle.std.specs.Prelude.{unwrap_or, ℕ, ◌-◌, ◌==◌, ◌&&◌, ◌||◌, nat_le, nat_lt, not, Bool, false, List, [], ◌∷◌}
+use Rattle.std.specs.Prelude.{◌++◌, length, map, replicate, Option, Some, None, option_map, slice_index_or, slice_set}
+use Rattle.std.specs.Prelude.{drop, codes, bytes_eq, if◌then◌else◌}
 use Rattle.std.specs.Option.{option_or}
 use Rattle.script_read.specs.declared.fault.LineFault.{LineFault}
 use Rattle.script_read.specs.declared.fault.LineFault.TheVariants as wrong
@@ -54,7 +56,8 @@ keyword_of w =
     else if bytes_eq w (codes "ticks") then Some word.Ticks
     else item_keyword w
 
--- the place of a line in a script: 0 to 5 are the lines of the configuration, 6 is that of windows, 7 of items, 8 of event lines
+-- the place of a line in a script: 0 to 5 are the lines of the configuration, 6 is that of windows, 7 of items, 8 of
+-- event lines
 abbrev pub place : Keyword → ℕ
 place word.Container = 0
 place word.Lines = 1
@@ -93,7 +96,8 @@ part_of at =
     else if at == 7 then part.Items
     else part.Events
 
--- before place 6 each line has its place, and that of the container may be passed over; from there on no line comes back to an
+-- before place 6 each line has its place, and that of the container may be passed over; from there on no line comes
+-- back to an
 -- earlier part
 abbrev pub place_fault : ℕ → ℕ → Option LineFault
 place_fault next at =
@@ -148,7 +152,8 @@ is_full d word.Fail ws = nat_le 256 (length (windows_of d (number_at 0 ws)))
 is_full d word.Lost ws = nat_le 256 (length d.config.lost)
 is_full d k ws = false
 
--- a window begins before the end of the one before it of its line, or of the return path; an item is due before the last one of
+-- a window begins before the end of the one before it of its line, or of the return path; an item is due before the
+-- last one of
 -- its kind, frame or command
 abbrev pub is_early : Draft → Keyword → List (List ℕ) → Bool
 is_early d word.Fail ws = nat_lt (number_at 1 ws) (last_end (windows_of d (number_at 0 ws)))

@@ -140,7 +140,8 @@ pub enum ScriptFault {
         window: u16,
         slip: u16,
     },
-    /// A ring of `ring` cells can't hold what lies between the delays `slow` and `fast`, in frames, and the greatest slip.
+    /// A ring of `ring` cells can't hold what lies between the delays `slow` and `fast`, in frames, and the
+    /// greatest slip.
     #[error("fault: spread {slow} {fast} {slip} {ring}")]
     Spread {
         slow: u16,

@@ -1,6 +1,7 @@
 //! The words that may begin a line, and the place of each in the order of a script.
 ghost use Rattle.std.specs.Prelude.{◌≡◌, IfErr, OnOk, None, Some};
-ghost use Rattle.script_read.specs.Statements.{keyword_of, item_keyword, event_keyword, place, awaited, part_of, place_fault};
+ghost use Rattle.script_read.specs.Statements.{keyword_of, item_keyword, event_keyword, place, awaited, part_of};
+ghost use Rattle.script_read.specs.Statements.{place_fault};
 ghost use Rattle.script_read.specs.Drafts.{IsPlaced};
 
 use crate::fault::LineFault;

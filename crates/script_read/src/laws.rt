@@ -10,9 +10,9 @@ ghost use Rattle.script_read.specs.Statements.{at_first};
 ghost use Rattle.script_read.specs.Script.{script_of, script_lines, IsScriptOf};
 ghost use Rattle.session_model.specs.Limits.{longest_input};
 
-/// A text has the fault of a line exactly where that line is faulty after lines none of which is, or where no line is faulty and the
-/// configuration isn't whole at the end. It is a script exactly where no line is faulty, the configuration is whole, and slips,
-/// spread and lag have no fault.
+/// A text has the fault of a line exactly where that line is faulty after lines none of which is, or where no
+/// line is faulty and the configuration isn't whole at the end. It is a script exactly where no line is
+/// faulty, the configuration is whole, and slips, spread and lag have no fault.
 pub fn fault_law()
     ensures line { (text : List ℕ) (number : ℕ) (fault : LineFault) →
         (script_of text ≡ Err (Line number fault))
@@ -21,8 +21,8 @@ pub fn fault_law()
         (script_of text ≡ Ok script) ↔ IsScriptOf (lines text) script }
 {}
 
-/// A text of at most 67,108,864 octets that is a script says one that can be walked: its numbers are in their ranges, its windows and
-/// items in order, and its rings and lag fit.
+/// A text of at most 67,108,864 octets that is a script says one that can be walked: its numbers are in their
+/// ranges, its windows and items in order, and its rings and lag fit.
 pub fn valid_law()
     ensures { (text : List ℕ) (script : Script) → length text ≤ longest_input →
         script_of text ≡ Ok script → IsValid script }

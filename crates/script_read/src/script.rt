@@ -69,9 +69,9 @@ fn finished(draft: Draft) -> Script
     }
 }
 
-/// The script of a text of at most 67,108,864 octets. Else its first fault: that of the first faulty line, counted from 1; or, where
-/// no line has one, the first that fails of the tests of slips, spread and lag. Want of memory may come in place of any answer. What
-/// a script that is given meets is `IsValid`.
+/// The script of a text of at most 67,108,864 octets. Else its first fault: that of the first faulty line,
+/// counted from 1; or, where no line has one, the first that fails of the tests of slips, spread and lag.
+/// Want of memory may come in place of any answer. What a script that is given meets is `IsValid`.
 pub fn read_script(alloc: Global, text: &[u8]) -> Result<Script, ScriptFault>
     requires { length text.now ≤ longest_input }
     ensures script { IfOk result (λ script. script_of text.now ≡ Ok script) }

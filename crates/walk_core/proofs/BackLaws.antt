@@ -71,24 +71,54 @@ come-is script k = by-lost (is_lost (scenario_of script) k)
 
 pub back-has : (script : Script) (s : Counts) (back : Return) → IsValid script → IsWalked script s →
     HasBack script s back → (back.ring ≡ [] → ⊥) → back.backs ≡ s.backs →
-    and_moved back ≡ record
-    { ring = return_ring script (record s { backs = s.backs + 1 }); lost = script.config.lost; inbox = inbox script
-    (record s { backs = s.backs + 1 }); room = script.config.lag + 1; backs = s.backs + 1 }
+    and_moved back ≡ record {
+      ring = return_ring script (record s { backs = s.backs + 1 });
+      lost = script.config.lost;
+      inbox = inbox script
+          (record s { backs = s.backs + 1 });
+      room = script.config.lag + 1;
+      backs = s.backs + 1;
+    }
 back-has script s back valid walked has some same =
     let more = some-returned script s back has some in
     let fits = walk-fits script s valid walked in
     let next : Counts = record s { backs = s.backs + 1 } in
     ap (moved_by back) (has.ring ∙ return_laws.ring-goes script s more)
-    ∙ ap (λ l. record { ring = return_ring script next; lost = l; inbox = back.inbox ++ come (is_lost_in l back.backs)
-    (said_packet script s.backs) ∷ []; room = back.room; backs = back.backs + 1 }) has.lost
-    ∙ ap (λ (cells : List BackCell). record
-    { ring = return_ring script next; lost = script.config.lost; inbox = cells; room = back.room; backs = back.backs + 1 })
+    ∙ ap (λ l. record {
+      ring = return_ring script next;
+      lost = l;
+      inbox = back.inbox ++ come (is_lost_in l back.backs)
+          (said_packet script s.backs) ∷ [];
+      room = back.room;
+      backs = back.backs + 1;
+    }) has.lost
+    ∙ ap (λ (cells : List BackCell). record {
+      ring = return_ring script next;
+      lost = script.config.lost;
+      inbox = cells;
+      room = back.room;
+      backs =
+          back.backs + 1;
+    })
     (ap (λ k. back.inbox ++ come (is_lost_in script.config.lost k) (said_packet script s.backs) ∷ []) same
     ∙ ap (λ cell. back.inbox ++ cell ∷ []) (come-is script s.backs)
     ∙ ap (λ cells. cells ++ back_cell script s.backs ∷ []) has.inbox ∙ sym (return_laws.inbox-comes script s fits.used))
-    ∙ ap (λ room. record
-    { ring = return_ring script next; lost = script.config.lost; inbox = inbox script next; room = room; backs = back.backs + 1 }) has.room
-    ∙ ap (λ k. record { ring = return_ring script next; lost = script.config.lost; inbox = inbox script next; room = script.config.lag + 1; backs = k + 1 }) same
+    ∙ ap (λ room. record {
+      ring = return_ring script next;
+      lost = script.config.lost;
+      inbox = inbox script next;
+      room = room;
+      backs =
+          back.backs + 1;
+    }) has.room
+    ∙ ap (λ k. record {
+      ring = return_ring script next;
+      lost = script.config.lost;
+      inbox = inbox script next;
+      room =
+          script.config.lag + 1;
+      backs = k + 1;
+    }) same
 
 -- ---- of a walk
 pub back-stays : (script : Script) (s : Counts) (back : Return) → HasBack script s back → back.ring ≡ [] →
@@ -128,11 +158,17 @@ module _ (script : Script) (parts : Parts) (landing : Landed) (got : ℕ) (last 
     next : Counts
     next = record (counts_of parts landing) { backs = parts.back.backs + 1 }
 
-    back-is : back ≡ record { ring = return_ring script
-        (record (counts_of parts landing)
-        { backs = parts.back.backs + 1 }); lost = script.config.lost; inbox = inbox script
-        (record (counts_of parts landing)
-        { backs = parts.back.backs + 1 }); room = script.config.lag + 1; backs = parts.back.backs + 1 }
+    back-is : back ≡ record {
+      ring = return_ring script
+          (record (counts_of parts landing)
+          { backs = parts.back.backs + 1 });
+      lost = script.config.lost;
+      inbox = inbox script
+          (record (counts_of parts landing)
+          { backs = parts.back.backs + 1 });
+      room = script.config.lag + 1;
+      backs = parts.back.backs + 1;
+    }
     back-is = moves ∙ back-has script (counts_of parts landing) parts.back is.valid is.walked is.back some refl
 
     pub back-counts : counts_of (record parts { back = back }) landing
@@ -143,16 +179,29 @@ module _ (script : Script) (parts : Parts) (landing : Landed) (got : ℕ) (last 
     pub back-kept : IsWalk script (record parts { back = back }) landing got last
     back-kept = subst (λ (b : Return). IsWalk script (record parts { back = b }) landing got last) (sym back-is)
         (record {
-      valid = is.valid;
-      total = is.total;
-      walked = walked-next script (counts_of parts landing) _ Back is.walked
-          (back-moved script (counts_of parts landing) parts.back is.back some).0;
-      source = record { made = is.source.made; lines = is.source.lines; lag = is.source.lag; size = is.source.size };
-      sent = is.sent;
-      lines = is.lines;
-      sink = record { gathers = is.sink.gathers; taken = is.sink.taken; passed = is.sink.passed; lines = is.sink.lines; all = is.sink.all; size = is.sink.size };
-      back = record { ring = refl; lost = refl; inbox = refl; room = refl };
-      landed = record { items = is.landed.items; refusals = is.landed.refusals; frames = is.landed.frames; commands = is.landed.commands };
-      counted = is.counted;
-      noted = is.noted;
-    })
+          valid = is.valid;
+          total = is.total;
+          walked = walked-next script (counts_of parts landing) _ Back is.walked
+              (back-moved script (counts_of parts landing) parts.back is.back some).0;
+          source = record { made = is.source.made; lines = is.source.lines; lag = is.source.lag; size = is.source.size };
+          sent = is.sent;
+          lines = is.lines;
+          sink = record {
+            gathers = is.sink.gathers;
+            taken = is.sink.taken;
+            passed = is.sink.passed;
+            lines = is.sink.lines;
+            all = is.sink.all;
+            size = is.sink.size;
+          };
+          back = record { ring = refl; lost = refl; inbox = refl; room = refl };
+          landed = record {
+            items = is.landed.items;
+            refusals = is.landed.refusals;
+            frames = is.landed.frames;
+            commands =
+                is.landed.commands;
+          };
+          counted = is.counted;
+          noted = is.noted;
+        })

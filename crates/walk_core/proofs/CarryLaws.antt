@@ -1,5 +1,7 @@
 -- A line carries, by its numbers.
-use Rattle.std.proofs.Common.{◌≡◌, ℕ, zero, suc, ◌+◌, ◌-◌, ◌%◌, ◌<◌, ◌≤◌, ◌&&◌, min, nat_le, nat_lt, true, false, List, [], ◌∷◌, length, take, drop, map, slice_get, slice_set, Option, Some, None, refl, sym, ◌∙◌, ap, subst, arith, inl, inr}
+use Rattle.std.proofs.Common.{◌≡◌, ℕ, zero, suc, ◌+◌, ◌-◌, ◌%◌, ◌<◌, ◌≤◌, ◌&&◌, min, nat_le, nat_lt, true, false, List}
+use Rattle.std.proofs.Common.{[], ◌∷◌, length, take, drop, map, slice_get, slice_set, Option, Some, None, refl, sym}
+use Rattle.std.proofs.Common.{◌∙◌, ap, subst, arith, inl, inr}
 use Rattle.std.proofs.lemmas.List.{length-take, length-map}
 use Rattle.std.specs.Global.{Vec, Box}
 use Rattle.session_model.specs.Sent.{container_of, frame_of}
@@ -17,7 +19,8 @@ use Rattle.realign_core.proofs.GatherLaws.{length-slice_set, set-here}
 use Rattle.realign_core.specs.Gather.{Stands as Gathers}
 use Rattle.sink_core.specs.Core.{Stands as HasTaken}
 use Rattle.session_model.specs.declared.walk.Event.TheVariants.{Carry}
-use Rattle.session_model.specs.Counts.{LinePath, LineCounts, Plan, Counts, Step, step, carry_at, carry_on, in_send, in_receive}
+use Rattle.session_model.specs.Counts.{LinePath, LineCounts, Plan, Counts, Step, step, carry_at, carry_on, in_send}
+use Rattle.session_model.specs.Counts.{in_receive}
 use Rattle.terminal_law.proofs.SentLaws.{containers-size}
 use Rattle.terminal_law.proofs.ListLaws.{range-at}
 use Rattle.line_core.specs.Line.{and_push, and_flush, carries_of, path_cells, IsEnded}

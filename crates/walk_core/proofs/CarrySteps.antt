@@ -1,5 +1,6 @@
 -- What a carry of a line leaves of a walk, where the line was read at its number.
-use Rattle.std.proofs.Common.{◌≡◌, ℕ, ◌+◌, ◌%◌, ◌<◌, ◌≤◌, List, length, map, slice_get, slice_set, slice_index_or, Option, Some, None, sym, ◌∙◌, ap, subst, arith}
+use Rattle.std.proofs.Common.{◌≡◌, ℕ, ◌+◌, ◌%◌, ◌<◌, ◌≤◌, List, length, map, slice_get, slice_set, slice_index_or}
+use Rattle.std.proofs.Common.{Option, Some, None, sym, ◌∙◌, ap, subst, arith}
 use Rattle.std.specs.Global.{Vec, Box}
 use Rattle.vc_cell.specs.declared.Container.{Container}
 use Rattle.session_model.specs.declared.script.Script.{Script}
@@ -14,7 +15,8 @@ use Rattle.walk_core.specs.Moved.{Walked, moved_of, counts_after}
 use Rattle.group_source.specs.Landed.{Landed}
 use Rattle.walk_core.specs.Parts.{Parts, frame_in, counts_of, line_counts, HasLine, IsWalk}
 use Rattle.walk_core.specs.Carry.{carry_cause, CanCarry, HasRoom, IsSentOn, IsCarriedAt}
-use Rattle.walk_core.proofs.CarryLaws.{same-some, line-has, line-room, carry-stays, carry-kept_at, carry-counts_at, carry-moved, line-sent, room-left}
+use Rattle.walk_core.proofs.CarryLaws.{same-some, line-has, line-room, carry-stays, carry-kept_at, carry-counts_at}
+use Rattle.walk_core.proofs.CarryLaws.{carry-moved, line-sent, room-left}
 
 -- a line that has carried one container more, of the send rings as they were and as they are
 pub record IsOn (m : ℕ) (was line : Ringed) (before : List (Vec (Box Container)))

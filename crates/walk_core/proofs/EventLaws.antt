@@ -14,16 +14,19 @@ use Rattle.walk_law.proofs.PlanLaws.{has-plan, valid-walks}
 use Rattle.walk_core.specs.Moved.{answer_by, counts_after}
 use Rattle.walk_core.specs.declared.moved.Moved.TheVariants.{Stalled}
 
-pub walked-next : (script : Script) (s next : Counts) (event : Event) → IsWalked script s → next ≡ counts_after script s event → IsWalked script next
+pub walked-next : (script : Script) (s next : Counts) (event : Event) → IsWalked script s →
+    next ≡ counts_after script s event → IsWalked script next
 unfolding run
 walked-next script s next event walked is = (
   walked.0 ++ event ∷ [],
-  is ∙ ap (λ s. counts_after script s event) walked.1 ∙ sym (run-append (walk_plan script) (begin (walk_plan script)) walked.0 (event ∷ [])),
+  is ∙ ap (λ s. counts_after script s event) walked.1
+      ∙ sym (run-append (walk_plan script) (begin (walk_plan script)) walked.0 (event ∷ [])),
 )
 
 pub walk-fits : (script : Script) (s : Counts) → IsValid script → IsWalked script s → Fits (walk_plan script) s
 walk-fits script s valid walked = reached-fits (walk_plan script) s (has-plan script (valid-walks script valid)) walked
 
 -- a stalled event
-pub stalled-moved : (cause : StallCause) (found : Option StallCause) (why : Option Refusal) → found ≡ Some cause → Stalled cause ≡ answer_by found why
+pub stalled-moved : (cause : StallCause) (found : Option StallCause) (why : Option Refusal) → found ≡ Some cause →
+    Stalled cause ≡ answer_by found why
 stalled-moved cause found why e = rw e refl

@@ -32,14 +32,14 @@ land-stays : (ticks : ℕ) (due : Option ℕ) (s next : Counts) (cause : StallCa
 land-stays ticks None s next cause e = refl
 land-stays ticks (Some due) s next cause e =
     elim (cases_Bool (nat_lt ticks due))
-        [ inl late ↦ rw late refl | inr now ↦ absurd (let f : None ≡ Some cause = rw now at e in cc) ]
+    [ inl late ↦ rw late refl | inr now ↦ absurd (let f : None ≡ Some cause = rw now at e in cc) ]
 
 land-moves : (ticks : ℕ) (due : Option ℕ) (s next : Counts) → (land_due ticks due s next).cause ≡ None →
     (land_due ticks due s next).counts ≡ next
 land-moves ticks None s next e = absurd cc
 land-moves ticks (Some due) s next e =
     elim (cases_Bool (nat_lt ticks due))
-        [ inl late ↦ absurd (let f : Some (NotDue due) ≡ None = rw late at e in cc) | inr now ↦ rw now refl ]
+    [ inl late ↦ absurd (let f : Some (NotDue due) ≡ None = rw late at e in cc) | inr now ↦ rw now refl ]
 
 -- ---- an event lands the next item of its kind, which is at place i, or stalls
 pub record IsNext (script : Script) (s next : Counts) (event : Event) (i : ℕ) : Type 0 where

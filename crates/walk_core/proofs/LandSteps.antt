@@ -231,13 +231,15 @@ has-landed : (client : Bool) (script : Script) (parts : Parts) (landing now : La
 has-landed true script parts landing now why has passed same told =
     let was : Counts = counts_of parts landing in
     let t = told-frame why (totals_of script was) (totals_of script (next_by true was landing)) landing.frames
-    landing.commands landing.refused_frames landing.refused_commands now.refused_frames now.refused_commands told has.frames
+    landing.commands landing.refused_frames landing.refused_commands now.refused_frames now.refused_commands told
+    has.frames
     has.commands passed.refused_frames passed.refused_commands in
     record { items = passed.items ∙ has.items; refusals = same; frames = t.0; commands = t.1 }
 has-landed false script parts landing now why has passed same told =
     let was : Counts = counts_of parts landing in
     let t = told-command why (totals_of script was) (totals_of script (next_by false was landing)) landing.frames
-    landing.commands landing.refused_frames landing.refused_commands now.refused_frames now.refused_commands told has.frames
+    landing.commands landing.refused_frames landing.refused_commands now.refused_frames now.refused_commands told
+    has.frames
     has.commands passed.refused_frames passed.refused_commands in
     record { items = passed.items ∙ has.items; refusals = same; frames = t.0; commands = t.1 }
 
@@ -293,9 +295,12 @@ module _ (script : Script) (parts : Parts) (landing : Landed) (got : ℕ) (last 
       × (due_at landing.items number ≡ item.due)
   found-at number e =
       let (at, low) = number-in number e in
-      let (item, here) = item-there script.items number low in
-      (item, ap (slice_get script.items) (sym at)
-      ∙ here, bare-due script.items landing is.landed.items number item here)
+      let (item, here) = item-there script.items number low in (
+        item,
+        ap (slice_get script.items) (sym at)
+            ∙ here,
+        bare-due script.items landing is.landed.items number item here,
+      )
 
   pub land-early : (number ticks due : ℕ) → next_number landing client ≡ Some number → ticks ≡ parts.source.ticks →
       due ≡ due_at landing.items number → ticks < due →
@@ -394,7 +399,7 @@ rest-kept script was now sent lines rows sink ring landing got last same is =
     subst (λ n. IsWalk script (record (parts_of now sent lines rows sink ring) { total = n }) landing got last)
     (sym same.total)
     (subst (λ (i : Inbox). IsWalk script
-        (record (parts_of was sent lines rows sink ring) { source = now.core; back = path_of ring i })
+    (record (parts_of was sent lines rows sink ring) { source = now.core; back = path_of ring i })
     landing got last) (sym same.inbox) is)
 
 -- and so are the counts

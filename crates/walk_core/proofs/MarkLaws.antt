@@ -23,8 +23,10 @@ use Rattle.walk_core.specs.declared.moved.StepNote.{StepNote}
 use Rattle.group_source.specs.Landed.{Landed}
 use Rattle.walk_core.specs.Parts.{Parts, counts_of, line_counts, IsWalk}
 
-pub mark-is : (script : Script) (parts : Parts) (landing : Landed) (got : ℕ) (last : Option StepNote) (result : Option ℕ) → IsWalk script parts landing got last →
-    ((cells : List (List Cell)) → Stands parts.sink cells → length (segments_of (received_rows parts.sink.size cells parts.sink.taken)).last.octets < 2 ^ 64 →
+pub mark-is : (script : Script) (parts : Parts) (landing : Landed) (got : ℕ) (last : Option StepNote)
+    (result : Option ℕ) → IsWalk script parts landing got last →
+    ((cells : List (List Cell)) → Stands parts.sink cells →
+    length (segments_of (received_rows parts.sink.size cells parts.sink.taken)).last.octets < 2 ^ 64 →
     result ≡ first_place (segments_of (received_rows parts.sink.size cells parts.sink.taken)).last.octets) →
     result ≡ first_place (segments_of (session_rows script parts.sink.taken)).last.octets
 mark-is script parts landing got last result is said =
@@ -34,9 +36,11 @@ mark-is script parts landing got last result is said =
     let taken : ℕ = parts.sink.taken in
     let can = valid-walks script is.valid in
     let within = counts-within script (counts_of parts landing) can is.walked in
-    let same : (segments_of (received_rows script.config.size popped taken)).last.octets ≡ (segments_of (rows_of scenario cells taken)).last.octets =
+    let same : (segments_of (received_rows script.config.size popped taken)).last.octets ≡
+    (segments_of (rows_of scenario cells taken)).last.octets =
     session-last scenario cells popped taken (λ t low. rows-are script (counts_of parts landing) can is.walked t low) in
-    let sized : (segments_of (received_rows parts.sink.size popped taken)).last.octets ≡ (segments_of (rows_of scenario cells taken)).last.octets =
+    let sized : (segments_of (received_rows parts.sink.size popped taken)).last.octets ≡
+    (segments_of (rows_of scenario cells taken)).last.octets =
     ap (λ size. (segments_of (received_rows size popped taken)).last.octets) is.sink.size ∙ same in
     let stands = Stands-all (rows_of scenario cells taken) in
     let octets = rows-length scenario cells taken taken (omega arith) in

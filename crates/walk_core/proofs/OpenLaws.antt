@@ -229,7 +229,8 @@ module _ (script : Script) (all : Opened) (is : IsNew script all) (valid : IsVal
       all.ends.source.landed ≡ begin (walk_plan script)
   new-counts =
       ap (counts_of (parts_of all.ends.source
-      (map frame_in all.paths.sent.items) all.paths.lines.items all.returns.rows all.ends.sink all.returns.ring)) is.source.landed
+      (map frame_in all.paths.sent.items) all.paths.lines.items all.returns.rows all.ends.sink all.returns.ring))
+      is.source.landed
       ∙ begin-counts
 
   cells-are : popped_cells script (map line_counts lines) ≡ replicate script.config.lines []
@@ -255,8 +256,14 @@ module _ (script : Script) (all : Opened) (is : IsNew script all) (valid : IsVal
     source = subst (λ s. HasSource script s source) (sym begin-counts) (record {
       made = subst (HasMade source (landed_scenario script (begin (walk_plan script)))) (sym (none-told script))
           (is.source.core.made (landed_scenario script (begin (walk_plan script)))
-          (record { of_lines = valid.network.windows_each; of_lag = refl; of_size = refl; no_offers = take-none
-          (offers_of script.items); no_orders = take-none (orders_of script.items) }));
+          (record {
+            of_lines = valid.network.windows_each;
+            of_lag = refl;
+            of_size = refl;
+            no_offers = take-none
+                (offers_of script.items);
+            no_orders = take-none (orders_of script.items);
+          }));
       lines = is.source.core.lines;
       lag = is.source.core.lag;
       size = is.source.core.size;
@@ -274,14 +281,14 @@ module _ (script : Script) (all : Opened) (is : IsNew script all) (valid : IsVal
     };
     back = subst (λ s. HasBack script s back) (sym begin-counts)
         (subst (HasBack script (begin (walk_plan script))) (sym back-is) (record {
-      lost = refl;
-      ring = sym (range-none (said_packet script) 0 (in_return (begin (walk_plan script)))
-          (let e : in_return (begin (walk_plan script)) ≡ 0 = refl in e));
-      inbox = sym (range-none (back_cell script) (used_in script.config.lag 0)
-          (in_inbox (walk_plan script) (begin (walk_plan script)))
-          (let e : 0 - used_in script.config.lag 0 ≡ 0 = omega arith in e));
-      room = refl;
-    }));
+          lost = refl;
+          ring = sym (range-none (said_packet script) 0 (in_return (begin (walk_plan script)))
+              (let e : in_return (begin (walk_plan script)) ≡ 0 = refl in e));
+          inbox = sym (range-none (back_cell script) (used_in script.config.lag 0)
+              (in_inbox (walk_plan script) (begin (walk_plan script)))
+              (let e : 0 - used_in script.config.lag 0 ≡ 0 = omega arith in e));
+          room = refl;
+        }));
     landed = record {
       items = refl;
       refusals = sym (refused-none script (landed_from 0 0 0 script.items) (none-landed script.items 0));
@@ -299,8 +306,9 @@ module _ (script : Script) (all : Opened) (is : IsNew script all) (valid : IsVal
       all.ends.source.landed 0 None
   new-walk =
       subst (λ (l : Landed). IsWalk script
-          (parts_of all.ends.source
-          (map frame_in all.paths.sent.items) all.paths.lines.items all.returns.rows all.ends.sink all.returns.ring) l 0 None)
+      (parts_of all.ends.source
+      (map frame_in all.paths.sent.items) all.paths.lines.items all.returns.rows all.ends.sink all.returns.ring) l 0
+      None)
       (sym is.source.landed) none-walk
 
 -- a line that was opened with the numbers of its place

@@ -1,5 +1,7 @@
 -- Rounds of a walk: items land until they stall, each line is tried once, and so for the rest.
-use Rattle.std.proofs.Common.{◌≡◌, ℕ, zero, suc, ◌+◌, ◌-◌, ◌<◌, ◌≤◌, ◌&&◌, nat_le, nat_lt, inl, inr, List, [], ◌∷◌, ◌++◌, length, replicate, drop, slice_get, Option, Some, None, refl, sym, ◌∙◌, ap, subst, arith, append_assoc}
+use Rattle.std.proofs.Common.{◌≡◌, ℕ, zero, suc, ◌+◌, ◌-◌, ◌<◌, ◌≤◌, ◌&&◌, nat_le, nat_lt, inl, inr, List, [], ◌∷◌}
+use Rattle.std.proofs.Common.{◌++◌, length, replicate, drop, slice_get, Option, Some, None, refl, sym, ◌∙◌, ap, subst}
+use Rattle.std.proofs.Common.{arith, append_assoc}
 use Rattle.std.proofs.lemmas.Option.{slice_get_within}
 use Rattle.std.proofs.lemmas.Bool.{cases_Bool}
 use Rattle.std.proofs.lemmas.List.{append-nil}
@@ -8,7 +10,10 @@ use Rattle.session_model.specs.declared.walk.Event.{Event}
 use Rattle.session_model.specs.declared.walk.Event.TheVariants.{Accept, Command, Tick, Carry, Back, Take}
 use Rattle.session_model.specs.declared.walk.StallCause.{StallCause}
 use Rattle.session_model.specs.declared.walk.StallCause.TheVariants.{NotDue, Done}
-use Rattle.session_model.specs.Counts.{Due, frame_due, command_due, LinePath, LineCounts, Plan, Counts, in_send, in_receive, in_return, held, full, is_missing, tick_full, tick_held, carry_at, pop_lines, take_popped, is_back_full, back, tick, take_row, land_due, frame_dues, command_dues, step, run, carries_from, round, drain, bound}
+use Rattle.session_model.specs.Counts.{Due, frame_due, command_due, LinePath, LineCounts, Plan, Counts, in_send}
+use Rattle.session_model.specs.Counts.{in_receive, in_return, held, full, is_missing, tick_full, tick_held, carry_at}
+use Rattle.session_model.specs.Counts.{pop_lines, take_popped, is_back_full, back, tick, take_row, land_due, frame_dues}
+use Rattle.session_model.specs.Counts.{command_dues, step, run, carries_from, round, drain, bound}
 use Rattle.session_model.specs.Valid.{IsValid}
 use Rattle.progress_law.specs.Progress.{made}
 use Rattle.progress_law.proofs.MeasureLaws.{round-less, drain-round, drain-stop}
@@ -36,20 +41,25 @@ drop-all [] (suc m) h = refl
 drop-all (x ∷ xs) zero h = absurd (omega arith)
 drop-all (x ∷ xs) (suc m) h = drop-all xs m (omega arith)
 
-carry-next : (plan : Plan) (s : Counts) (paths : List LinePath) (m : ℕ) → m < length paths → run plan s (carries_from m (drop m paths)) ≡ run plan (step plan s (Carry m)).counts (carries_from (suc m) (drop (suc m) paths))
+carry-next : (plan : Plan) (s : Counts) (paths : List LinePath) (m : ℕ) → m < length paths →
+    run plan s (carries_from m (drop m paths)) ≡ run plan (step plan s (Carry m)).counts
+    (carries_from (suc m) (drop (suc m) paths))
 unfolding run carries_from
 carry-next plan s paths m h = let (x, e) = drop-next paths m h in rw e refl
 
-carry-last : (plan : Plan) (s : Counts) (paths : List LinePath) (m : ℕ) → length paths ≤ m → run plan s (carries_from m (drop m paths)) ≡ run plan s (Back ∷ Take ∷ [])
+carry-last : (plan : Plan) (s : Counts) (paths : List LinePath) (m : ℕ) → length paths ≤ m →
+    run plan s (carries_from m (drop m paths)) ≡ run plan s (Back ∷ Take ∷ [])
 unfolding carries_from
 carry-last plan s paths m h = rw (drop-all paths m h) refl
 
 -- ---- items land until they stall
 replicate-add : {X : Type 0} (a b : ℕ) (x : X) → replicate (a + b) x ≡ replicate a x ++ replicate b x
 replicate-add zero b x = ap (λ n. replicate n x) (let e : 0 + b ≡ b = omega arith in e)
-replicate-add (suc a) b x = ap (λ n. replicate n x) (let e : suc a + b ≡ suc (a + b) = omega arith in e) ∙ ap (λ l. x ∷ l) (replicate-add a b x)
+replicate-add (suc a) b x = ap (λ n. replicate n x) (let e : suc a + b ≡ suc (a + b) = omega arith in e)
+    ∙ ap (λ l. x ∷ l) (replicate-add a b x)
 
-run-same : (plan : Plan) (s : Counts) (event : Event) (k : ℕ) → (step plan s event).counts ≡ s → run plan s (replicate k event) ≡ s
+run-same : (plan : Plan) (s : Counts) (event : Event) (k : ℕ) → (step plan s event).counts ≡ s →
+    run plan s (replicate k event) ≡ s
 unfolding run
 run-same plan s event zero e = refl
 run-same plan s event (suc k) e = ap (λ next. run plan next (replicate k event)) e ∙ run-same plan s event k e
@@ -66,36 +76,50 @@ commands-few [] = omega arith
 commands-few (frame_due due ∷ items) = let rest = commands-few items in omega (arith, rest)
 commands-few (command_due due ∷ items) = let rest = commands-few items in omega (arith, rest)
 
-stalls-same : (ticks : ℕ) (due : Option ℕ) (s next : Counts) (why : Option Refusal) (cause : StallCause) → Stalled cause ≡ answer_by (land_due ticks due s next).cause why → (land_due ticks due s next).counts ≡ s
+stalls-same : (ticks : ℕ) (due : Option ℕ) (s next : Counts) (why : Option Refusal) (cause : StallCause) →
+    Stalled cause ≡ answer_by (land_due ticks due s next).cause why → (land_due ticks due s next).counts ≡ s
 stalls-same ticks None s next why cause e = refl
-stalls-same ticks (Some due) s next None cause e = elim (cases_Bool (nat_lt ticks due)) [ inl h ↦ rw h refl | inr h ↦ absurd (let f : Stalled cause ≡ Yes = rw h at e in cc) ]
-stalls-same ticks (Some due) s next (Some why) cause e = elim (cases_Bool (nat_lt ticks due)) [ inl h ↦ rw h refl | inr h ↦ absurd (let f : Stalled cause ≡ Refused why = rw h at e in cc) ]
+stalls-same ticks (Some due) s next None cause e =
+    elim (cases_Bool (nat_lt ticks due))
+    [ inl h ↦ rw h refl | inr h ↦ absurd (let f : Stalled cause ≡ Yes = rw h at e in cc) ]
+stalls-same ticks (Some due) s next (Some why) cause e =
+    elim (cases_Bool (nat_lt ticks due))
+    [ inl h ↦ rw h refl | inr h ↦ absurd (let f : Stalled cause ≡ Refused why = rw h at e in cc) ]
 
-moves-on : (ticks : ℕ) (due : Option ℕ) (s next : Counts) (why : Option Refusal) → ((cause : StallCause) → Stalled cause ≡ answer_by (land_due ticks due s next).cause why → ⊥) →
+moves-on : (ticks : ℕ) (due : Option ℕ) (s next : Counts) (why : Option Refusal) →
+    ((cause : StallCause) → Stalled cause ≡ answer_by (land_due ticks due s next).cause why → ⊥) →
     ((land_due ticks due s next).counts ≡ next) × (d : ℕ) × (due ≡ Some d)
 moves-on ticks None s next why none = absurd (none Done refl)
-moves-on ticks (Some due) s next why none = elim (cases_Bool (nat_lt ticks due)) [ inl h ↦ absurd (none (NotDue due) (rw h refl)) | inr h ↦ rw h (refl, due, refl) ]
+moves-on ticks (Some due) s next why none =
+    elim (cases_Bool (nat_lt ticks due))
+    [ inl h ↦ absurd (none (NotDue due) (rw h refl)) | inr h ↦ rw h (refl, due, refl) ]
 
 -- where an event stalled after k that moved, so many more than k give the same
-stalled-all : (plan : Plan) (start s : Counts) (event : Event) (k most : ℕ) → s ≡ run plan start (replicate k event) → k ≤ most → (step plan s event).counts ≡ s →
+stalled-all : (plan : Plan) (start s : Counts) (event : Event) (k most : ℕ) → s ≡ run plan start (replicate k event) →
+    k ≤ most → (step plan s event).counts ≡ s →
     (step plan s event).counts ≡ run plan start (replicate (suc most) event)
 stalled-all plan start s event k most is few same =
     let j : ℕ = suc most - k in
     same ∙ sym (run-same plan s event j same) ∙ ap (λ s. run plan s (replicate j event)) is
     ∙ sym (run-append plan start (replicate k event) (replicate j event))
-    ∙ ap (run plan start) (sym (replicate-add k j event) ∙ ap (λ n. replicate n event) (let e : k + j ≡ suc most = omega (arith, few) in e))
+    ∙ ap (run plan start) (sym (replicate-add k j event)
+    ∙ ap (λ n. replicate n event) (let e : k + j ≡ suc most = omega (arith, few) in e))
 
-moved-one : (plan : Plan) (start s : Counts) (event : Event) (k : ℕ) → s ≡ run plan start (replicate k event) → (step plan s event).counts ≡ run plan start (replicate (suc k) event)
+moved-one : (plan : Plan) (start s : Counts) (event : Event) (k : ℕ) → s ≡ run plan start (replicate k event) →
+    (step plan s event).counts ≡ run plan start (replicate (suc k) event)
 unfolding run
 moved-one plan start s event k is =
     ap (λ s. (step plan s event).counts) is ∙ sym (run-append plan start (replicate k event) (event ∷ []))
-    ∙ ap (run plan start) (sym (replicate-add k 1 event) ∙ ap (λ n. replicate n event) (let e : k + 1 ≡ suc k = omega arith in e))
+    ∙ ap (run plan start) (sym (replicate-add k 1 event)
+    ∙ ap (λ n. replicate n event) (let e : k + 1 ≡ suc k = omega arith in e))
 
 -- the loop: k items have landed
 abbrev pub Landed : Plan → Counts → Counts → Event → (Counts → ℕ) → Type 0
-Landed plan start s event count = (k : ℕ) × (s ≡ run plan start (replicate k event)) × (count s ≡ count start + k) × (k ≤ length plan.items)
+Landed plan start s event count = (k : ℕ) × (s ≡ run plan start (replicate k event)) × (count s ≡ count start + k) ×
+    (k ≤ length plan.items)
 
-pub landed-none : (plan : Plan) (start : Counts) (event : Event) (count : Counts → ℕ) → Landed plan start start event count
+pub landed-none : (plan : Plan) (start : Counts) (event : Event) (count : Counts → ℕ) →
+    Landed plan start start event count
 unfolding run
 landed-none plan start event count = (0, refl, omega arith, omega arith)
 
@@ -104,54 +128,85 @@ abbrev pub IsMoving : Moved → Type 0
 IsMoving moved = (cause : StallCause) → moved ≡ Stalled cause → ⊥
 
 module _ (script : Script) (start : Counts) where
-  pub frame-turn : (s next : Counts) (moved : Moved) → Landed (walk_plan script) start s Accept (λ s. s.frames) → next ≡ counts_after script s Accept → moved ≡ moved_of script s Accept → IsMoving moved →
-      Landed (walk_plan script) start next Accept (λ s. s.frames) × (length (walk_plan script).items - next.frames < length (walk_plan script).items - s.frames)
+  pub frame-turn : (s next : Counts) (moved : Moved) → Landed (walk_plan script) start s Accept (λ s. s.frames) →
+      next ≡ counts_after script s Accept → moved ≡ moved_of script s Accept → IsMoving moved →
+      Landed (walk_plan script) start next Accept (λ s. s.frames) ×
+      (length (walk_plan script).items - next.frames < length (walk_plan script).items - s.frames)
   frame-turn s next moved (k, is, sum, few) after said moving =
-      let (then_, d, here) = moves-on s.ticks (slice_get (frame_dues (walk_plan script).items) s.frames) s (record s { frames = s.frames + 1 }) (refusal_in_event script s Accept)
+      let (then_, d, here) = moves-on s.ticks (slice_get (frame_dues (walk_plan script).items) s.frames) s
+      (record s { frames = s.frames + 1 }) (refusal_in_event script s Accept)
       (λ cause e. moving cause (said ∙ sym e)) in
       let inside = slice_get_within (frame_dues (walk_plan script).items) s.frames d here in
       let most = frames-few (walk_plan script).items in
-      let count : next.frames ≡ s.frames + 1 = ap (λ (s : Counts). s.frames) (after ∙ then_) in
-      ((suc k, after ∙ moved-one (walk_plan script) start s Accept k is, omega (arith, count, sum), omega (arith, sum, inside, most)), omega (arith, count, inside, most))
+      let count : next.frames ≡ s.frames + 1 = ap (λ (s : Counts). s.frames) (after ∙ then_) in (
+        (
+          suc k,
+          after ∙ moved-one (walk_plan script) start s Accept k is,
+          omega (arith, count, sum),
+          omega (arith, sum, inside, most),
+        ),
+        omega (arith, count, inside, most),
+      )
 
-  pub frame-end : (s next : Counts) (cause : StallCause) → Landed (walk_plan script) start s Accept (λ s. s.frames) → next ≡ counts_after script s Accept → Stalled cause ≡ moved_of script s Accept →
+  pub frame-end : (s next : Counts) (cause : StallCause) → Landed (walk_plan script) start s Accept (λ s. s.frames) →
+      next ≡ counts_after script s Accept → Stalled cause ≡ moved_of script s Accept →
       next ≡ run (walk_plan script) start (replicate (suc (length (walk_plan script).items)) Accept)
   frame-end s next cause (k, is, sum, few) after stalls =
       after ∙ stalled-all (walk_plan script) start s Accept k (length (walk_plan script).items) is few
-      (stalls-same s.ticks (slice_get (frame_dues (walk_plan script).items) s.frames) s (record s { frames = s.frames + 1 }) (refusal_in_event script s Accept) cause stalls)
+      (stalls-same s.ticks (slice_get (frame_dues (walk_plan script).items) s.frames) s
+      (record s { frames = s.frames + 1 }) (refusal_in_event script s Accept) cause stalls)
 
-  pub command-turn : (s next : Counts) (moved : Moved) → Landed (walk_plan script) start s Command (λ s. s.commands) → next ≡ counts_after script s Command → moved ≡ moved_of script s Command → IsMoving moved →
-      Landed (walk_plan script) start next Command (λ s. s.commands) × (length (walk_plan script).items - next.commands < length (walk_plan script).items - s.commands)
+  pub command-turn : (s next : Counts) (moved : Moved) → Landed (walk_plan script) start s Command (λ s. s.commands) →
+      next ≡ counts_after script s Command → moved ≡ moved_of script s Command → IsMoving moved →
+      Landed (walk_plan script) start next Command (λ s. s.commands) ×
+      (length (walk_plan script).items - next.commands < length (walk_plan script).items - s.commands)
   command-turn s next moved (k, is, sum, few) after said moving =
-      let (then_, d, here) = moves-on s.ticks (slice_get (command_dues (walk_plan script).items) s.commands) s (record s { commands = s.commands + 1 }) (refusal_in_event script s Command)
+      let (then_, d, here) = moves-on s.ticks (slice_get (command_dues (walk_plan script).items) s.commands) s
+      (record s { commands = s.commands + 1 }) (refusal_in_event script s Command)
       (λ cause e. moving cause (said ∙ sym e)) in
       let inside = slice_get_within (command_dues (walk_plan script).items) s.commands d here in
       let most = commands-few (walk_plan script).items in
-      let count : next.commands ≡ s.commands + 1 = ap (λ (s : Counts). s.commands) (after ∙ then_) in
-      ((suc k, after ∙ moved-one (walk_plan script) start s Command k is, omega (arith, count, sum), omega (arith, sum, inside, most)), omega (arith, count, inside, most))
+      let count : next.commands ≡ s.commands + 1 = ap (λ (s : Counts). s.commands) (after ∙ then_) in (
+        (
+          suc k,
+          after ∙ moved-one (walk_plan script) start s Command k is,
+          omega (arith, count, sum),
+          omega (arith, sum, inside, most),
+        ),
+        omega (arith, count, inside, most),
+      )
 
-  pub command-end : (s next : Counts) (cause : StallCause) → Landed (walk_plan script) start s Command (λ s. s.commands) → next ≡ counts_after script s Command → Stalled cause ≡ moved_of script s Command →
+  pub command-end : (s next : Counts) (cause : StallCause) →
+      Landed (walk_plan script) start s Command (λ s. s.commands) → next ≡ counts_after script s Command →
+      Stalled cause ≡ moved_of script s Command →
       next ≡ run (walk_plan script) start (replicate (suc (length (walk_plan script).items)) Command)
   command-end s next cause (k, is, sum, few) after stalls =
       after ∙ stalled-all (walk_plan script) start s Command k (length (walk_plan script).items) is few
-      (stalls-same s.ticks (slice_get (command_dues (walk_plan script).items) s.commands) s (record s { commands = s.commands + 1 }) (refusal_in_event script s Command) cause stalls)
+      (stalls-same s.ticks (slice_get (command_dues (walk_plan script).items) s.commands) s
+      (record s { commands = s.commands + 1 }) (refusal_in_event script s Command) cause stalls)
 
   pub carry-turn : (s next : Counts) (m : ℕ) (whole : Counts) → m < length (walk_plan script).paths →
-      run (walk_plan script) s (carries_from m (drop m (walk_plan script).paths)) ≡ whole → next ≡ counts_after script s (Carry m) →
+      run (walk_plan script) s (carries_from m (drop m (walk_plan script).paths)) ≡ whole →
+      next ≡ counts_after script s (Carry m) →
       run (walk_plan script) next (carries_from (m + 1) (drop (m + 1) (walk_plan script).paths)) ≡ whole
   carry-turn s next m whole low so after =
-      ap (λ k. run (walk_plan script) next (carries_from k (drop k (walk_plan script).paths))) (let e : m + 1 ≡ suc m = omega arith in e)
+      ap (λ k. run (walk_plan script) next (carries_from k (drop k (walk_plan script).paths)))
+      (let e : m + 1 ≡ suc m = omega arith in e)
       ∙ ap (λ s. run (walk_plan script) s (carries_from (suc m) (drop (suc m) (walk_plan script).paths))) after
       ∙ sym (carry-next (walk_plan script) s (walk_plan script).paths m low) ∙ so
 
   pub carry-end : (s : Counts) (m : ℕ) (whole : Counts) → length (walk_plan script).paths ≤ m →
-      run (walk_plan script) s (carries_from m (drop m (walk_plan script).paths)) ≡ whole → run (walk_plan script) s (Back ∷ Take ∷ []) ≡ whole
+      run (walk_plan script) s (carries_from m (drop m (walk_plan script).paths)) ≡ whole →
+      run (walk_plan script) s (Back ∷ Take ∷ []) ≡ whole
   carry-end s m whole past so = sym (carry-last (walk_plan script) s (walk_plan script).paths m past) ∙ so
 
   -- ---- a round, by its parts
-  pub round-parts : (a b t m r e : Counts) → a ≡ run (walk_plan script) start (replicate (suc (length (walk_plan script).items)) Accept) →
-      b ≡ run (walk_plan script) a (replicate (suc (length (walk_plan script).items)) Command) → t ≡ counts_after script b Tick →
-      run (walk_plan script) m (Back ∷ Take ∷ []) ≡ run (walk_plan script) t (carries_from 0 (walk_plan script).paths) → r ≡ counts_after script m Back → e ≡ counts_after script r Take →
+  pub round-parts : (a b t m r e : Counts) →
+      a ≡ run (walk_plan script) start (replicate (suc (length (walk_plan script).items)) Accept) →
+      b ≡ run (walk_plan script) a (replicate (suc (length (walk_plan script).items)) Command) →
+      t ≡ counts_after script b Tick →
+      run (walk_plan script) m (Back ∷ Take ∷ []) ≡ run (walk_plan script) t (carries_from 0 (walk_plan script).paths) →
+      r ≡ counts_after script m Back → e ≡ counts_after script r Take →
       e ≡ run (walk_plan script) start (round (walk_plan script))
   unfolding run
   round-parts a b t m r e is_a is_b is_t is_m is_r is_e =
@@ -164,28 +219,38 @@ module _ (script : Script) (start : Counts) where
       ∙ sym (run-append p (run p start as_) bs_ (Tick ∷ cs_)) ∙ sym (run-append p start as_ (bs_ ++ Tick ∷ cs_))
 
   -- ---- rounds until all rows are taken
-  pub round-turn : (next : Counts) → IsValid script → IsWalked script start → start.rows < script.config.ticks → next ≡ run (walk_plan script) start (round (walk_plan script)) →
-      (bound (walk_plan script) - made next < bound (walk_plan script) - made start) × (drain (bound (walk_plan script)) (walk_plan script) next ≡ drain (bound (walk_plan script)) (walk_plan script) start)
+  pub round-turn : (next : Counts) → IsValid script → IsWalked script start → start.rows < script.config.ticks →
+      next ≡ run (walk_plan script) start (round (walk_plan script)) →
+      (bound (walk_plan script) - made next < bound (walk_plan script) - made start) ×
+      (drain (bound (walk_plan script)) (walk_plan script) next ≡ drain (bound (walk_plan script))
+      (walk_plan script) start)
   round-turn next valid walked open_ is =
       let plans = has-plan script (valid-walks script valid) in
       let fits = walk-fits script start valid walked in
       let less = round-less (walk_plan script) start plans fits open_ in
-      let same = ap made is in
-      (omega (arith, less, same), ap (drain (bound (walk_plan script)) (walk_plan script)) is ∙ drain-round (walk_plan script) start plans fits open_)
+      let same = ap made is in (
+        omega (arith, less, same),
+        ap (drain (bound (walk_plan script)) (walk_plan script)) is
+            ∙ drain-round (walk_plan script) start plans fits open_,
+      )
 
-  pub drained-end : (whole : Counts) → script.config.ticks ≤ start.rows → drain (bound (walk_plan script)) (walk_plan script) start ≡ whole → start ≡ whole
+  pub drained-end : (whole : Counts) → script.config.ticks ≤ start.rows →
+      drain (bound (walk_plan script)) (walk_plan script) start ≡ whole → start ≡ whole
   drained-end whole shut so = sym (drain-stop (bound (walk_plan script)) (walk_plan script) start shut) ∙ so
 
 -- ---- only a Take raises the rows
-land-rows : (ticks : ℕ) (due : Option ℕ) (s next : Counts) → next.rows ≡ s.rows → (land_due ticks due s next).counts.rows ≡ s.rows
+land-rows : (ticks : ℕ) (due : Option ℕ) (s next : Counts) → next.rows ≡ s.rows →
+    (land_due ticks due s next).counts.rows ≡ s.rows
 land-rows ticks None s next e = refl
 land-rows ticks (Some due) s next e = elim (cases_Bool (nat_lt ticks due)) [ inl h ↦ rw h refl | inr h ↦ rw h e ]
 
 pub frame-rows : (script : Script) (s : Counts) → (counts_after script s Accept).rows ≡ s.rows
-frame-rows script s = land-rows s.ticks (slice_get (frame_dues (walk_plan script).items) s.frames) s (record s { frames = s.frames + 1 }) refl
+frame-rows script s = land-rows s.ticks (slice_get (frame_dues (walk_plan script).items) s.frames) s
+    (record s { frames = s.frames + 1 }) refl
 
 pub command-rows : (script : Script) (s : Counts) → (counts_after script s Command).rows ≡ s.rows
-command-rows script s = land-rows s.ticks (slice_get (command_dues (walk_plan script).items) s.commands) s (record s { commands = s.commands + 1 }) refl
+command-rows script s = land-rows s.ticks (slice_get (command_dues (walk_plan script).items) s.commands) s
+    (record s { commands = s.commands + 1 }) refl
 
 back-rows : (s : Counts) → (back s).counts.rows ≡ s.rows
 back-rows s = elim (cases_Bool (nat_le (in_return s) 0)) [ inl h ↦ rw h refl | inr h ↦ rw h refl ]
@@ -205,7 +270,8 @@ tick-rows plan s =
       | inr h ↦ rw h (held-rows (held s.ticks s.frames s.commands 0 plan.items) plan s)
     ]
 
-carried-rows : (plan : Plan) (s : Counts) (m : ℕ) (path : Option LinePath) (line : Option LineCounts) → (carry_at plan s m path line).counts.rows ≡ s.rows
+carried-rows : (plan : Plan) (s : Counts) (m : ℕ) (path : Option LinePath) (line : Option LineCounts) →
+    (carry_at plan s m path line).counts.rows ≡ s.rows
 carried-rows plan s m None line = refl
 carried-rows plan s m (Some path) None = refl
 carried-rows plan s m (Some path) (Some line) =
@@ -213,14 +279,16 @@ carried-rows plan s m (Some path) (Some line) =
       | inl a ↦ rw a refl
       | inr a ↦ rw a (elim (cases_Bool (nat_lt line.carried plan.ticks && nat_le (in_send plan.ticks s.ticks line) 0)) [
         | inl b ↦ rw b refl
-        | inr b ↦ rw b (elim (cases_Bool (nat_le plan.ring (in_receive path line))) [ inl d ↦ rw d refl | inr d ↦ rw d refl ])
+        | inr b ↦ rw b (elim (cases_Bool (nat_le plan.ring (in_receive path line)))
+            [ inl d ↦ rw d refl | inr d ↦ rw d refl ])
       ])
     ]
 
 pub carry-rows : (script : Script) (s : Counts) (m : ℕ) → (counts_after script s (Carry m)).rows ≡ s.rows
 carry-rows script s m = carried-rows (walk_plan script) s m (slice_get (walk_plan script).paths m) (slice_get s.lines m)
 
-popped-rise : (s : Counts) (lines : List LineCounts) (waiting : Option ℕ) → s.rows ≤ (take_popped s lines waiting).counts.rows
+popped-rise : (s : Counts) (lines : List LineCounts) (waiting : Option ℕ) →
+    s.rows ≤ (take_popped s lines waiting).counts.rows
 popped-rise s lines (Some line) = omega arith
 popped-rise s lines None = omega arith
 
@@ -230,7 +298,8 @@ take-rises plan s =
       | inl a ↦ rw a (omega arith)
       | inr a ↦ rw a (elim (cases_Bool (is_back_full s)) [
         | inl b ↦ rw b (omega arith)
-        | inr b ↦ rw b (popped-rise s (pop_lines s.rows 0 plan.paths s.lines).lines (pop_lines s.rows 0 plan.paths s.lines).waiting)
+        | inr b ↦ rw b (popped-rise s (pop_lines s.rows 0 plan.paths s.lines).lines
+            (pop_lines s.rows 0 plan.paths s.lines).waiting)
       ])
     ]
 
@@ -239,24 +308,31 @@ drop-append : {X : Type 0} (xs ys : List X) → drop (length xs) (xs ++ ys) ≡ 
 drop-append [] ys = refl
 drop-append (x ∷ xs) ys = drop-append xs ys
 
-since : (script : Script) (n more : ℕ) → n ≤ more → delivered_of script more ≡ delivered_of script n ++ delivered_since script n more
+since : (script : Script) (n more : ℕ) → n ≤ more →
+    delivered_of script more ≡ delivered_of script n ++ delivered_since script n more
 since script n more low =
     let e : n + (more - n) ≡ more = omega (arith, low) in
-    ap (delivered_of script) (sym e) ∙ frames-grow script n (more - n) ∙ ap (λ k. delivered_of script n ++ delivered_since script n k) e
+    ap (delivered_of script) (sym e) ∙ frames-grow script n (more - n)
+    ∙ ap (λ k. delivered_of script n ++ delivered_since script n k) e
 
-pub since-then : (script : Script) (a b d : ℕ) → a ≤ b → b ≤ d → delivered_since script a d ≡ delivered_since script a b ++ delivered_since script b d
+pub since-then : (script : Script) (a b d : ℕ) → a ≤ b → b ≤ d →
+    delivered_since script a d ≡ delivered_since script a b ++ delivered_since script b d
 since-then script a b d low high =
-    ap (drop (length (delivered_of script a))) (since script b d high ∙ ap (λ xs. xs ++ delivered_since script b d) (since script a b low)
+    ap (drop (length (delivered_of script a)))
+    (since script b d high ∙ ap (λ xs. xs ++ delivered_since script b d) (since script a b low)
     ∙ append_assoc (delivered_of script a) (delivered_since script a b) (delivered_since script b d))
     ∙ drop-append (delivered_of script a) (delivered_since script a b ++ delivered_since script b d)
 
 pub since-none : (script : Script) (a : ℕ) → delivered_since script a a ≡ []
-since-none script a = ap (drop (length (delivered_of script a))) (sym (append-nil (delivered_of script a))) ∙ drop-append (delivered_of script a) []
+since-none script a = ap (drop (length (delivered_of script a))) (sym (append-nil (delivered_of script a)))
+    ∙ drop-append (delivered_of script a) []
 
 -- ---- the rows and the scripts of a round
-pub round-rows : (script : Script) (a b t m r e s : Counts) → a.rows ≡ s.rows → b.rows ≡ a.rows → t ≡ counts_after script b Tick → m.rows ≡ t.rows → r ≡ counts_after script m Back → r.rows ≡ s.rows
+pub round-rows : (script : Script) (a b t m r e s : Counts) → a.rows ≡ s.rows → b.rows ≡ a.rows →
+    t ≡ counts_after script b Tick → m.rows ≡ t.rows → r ≡ counts_after script m Back → r.rows ≡ s.rows
 round-rows script a b t m r e s is_a is_b is_t is_m is_r =
-    ap (λ (x : Counts). x.rows) is_r ∙ back-rows m ∙ is_m ∙ ap (λ (x : Counts). x.rows) is_t ∙ tick-rows (walk_plan script) b ∙ is_b ∙ is_a
+    ap (λ (x : Counts). x.rows) is_r ∙ back-rows m ∙ is_m ∙ ap (λ (x : Counts). x.rows) is_t
+    ∙ tick-rows (walk_plan script) b ∙ is_b ∙ is_a
 
 -- ---- no event takes rows back
 step-rises : (script : Script) (s : Counts) (event : Event) → s.rows ≤ (counts_after script s event).rows
@@ -275,17 +351,22 @@ run-rises script s (event ∷ events) =
     let rest = run-rises script (counts_after script s event) events in
     omega (arith, one, rest)
 
-pub all-taken : (script : Script) (s : Counts) → IsValid script → IsWalked script s → script.config.ticks ≤ s.rows → s.rows ≡ script.config.ticks
+pub all-taken : (script : Script) (s : Counts) → IsValid script → IsWalked script s → script.config.ticks ≤ s.rows →
+    s.rows ≡ script.config.ticks
 all-taken script s valid walked shut = let most = (walk-fits script s valid walked).rows in omega (arith, most, shut)
 
 -- ---- a place that is given the frames of rows
-pub gives-none : {Out : Type 0} (stands_for : Out → Start → List (List ℕ) → Type 0) (out : Out) (script : Script) (before rows : ℕ) → rows ≡ before → GivesRows stands_for out out script before rows
+pub gives-none : {Out : Type 0} (stands_for : Out → Start → List (List ℕ) → Type 0) (out : Out) (script : Script)
+    (before rows : ℕ) → rows ≡ before → GivesRows stands_for out out script before rows
 gives-none stands_for out script before rows same start given stands =
     let none = ap (delivered_since script before) same ∙ since-none script before in
     subst (stands_for out start) (sym (ap (λ more. given ++ more) none ∙ append-nil given)) stands
 
-pub gives-then : {Out : Type 0} (stands_for : Out → Start → List (List ℕ) → Type 0) (was now next : Out) (script : Script) (a b d : ℕ) → a ≤ b → b ≤ d →
-    GivesRows stands_for was now script a b → GivesRows stands_for now next script b d → GivesRows stands_for was next script a d
+pub gives-then : {Out : Type 0} (stands_for : Out → Start → List (List ℕ) → Type 0) (was now next : Out)
+    (script : Script) (a b d : ℕ) → a ≤ b → b ≤ d →
+    GivesRows stands_for was now script a b → GivesRows stands_for now next script b d →
+    GivesRows stands_for was next script a d
 gives-then stands_for was now next script a b d low high first then_ start given stands =
-    let whole = append_assoc given (delivered_since script a b) (delivered_since script b d) ∙ ap (λ more. given ++ more) (sym (since-then script a b d low high)) in
+    let whole = append_assoc given (delivered_since script a b) (delivered_since script b d)
+    ∙ ap (λ more. given ++ more) (sym (since-then script a b d low high)) in
     subst (stands_for next start) whole (then_ start (given ++ delivered_since script a b) (first start given stands))

@@ -1,6 +1,8 @@
 -- What a Take pops, by the counts.
 use Rattle.std.specs.Prelude.{IsSome, ◌↔◌, is_some}
-use Rattle.std.proofs.Common.{◌≡◌, ℕ, zero, suc, ◌+◌, ◌-◌, ◌<◌, ◌≤◌, nat_le, Bool, true, false, inl, inr, List, [], ◌∷◌, map, take, length, slice_get, slice_set, Option, Some, None, is_none, refl, sym, ◌∙◌, ap, ap₂, subst, arith}
+use Rattle.std.proofs.Common.{◌≡◌, ℕ, zero, suc, ◌+◌, ◌-◌, ◌<◌, ◌≤◌, nat_le, Bool, true, false, inl, inr, List, [], ◌∷◌}
+use Rattle.std.proofs.Common.{map, take, length, slice_get, slice_set, Option, Some, None, is_none, refl, sym, ◌∙◌, ap}
+use Rattle.std.proofs.Common.{ap₂, subst, arith}
 use Rattle.std.specs.Prelude.{if◌then◌else◌}
 use Rattle.std.specs.List.{range_with_len}
 use Rattle.std.proofs.lemmas.Bool.{cases_Bool, cases_lt, cases_eq}
@@ -31,7 +33,8 @@ use Rattle.walk_core.specs.Take.{CanPop, HasPopped}
 use Rattle.walk_core.proofs.CarryLaws.{carries, numbers, map-get, map-set}
 
 -- the first cells of all that a line gives are those that some carries give, where these give as many
-first-cells : (script : Script) (line x y : ℕ) → x ≤ script.config.ticks + delay_on script line + 1 → y ≤ (path_on script line).given x →
+first-cells : (script : Script) (line x y : ℕ) → x ≤ script.config.ticks + delay_on script line + 1 →
+    y ≤ (path_on script line).given x →
     take y (line_cells script line) ≡ take y (cells_by script line x)
 first-cells script line x y low inside = line-first script line x y low inside
 
@@ -54,66 +57,91 @@ pop-again zero path t y = ap (λ n. pop n path t y) (let e : y + 0 - y ≡ 0 = o
 pop-again (suc k) path t y =
     elim (cases_lt t (path.decided y)) [
       | inl past ↦ rw (over (path.decided y) t past) (pop-shut (y + suc k - y) path t y past)
-      | inr open' ↦ rw (at-most (path.decided y) t open') (ap (λ n. pop (n - pop k path t (suc y)) path t (pop k path t (suc y))) (let e : y + suc k ≡ suc y + k = omega arith in e) ∙ pop-again k path t (suc y))
+      | inr open' ↦ rw (at-most (path.decided y) t open')
+          (ap (λ n. pop (n - pop k path t (suc y)) path t (pop k path t (suc y)))
+          (let e : y + suc k ≡ suc y + k = omega arith in e) ∙ pop-again k path t (suc y))
     ]
 
-popped-again : (path : LinePath) (t : ℕ) (line : LineCounts) → line.popped ≤ path.given line.carried → popped_line path t (popped_line path t line) ≡ popped_line path t line
+popped-again : (path : LinePath) (t : ℕ) (line : LineCounts) → line.popped ≤ path.given line.carried →
+    popped_line path t (popped_line path t line) ≡ popped_line path t line
 popped-again path t line pops =
     let k : ℕ = path.given line.carried - line.popped in
     let e : path.given line.carried ≡ line.popped + k = omega arith in
     ap (λ y. record { carried = line.carried; popped = y })
-    (ap (λ n. pop (n - pop (path.given line.carried - line.popped) path t line.popped) path t (pop (path.given line.carried - line.popped) path t line.popped)) e ∙ pop-again (path.given line.carried - line.popped) path t line.popped)
+    (ap (λ n. pop (n - pop (path.given line.carried - line.popped) path t line.popped) path t
+    (pop (path.given line.carried - line.popped) path t line.popped)) e
+    ∙ pop-again (path.given line.carried - line.popped) path t line.popped)
 
-popped-shut : (path : LinePath) (t : ℕ) (line : LineCounts) → t < path.decided line.popped → popped_line path t line ≡ line
-popped-shut path t line past = ap (λ y. record { carried = line.carried; popped = y }) (pop-shut (in_receive path line) path t line.popped past)
+popped-shut : (path : LinePath) (t : ℕ) (line : LineCounts) → t < path.decided line.popped →
+    popped_line path t line ≡ line
+popped-shut path t line past = ap (λ y. record { carried = line.carried; popped = y })
+    (pop-shut (in_receive path line) path t line.popped past)
 
 -- the lines before line m decide row t
 abbrev Ahead : ℕ → List LinePath → List LineCounts → ℕ → Type 0
-Ahead t paths lines m = (i : ℕ) (path : LinePath) → i < m → slice_get paths i ≡ Some path → t < path.decided (counts_at lines i).popped
+Ahead t paths lines m = (i : ℕ) (path : LinePath) → i < m → slice_get paths i ≡ Some path →
+    t < path.decided (counts_at lines i).popped
 
 -- one line, where it has been popped, and those after it
 abbrev turn : ℕ → ℕ → LinePath → List LinePath → List LineCounts → LineCounts → Popped
-turn t k path paths lines line = if nat_le (path.decided line.popped) t then record { lines = line ∷ lines; waiting = Some k } else with_line line (pop_lines t (suc k) paths lines)
+turn t k path paths lines line =
+    if nat_le (path.decided line.popped) t then record { lines = line ∷ lines; waiting = Some k } else with_line line
+    (pop_lines t (suc k) paths lines)
 
-turn-past : (t k : ℕ) (path : LinePath) (paths : List LinePath) (lines : List LineCounts) (line : LineCounts) → t < path.decided line.popped → turn t k path paths lines line ≡ with_line line (pop_lines t (suc k) paths lines)
+turn-past : (t k : ℕ) (path : LinePath) (paths : List LinePath) (lines : List LineCounts) (line : LineCounts) →
+    t < path.decided line.popped → turn t k path paths lines line ≡ with_line line (pop_lines t (suc k) paths lines)
 turn-past t k path paths lines line past = let e = over (path.decided line.popped) t past in rw e refl
 
-turn-open : (t k : ℕ) (path : LinePath) (paths : List LinePath) (lines : List LineCounts) (line : LineCounts) → path.decided line.popped ≤ t → turn t k path paths lines line ≡ record { lines = line ∷ lines; waiting = Some k }
+turn-open : (t k : ℕ) (path : LinePath) (paths : List LinePath) (lines : List LineCounts) (line : LineCounts) →
+    path.decided line.popped ≤ t → turn t k path paths lines line ≡ record { lines = line ∷ lines; waiting = Some k }
 turn-open t k path paths lines line open' = let e = at-most (path.decided line.popped) t open' in rw e refl
 
-shut-first : (t k : ℕ) (path : LinePath) (paths : List LinePath) (line : LineCounts) (lines : List LineCounts) → t < path.decided line.popped →
+shut-first : (t k : ℕ) (path : LinePath) (paths : List LinePath) (line : LineCounts) (lines : List LineCounts) →
+    t < path.decided line.popped →
     pop_lines t k (path ∷ paths) (line ∷ lines) ≡ with_line line (pop_lines t (suc k) paths lines)
 unfolding pop_lines
 shut-first t k path paths line lines past =
     ap (turn t k path paths lines) (popped-shut path t line past) ∙ turn-past t k path paths lines line past
 
-pops-all : (t k : ℕ) (paths : List LinePath) (lines : List LineCounts) → length lines ≡ length paths → Ahead t paths lines (length lines) → pop_lines t k paths lines ≡ record { lines = lines; waiting = None }
+pops-all : (t k : ℕ) (paths : List LinePath) (lines : List LineCounts) → length lines ≡ length paths →
+    Ahead t paths lines (length lines) → pop_lines t k paths lines ≡ record { lines = lines; waiting = None }
 unfolding pop_lines
 pops-all t k [] lines size ahead = refl
 pops-all t k (path ∷ paths) [] size ahead = absurd (omega (arith, size))
 pops-all t k (path ∷ paths) (line ∷ lines) size ahead =
     shut-first t k path paths line lines (ahead 0 path (omega arith) refl)
-    ∙ ap (with_line line) (pops-all t (suc k) paths lines (omega (arith, size)) (λ i p low e. ahead (suc i) p (omega (arith, low)) e))
+    ∙ ap (with_line line) (pops-all t (suc k) paths lines (omega (arith, size))
+    (λ i p low e. ahead (suc i) p (omega (arith, low)) e))
 
-pops-until : (t k m : ℕ) (paths : List LinePath) (lines : List LineCounts) (path : LinePath) (line : LineCounts) → slice_get paths m ≡ Some path → slice_get lines m ≡ Some line → Ahead t paths lines m →
-    popped_line path t line ≡ line → path.decided line.popped ≤ t → pop_lines t k paths lines ≡ record { lines = lines; waiting = Some (k + m) }
+pops-until : (t k m : ℕ) (paths : List LinePath) (lines : List LineCounts) (path : LinePath) (line : LineCounts) →
+    slice_get paths m ≡ Some path → slice_get lines m ≡ Some line → Ahead t paths lines m →
+    popped_line path t line ≡ line → path.decided line.popped ≤ t →
+    pop_lines t k paths lines ≡ record { lines = lines; waiting = Some (k + m) }
 unfolding pop_lines
 pops-until t k m [] lines path line has here ahead same open' = absurd cc
 pops-until t k m (p ∷ paths) [] path line has here ahead same open' = absurd cc
 pops-until t k zero (p ∷ paths) (l ∷ lines) path line has here ahead same open' =
     let a : p ≡ path = cc in
     let b : l ≡ line = cc in
-    let f : popped_line p t l ≡ l = subst (λ (x : LineCounts). popped_line p t x ≡ x) (sym b) (subst (λ x. popped_line x t line ≡ line) (sym a) same) in
-    let g : p.decided l.popped ≤ t = subst (λ (x : LineCounts). p.decided x.popped ≤ t) (sym b) (subst (λ (x : LinePath). x.decided line.popped ≤ t) (sym a) open') in
-    ap (turn t k p paths lines) f ∙ turn-open t k p paths lines l g ∙ ap (λ n. record { lines = l ∷ lines; waiting = Some n }) (let e : k ≡ k + 0 = omega arith in e)
+    let f : popped_line p t l ≡ l =
+    subst (λ (x : LineCounts). popped_line p t x ≡ x) (sym b)
+    (subst (λ x. popped_line x t line ≡ line) (sym a) same) in
+    let g : p.decided l.popped ≤ t =
+    subst (λ (x : LineCounts). p.decided x.popped ≤ t) (sym b)
+    (subst (λ (x : LinePath). x.decided line.popped ≤ t) (sym a) open') in
+    ap (turn t k p paths lines) f ∙ turn-open t k p paths lines l g
+    ∙ ap (λ n. record { lines = l ∷ lines; waiting = Some n }) (let e : k ≡ k + 0 = omega arith in e)
 pops-until t k (suc m) (p ∷ paths) (l ∷ lines) path line has here ahead same open' =
     shut-first t k p paths l lines (ahead 0 p (omega arith) refl)
-    ∙ ap (with_line l) (pops-until t (suc k) m paths lines path line has here (λ i x low e. ahead (suc i) x (omega (arith, low)) e) same open')
+    ∙ ap (with_line l) (pops-until t (suc k) m paths lines path line has here
+    (λ i x low e. ahead (suc i) x (omega (arith, low)) e) same open')
     ∙ ap (λ n. record { lines = l ∷ lines; waiting = Some n }) (let e : suc k + m ≡ k + suc m = omega arith in e)
 
 -- a line that was popped already changes nothing
-pops-set : (t k m : ℕ) (paths : List LinePath) (lines : List LineCounts) (path : LinePath) (line : LineCounts) → slice_get paths m ≡ Some path → slice_get lines m ≡ Some line → Ahead t paths lines m →
-    line.popped ≤ path.given line.carried → pop_lines t k paths (slice_set lines m (popped_line path t line)) ≡ pop_lines t k paths lines
+pops-set : (t k m : ℕ) (paths : List LinePath) (lines : List LineCounts) (path : LinePath) (line : LineCounts) →
+    slice_get paths m ≡ Some path → slice_get lines m ≡ Some line → Ahead t paths lines m →
+    line.popped ≤ path.given line.carried →
+    pop_lines t k paths (slice_set lines m (popped_line path t line)) ≡ pop_lines t k paths lines
 unfolding pop_lines
 pops-set t k m [] lines path line has here ahead fits = absurd cc
 pops-set t k m (p ∷ paths) [] path line has here ahead fits = absurd cc
@@ -121,12 +149,14 @@ pops-set t k zero (p ∷ paths) (l ∷ lines) path line has here ahead fits =
     let a : p ≡ path = cc in
     let b : l ≡ line = cc in
     let same : popped_line p t (popped_line path t line) ≡ popped_line p t l =
-    ap (λ x. popped_line x t (popped_line path t line)) a ∙ popped-again path t line fits ∙ ap₂ (λ x y. popped_line x t y) (sym a) (sym b) in
+    ap (λ x. popped_line x t (popped_line path t line)) a ∙ popped-again path t line fits
+    ∙ ap₂ (λ x y. popped_line x t y) (sym a) (sym b) in
     ap (turn t k p paths lines) same
 pops-set t k (suc m) (p ∷ paths) (l ∷ lines) path line has here ahead fits =
     let past = ahead 0 p (omega arith) refl in
     shut-first t k p paths l (slice_set lines m (popped_line path t line)) past
-    ∙ ap (with_line l) (pops-set t (suc k) m paths lines path line has here (λ i x low e. ahead (suc i) x (omega (arith, low)) e) fits)
+    ∙ ap (with_line l) (pops-set t (suc k) m paths lines path line has here
+    (λ i x low e. ahead (suc i) x (omega (arith, low)) e) fits)
     ∙ sym (shut-first t k p paths l lines past)
 
 -- ---- the cells that were popped
@@ -135,33 +165,45 @@ set-at [] m x low = absurd (omega (arith, low))
 set-at (l ∷ lines) zero x low = refl
 set-at (l ∷ lines) (suc m) x low = set-at lines m x (omega (arith, low))
 
-set-beside : (lines : List LineCounts) (m k : ℕ) (x : LineCounts) → (k ≡ m → ⊥) → counts_at (slice_set lines m x) k ≡ counts_at lines k
+set-beside : (lines : List LineCounts) (m k : ℕ) (x : LineCounts) → (k ≡ m → ⊥) →
+    counts_at (slice_set lines m x) k ≡ counts_at lines k
 set-beside [] m k x apart = refl
 set-beside (l ∷ lines) zero zero x apart = absurd (apart refl)
 set-beside (l ∷ lines) zero (suc k) x apart = refl
 set-beside (l ∷ lines) (suc m) zero x apart = refl
 set-beside (l ∷ lines) (suc m) (suc k) x apart = set-beside lines m k x (λ e. apart (ap suc e))
 
-map-beside : {X : Type 0} (f g : ℕ → X) (from n : ℕ) → ((k : ℕ) → from ≤ k → g k ≡ f k) → map g (range_with_len from n) ≡ map f (range_with_len from n)
+map-beside : {X : Type 0} (f g : ℕ → X) (from n : ℕ) → ((k : ℕ) → from ≤ k → g k ≡ f k) →
+    map g (range_with_len from n) ≡ map f (range_with_len from n)
 map-beside f g from zero same = refl
-map-beside f g from (suc n) same = ap₂ (λ x xs. x ∷ xs) (same from (omega arith)) (map-beside f g (from + 1) n (λ k low. same k (omega (arith, low))))
+map-beside f g from (suc n) same =
+    ap₂ (λ x xs. x ∷ xs) (same from (omega arith)) (map-beside f g (from + 1) n (λ k low. same k (omega (arith, low))))
 
-map-one : {X : Type 0} (f g : ℕ → X) (from n m : ℕ) (x : X) → m < n → g (from + m) ≡ x → ((k : ℕ) → (k ≡ from + m → ⊥) → g k ≡ f k) →
+map-one : {X : Type 0} (f g : ℕ → X) (from n m : ℕ) (x : X) → m < n → g (from + m) ≡ x →
+    ((k : ℕ) → (k ≡ from + m → ⊥) → g k ≡ f k) →
     map g (range_with_len from n) ≡ slice_set (map f (range_with_len from n)) m x
 map-one f g from zero m x low here beside = absurd (omega (arith, low))
 map-one f g from (suc n) zero x low here beside =
-    ap₂ (λ y ys. y ∷ ys) (ap g (let e : from ≡ from + 0 = omega arith in e) ∙ here) (map-beside f g (from + 1) n (λ k high. beside k (λ e. omega (arith, high, e))))
+    ap₂ (λ y ys. y ∷ ys) (ap g (let e : from ≡ from + 0 = omega arith in e) ∙ here)
+    (map-beside f g (from + 1) n (λ k high. beside k (λ e. omega (arith, high, e))))
 map-one f g from (suc n) (suc m) x low here beside =
     let e : from + 1 + m ≡ from + suc m = omega arith in
-    ap₂ (λ y ys. y ∷ ys) (beside from (λ e. omega (arith, e))) (map-one f g (from + 1) n m x (omega (arith, low)) (ap g e ∙ here) (λ k apart. beside k (λ same. apart (same ∙ sym e))))
+    ap₂ (λ y ys. y ∷ ys) (beside from (λ e. omega (arith, e)))
+    (map-one f g (from + 1) n m x (omega (arith, low)) (ap g e ∙ here)
+    (λ k apart. beside k (λ same. apart (same ∙ sym e))))
 
-cells-set : (script : Script) (lines : List LineCounts) (m : ℕ) (x : LineCounts) → m < length lines → m < length script.config.windows →
-    popped_cells script (slice_set lines m x) ≡ slice_set (popped_cells script lines) m (take x.popped (line_cells script m))
+cells-set : (script : Script) (lines : List LineCounts) (m : ℕ) (x : LineCounts) → m < length lines →
+    m < length script.config.windows →
+    popped_cells script (slice_set lines m x) ≡ slice_set (popped_cells script lines) m
+    (take x.popped (line_cells script m))
 cells-set script lines m x low inside =
     let e : 0 + m ≡ m = omega arith in
-    map-one (popped_on script lines) (popped_on script (slice_set lines m x)) 0 (length script.config.windows) m (take x.popped (line_cells script m)) inside
-    (ap (popped_on script (slice_set lines m x)) e ∙ ap (λ (l : LineCounts). take l.popped (line_cells script m)) (set-at lines m x low))
-    (λ k apart. ap (λ (l : LineCounts). take l.popped (line_cells script k)) (set-beside lines m k x (λ same. apart (same ∙ sym e))))
+    map-one (popped_on script lines) (popped_on script (slice_set lines m x)) 0 (length script.config.windows) m
+    (take x.popped (line_cells script m)) inside
+    (ap (popped_on script (slice_set lines m x)) e
+    ∙ ap (λ (l : LineCounts). take l.popped (line_cells script m)) (set-at lines m x low))
+    (λ k apart. ap (λ (l : LineCounts). take l.popped (line_cells script k))
+    (set-beside lines m k x (λ same. apart (same ∙ sym e))))
 
 -- ---- a line that is popped
 to-none : (v : Option (Option Container)) (decided t : ℕ) → (IsSome v ↔ (t < decided)) → is_none v ≡ nat_le decided t
@@ -189,13 +231,16 @@ until-below (suc k) is_open y =
       | inr e ↦ rw e (omega arith)
     ]
 
-until-pops : (given k : ℕ) (is_open : ℕ → Bool) (path : LinePath) (t y : ℕ) → y + k ≤ given → ((z : ℕ) → z ≤ given → is_open z ≡ nat_le (path.decided z) t) → popped_until k is_open y ≡ pop k path t y
+until-pops : (given k : ℕ) (is_open : ℕ → Bool) (path : LinePath) (t y : ℕ) → y + k ≤ given →
+    ((z : ℕ) → z ≤ given → is_open z ≡ nat_le (path.decided z) t) → popped_until k is_open y ≡ pop k path t y
 unfolding popped_until pop
 until-pops given zero is_open path t y low same = refl
 until-pops given (suc k) is_open path t y low same =
-    ap₂ (λ b z. if b then z else y) (same y (omega (arith, low))) (until-pops given k is_open path t (suc y) (omega (arith, low)) same)
+    ap₂ (λ b z. if b then z else y) (same y (omega (arith, low)))
+    (until-pops given k is_open path t (suc y) (omega (arith, low)) same)
 
-pub counts-at : (lines : List LineCounts) (m : ℕ) (line : LineCounts) → slice_get lines m ≡ Some line → counts_at lines m ≡ line
+pub counts-at : (lines : List LineCounts) (m : ℕ) (line : LineCounts) → slice_get lines m ≡ Some line →
+    counts_at lines m ≡ line
 counts-at [] m line e = absurd cc
 counts-at (x ∷ lines) zero line e = cc
 counts-at (x ∷ lines) (suc m) line e = counts-at lines m line e
@@ -204,30 +249,36 @@ counts-at (x ∷ lines) (suc m) line e = counts-at lines m line e
 pub record Popping (script : Script) (was now : List Ringed) (rows : Gather) (m : ℕ) : Type 0 where
   pub can : CanPop script now rows
   pub before : AreDecidedBefore script (map line_counts now) m rows.rows
-  pub same : pop_lines rows.rows 0 (walk_plan script).paths (map line_counts now) ≡ pop_lines rows.rows 0 (walk_plan script).paths (map line_counts was)
+  pub same : pop_lines rows.rows 0 (walk_plan script).paths (map line_counts now) ≡ pop_lines rows.rows 0
+      (walk_plan script).paths (map line_counts was)
 
-pub popping-none : (script : Script) (lines : List Ringed) (rows : Gather) → CanPop script lines rows → Popping script lines lines rows 0
+pub popping-none : (script : Script) (lines : List Ringed) (rows : Gather) → CanPop script lines rows →
+    Popping script lines lines rows 0
 popping-none script lines rows can = record { can = can; before = λ i low. absurd (omega (arith, low)); same = refl }
 
 some-path : (a b : LinePath) → Some a ≡ Some b → a ≡ b
 some-path a b e = cc
 
-ahead-of : (script : Script) → CanWalk script → (t m : ℕ) (lines : List LineCounts) → AreDecidedBefore script lines m t → Ahead t (walk_plan script).paths lines m
+ahead-of : (script : Script) → CanWalk script → (t m : ℕ) (lines : List LineCounts) →
+    AreDecidedBefore script lines m t → Ahead t (walk_plan script).paths lines m
 ahead-of script can t m lines before i path low e =
     let count = has-paths script can in
     let inside = slice_get_within (walk_plan script).paths i path e in
-    let same : path_on script i ≡ path = some-path (path_on script i) path (sym (line-path script can i (omega (arith, inside, count))) ∙ e) in
+    let same : path_on script i ≡ path =
+    some-path (path_on script i) path (sym (line-path script can i (omega (arith, inside, count))) ∙ e) in
     subst (λ (p : LinePath). t < p.decided (counts_at lines i).popped) same (before i low)
 
 -- all lines decide the next row
-pub popping-all : (script : Script) (was now : List Ringed) (rows : Gather) (m : ℕ) → length now ≤ m → Popping script was now rows m → HasPopped script was now rows None
+pub popping-all : (script : Script) (was now : List Ringed) (rows : Gather) (m : ℕ) → length now ≤ m →
+    Popping script was now rows m → HasPopped script was now rows None
 popping-all script was now rows m past has =
     let paths = (walk_plan script).paths in
     let count = has-paths script has.can.can in
     let size = has.can.size in
     let long = length-map now line_counts in
     let all = pops-all rows.rows 0 paths (map line_counts now) (omega (arith, count, size, long))
-    (ahead-of script has.can.can rows.rows (length (map line_counts now)) (map line_counts now) (λ i low. has.before i (omega (arith, low, long, past)))) in
+    (ahead-of script has.can.can rows.rows (length (map line_counts now)) (map line_counts now)
+    (λ i low. has.before i (omega (arith, low, long, past)))) in
     record {
       lines = has.can.lines;
       counts = sym (ap (λ (p : Popped). p.lines) all) ∙ ap (λ (p : Popped). p.lines) has.same;
@@ -235,7 +286,8 @@ popping-all script was now rows m past has =
       gathers = has.can.gathers;
     }
 
-module _ (script : Script) (was now : List Ringed) (rows : Gather) (m : ℕ) (has : Popping script was now rows m) (line : Ringed) (there : slice_get now m ≡ Some line) where
+module _ (script : Script) (was now : List Ringed) (rows : Gather) (m : ℕ) (has : Popping script was now rows m)
+    (line : Ringed) (there : slice_get now m ≡ Some line) where
   inside : m < length script.config.windows
   inside = let low = slice_get_within now m line there in let size = has.can.size in omega (arith, low, size)
 
@@ -246,7 +298,8 @@ module _ (script : Script) (was now : List Ringed) (rows : Gather) (m : ℕ) (ha
   here = map-get line_counts now m line there
 
   path-is : path_cells (calls_on script m line.carried) ≡ cells_by script m line.carried
-  path-is = ap (λ k. cells (carried_by (scenario_of script) m) (delay_on script m) script.config.ticks (taken_by script m line.carried) k) (carries script m line.carried) ∙ taken-cells script m line.carried
+  path-is = ap (λ k. cells (carried_by (scenario_of script) m) (delay_on script m) script.config.ticks
+      (taken_by script m line.carried) k) (carries script m line.carried) ∙ taken-cells script m line.carried
 
   pops-low : line.popped ≤ line.given
   pops-low = has.can.pops m line there
@@ -255,37 +308,52 @@ module _ (script : Script) (was now : List Ringed) (rows : Gather) (m : ℕ) (ha
   given-is = (numbers script m line (has.can.lines.each m line there)).given
 
   first : (y : ℕ) → y ≤ line.given → take y (path_cells (calls_on script m line.carried)) ≡ take y (line_cells script m)
-  first y low = ap (take y) path-is ∙ sym (first-cells script m line.carried y (has.can.carries m line there) (subst (λ n. y ≤ n) given-is low))
+  first y low = ap (take y) path-is
+      ∙ sym (first-cells script m line.carried y (has.can.carries m line there) (subst (λ n. y ≤ n) given-is low))
 
-  open-is : (y : ℕ) → y ≤ line.given → leaves_open (path_cells (calls_on script m line.carried)) rows.rows y ≡ nat_le ((path_on script m).decided y) rows.rows
+  open-is : (y : ℕ) → y ≤ line.given →
+      leaves_open (path_cells (calls_on script m line.carried)) rows.rows y ≡ nat_le
+      ((path_on script m).decided y) rows.rows
   open-is y low =
       ap (λ own. is_none (verdict own rows.rows)) (first y low)
-      ∙ to-none (verdict (take y (line_cells script m)) rows.rows) ((path_on script m).decided y) rows.rows (popped-decides script m y rows.rows has.can.row)
+      ∙ to-none (verdict (take y (line_cells script m)) rows.rows) ((path_on script m).decided y) rows.rows
+      (popped-decides script m y rows.rows has.can.row)
 
   pub is-next : IsNext line (calls_on script m line.carried) rows (popped_cells script (map line_counts now)) m
   is-next = record {
     has = own.has;
     gathers = has.can.gathers;
-    own = map-get (popped_on script (map line_counts now)) (range_with_len 0 (length script.config.windows)) m m (range-at 0 (length script.config.windows) m inside ∙ ap Some (let e : 0 + m ≡ m = omega arith in e))
-        ∙ ap Some (ap (λ (l : LineCounts). take l.popped (line_cells script m)) (counts-at (map line_counts now) m (line_counts line) here) ∙ sym (first line.popped pops-low));
+    own = map-get (popped_on script (map line_counts now)) (range_with_len 0 (length script.config.windows)) m m
+        (range-at 0 (length script.config.windows) m inside ∙ ap Some (let e : 0 + m ≡ m = omega arith in e))
+        ∙ ap Some (ap (λ (l : LineCounts). take l.popped (line_cells script m))
+        (counts-at (map line_counts now) m (line_counts line) here) ∙ sym (first line.popped pops-low));
     before = λ i other low e.
         let within = inside in
         let near : i < length script.config.windows = omega (arith, low, within) in
-        let cell = map-get (popped_on script (map line_counts now)) (range_with_len 0 (length script.config.windows)) i i (range-at 0 (length script.config.windows) i near ∙ ap Some (let z : 0 + i ≡ i = omega arith in z)) in
-        let same : popped_on script (map line_counts now) i ≡ other = some-cells (popped_on script (map line_counts now) i) other (sym cell ∙ e) in
-        subst (λ (own : List Cell). IsSome (verdict own rows.rows)) same ((popped-decides script i (counts_at (map line_counts now) i).popped rows.rows has.can.row).1 (has.before i low));
+        let cell = map-get (popped_on script (map line_counts now)) (range_with_len 0 (length script.config.windows)) i
+        i (range-at 0 (length script.config.windows) i near ∙ ap Some (let z : 0 + i ≡ i = omega arith in z)) in
+        let same : popped_on script (map line_counts now) i ≡ other =
+        some-cells (popped_on script (map line_counts now) i) other (sym cell ∙ e) in
+        subst (λ (own : List Cell). IsSome (verdict own rows.rows)) same
+        ((popped-decides script i (counts_at (map line_counts now) i).popped rows.rows has.can.row).1
+        (has.before i low));
   }
     where
       some-cells : (a b : List Cell) → Some a ≡ Some b → a ≡ b
       some-cells a b e = cc
 
   module _ (after : Ringed) (rows' : Gather) (others : IsPopped line after) (row : rows'.rows ≡ rows.rows)
-      (popped : after.popped ≡ popped_until (line.given - line.popped) (λ y. leaves_open (path_cells (calls_on script m line.carried)) rows.rows y) line.popped)
+      (popped : after.popped ≡ popped_until (line.given - line.popped)
+      (λ y. leaves_open (path_cells (calls_on script m line.carried)) rows.rows y) line.popped)
       (stays : Has after (calls_on script m line.carried))
-      (gathers : Gathers rows' (slice_set (popped_cells script (map line_counts now)) m (own_cells after (calls_on script m line.carried)))) where
-    popped-is : after.popped ≡ pop (in_receive (path_on script m) (line_counts line)) (path_on script m) rows.rows line.popped
+      (gathers : Gathers rows' (slice_set (popped_cells script (map line_counts now)) m
+      (own_cells after (calls_on script m line.carried)))) where
+    popped-is : after.popped ≡ pop (in_receive (path_on script m) (line_counts line))
+        (path_on script m) rows.rows line.popped
     popped-is =
-        popped ∙ until-pops line.given (line.given - line.popped) (λ y. leaves_open (path_cells (calls_on script m line.carried)) rows.rows y) (path_on script m) rows.rows line.popped (let p = pops-low in omega (arith, p)) open-is
+        popped ∙ until-pops line.given (line.given - line.popped)
+        (λ y. leaves_open (path_cells (calls_on script m line.carried)) rows.rows y)
+        (path_on script m) rows.rows line.popped (let p = pops-low in omega (arith, p)) open-is
         ∙ ap (λ n. pop (n - line.popped) (path_on script m) rows.rows line.popped) given-is
 
     carried-is : after.carried ≡ line.carried
@@ -295,7 +363,8 @@ module _ (script : Script) (was now : List Ringed) (rows : Gather) (m : ℕ) (ha
     counts-are = ap₂ (λ x y. record { carried = x; popped = y }) carried-is popped-is
 
     after-low : after.popped ≤ line.given
-    after-low = let p = pops-low in let h = until-below (line.given - line.popped) (λ y. leaves_open (path_cells (calls_on script m line.carried)) rows.rows y) line.popped in omega (arith, p, h, popped)
+    after-low = let p = pops-low in
+        let h = until-below (line.given - line.popped) (λ y. leaves_open (path_cells (calls_on script m line.carried)) rows.rows y) line.popped in omega (arith, p, h, popped)
 
     has-path : slice_get (walk_plan script).paths m ≡ Some (path_on script m)
     has-path = line-path script has.can.can m inside
@@ -312,22 +381,31 @@ module _ (script : Script) (was now : List Ringed) (rows : Gather) (m : ℕ) (ha
       lines = record {
         size = length-slice_set now m after ∙ has.can.lines.size;
         each = λ k other e. elim (cases_eq k m) [
-          | inl same ↦ subst (HasLine script k) (sym (set-here now m after other (subst (λ j. slice_get (slice_set now m after) j ≡ Some other) same e))) (subst (λ j. HasLine script j after) (sym same) has-after)
+          | inl same ↦ subst (HasLine script k)
+              (sym (set-here now m after other (subst (λ j. slice_get (slice_set now m after) j ≡ Some other) same e)))
+              (subst (λ j. HasLine script j after) (sym same) has-after)
           | inr apart ↦ has.can.lines.each k other (sym (slice_get-set_other now m k after apart) ∙ e)
         ];
       };
       size = length-slice_set now m after ∙ has.can.size;
       pops = λ k other e. elim (cases_eq k m) [
-        | inl same ↦ subst (λ (l : Ringed). l.popped ≤ l.given) (sym (set-here now m after other (subst (λ j. slice_get (slice_set now m after) j ≡ Some other) same e))) (subst (λ n. after.popped ≤ n) (sym others.given) after-low)
+        | inl same ↦ subst (λ (l : Ringed). l.popped ≤ l.given)
+            (sym (set-here now m after other (subst (λ j. slice_get (slice_set now m after) j ≡ Some other) same e)))
+            (subst (λ n. after.popped ≤ n) (sym others.given) after-low)
         | inr apart ↦ has.can.pops k other (sym (slice_get-set_other now m k after apart) ∙ e)
       ];
       carries = λ k other e. elim (cases_eq k m) [
-        | inl same ↦ subst (λ (l : Ringed). l.carried ≤ script.config.ticks + delay_on script k + 1) (sym (set-here now m after other (subst (λ j. slice_get (slice_set now m after) j ≡ Some other) same e)))
-            (subst (λ j. after.carried ≤ script.config.ticks + delay_on script j + 1) (sym same) (subst (λ n. n ≤ script.config.ticks + delay_on script m + 1) (sym carried-is) (has.can.carries m line there)))
+        | inl same ↦ subst (λ (l : Ringed). l.carried ≤ script.config.ticks + delay_on script k + 1)
+            (sym (set-here now m after other (subst (λ j. slice_get (slice_set now m after) j ≡ Some other) same e)))
+            (subst (λ j. after.carried ≤ script.config.ticks + delay_on script j + 1) (sym same)
+            (subst (λ n. n ≤ script.config.ticks + delay_on script m + 1) (sym carried-is)
+            (has.can.carries m line there)))
         | inr apart ↦ has.can.carries k other (sym (slice_get-set_other now m k after apart) ∙ e)
       ];
       row = subst (λ t. t < script.config.ticks) (sym row) has.can.row;
-      gathers = subst (Gathers rows') (sym (ap (popped_cells script) set-is ∙ cells-set script (map line_counts now) m (line_counts after) long inside
+      gathers = subst (Gathers rows')
+          (sym (ap (popped_cells script) set-is
+          ∙ cells-set script (map line_counts now) m (line_counts after) long inside
           ∙ ap (slice_set (popped_cells script (map line_counts now)) m) (sym (first after.popped after-low)))) gathers;
     }
       where
@@ -337,39 +415,52 @@ module _ (script : Script) (was now : List Ringed) (rows : Gather) (m : ℕ) (ha
           ring = ap length others.signs ∙ own.ring;
         }
 
-    popped-same : pop_lines rows'.rows 0 (walk_plan script).paths (map line_counts (slice_set now m after)) ≡ pop_lines rows'.rows 0 (walk_plan script).paths (map line_counts was)
+    popped-same : pop_lines rows'.rows 0 (walk_plan script).paths (map line_counts (slice_set now m after))
+        ≡ pop_lines rows'.rows 0 (walk_plan script).paths (map line_counts was)
     popped-same =
-        ap₂ (λ t lines. pop_lines t 0 (walk_plan script).paths lines) row (set-is ∙ ap (slice_set (map line_counts now) m) counts-are)
-        ∙ pops-set rows.rows 0 m (walk_plan script).paths (map line_counts now) (path_on script m) (line_counts line) has-path here (ahead-of script has.can.can rows.rows m (map line_counts now) has.before) (subst (λ n. line.popped ≤ n) given-is pops-low)
+        ap₂ (λ t lines. pop_lines t 0 (walk_plan script).paths lines) row
+        (set-is ∙ ap (slice_set (map line_counts now) m) counts-are)
+        ∙ pops-set rows.rows 0 m (walk_plan script).paths (map line_counts now) (path_on script m)
+        (line_counts line) has-path here (ahead-of script has.can.can rows.rows m (map line_counts now) has.before)
+        (subst (λ n. line.popped ≤ n) given-is pops-low)
         ∙ has.same ∙ ap (λ t. pop_lines t 0 (walk_plan script).paths (map line_counts was)) (sym row)
 
     before-is : AreDecidedBefore script (map line_counts (slice_set now m after)) m rows'.rows
     before-is i low =
-        subst (λ t. t < (path_on script i).decided (counts_at (map line_counts (slice_set now m after)) i).popped) (sym row)
+        subst (λ t. t < (path_on script i).decided (counts_at (map line_counts (slice_set now m after)) i).popped)
+        (sym row)
         (subst (λ (l : LineCounts). rows.rows < (path_on script i).decided l.popped)
-        (sym (ap (λ lines. counts_at lines i) set-is ∙ set-beside (map line_counts now) m i (line_counts after) (λ e. omega (arith, e, low)))) (has.before i low))
+        (sym (ap (λ lines. counts_at lines i) set-is
+        ∙ set-beside (map line_counts now) m i (line_counts after) (λ e. omega (arith, e, low))))
+        (has.before i low))
 
     at-after : counts_at (map line_counts (slice_set now m after)) m ≡ line_counts after
     at-after = ap (λ lines. counts_at lines m) set-is ∙ set-at (map line_counts now) m (line_counts after) long
 
-    decided-by : IsSome (verdict (own_cells after (calls_on script m line.carried)) rows.rows) ↔ (rows.rows < (path_on script m).decided after.popped)
-    decided-by = subst (λ (own : List Cell). IsSome (verdict own rows.rows) ↔ (rows.rows < (path_on script m).decided after.popped)) (sym (first after.popped after-low)) (popped-decides script m after.popped rows.rows has.can.row)
+    decided-by : IsSome (verdict (own_cells after (calls_on script m line.carried)) rows.rows) ↔
+        (rows.rows < (path_on script m).decided after.popped)
+    decided-by = subst (λ (own : List Cell). IsSome (verdict own rows.rows) ↔
+        (rows.rows < (path_on script m).decided after.popped)) (sym (first after.popped after-low))
+        (popped-decides script m after.popped rows.rows has.can.row)
 
-    pub popping-next : true ≡ is_some (verdict (own_cells after (calls_on script m line.carried)) rows.rows) → Popping script was (slice_set now m after) rows' (m + 1)
+    pub popping-next : true ≡ is_some (verdict (own_cells after (calls_on script m line.carried)) rows.rows) →
+        Popping script was (slice_set now m after) rows' (m + 1)
     popping-next told = record {
       can = popped-can;
       before = λ i low. elim (cases_lt i m) [
         | inl less ↦ before-is i less
         | inr least ↦
             let same : i ≡ m = omega (arith, low, least) in
-            subst (λ k. rows'.rows < (path_on script k).decided (counts_at (map line_counts (slice_set now m after)) k).popped) (sym same)
+            subst (λ k. rows'.rows < (path_on script k).decided
+            (counts_at (map line_counts (slice_set now m after)) k).popped) (sym same)
             (subst (λ (l : LineCounts). rows'.rows < (path_on script m).decided l.popped) (sym at-after)
             (subst (λ t. t < (path_on script m).decided after.popped) (sym row) (decided-by.0 (to-some _ (sym told)))))
       ];
       same = popped-same;
     }
 
-    pub popping-waits : false ≡ is_some (verdict (own_cells after (calls_on script m line.carried)) rows.rows) → HasPopped script was (slice_set now m after) rows' (Some m)
+    pub popping-waits : false ≡ is_some (verdict (own_cells after (calls_on script m line.carried)) rows.rows) →
+        HasPopped script was (slice_set now m after) rows' (Some m)
     popping-waits told =
         let low : (path_on script m).decided after.popped ≤ rows'.rows =
         elim (cases_lt rows.rows ((path_on script m).decided after.popped)) [
@@ -377,18 +468,25 @@ module _ (script : Script) (was now : List Ringed) (rows : Gather) (m : ℕ) (ha
           | inr open' ↦ subst (λ t. (path_on script m).decided after.popped ≤ t) (sym row) open'
         ] in
         let counts = map line_counts (slice_set now m after) in
-        let there' : slice_get counts m ≡ Some (line_counts after) = ap (λ lines. slice_get lines m) set-is ∙ get-set (map line_counts now) m (line_counts after) long in
+        let there' : slice_get counts m ≡ Some (line_counts after) = ap (λ lines. slice_get lines m) set-is
+        ∙ get-set (map line_counts now) m (line_counts after) long in
         let again : popped_line (path_on script m) rows'.rows (line_counts after) ≡ line_counts after =
-        ap₂ (λ t l. popped_line (path_on script m) t l) row counts-are ∙ popped-again (path_on script m) rows.rows (line_counts line) (subst (λ n. line.popped ≤ n) given-is pops-low) ∙ sym counts-are in
-        let all = pops-until rows'.rows 0 m (walk_plan script).paths counts (path_on script m) (line_counts after) has-path there' (ahead-of script has.can.can rows'.rows m counts before-is) again low in
+        ap₂ (λ t l. popped_line (path_on script m) t l) row counts-are
+        ∙ popped-again (path_on script m) rows.rows (line_counts line)
+        (subst (λ n. line.popped ≤ n) given-is pops-low) ∙ sym counts-are in
+        let all = pops-until rows'.rows 0 m (walk_plan script).paths counts (path_on script m)
+        (line_counts after) has-path there' (ahead-of script has.can.can rows'.rows m counts before-is) again
+        low in
         record {
           lines = popped-can.lines;
           counts = sym (ap (λ (p : Popped). p.lines) all) ∙ ap (λ (p : Popped). p.lines) popped-same;
-          waits = ap Some (let e : m ≡ 0 + m = omega arith in e) ∙ sym (ap (λ (p : Popped). p.waiting) all) ∙ ap (λ (p : Popped). p.waiting) popped-same;
+          waits = ap Some (let e : m ≡ 0 + m = omega arith in e) ∙ sym (ap (λ (p : Popped). p.waiting) all)
+              ∙ ap (λ (p : Popped). p.waiting) popped-same;
           gathers = popped-can.gathers;
         }
       where
-        get-set : (lines : List LineCounts) (m : ℕ) (x : LineCounts) → m < length lines → slice_get (slice_set lines m x) m ≡ Some x
+        get-set : (lines : List LineCounts) (m : ℕ) (x : LineCounts) → m < length lines →
+            slice_get (slice_set lines m x) m ≡ Some x
         get-set [] m x low = absurd (omega (arith, low))
         get-set (l ∷ lines) zero x low = refl
         get-set (l ∷ lines) (suc m) x low = get-set lines m x (omega (arith, low))

@@ -1,5 +1,7 @@
 -- A row is taken in a walk, or cells are popped and it waits.
-use Rattle.std.proofs.Common.{◌≡◌, ℕ, zero, suc, ◌+◌, ◌-◌, ◌%◌, ◌==◌, ◌&&◌, ◌<◌, ◌≤◌, min, nat_le, nat_lt, Bool, true, false, List, [], ◌∷◌, ◌++◌, take, drop, map, length, slice_get, Option, Some, None, refl, sym, ◌∙◌, ap, ap₂, subst, arith, ◌⊎◌, inl, inr}
+use Rattle.std.proofs.Common.{◌≡◌, ℕ, zero, suc, ◌+◌, ◌-◌, ◌%◌, ◌==◌, ◌&&◌, ◌<◌, ◌≤◌, min, nat_le, nat_lt, Bool, true}
+use Rattle.std.proofs.Common.{false, List, [], ◌∷◌, ◌++◌, take, drop, map, length, slice_get, Option, Some, None, refl}
+use Rattle.std.proofs.Common.{sym, ◌∙◌, ap, ap₂, subst, arith, ◌⊎◌, inl, inr}
 use Rattle.std.specs.Prelude.{IsTrue, ◌↔◌}
 use Rattle.std.specs.List.{range_with_len}
 use Rattle.std.proofs.lemmas.Bool.{cases_Bool, cases_lt, le-leb, lt-leb, leb-false}
@@ -14,7 +16,8 @@ use Rattle.session_model.specs.declared.walk.StallCause.{StallCause}
 use Rattle.session_model.specs.declared.walk.StallCause.TheVariants.{Done, BackFull, Waiting}
 use Rattle.session_model.specs.Scenario.{packets_in}
 use Rattle.session_model.specs.Rows.{first_open, return_at}
-use Rattle.session_model.specs.Counts.{LinePath, LineCounts, Plan, Counts, Step, step, moved, stalled, pop, popped_line, pop_lines, in_return, is_back_full, take_popped, take_row}
+use Rattle.session_model.specs.Counts.{LinePath, LineCounts, Plan, Counts, Step, step, moved, stalled, pop, popped_line}
+use Rattle.session_model.specs.Counts.{pop_lines, in_return, is_back_full, take_popped, take_row}
 use Rattle.progress_law.specs.Progress.{LineFits, Fits}
 use Rattle.terminal_law.proofs.ListLaws.{range-at}
 use Rattle.line_law.specs.StableRows.{IsLonger}
@@ -56,7 +59,8 @@ pop-more (suc k) path t y =
       | inr e ↦ rw e (omega arith)
     ]
 
-pops-more : (t k : ℕ) (paths : List LinePath) (lines : List LineCounts) (m : ℕ) → (counts_at lines m).popped ≤ (counts_at (pop_lines t k paths lines).lines m).popped
+pops-more : (t k : ℕ) (paths : List LinePath) (lines : List LineCounts) (m : ℕ) →
+    (counts_at lines m).popped ≤ (counts_at (pop_lines t k paths lines).lines m).popped
 unfolding pop_lines
 pops-more t k [] lines m = omega arith
 pops-more t k (path ∷ paths) [] m = omega arith
@@ -72,7 +76,8 @@ pops-more t k (path ∷ paths) (line ∷ lines) (suc m) =
       | inr e ↦ rw e (pops-more t (suc k) paths lines m)
     ]
 
-pops-carry : (t k : ℕ) (paths : List LinePath) (lines : List LineCounts) (m : ℕ) → (counts_at lines m).carried ≤ (counts_at (pop_lines t k paths lines).lines m).carried
+pops-carry : (t k : ℕ) (paths : List LinePath) (lines : List LineCounts) (m : ℕ) →
+    (counts_at lines m).carried ≤ (counts_at (pop_lines t k paths lines).lines m).carried
 unfolding pop_lines
 pops-carry t k [] lines m = omega arith
 pops-carry t k (path ∷ paths) [] m = omega arith
@@ -87,9 +92,12 @@ pops-carry t k (path ∷ paths) (line ∷ lines) (suc m) =
       | inr e ↦ rw e (pops-carry t (suc k) paths lines m)
     ]
 
-cells-longer : (script : Script) (before after : List LineCounts) → ((m : ℕ) → (counts_at before m).popped ≤ (counts_at after m).popped) → IsLonger (popped_cells script before) (popped_cells script after)
+cells-longer : (script : Script) (before after : List LineCounts) →
+    ((m : ℕ) → (counts_at before m).popped ≤ (counts_at after m).popped) →
+    IsLonger (popped_cells script before) (popped_cells script after)
 cells-longer script before after more = record {
-  size = length-map-range_with_len (popped_on script after) 0 (length script.config.windows) ∙ sym (length-map-range_with_len (popped_on script before) 0 (length script.config.windows));
+  size = length-map-range_with_len (popped_on script after) 0 (length script.config.windows)
+      ∙ sym (length-map-range_with_len (popped_on script before) 0 (length script.config.windows));
   each = λ m own here.
       let n : ℕ = length script.config.windows in
       let y : ℕ = (counts_at before m).popped in
@@ -98,20 +106,25 @@ cells-longer script before after more = record {
       let size = length-map-range_with_len (popped_on script before) 0 (length script.config.windows) in
       let within = slice_get_within (popped_cells script before) m own here in
       let at = range-at 0 n m (omega (arith, size, within)) ∙ ap Some (let e : 0 + m ≡ m = omega arith in e) in
-      let is : take y all ≡ own = same-some (popped_on script before m) own (sym (map-get (popped_on script before) (range_with_len 0 n) m m at) ∙ here) in (
+      let is : take y all ≡ own = same-some (popped_on script before m) own
+      (sym (map-get (popped_on script before) (range_with_len 0 n) m m at) ∙ here) in (
         drop y (take z all),
         map-get (popped_on script after) (range_with_len 0 n) m m at
-            ∙ ap Some (sym (take-append-drop y (take z all)) ∙ ap (λ l. l ++ drop y (take z all)) (take-take y z all (more m) ∙ is)),
+            ∙ ap Some (sym (take-append-drop y (take z all))
+            ∙ ap (λ l. l ++ drop y (take z all)) (take-take y z all (more m) ∙ is)),
       );
 }
 
 -- ---- the cause of a stall
-cause-stalls : (plan : Plan) (s : Counts) (cause : StallCause) → Some cause ≡ take_cause plan.ticks s → take_row plan s ≡ stalled s cause
+cause-stalls : (plan : Plan) (s : Counts) (cause : StallCause) → Some cause ≡ take_cause plan.ticks s →
+    take_row plan s ≡ stalled s cause
 cause-stalls plan s cause e =
     elim (cases_Bool (nat_le plan.ticks s.rows)) [
-      | inl done ↦ rw done (ap (stalled s) (let f : Some cause ≡ Some Done = rw done at e in sym (same-some cause Done f)))
+      | inl done ↦ rw done (ap (stalled s)
+          (let f : Some cause ≡ Some Done = rw done at e in sym (same-some cause Done f)))
       | inr left ↦ elim (cases_Bool (is_back_full s)) [
-        | inl full ↦ rw (left, full) (ap (stalled s) (let f : Some cause ≡ Some BackFull = rw (left, full) at e in sym (same-some cause BackFull f)))
+        | inl full ↦ rw (left, full) (ap (stalled s)
+            (let f : Some cause ≡ Some BackFull = rw (left, full) at e in sym (same-some cause BackFull f)))
         | inr room ↦ absurd (let f : Some cause ≡ None = rw (left, room) at e in cc)
       ]
     ]
@@ -119,7 +132,8 @@ cause-stalls plan s cause e =
 record Goes (plan : Plan) (s : Counts) : Type 0 where
   left : s.rows < plan.ticks
   room : is_back_full s ≡ false
-  moves : take_row plan s ≡ take_popped s (pop_lines s.rows 0 plan.paths s.lines).lines (pop_lines s.rows 0 plan.paths s.lines).waiting
+  moves : take_row plan s ≡ take_popped s (pop_lines s.rows 0 plan.paths s.lines).lines
+      (pop_lines s.rows 0 plan.paths s.lines).waiting
 
 goes : (plan : Plan) (s : Counts) → None ≡ take_cause plan.ticks s → Goes plan s
 goes plan s e =
@@ -153,8 +167,10 @@ record IsSaid (script : Script) (s : Counts) (lines : List LineCounts) (packet :
   ring : return_ring script s ++ listed packet ≡ return_ring script (record s { lines = lines; rows = s.rows + 1 })
   room : in_return s + length (listed packet) ≤ 4
 
-said : (script : Script) (s : Counts) (lines : List LineCounts) (packet : Option Packet) → CanWalk script → IsWalked script (record s { lines = lines; rows = s.rows + 1 }) →
-    s.backs ≤ packets_in s.rows → packets_in s.rows ≤ s.backs + 4 → is_back_full s ≡ false → packet ≡ back_at (popped_cells script lines) s.rows → IsSaid script s lines packet
+said : (script : Script) (s : Counts) (lines : List LineCounts) (packet : Option Packet) → CanWalk script →
+    IsWalked script (record s { lines = lines; rows = s.rows + 1 }) →
+    s.backs ≤ packets_in s.rows → packets_in s.rows ≤ s.backs + 4 → is_back_full s ≡ false →
+    packet ≡ back_at (popped_cells script lines) s.rows → IsSaid script s lines packet
 said script s lines packet can walked low high room is =
     let next : Counts = record s { lines = lines; rows = s.rows + 1 } in
     elim (cases_Bool (nat_lt 22 s.rows && s.rows % 16 == 7)) [
@@ -168,7 +184,8 @@ said script s lines packet can walked low high room is =
           is ∙ rw ends (ap Some (ap (return_at (popped_cells script lines)) k ∙ told)) in
           let free = end-room s room ends in
           record {
-            ring = ap (λ p. return_ring script s ++ listed p) some ∙ sym (ring-says script s (s.rows + 1) low (packets-next s.rows ∙ rw ends refl));
+            ring = ap (λ p. return_ring script s ++ listed p) some
+                ∙ sym (ring-says script s (s.rows + 1) low (packets-next s.rows ∙ rw ends refl));
             room = subst (λ p. in_return s + length (listed p) ≤ 4) (sym some) (omega (arith, free));
           }
       | inr other ↦
@@ -185,7 +202,8 @@ received : IsReceived row_in
 received = record { whole = λ octets. refl; lost = refl }
 
 -- ---- of a walk
-module _ (script : Script) (parts : Parts) (landing : Landed) (got : ℕ) (last : Option StepNote) (is : IsWalk script parts landing got last) where
+module _ (script : Script) (parts : Parts) (landing : Landed) (got : ℕ) (last : Option StepNote)
+    (is : IsWalk script parts landing got last) where
   abbrev was : Counts
   was = counts_of parts landing
 
@@ -198,7 +216,9 @@ module _ (script : Script) (parts : Parts) (landing : Landed) (got : ℕ) (last 
   ring-is : length parts.back.ring ≡ in_return (counts_of parts landing)
   ring-is = ap length is.back.ring ∙ ring-size script was
 
-  line-at : (m : ℕ) (line : Ringed) → slice_get parts.lines m ≡ Some line → LineFits script.config.ticks script.config.ring parts.source.ticks parts.sink.taken (path_on script m) (line_counts line)
+  line-at : (m : ℕ) (line : Ringed) → slice_get parts.lines m ≡ Some line →
+      LineFits script.config.ticks script.config.ring parts.source.ticks parts.sink.taken (path_on script m)
+      (line_counts line)
   line-at m line there =
       let low = slice_get_within parts.lines m line there in
       let size = is.lines.size in
@@ -207,29 +227,35 @@ module _ (script : Script) (parts : Parts) (landing : Landed) (got : ℕ) (last 
       (counts-at (map line_counts parts.lines) m (line_counts line) (map-get line_counts parts.lines m line there))
       (line-fits script was can is.walked m (omega (arith, low, size, windows)))
 
-  pub full-is : (full : Bool) → (IsTrue full ↔ (length parts.back.ring ≡ 4)) → full ≡ nat_le 4 (in_return (counts_of parts landing))
-  full-is full same = full-by full (length parts.back.ring) (in_return was) same ring-is (let most = fits.returns in omega (arith, most))
+  pub full-is : (full : Bool) → (IsTrue full ↔ (length parts.back.ring ≡ 4)) →
+      full ≡ nat_le 4 (in_return (counts_of parts landing))
+  full-is full same = full-by full (length parts.back.ring) (in_return was) same ring-is
+      (let most = fits.returns in omega (arith, most))
 
-  pub cause-full : (row : ℕ) → row ≡ parts.sink.taken → row < script.config.ticks → true ≡ (nat_le 23 row && row % 16 == 7) → (IsTrue true ↔ (length parts.back.ring ≡ 4)) →
+  pub cause-full : (row : ℕ) → row ≡ parts.sink.taken → row < script.config.ticks →
+      true ≡ (nat_le 23 row && row % 16 == 7) → (IsTrue true ↔ (length parts.back.ring ≡ 4)) →
       Some BackFull ≡ take_cause script.config.ticks (counts_of parts landing)
   cause-full row at low ends full =
       let left = lt-leb script.config.ticks parts.sink.taken (subst (λ t. t < script.config.ticks) at low) in
       rw (left, sym (subst (λ t. true ≡ (nat_le 23 t && t % 16 == 7)) at ends), sym (full-is true full)) refl
 
-  pub cause-none : (row : ℕ) → row ≡ parts.sink.taken → row < script.config.ticks → (false ≡ (nat_le 23 row && row % 16 == 7)) ⊎ (IsTrue false ↔ (length parts.back.ring ≡ 4)) →
+  pub cause-none : (row : ℕ) → row ≡ parts.sink.taken → row < script.config.ticks →
+      (false ≡ (nat_le 23 row && row % 16 == 7)) ⊎ (IsTrue false ↔ (length parts.back.ring ≡ 4)) →
       None ≡ take_cause script.config.ticks (counts_of parts landing)
   cause-none row at low room =
       let left = lt-leb script.config.ticks parts.sink.taken (subst (λ t. t < script.config.ticks) at low) in
       elim (cases_Bool (nat_le 23 parts.sink.taken && parts.sink.taken % 16 == 7)) [
         | inr other ↦ rw (left, other) refl
         | inl ends ↦ elim room [
-          | inl other ↦ absurd (let e : false ≡ true = subst (λ t. false ≡ (nat_le 23 t && t % 16 == 7)) at other ∙ ends in cc)
+          | inl other ↦ absurd (let e : false ≡ true = subst (λ t. false ≡ (nat_le 23 t && t % 16 == 7)) at other
+              ∙ ends in cc)
           | inr some ↦ rw (left, ends, sym (full-is false some)) refl
         ]
       ]
 
   pub take-stays : (cause : StallCause) → Some cause ≡ take_cause script.config.ticks (counts_of parts landing) →
-      (counts_of parts landing ≡ counts_after script (counts_of parts landing) Take) × (Stalled cause ≡ moved_of script (counts_of parts landing) Take)
+      (counts_of parts landing ≡ counts_after script (counts_of parts landing) Take) ×
+      (Stalled cause ≡ moved_of script (counts_of parts landing) Take)
   take-stays cause e =
       let stays = cause-stalls (walk_plan script) was cause e in
       (sym (ap (λ (x : Step). x.counts) stays), ap (λ (x : Step). answer_by x.cause None) (sym stays))
@@ -255,128 +281,193 @@ module _ (script : Script) (parts : Parts) (landing : Landed) (got : ℕ) (last 
       gathers = is.sink.gathers;
     }
 
-    module _ (lines : List Ringed) (rows : Gather) (waiting : Option ℕ) (same : rows.rows ≡ parts.rows.rows) (count : line_count rows ≡ line_count parts.rows) (popped : HasPopped script parts.lines lines rows waiting) where
-      row-is : rows.rows ≡ parts.sink.taken
-      row-is = same ∙ is.sink.passed
+    module _ (lines : List Ringed) (rows : Gather) (waiting : Option ℕ) (same : rows.rows ≡ parts.rows.rows)
+        (count : line_count rows ≡ line_count parts.rows) (popped : HasPopped script parts.lines lines rows waiting)
+      where
+        row-is : rows.rows ≡ parts.sink.taken
+        row-is = same ∙ is.sink.passed
 
-      lines-are : map line_counts lines ≡ (pop_lines parts.sink.taken 0 (walk_plan script).paths (map line_counts parts.lines)).lines
-      lines-are = popped.counts ∙ ap (λ t. (pop_lines t 0 (walk_plan script).paths (map line_counts parts.lines)).lines) row-is
+        lines-are : map line_counts lines ≡
+            (pop_lines parts.sink.taken 0 (walk_plan script).paths (map line_counts parts.lines)).lines
+        lines-are = popped.counts ∙ ap (λ t. (pop_lines t 0 (walk_plan script).paths (map line_counts parts.lines)).lines)
+            row-is
 
-      waits-are : waiting ≡ (pop_lines parts.sink.taken 0 (walk_plan script).paths (map line_counts parts.lines)).waiting
-      waits-are = popped.waits ∙ ap (λ t. (pop_lines t 0 (walk_plan script).paths (map line_counts parts.lines)).waiting) row-is
+        waits-are : waiting ≡ (pop_lines parts.sink.taken 0 (walk_plan script).paths
+            (map line_counts parts.lines)).waiting
+        waits-are = popped.waits ∙ ap (λ t.
+            (pop_lines t 0 (walk_plan script).paths (map line_counts parts.lines)).waiting) row-is
 
-      moves : step (walk_plan script) (counts_of parts landing) Take ≡ take_popped (counts_of parts landing) (map line_counts lines) waiting
-      moves = is_left.moves ∙ ap₂ (take_popped was) (sym lines-are) (sym waits-are)
+        moves : step (walk_plan script) (counts_of parts landing) Take ≡ take_popped (counts_of parts landing)
+            (map line_counts lines) waiting
+        moves = is_left.moves ∙ ap₂ (take_popped was) (sym lines-are) (sym waits-are)
 
-      stands : HasTaken parts.sink (popped_cells script (map line_counts lines))
-      stands =
-          stands-longer parts.sink (popped_cells script was.lines) (popped_cells script (map line_counts lines))
-          (cells-longer script was.lines (map line_counts lines)
-          (λ m. subst (λ ls. (counts_at (map line_counts parts.lines) m).popped ≤ (counts_at ls m).popped) (sym lines-are) (pops-more parts.sink.taken 0 (walk_plan script).paths was.lines m)))
-          is.sink.taken
+        stands : HasTaken parts.sink (popped_cells script (map line_counts lines))
+        stands =
+            stands-longer parts.sink (popped_cells script was.lines) (popped_cells script (map line_counts lines))
+            (cells-longer script was.lines (map line_counts lines)
+            (λ m. subst (λ ls. (counts_at (map line_counts parts.lines) m).popped ≤ (counts_at ls m).popped)
+            (sym lines-are) (pops-more parts.sink.taken 0 (walk_plan script).paths was.lines m)))
+            is.sink.taken
 
-      sent : HasSent script parts.source.ticks (map line_counts lines) parts.sent
-      sent =
-          sent-later script parts.source.ticks was.lines (map line_counts lines) parts.sent is.sent
-          (λ m. subst (λ ls. (counts_at was.lines m).carried ≤ (counts_at ls m).carried) (sym lines-are) (pops-carry parts.sink.taken 0 (walk_plan script).paths was.lines m))
+        sent : HasSent script parts.source.ticks (map line_counts lines) parts.sent
+        sent =
+            sent-later script parts.source.ticks was.lines (map line_counts lines) parts.sent is.sent
+            (λ m. subst (λ ls. (counts_at was.lines m).carried ≤ (counts_at ls m).carried) (sym lines-are)
+            (pops-carry parts.sink.taken 0 (walk_plan script).paths was.lines m))
 
-      module _ (line : ℕ) (waits : Some line ≡ waiting) where
-        stays : step (walk_plan script) (counts_of parts landing) Take ≡ stalled (record (counts_of parts landing) { lines = map line_counts lines }) (Waiting line)
-        stays = moves ∙ ap (take_popped was (map line_counts lines)) (sym waits)
+        module _ (line : ℕ) (waits : Some line ≡ waiting) where
+          stays : step (walk_plan script) (counts_of parts landing) Take ≡ stalled
+              (record (counts_of parts landing) { lines = map line_counts lines }) (Waiting line)
+          stays = moves ∙ ap (take_popped was (map line_counts lines)) (sym waits)
 
-        pub waits-counts : counts_of (record parts { lines = lines; rows = rows }) landing ≡ counts_after script (counts_of parts landing) Take
-        waits-counts = sym (ap (λ (x : Step). x.counts) stays)
+          pub waits-counts : counts_of (record parts { lines = lines; rows = rows }) landing ≡ counts_after script
+              (counts_of parts landing) Take
+          waits-counts = sym (ap (λ (x : Step). x.counts) stays)
 
-        pub waits-moved : Stalled (Waiting line) ≡ moved_of script (counts_of parts landing) Take
-        waits-moved = ap (λ (x : Step). answer_by x.cause None) (sym stays)
+          pub waits-moved : Stalled (Waiting line) ≡ moved_of script (counts_of parts landing) Take
+          waits-moved = ap (λ (x : Step). answer_by x.cause None) (sym stays)
 
-        pub waits-kept : IsWalk script (record parts { lines = lines; rows = rows }) landing got last
-        waits-kept = record {
-          valid = is.valid;
-          total = is.total;
-          walked = walked-next script was _ Take is.walked waits-counts;
-          source = record { made = is.source.made; lines = is.source.lines; lag = is.source.lag; size = is.source.size };
-          sent = sent;
-          lines = popped.lines;
-          sink = record { gathers = popped.gathers; taken = stands; passed = row-is; lines = count ∙ is.sink.lines; all = is.sink.all; size = is.sink.size };
-          back = record { ring = is.back.ring; lost = is.back.lost; inbox = is.back.inbox; room = is.back.room };
-          landed = record { items = is.landed.items; refusals = is.landed.refusals; frames = is.landed.frames; commands = is.landed.commands };
-          counted = is.counted;
-          noted = is.noted;
-        }
+          pub waits-kept : IsWalk script (record parts { lines = lines; rows = rows }) landing got last
+          waits-kept = record {
+            valid = is.valid;
+            total = is.total;
+            walked = walked-next script was _ Take is.walked waits-counts;
+            source = record {
+              made = is.source.made;
+              lines = is.source.lines;
+              lag = is.source.lag;
+              size =
+                  is.source.size;
+            };
+            sent = sent;
+            lines = popped.lines;
+            sink = record {
+              gathers = popped.gathers;
+              taken = stands;
+              passed = row-is;
+              lines = count ∙ is.sink.lines;
+              all = is.sink.all;
+              size = is.sink.size;
+            };
+            back = record { ring = is.back.ring; lost = is.back.lost; inbox = is.back.inbox; room = is.back.room };
+            landed = record {
+              items = is.landed.items;
+              refusals = is.landed.refusals;
+              frames = is.landed.frames;
+              commands = is.landed.commands;
+            };
+            counted = is.counted;
+            noted = is.noted;
+          }
 
-      module _ (decided : None ≡ waiting) where
-        pub can-take : CanTake (popped_cells script (map line_counts lines)) parts.sink rows
-        can-take = record {
-          gathers = popped.gathers;
-          taken = stands;
-          none = ap (λ ls. first_open (popped_cells script ls) parts.sink.taken) lines-are
-              ∙ take-waits script was.lines parts.sink.taken can (length-map parts.lines line_counts ∙ can-pop.size) is_left.left ∙ sym waits-are ∙ sym decided;
-        }
+        module _ (decided : None ≡ waiting) where
+          pub can-take : CanTake (popped_cells script (map line_counts lines)) parts.sink rows
+          can-take = record {
+            gathers = popped.gathers;
+            taken = stands;
+            none = ap (λ ls. first_open (popped_cells script ls) parts.sink.taken) lines-are
+                ∙ take-waits script was.lines parts.sink.taken can (length-map parts.lines line_counts ∙ can-pop.size)
+                is_left.left ∙ sym waits-are ∙ sym decided;
+          }
 
-        abbrev next : Counts
-        next = record (counts_of parts landing) { lines = map line_counts lines; rows = parts.sink.taken + 1 }
+          abbrev next : Counts
+          next = record (counts_of parts landing) { lines = map line_counts lines; rows = parts.sink.taken + 1 }
 
-        passes : step (walk_plan script) (counts_of parts landing) Take ≡ moved next
-        passes = moves ∙ ap (take_popped was (map line_counts lines)) (sym decided)
+          passes : step (walk_plan script) (counts_of parts landing) Take ≡ moved next
+          passes = moves ∙ ap (take_popped was (map line_counts lines)) (sym decided)
 
-        pub taken-moved : Yes ≡ moved_of script (counts_of parts landing) Take
-        taken-moved = ap (λ (x : Step). answer_by x.cause None) (sym passes)
+          pub taken-moved : Yes ≡ moved_of script (counts_of parts landing) Take
+          taken-moved = ap (λ (x : Step). answer_by x.cause None) (sym passes)
 
-        walked-on : IsWalked script next
-        walked-on = walked-next script was next Take is.walked (sym (ap (λ (x : Step). x.counts) passes))
+          walked-on : IsWalked script next
+          walked-on = walked-next script was next Take is.walked (sym (ap (λ (x : Step). x.counts) passes))
 
-        module _ (sink : Core) (gather : Gather) (packet : Option Packet) (row : HasRow (popped_cells script (map line_counts lines)) parts.sink sink gather packet) where
-          is_said : IsSaid script (counts_of parts landing) (map line_counts lines) packet
-          is_said = said script was (map line_counts lines) packet can walked-on fits.backs fits.returns is_left.room row.said
+          module _ (sink : Core) (gather : Gather) (packet : Option Packet)
+              (row : HasRow (popped_cells script (map line_counts lines)) parts.sink sink gather packet) where
+            is_said : IsSaid script (counts_of parts landing) (map line_counts lines) packet
+            is_said = said script was (map line_counts lines) packet can walked-on fits.backs fits.returns is_left.room
+                row.said
 
-          pub said-room : length parts.back.ring + length (listed packet) ≤ 4
-          said-room = let e = ring-is in let room = is_said.room in omega (arith, e, room)
+            pub said-room : length parts.back.ring + length (listed packet) ≤ 4
+            said-room = let e = ring-is in let room = is_said.room in omega (arith, e, room)
 
-          added-is : added_frames parts.sink.size (popped_cells script (map line_counts lines)) parts.sink.taken sink.taken ≡ delivered_since script parts.sink.taken sink.taken
-          added-is =
-              ap₂ (λ size t. added_frames size (popped_cells script (map line_counts lines)) parts.sink.taken t) is.sink.size row.one
-              ∙ ap₂ (λ before all. drop (length before) all) (frames-received script next can walked-on row_in received parts.sink.taken (omega arith)) (frames-received script next can walked-on row_in received (parts.sink.taken + 1) (omega arith))
-              ∙ ap (delivered_since script parts.sink.taken) (sym row.one)
+            added-is : added_frames parts.sink.size (popped_cells script (map line_counts lines)) parts.sink.taken
+                sink.taken ≡ delivered_since script parts.sink.taken sink.taken
+            added-is =
+                ap₂ (λ size t. added_frames size (popped_cells script (map line_counts lines)) parts.sink.taken t)
+                is.sink.size row.one
+                ∙ ap₂ (λ before all. drop (length before) all)
+                (frames-received script next can walked-on row_in received parts.sink.taken (omega arith))
+                (frames-received script next can walked-on row_in received (parts.sink.taken + 1) (omega arith))
+                ∙ ap (delivered_since script parts.sink.taken) (sym row.one)
 
-          pub taken-gives : {Out : Type 0} (stands_for : Out → Start → List (List ℕ) → Type 0) (before after : Out) →
-              ((start : Start) (given : List (List ℕ)) → stands_for before start given →
-              stands_for after start (given ++ added_frames parts.sink.size (popped_cells script (map line_counts lines)) parts.sink.taken sink.taken)) →
-              GivesRows stands_for before after script parts.sink.taken sink.taken
-          taken-gives stands_for before after gives start given stood = subst (λ frames. stands_for after start (given ++ frames)) added-is (gives start given stood)
+            pub taken-gives : {Out : Type 0} (stands_for : Out → Start → List (List ℕ) → Type 0) (before after : Out) →
+                ((start : Start) (given : List (List ℕ)) → stands_for before start given →
+                stands_for after start (given ++ added_frames parts.sink.size
+                (popped_cells script (map line_counts lines)) parts.sink.taken sink.taken)) →
+                GivesRows stands_for before after script parts.sink.taken sink.taken
+            taken-gives stands_for before after gives start given stood =
+                subst (λ frames. stands_for after start (given ++ frames)) added-is (gives start given stood)
 
-          module _ (back : Return) (says : back ≡ and_said parts.back packet)
-              (count' : ℕ) (counts : count' ≡ min (got + length (added_frames parts.sink.size (popped_cells script (map line_counts lines)) parts.sink.taken sink.taken)) 18446744073709551615) where
-            counts-are : counts_of (record parts { lines = lines; rows = gather; sink = sink; back = back }) landing ≡ next
-            counts-are = ap₂ (λ n (b : Return). record next { rows = n; backs = b.backs }) row.one says
+            module _ (back : Return) (says : back ≡ and_said parts.back packet)
+                (count' : ℕ) (counts : count' ≡ min
+                (got + length (added_frames parts.sink.size (popped_cells script (map line_counts lines))
+                parts.sink.taken sink.taken)) 18446744073709551615) where
+              counts-are : counts_of (record parts { lines = lines; rows = gather; sink = sink; back = back }) landing
+                  ≡ next
+              counts-are = ap₂ (λ n (b : Return). record next { rows = n; backs = b.backs }) row.one says
 
-            pub taken-counts : counts_of (record parts { lines = lines; rows = gather; sink = sink; back = back }) landing ≡ counts_after script (counts_of parts landing) Take
-            taken-counts = counts-are ∙ sym (ap (λ (x : Step). x.counts) passes)
+              pub taken-counts : counts_of (record parts { lines = lines; rows = gather; sink = sink; back = back })
+                  landing ≡ counts_after script (counts_of parts landing) Take
+              taken-counts = counts-are ∙ sym (ap (λ (x : Step). x.counts) passes)
 
-            counted : count' ≡ min (length (delivered_of script sink.taken)) 18446744073709551615
-            counted =
-                let all = ap length (frames-grow script parts.sink.taken 1) ∙ length-append (delivered_of script parts.sink.taken) (delivered_since script parts.sink.taken (parts.sink.taken + 1)) in
-                let now = ap (λ t. length (delivered_of script t)) row.one in
-                let more = ap length added-is ∙ ap (λ t. length (delivered_since script parts.sink.taken t)) row.one in
-                let before = is.counted in
-                omega (arith, counts, all, now, more, before)
+              counted : count' ≡ min (length (delivered_of script sink.taken)) 18446744073709551615
+              counted =
+                  let all = ap length (frames-grow script parts.sink.taken 1)
+                  ∙ length-append (delivered_of script parts.sink.taken)
+                  (delivered_since script parts.sink.taken (parts.sink.taken + 1)) in
+                  let now = ap (λ t. length (delivered_of script t)) row.one in
+                  let more = ap length added-is ∙ ap (λ t. length (delivered_since script parts.sink.taken t)) row.one in
+                  let before = is.counted in
+                  omega (arith, counts, all, now, more, before)
 
-            pub taken-kept : IsWalk script (record parts { lines = lines; rows = gather; sink = sink; back = back }) landing count' last
-            taken-kept = record {
-              valid = is.valid;
-              total = is.total;
-              walked = subst (IsWalked script) (sym counts-are) walked-on;
-              source = record { made = is.source.made; lines = is.source.lines; lag = is.source.lag; size = is.source.size };
-              sent = sent;
-              lines = popped.lines;
-              sink = record { gathers = row.gathers; taken = row.taken; passed = row.passed; lines = row.lines ∙ sym row.all; all = row.all ∙ is.sink.all; size = row.size ∙ is.sink.size };
-              back = subst (λ s. HasBack script s back) (sym counts-are) (record {
-                ring = ap (λ (b : Return). b.ring) says ∙ ap (λ ring. ring ++ listed packet) is.back.ring ∙ is_said.ring;
-                lost = ap (λ (b : Return). b.lost) says ∙ is.back.lost;
-                inbox = ap (λ (b : Return). b.inbox) says ∙ is.back.inbox;
-                room = ap (λ (b : Return). b.room) says ∙ is.back.room;
-              });
-              landed = record { items = is.landed.items; refusals = is.landed.refusals; frames = is.landed.frames; commands = is.landed.commands };
-              counted = counted;
-              noted = is.noted;
-            }
+              pub taken-kept : IsWalk script (record parts { lines = lines; rows = gather; sink = sink; back = back })
+                  landing count' last
+              taken-kept = record {
+                valid = is.valid;
+                total = is.total;
+                walked = subst (IsWalked script) (sym counts-are) walked-on;
+                source = record {
+                  made = is.source.made;
+                  lines = is.source.lines;
+                  lag = is.source.lag;
+                  size =
+                      is.source.size;
+                };
+                sent = sent;
+                lines = popped.lines;
+                sink = record {
+                  gathers = row.gathers;
+                  taken = row.taken;
+                  passed = row.passed;
+                  lines = row.lines
+                      ∙ sym row.all;
+                  all = row.all ∙ is.sink.all;
+                  size = row.size ∙ is.sink.size;
+                };
+                back = subst (λ s. HasBack script s back) (sym counts-are) (record {
+                  ring = ap (λ (b : Return). b.ring) says ∙ ap (λ ring. ring ++ listed packet) is.back.ring
+                      ∙ is_said.ring;
+                  lost = ap (λ (b : Return). b.lost) says ∙ is.back.lost;
+                  inbox = ap (λ (b : Return). b.inbox) says ∙ is.back.inbox;
+                  room = ap (λ (b : Return). b.room) says ∙ is.back.room;
+                });
+                landed = record {
+                  items = is.landed.items;
+                  refusals = is.landed.refusals;
+                  frames = is.landed.frames;
+                  commands = is.landed.commands;
+                };
+                counted = counted;
+                noted = is.noted;
+              }

@@ -115,7 +115,7 @@ missing-here plan s packet low none_held none_full need none =
             le-yes (16 * plan.lag + 8) s.ticks (omega (arith, at, since)) in
             let d : nat_le (in_inbox plan s) 0 ≡ true = le-yes (in_inbox plan s) 0 (omega (arith, none)) in
             rw (a, none_held, none_full, b, place, d)
-                (ap (λ (k : ℕ). Some (BackMissing k)) (let e : s.ticks / 16 - plan.lag ≡ packet = cc in e))
+            (ap (λ (k : ℕ). Some (BackMissing k)) (let e : s.ticks / 16 - plan.lag ≡ packet = cc in e))
       ]
     ]
 
@@ -413,7 +413,8 @@ module _ (script : Script) (parts : Parts) (landing : Landed) (got : ℕ) (last 
       (held parts.source.ticks landing.frames landing.commands 0 (walk_plan script).items) refl
       (sym (ap (λ n. if nat_le n parts.source.ticks then Some Early_done else option_map Early_held
       (held parts.source.ticks landing.frames landing.commands 0 (dues_of landing.items))) is.total
-      ∙ ap (λ (h : Option ℕ). if nat_le script.config.ticks parts.source.ticks then Some Early_done else option_map Early_held h) bare-held) ∙ e)
+      ∙ ap (λ (h : Option ℕ). if nat_le script.config.ticks parts.source.ticks then Some Early_done else option_map
+      Early_held h) bare-held) ∙ e)
     where
       by-total : (done : Bool) → nat_le script.config.ticks parts.source.ticks ≡ done → (found : Option ℕ) →
           held parts.source.ticks landing.frames landing.commands 0 (walk_plan script).items ≡ found →
@@ -434,7 +435,8 @@ module _ (script : Script) (parts : Parts) (landing : Landed) (got : ℕ) (last 
         (held parts.source.ticks landing.frames landing.commands 0 (walk_plan script).items)
         (sym (ap (λ n. if nat_le n parts.source.ticks then Some Early_done else option_map Early_held
         (held parts.source.ticks landing.frames landing.commands 0 (dues_of landing.items))) is.total
-        ∙ ap (λ (h : Option ℕ). if nat_le script.config.ticks parts.source.ticks then Some Early_done else option_map Early_held h) bare-held) ∙ free)
+        ∙ ap (λ (h : Option ℕ). if nat_le script.config.ticks parts.source.ticks then Some Early_done else option_map
+        Early_held h) bare-held) ∙ free)
       where
         by-none : (done : Bool) (found : Option ℕ) →
             ◌≡◌ {A = Option EarlyCause} (if done then Some Early_done else option_map Early_held found) None →
@@ -467,9 +469,11 @@ module _ (script : Script) (parts : Parts) (landing : Landed) (got : ℕ) (last 
   pub tick-stays : (cause : StallCause) → Some cause ≡ (step (walk_plan script) (counts_of parts landing) Tick).cause →
       (counts_of parts landing ≡ counts_after script (counts_of parts landing) Tick) ×
       (Stalled cause ≡ moved_of script (counts_of parts landing) Tick)
-  tick-stays cause e =
-      (sym (not-take (stalled-same (walk_plan script) (counts_of parts landing) Tick cause (sym e))), ap
-      (λ o. answer_by o None) e)
+  tick-stays cause e = (
+    sym (not-take (stalled-same (walk_plan script) (counts_of parts landing) Tick cause (sym e))),
+    ap
+        (λ o. answer_by o None) e,
+  )
     where
       not-take : ChangesNothing (walk_plan script) (counts_of parts landing) Tick →
           (step (walk_plan script) (counts_of parts landing) Tick).counts ≡ counts_of parts landing
@@ -501,7 +505,8 @@ module _ (script : Script) (parts : Parts) (landing : Landed) (got : ℕ) (last 
         by-found : (found : Option ℕ) → missing_by (needed parts.source) parts.back.inbox ≡ found → found ≡ None
         by-found None same = refl
         by-found (Some packet) same = absurd
-            (let f : None ≡ Some (BackMissing packet) = e ∙ sym (missing-stalls early-free packet free.slots same) in cc)
+            (let f : None ≡ Some (BackMissing packet) = e
+            ∙ sym (missing-stalls early-free packet free.slots same) in cc)
 
     pub tick-moved : Yes ≡ moved_of script (counts_of parts landing) Tick
     tick-moved = ap (λ o. answer_by o None) e
@@ -509,14 +514,15 @@ module _ (script : Script) (parts : Parts) (landing : Landed) (got : ℕ) (last 
     module _ (cell : Option BackCell) (path : Return)
         (first : cell ≡ (if is_some (needed parts.source) then slice_get parts.back.inbox 0 else None))
         (left : path ≡ (if is_some (needed parts.source) then record parts.back
-            { inbox = drop 1 parts.back.inbox } else parts.back)) where
+        { inbox = drop 1 parts.back.inbox } else parts.back)) where
       is_taken : IsTaken script (counts_of parts landing) parts.back cell path
       is_taken =
           let fits = walk-fits script (counts_of parts landing) is.valid is.walked in
           taken script (counts_of parts landing) parts.back path cell
           (valid-walks script is.valid) is.walked fits.rows is.back goes.1.has_cell
           (subst (λ lag. cell ≡
-          (if is_some (needed_at lag parts.source.ticks) then slice_get parts.back.inbox 0 else None)) is.source.lag first)
+          (if is_some (needed_at lag parts.source.ticks) then slice_get parts.back.inbox 0 else None)) is.source.lag
+          first)
           (subst (λ lag. path ≡
           (if is_some (needed_at lag parts.source.ticks) then record parts.back
           { inbox = drop 1 parts.back.inbox } else parts.back)) is.source.lag left)
@@ -529,17 +535,21 @@ module _ (script : Script) (parts : Parts) (landing : Landed) (got : ℕ) (last 
           HasMade source scenario (with_cell cells cell))
           (ticks : source.ticks ≡ parts.source.ticks + 1) (kind : SameKind source parts.source)
           (frame : List Container)
-              (made : (scenario : Scenario) (cells : List (Option Told)) → HasMade parts.source scenario cells →
-              frame ≡ frame_of scenario (with_cell cells cell) parts.source.ticks)
+          (made : (scenario : Scenario) (cells : List (Option Told)) → HasMade parts.source scenario cells →
+          frame ≡ frame_of scenario (with_cell cells cell) parts.source.ticks)
           (note : Option StepNote)
-              (noted : note ≡ (if parts.source.ticks % 16 == 8 then Some
-              (record { packet = parts.source.ticks / 16; back = cell }) else last)) where
+          (noted : note ≡ (if parts.source.ticks % 16 == 8 then Some
+          (record { packet = parts.source.ticks / 16; back = cell }) else last)) where
         after : Counts
         after = record (counts_of parts landing) { ticks = parts.source.ticks + 1 }
 
         next : Parts
-        next = record parts { source = source; sent = slice_set parts.sent
-            (parts.source.ticks % 32) frame; back = path }
+        next = record parts {
+          source = source;
+          sent = slice_set parts.sent
+              (parts.source.ticks % 32) frame;
+          back = path;
+        }
 
         counts-are : counts_of (record parts
             { source = source; sent = slice_set parts.sent (parts.source.ticks % 32) frame; back = path }) landing
@@ -549,8 +559,12 @@ module _ (script : Script) (parts : Parts) (landing : Landed) (got : ℕ) (last 
             ∙ ap (λ n. record (counts_of parts landing) { ticks = parts.source.ticks + 1; backs = n }) is_taken.backs
 
         pub tick-counts : counts_of
-            (record parts { source = source; sent = slice_set parts.sent
-            (parts.source.ticks % 32) frame; back = path }) landing ≡ counts_after script (counts_of parts landing) Tick
+            (record parts {
+              source = source;
+              sent = slice_set parts.sent
+                  (parts.source.ticks % 32) frame;
+              back = path;
+            }) landing ≡ counts_after script (counts_of parts landing) Tick
         tick-counts = counts-are ∙ sym (ap (λ (x : Step). x.counts) goes.1.moves)
 
         walked-after : IsWalked script (record (counts_of parts landing) { ticks = parts.source.ticks + 1 })
@@ -567,8 +581,12 @@ module _ (script : Script) (parts : Parts) (landing : Landed) (got : ℕ) (last 
             (valid-walks script is.valid) walked-after parts.source.ticks (omega arith)
 
         pub tick-kept : IsWalk script
-            (record parts { source = source; sent = slice_set parts.sent
-            (parts.source.ticks % 32) frame; back = path }) landing got note
+            (record parts {
+              source = source;
+              sent = slice_set parts.sent
+                  (parts.source.ticks % 32) frame;
+              back = path;
+            }) landing got note
         tick-kept = record {
           valid = is.valid;
           total = is.total;
@@ -586,11 +604,29 @@ module _ (script : Script) (parts : Parts) (landing : Landed) (got : ℕ) (last 
               (sent-more script parts.source.ticks (map line_counts parts.lines) parts.sent frame is.sent frame-is
               (ap length frame-is ∙ frame-long script parts.source.ticks ∙ is.valid.network.windows_each));
           lines = is.lines;
-          sink = record { gathers = is.sink.gathers; taken = is.sink.taken; passed = is.sink.passed; lines = is.sink.lines; all = is.sink.all; size = is.sink.size };
+          sink = record {
+            gathers = is.sink.gathers;
+            taken = is.sink.taken;
+            passed = is.sink.passed;
+            lines =
+                is.sink.lines;
+            all = is.sink.all;
+            size = is.sink.size;
+          };
           back = subst (λ s. HasBack script s path) (sym counts-are)
-              (record { ring = is_taken.ring ∙ is.back.ring; lost = is_taken.lost
-              ∙ is.back.lost; inbox = is_taken.inbox; room = is_taken.room ∙ is.back.room });
-          landed = record { items = is.landed.items; refusals = is.landed.refusals; frames = is.landed.frames; commands = is.landed.commands };
+              (record {
+                ring = is_taken.ring ∙ is.back.ring;
+                lost = is_taken.lost
+                    ∙ is.back.lost;
+                inbox = is_taken.inbox;
+                room = is_taken.room ∙ is.back.room;
+              });
+          landed = record {
+            items = is.landed.items;
+            refusals = is.landed.refusals;
+            frames = is.landed.frames;
+            commands = is.landed.commands;
+          };
           counted = is.counted;
           noted = subst (λ n. note ≡ note_of script (last_packet n)) (sym ticks)
               (note-next script parts.source.ticks cell last note is.noted is_taken.noted noted);
@@ -606,8 +642,12 @@ module _ (script : Script) (parts : Parts) (landing : Landed) (got : ℕ) (last 
               ∙ ap (λ sent. slice_set sent (parts.source.ticks % 32) frame) same)
 
           pub tick-kept_at : IsWalk script
-              (record parts { source = source; sent = map frame_in
-              (slice_set rows k row); back = path }) landing got note
+              (record parts {
+                source = source;
+                sent = map frame_in
+                    (slice_set rows k row);
+                back = path;
+              }) landing got note
           tick-kept_at = subst (λ sent. IsWalk script
               (record parts { source = source; sent = sent; back = path }) landing got note) rows-are tick-kept
 
@@ -623,9 +663,22 @@ sent-placed script parts landing got last sent is has = record {
   source = record { made = is.source.made; lines = is.source.lines; lag = is.source.lag; size = is.source.size };
   sent = has;
   lines = is.lines;
-  sink = record { gathers = is.sink.gathers; taken = is.sink.taken; passed = is.sink.passed; lines = is.sink.lines; all = is.sink.all; size = is.sink.size };
+  sink = record {
+    gathers = is.sink.gathers;
+    taken = is.sink.taken;
+    passed = is.sink.passed;
+    lines = is.sink.lines;
+    all = is.sink.all;
+    size = is.sink.size;
+  };
   back = record { ring = is.back.ring; lost = is.back.lost; inbox = is.back.inbox; room = is.back.room };
-  landed = record { items = is.landed.items; refusals = is.landed.refusals; frames = is.landed.frames; commands = is.landed.commands };
+  landed = record {
+    items = is.landed.items;
+    refusals = is.landed.refusals;
+    frames = is.landed.frames;
+    commands =
+        is.landed.commands;
+  };
   counted = is.counted;
   noted = is.noted;
 }
@@ -646,4 +699,4 @@ pub table-after : (script : Script) (parts : Parts) (landing : Landed) (got : �
     IsWalk script parts landing got last → parts.source.table.source.table ≡ table_in script parts.source.ticks
 table-after script parts landing got last is =
     ap (λ (table : Course). table.source.table) is.source.made.table
-        ∙ table-now script (counts_of parts landing) (valid-walks script is.valid) is.walked
+    ∙ table-now script (counts_of parts landing) (valid-walks script is.valid) is.walked

@@ -1,5 +1,6 @@
 -- Why a line carries nothing.
-use Rattle.std.specs.Prelude.{◌≡◌, ◌≢◌, ◌<◌, ◌≤◌, ◌%◌, List, length, slice_get, ℕ, ◌+◌, nat_le, nat_lt, ◌&&◌, if◌then◌else◌, Option, Some, None}
+use Rattle.std.specs.Prelude.{◌≡◌, ◌≢◌, ◌<◌, ◌≤◌, ◌%◌, List, length, slice_get, ℕ, ◌+◌, nat_le, nat_lt, ◌&&◌}
+use Rattle.std.specs.Prelude.{if◌then◌else◌, Option, Some, None}
 use Rattle.std.specs.Global.{Vec, Box}
 use Rattle.vc_cell.specs.declared.Container.{Container}
 use Rattle.vc_cell.specs.Held.{held}
@@ -18,7 +19,8 @@ carry_cause total ring ticks m path line =
     else (if nat_lt line.carried total && nat_le (in_send total ticks line) 0 then Some (Empty m)
     else (if nat_le ring (in_receive path line) then Some (RxFull m) else None))
 
--- what a carry asks of a line: its end wasn't given, a container waits where not all were carried, and its ring isn't full
+-- what a carry asks of a line: its end wasn't given, a container waits where not all were carried, and its ring isn't
+-- full
 pub record CanCarry (line : Ringed) (ticks : ℕ) : Type 0 where
   pub runs : line.core.flushed ≤ line.core.delay
   pub wet : line.core.pushed < line.core.total → line.carried < ticks
@@ -32,7 +34,8 @@ pub record HasRoom (script : Script) (m : ℕ) (line : Ringed) : Type 0 where
 -- the container of frame t of a line is in the send rings
 abbrev pub IsSentOn : Script → ℕ → ℕ → List (Vec (Box Container)) → Type 0
 IsSentOn script m t sent = t < script.config.ticks →
-    (frame : Vec (Box Container)) → slice_get sent (t % 32) ≡ Some frame → slice_get (held frame.items) m ≡ Some (sent_at script m t)
+    (frame : Vec (Box Container)) → slice_get sent (t % 32) ≡ Some frame →
+    slice_get (held frame.items) m ≡ Some (sent_at script m t)
 
 -- in the send rings, of the frame at a place at most the container of line m has changed, and no other frame
 pub record IsCarriedAt (place m : ℕ) (before after : List (List Container)) : Type 0 where

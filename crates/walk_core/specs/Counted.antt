@@ -13,4 +13,5 @@ passing start name = record { octets = start.name ∷ start.octets; faults = sta
 -- these frames are counted, or were given to the other place, as the octets of the start tell
 abbrev pub IsCounted : (Start → List (List ℕ) → Type 0) → ℕ → List ℕ → ℕ → List (List ℕ) → Type 0
 IsCounted stands got [] faults frames = got ≡ min (faults + length frames) 18446744073709551615
-IsCounted stands got (name ∷ octets) faults frames = stands (record { octets = octets; faults = faults; name = name }) frames
+IsCounted stands got (name ∷ octets) faults frames =
+    stands (record { octets = octets; faults = faults; name = name }) frames

@@ -28,9 +28,11 @@ refusal_of_item script number (Some item) = refusal_at script (record { number =
 -- why the item is refused that an event lands
 abbrev pub refusal_in_event : Script → Counts → Event → Option Refusal
 refusal_in_event script s Accept =
-    refusal_of_item script (place_of is_frame s.frames script.items) (slice_get script.items (place_of is_frame s.frames script.items))
+    refusal_of_item script (place_of is_frame s.frames script.items)
+    (slice_get script.items (place_of is_frame s.frames script.items))
 refusal_in_event script s Command =
-    refusal_of_item script (place_of is_command s.commands script.items) (slice_get script.items (place_of is_command s.commands script.items))
+    refusal_of_item script (place_of is_command s.commands script.items)
+    (slice_get script.items (place_of is_command s.commands script.items))
 refusal_in_event script s Tick = None
 refusal_in_event script s (Carry line) = None
 refusal_in_event script s Back = None
@@ -56,4 +58,5 @@ delivered_since script before rows = drop (length (delivered_of script before)) 
 -- a place of frames is given those of more rows: behind each start it stands for what it stood for, followed by them
 abbrev pub GivesRows : {Out : Type 0} → (Out → Start → List (List ℕ) → Type 0) → Out → Out → Script → ℕ → ℕ → Type 0
 GivesRows stands_for was now script before rows =
-    (start : Start) (given : List (List ℕ)) → stands_for was start given → stands_for now start (given ++ delivered_since script before rows)
+    (start : Start) (given : List (List ℕ)) → stands_for was start given →
+    stands_for now start (given ++ delivered_since script before rows)

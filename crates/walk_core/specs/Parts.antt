@@ -1,5 +1,6 @@
 -- What a walk holds, by its script and its counts.
-use Rattle.std.specs.Prelude.{◌≡◌, ℕ, ◌+◌, ◌-◌, ◌%◌, ◌<◌, ◌≤◌, min, List, [], map, length, slice_get, slice_index_or, Option, Some, None}
+use Rattle.std.specs.Prelude.{◌≡◌, ℕ, ◌+◌, ◌-◌, ◌%◌, ◌<◌, ◌≤◌, min, List, [], map, length, slice_get, slice_index_or}
+use Rattle.std.specs.Prelude.{Option, Some, None}
 use Rattle.std.specs.Global.{Vec, Box}
 use Rattle.vc_cell.specs.declared.Container.{Container}
 use Rattle.session_model.specs.declared.script.Script.{Script}
@@ -24,7 +25,8 @@ use Rattle.walk_parts.specs.Ringed.{Ringed, ring_of, Has}
 use Rattle.walk_parts.specs.Return.{Return, path_of}
 use Rattle.walk_core.specs.declared.moved.StepNote.{StepNote}
 
--- the source terminal, and how many ticks there are; the frames of the send rings, that of number t at place t modulo 32; the
+-- the source terminal, and how many ticks there are; the frames of the send rings, that of number t at place t modulo
+-- 32; the
 -- lines; the gathered rows; the sink terminal; the return path
 pub record Parts : Type 0 where
   pub source : Terminal
@@ -86,11 +88,13 @@ pub record HasSource (script : Script) (s : Counts) (source : Terminal) : Type 0
   pub size : source.size ≡ script.config.size
 
 -- of the containers of the frames, those that their line hasn't carried
-pub record HasSent (script : Script) (ticks : ℕ) (counts : List LineCounts) (sent : List (List Container)) : Type 0 where
-  pub places : length sent ≡ 32
-  pub lines : (k : ℕ) (frame : List Container) → slice_get sent k ≡ Some frame → length frame ≡ script.config.lines
-  pub frames : (t m : ℕ) (frame : List Container) → m < script.config.lines → (counts_at counts m).carried ≤ t → t < ticks → ticks ≤ t + 32 →
-      slice_get sent (t % 32) ≡ Some frame → slice_get frame m ≡ Some (sent_at script m t)
+pub record HasSent (script : Script) (ticks : ℕ) (counts : List LineCounts) (sent : List (List Container)) : Type 0
+  where
+    pub places : length sent ≡ 32
+    pub lines : (k : ℕ) (frame : List Container) → slice_get sent k ≡ Some frame → length frame ≡ script.config.lines
+    pub frames : (t m : ℕ) (frame : List Container) → m < script.config.lines → (counts_at counts m).carried ≤ t →
+        t < ticks → ticks ≤ t + 32 →
+        slice_get sent (t % 32) ≡ Some frame → slice_get frame m ≡ Some (sent_at script m t)
 
 pub record HasLine (script : Script) (m : ℕ) (line : Ringed) : Type 0 where
   pub has : Has line (calls_on script m line.carried)

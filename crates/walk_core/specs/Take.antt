@@ -1,5 +1,6 @@
 -- Why a Take pops nothing, and what it pops.
-use Rattle.std.specs.Prelude.{◌≡◌, ℕ, ◌+◌, ◌<◌, ◌≤◌, nat_le, if◌then◌else◌, List, map, length, slice_get, Option, Some, None}
+use Rattle.std.specs.Prelude.{◌≡◌, ℕ, ◌+◌, ◌<◌, ◌≤◌, nat_le, if◌then◌else◌, List, map, length, slice_get, Option, Some}
+use Rattle.std.specs.Prelude.{None}
 use Rattle.vc_cell.specs.declared.Cell.{Cell}
 use Rattle.session_model.specs.declared.script.Script.{Script}
 use Rattle.session_model.specs.declared.packet.Packet.{Packet}
@@ -25,7 +26,8 @@ pub record CanPop (script : Script) (own : List Ringed) (gather : Gather) : Type
   pub lines : HasLines script own
   pub size : length own ≡ length script.config.windows
   pub pops : (m : ℕ) (line : Ringed) → slice_get own m ≡ Some line → line.popped ≤ line.given
-  pub carries : (m : ℕ) (line : Ringed) → slice_get own m ≡ Some line → line.carried ≤ script.config.ticks + delay_on script m + 1
+  pub carries : (m : ℕ) (line : Ringed) → slice_get own m ≡ Some line →
+      line.carried ≤ script.config.ticks + delay_on script m + 1
   pub row : gather.rows < script.config.ticks
   pub gathers : Gathers gather (popped_cells script (map line_counts own))
 

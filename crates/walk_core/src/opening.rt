@@ -48,7 +48,8 @@ pub(crate) struct Opened {
     pub(crate) ends: Ends,
 }
 
-/// Opens all that moves in a walk of a script. What has the most parts is opened last, so that little is let go where memory is short.
+/// Opens all that moves in a walk of a script. What has the most parts is opened last, so that little is let
+/// go where memory is short.
 pub(crate) fn open(alloc: Global, script: &Script) -> Result<Opened, AllocError>
     requires { IsValid script.now }
     ensures { IfOk result (λ opened. IsNew script.now opened) }

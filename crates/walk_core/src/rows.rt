@@ -40,8 +40,8 @@ pub(crate) fn pop_lines(lines: &mut Vec<WalkLine>, rows: &mut RowGather) -> Opti
     None
 }
 
-/// Takes the next row, which is decided on each line. Answers its return packet, where one ends with it, and how many frames were
-/// counted, after `got` before.
+/// Takes the next row, which is decided on each line. Answers its return packet, where one ends with it, and
+/// how many frames were counted, after `got` before.
 pub(crate) fn take_row<F: FrameOut>(
     sink: &mut SinkCore,
     rows: &mut RowGather,

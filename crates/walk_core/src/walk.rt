@@ -1,6 +1,8 @@
 //! A walk of a script, event by event.
 
-ghost use Rattle.std.specs.Prelude.{◌≡◌, ◌↔◌, ℕ, true, false, suc, ◌+◌, ◌*◌, ◌/◌, ◌%◌, ◌==◌, ◌&&◌, nat_le, ◌<◌, ◌≤◌, if◌then◌else◌, [], ◌∷◌, ◌++◌, List, length, map, min, All, replicate, drop, slice_get, Option, Some, None, IsSome, IfOk, IfSome, IfNone, option_map};
+ghost use Rattle.std.specs.Prelude.{◌≡◌, ◌↔◌, ℕ, true, false, suc, ◌+◌, ◌*◌, ◌/◌, ◌%◌, ◌==◌, ◌&&◌, nat_le, ◌<◌, ◌≤◌};
+ghost use Rattle.std.specs.Prelude.{if◌then◌else◌, [], ◌∷◌, ◌++◌, List, length, map, min, All, replicate, drop};
+ghost use Rattle.std.specs.Prelude.{slice_get, Option, Some, None, IsSome, IfOk, IfSome, IfNone, option_map};
 ghost use Rattle.std.specs.Option.{option_copied};
 ghost use Rattle.session_model.specs.declared.walk.Event.TheVariants.{Accept, Command, Tick, Carry, Back, Take};
 ghost use Rattle.session_model.specs.Valid.{IsValid};
@@ -52,7 +54,8 @@ use walk_parts::{ReturnRing, WalkLine};
 pub struct Walk {
     script: Script,
     source: GroupSource,
-    /// The send rings of all lines: each place holds the containers of a frame, of a number modulo 32, each until its line carried it.
+    /// The send rings of all lines: each place holds the containers of a frame, of a number modulo 32, each
+    /// until its line carried it.
     sent: Vec<Vec<Box<HeldContainer>>>,
     lines: Vec<WalkLine>,
     rows: RowGather,
@@ -91,8 +94,8 @@ impl Walk {
         Ok(Walk::from_opened(script, opened))
     }
 
-    /// Makes an event. One that stalls changes nothing, but that a Take which waits keeps the cells that it popped. Frames that a
-    /// taken row delivers are given to `out`.
+    /// Makes an event. One that stalls changes nothing, but that a Take which waits keeps the cells that it
+    /// popped. Frames that a taken row delivers are given to `out`.
     pub fn step<F: FrameOut>(&mut self, event: Event, out: &mut F) -> Moved
         requires { HasLine (walk_plan self.old.script) event }
         ensures script { self.new.script ≡ self.old.script }
@@ -115,7 +118,8 @@ impl Walk {
         }
     }
 
-    /// Lands frames and then commands until each kind stalls, and tries each other event once, in the order of the lines.
+    /// Lands frames and then commands until each kind stalls, and tries each other event once, in the order
+    /// of the lines.
     pub fn round<F: FrameOut>(&mut self, out: &mut F)
         ensures script { self.new.script ≡ self.old.script }
         ensures counts { self.new.counts ≡ run (walk_plan self.old.script) self.old.counts
@@ -200,7 +204,8 @@ impl Walk {
         self.source.table()
     }
 
-    /// The container at a place of the send ring of a line, from the oldest on, or `None` beyond the last one that waits there.
+    /// The container at a place of the send ring of a line, from the oldest on, or `None` beyond the last one
+    /// that waits there.
     pub fn send_ring(&self, line: u8, place: u32) -> Option<&Container>
         requires { line < self.now.script.config.lines }
         ensures { option_copied result
@@ -218,7 +223,8 @@ impl Walk {
         }
     }
 
-    /// The cell at a place of the receive ring of a line, from the oldest on, or `None` beyond the last one that waits there.
+    /// The cell at a place of the receive ring of a line, from the oldest on, or `None` beyond the last one
+    /// that waits there.
     pub fn receive_ring(&self, line: u8, place: u32) -> Option<CellRef<'_>>
         requires { line < self.now.script.config.lines }
         ensures { option_map cell_of result
@@ -414,11 +420,7 @@ impl Walk {
         if let Some(cause) = self.source.early_cause() {
             return Some(stall_early(cause));
         }
-        if let Some(line) = first_full(
-            &self.lines,
-            self.script.config.ticks,
-            self.source.ticks(),
-        ) {
+        if let Some(line) = first_full(&self.lines, self.script.config.ticks, self.source.ticks()) {
             return Some(StallCause::TxFull { line });
         }
         match self.source.missing() {
@@ -504,8 +506,8 @@ fn next_note(ticks: u32, back: Option<BackCell>, last: Option<StepNote>) -> Opti
     }
 }
 
-/// The place of the next frame. It gets the containers of the frame before where each line has carried that, since these lie nearest
-/// in the caches of the processor.
+/// The place of the next frame. It gets the containers of the frame before where each line has carried that,
+/// since these lie nearest in the caches of the processor.
 fn next_place(sent: &mut Vec<Vec<Box<HeldContainer>>>, lines: &[WalkLine], ticks: u32) -> usize
     requires places { length sent.old.items ≡ 32 }
     ensures place { result ≡ ticks % 32 }

@@ -1,5 +1,7 @@
 -- What comes of popping cells of a line until it decides a row.
-use Rattle.std.proofs.Common.{◌≡◌, ℕ, zero, suc, ◌+◌, ◌-◌, ◌<◌, ◌≤◌, ◌==◌, Bool, true, false, List, [], ◌∷◌, ◌++◌, length, take, slice_get, slice_set, Option, Some, None, refl, sym, ◌∙◌, ap, arith, inl, inr}
+use Rattle.std.proofs.Common.{◌≡◌, ℕ, zero, suc, ◌+◌, ◌-◌, ◌<◌, ◌≤◌, ◌==◌, Bool, true, false, List, [], ◌∷◌, ◌++◌}
+use Rattle.std.proofs.Common.{length, take, slice_get, slice_set, Option, Some, None, refl, sym, ◌∙◌, ap, arith, inl}
+use Rattle.std.proofs.Common.{inr}
 use Rattle.std.specs.Prelude.{is_none, is_some, IsSome, not}
 use Rattle.std.proofs.lemmas.Option.{slice_get_within}
 use Rattle.circular_buffer.proofs.Places.{slice_get-set_same, slice_get-set_other}
@@ -12,7 +14,8 @@ use Rattle.realign_core.specs.Gather.{with_cell}
 use Rattle.walk_parts.specs.Ringed.{popped_until, is_at}
 
 -- ---- the first place at which a test passes
-position-low : {X : Type 0} (test : X → Bool) (xs : List X) (i k : ℕ) → k < i → is_at k (position_from test i xs) ≡ false
+position-low : {X : Type 0} (test : X → Bool) (xs : List X) (i k : ℕ) → k < i →
+    is_at k (position_from test i xs) ≡ false
 position-low test [] i k low = refl
 position-low test (x ∷ xs) i k low =
     elim (cases_Bool (test x)) [
@@ -20,7 +23,8 @@ position-low test (x ∷ xs) i k low =
       | inr fails ↦ rw fails (position-low test xs (i + 1) k (omega (arith, low)))
     ]
 
-position-at : {X : Type 0} (test : X → Bool) (xs : List X) (i m : ℕ) (x : X) → slice_get xs m ≡ Some x → ((k : ℕ) (y : X) → k < m → slice_get xs k ≡ Some y → test y ≡ false) →
+position-at : {X : Type 0} (test : X → Bool) (xs : List X) (i m : ℕ) (x : X) → slice_get xs m ≡ Some x →
+    ((k : ℕ) (y : X) → k < m → slice_get xs k ≡ Some y → test y ≡ false) →
     is_at (i + m) (position_from test i xs) ≡ test x
 position-at test [] i m x there earlier = absurd cc
 position-at test (y ∷ xs) i zero x there earlier =
@@ -49,10 +53,14 @@ pub waits-is : (cells : List (List Cell)) (line t : ℕ) (before own : List Cell
 waits-is cells line t before own there earlier =
     let low = slice_get_within cells line before there in
     ap (λ k. is_at k (first_open (slice_set cells line own) t)) (let e : line ≡ 0 + line = omega arith in e)
-    ∙ position-at (λ other. is_none (verdict other t)) (slice_set cells line own) 0 line own (slice_get-set_same cells line own low)
-    (λ k other under e. some-none (verdict other t) (earlier k other under (sym (slice_get-set_other cells line k own (λ same. absurd (omega (arith, same, under)))) ∙ e)))
+    ∙ position-at (λ other. is_none (verdict other t)) (slice_set cells line own) 0 line own
+    (slice_get-set_same cells line own low)
+    (λ k other under e. some-none (verdict other t)
+    (earlier k other under (sym (slice_get-set_other cells line k own (λ same. absurd (omega (arith, same, under))))
+    ∙ e)))
 
-pub with-set : (cells : List (List Cell)) (m : ℕ) (own : List Cell) (cell : Cell) → m < length cells → with_cell (slice_set cells m own) m cell ≡ slice_set cells m (own ++ cell ∷ [])
+pub with-set : (cells : List (List Cell)) (m : ℕ) (own : List Cell) (cell : Cell) → m < length cells →
+    with_cell (slice_set cells m own) m cell ≡ slice_set cells m (own ++ cell ∷ [])
 with-set [] m own cell low = absurd (omega (arith, low))
 with-set (x ∷ cells) zero own cell low = refl
 with-set (x ∷ cells) (suc m) own cell low = ap (λ rest. x ∷ rest) (with-set cells m own cell (omega (arith, low)))
@@ -67,7 +75,8 @@ take-suc [] n x e = absurd cc
 take-suc (y ∷ xs) zero x e = ap (λ z. z ∷ []) (let h : y ≡ x = cc in h)
 take-suc (y ∷ xs) (suc n) x e = ap (λ rest. y ∷ rest) (take-suc xs n x e)
 
-pub take-next : {X : Type 0} (xs : List X) (n : ℕ) (x : X) → slice_get xs n ≡ Some x → take (n + 1) xs ≡ take n xs ++ x ∷ []
+pub take-next : {X : Type 0} (xs : List X) (n : ℕ) (x : X) → slice_get xs n ≡ Some x →
+    take (n + 1) xs ≡ take n xs ++ x ∷ []
 take-next xs n x e = ap (λ k. take k xs) (let h : n + 1 ≡ suc n = omega arith in h) ∙ take-suc xs n x e
 
 -- ---- how many were popped
@@ -80,7 +89,8 @@ pub until-none : (given : ℕ) (is_open : ℕ → Bool) (y : ℕ) → given ≤ 
 unfolding popped_until
 until-none given is_open y all = ap (λ k. popped_until k is_open y) (let e : given - y ≡ 0 = omega (arith, all) in e)
 
-pub until-next : (given : ℕ) (is_open : ℕ → Bool) (y : ℕ) → y < given → is_open y ≡ true → popped_until (given - (y + 1)) is_open (y + 1) ≡ popped_until (given - y) is_open y
+pub until-next : (given : ℕ) (is_open : ℕ → Bool) (y : ℕ) → y < given → is_open y ≡ true →
+    popped_until (given - (y + 1)) is_open (y + 1) ≡ popped_until (given - y) is_open y
 unfolding popped_until
 until-next given is_open y more shut =
     let e : given - y ≡ suc (given - (y + 1)) = omega (arith, more) in

@@ -6,7 +6,8 @@ use Rattle.session_model.specs.declared.packet.Packet.{Packet}
 use Rattle.session_model.specs.Packet.{packet_nibbles}
 use Rattle.group_source.specs.Inbox.{Inbox, is_lost_in, come_by}
 
--- the return packets that haven't come, oldest first; the return windows; the return cells that have come and weren't taken, for which
+-- the return packets that haven't come, oldest first; the return windows; the return cells that have come and weren't
+-- taken, for which
 -- there is some room; and how many have come
 pub record Return : Type 0 where
   pub ring : List Packet
@@ -17,7 +18,14 @@ pub record Return : Type 0 where
 
 -- a return ring and an inbox
 abbrev pub path_of : List Packet → Inbox → Return
-path_of ring inbox = record { ring = ring; lost = inbox.lost; inbox = inbox.cells; room = inbox.room; backs = inbox.come }
+path_of ring inbox = record {
+  ring = ring;
+  lost = inbox.lost;
+  inbox = inbox.cells;
+  room = inbox.room;
+  backs =
+      inbox.come;
+}
 
 -- what comes of a return packet
 abbrev pub come : Bool → Packet → BackCell

@@ -1,5 +1,6 @@
 -- A line with its receive ring.
-use Rattle.std.specs.Prelude.{◌≡◌, ℕ, zero, suc, ◌+◌, ◌%◌, ◌<◌, ◌≤◌, Bool, false, ◌==◌, if◌then◌else◌, List, [], ◌∷◌, length, take, slice_get, slice_set, Option, Some, None, is_none, IsSome}
+use Rattle.std.specs.Prelude.{◌≡◌, ℕ, zero, suc, ◌+◌, ◌%◌, ◌<◌, ◌≤◌, Bool, false, ◌==◌, if◌then◌else◌, List, [], ◌∷◌}
+use Rattle.std.specs.Prelude.{length, take, slice_get, slice_set, Option, Some, None, is_none, IsSome}
 use Rattle.vc_cell.specs.declared.Container.{Container}
 use Rattle.vc_cell.specs.declared.Cell.{Cell}
 use Rattle.line_core.specs.declared.carry.CarrySign.{CarrySign}
@@ -9,7 +10,8 @@ use Rattle.line_core.specs.Line.{Line, Calls, carries_of, path_cells, Stands}
 use Rattle.session_model.specs.Number.{verdict}
 use Rattle.realign_core.specs.Gather.{Gather, Stands as Gathers}
 
--- the line itself; the places of its ring, of each what a carry gave and its container; how many carries were made, and how many cells
+-- the line itself; the places of its ring, of each what a carry gave and its container; how many carries were made, and
+-- how many cells
 -- were given and popped
 pub record Ringed : Type 0 where
   pub core : Line
@@ -65,7 +67,8 @@ pub record IsPopped (before after : Ringed) : Type 0 where
   pub carried : after.carried ≡ before.carried
   pub given : after.given ≡ before.given
 
--- the cells that were popped of each line are those that were gathered; this one is of number m, and those before it decide the next row
+-- the cells that were popped of each line are those that were gathered; this one is of number m, and those before it
+-- decide the next row
 pub record IsNext (line : Ringed) (calls : Calls) (rows : Gather) (cells : List (List Cell)) (m : ℕ) : Type 0 where
   pub has : Has line calls
   pub gathers : Gathers rows cells
@@ -86,7 +89,8 @@ popped_until (suc k) is_open y = if is_open y then popped_until k is_open (suc y
 abbrev pub leaves_open : List Cell → ℕ → ℕ → Bool
 leaves_open path t y = is_none (verdict (take y path) t)
 
--- what is true of the fields of a line: it has a ring, which holds no more than it has places for, and its counts are in their ranges
+-- what is true of the fields of a line: it has a ring, which holds no more than it has places for, and its counts are
+-- in their ranges
 pub record IsRinged (line : Ringed) : Type 0 where
   pub some : 0 < length line.signs
   pub beside : length line.places ≡ length line.signs

@@ -1,5 +1,6 @@
-//! What a walk of a session moves between its two terminals: lines with their receive rings, and the return ring.
-//! Begin with `WalkLine` and `ReturnRing`. In which order events come, and what the terminals make of it, is not said here.
+//! What a walk of a session moves between its two terminals: lines with their receive rings, and the return
+//! ring. Begin with `WalkLine` and `ReturnRing`. In which order events come, and what the terminals make of
+//! it, is not said here.
 #![tactic(auto)]
 
 mod line;

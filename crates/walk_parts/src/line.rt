@@ -1,6 +1,7 @@
 //! A line of a walk with its receive ring.
 
-ghost use Rattle.std.specs.Prelude.{◌≡◌, ◌≢◌, ℕ, ◌+◌, ◌-◌, ◌<◌, ◌≤◌, ◌↔◌, [], ◌∷◌, true, List, length, drop, slice_get, slice_set, IfOk, IsTrue, is_some, option_map};
+ghost use Rattle.std.specs.Prelude.{◌≡◌, ◌≢◌, ℕ, ◌+◌, ◌-◌, ◌<◌, ◌≤◌, ◌↔◌, [], ◌∷◌, true, List, length, drop, slice_get};
+ghost use Rattle.std.specs.Prelude.{slice_set, IfOk, IsTrue, is_some, option_map};
 ghost use Rattle.vc_cell.specs.declared.Container.{Container};
 ghost use Rattle.vc_cell.specs.declared.Cell.{Cell};
 ghost use Rattle.line_core.specs.Carry.{carry_cells};
@@ -10,7 +11,8 @@ ghost use Rattle.session_model.specs.Damage.{AreWindows};
 ghost use Rattle.session_model.specs.Number.{verdict};
 ghost use Rattle.realign_core.specs.Gather.{Stands as Gathers, line_count, IsOpenAt};
 ghost use Rattle.session_model.specs.Rows.{first_open};
-ghost use Rattle.walk_parts.specs.Ringed.{Ringed, ring_of, Has, popped_cells, IsNext, IsPopped, popped_until, leaves_open, with_sign, count_of, is_at};
+ghost use Rattle.walk_parts.specs.Ringed.{Ringed, ring_of, Has, popped_cells, IsNext, IsPopped, popped_until};
+ghost use Rattle.walk_parts.specs.Ringed.{leaves_open, with_sign, count_of, is_at};
 
 use failure_window::{Window, Windows};
 use group_source::blank_boxes;
@@ -21,8 +23,8 @@ use std::alloc::{AllocError, Global};
 use std::marker::Model;
 use vc_cell::{Container, HeldContainer};
 
-/// A line with its receive ring: the cells that it gave and that weren't popped. Only its making takes memory, and a container is
-/// copied nowhere on its way into the line, through it and out of the ring.
+/// A line with its receive ring: the cells that it gave and that weren't popped. Only its making takes
+/// memory, and a container is copied nowhere on its way into the line, through it and out of the ring.
 #[derive(Drop)]
 pub struct WalkLine {
     core: LineCore,
@@ -50,7 +52,8 @@ impl Model for WalkLine {
 }
 
 impl WalkLine {
-    /// A line with a delay in containers, its windows, and the number of containers that it will carry, whose ring holds `ring` cells.
+    /// A line with a delay in containers, its windows, and the number of containers that it will carry, whose
+    /// ring holds `ring` cells.
     pub fn new(
         alloc: Global,
         delay: u16,
@@ -122,7 +125,8 @@ impl WalkLine {
         Some(cell_at(self.signs[slot], self.places[slot].container()))
     }
 
-    /// Carries a container on, and keeps the cell that comes out, if any. It takes the container's box, and leaves another one.
+    /// Carries a container on, and keeps the cell that comes out, if any. It takes the container's box, and
+    /// leaves another one.
     pub fn push(&mut self, container: &mut Box<HeldContainer>)
         requires left { self.old.core.pushed < self.old.core.total }
         requires room { self.old.given < self.old.popped + ring_of self.old }
@@ -160,8 +164,8 @@ impl WalkLine {
         self.given += keep(&mut self.signs, slot, carry);
     }
 
-    /// Pops cells of line number `line` into `rows` until it decides the next row, or its ring is empty. Answers whether it does. What
-    /// then lies in the places of the cells that were popped says nothing.
+    /// Pops cells of line number `line` into `rows` until it decides the next row, or its ring is empty.
+    /// Answers whether it does. What then lies in the places of the cells that were popped says nothing.
     pub fn pop_into(&mut self, rows: &mut RowGather, line: u8) -> bool
         ensures popped { (calls : Calls) (cells : List (List Cell)) →
             IsNext self.old calls rows.old cells line →
@@ -191,8 +195,8 @@ impl WalkLine {
     }
 }
 
-/// Changes the boxes of two places for each other. A place that is to be filled gets the box that was emptied last, since this lies
-/// nearest in the caches of the processor.
+/// Changes the boxes of two places for each other. A place that is to be filled gets the box that was emptied
+/// last, since this lies nearest in the caches of the processor.
 fn exchange(places: &mut Vec<Box<HeldContainer>>, a: usize, b: usize)
     requires first { a < length places.old.items }
     requires second { b < length places.old.items }

@@ -12,7 +12,8 @@ use Rattle.au4_link.proofs.fault_law.Goals as goal
 abbrev no_link : ℕ × LineFault → Result Link (ℕ × LineFault)
 no_link at = Err at
 
-same_fault : (said : Result Draft (ℕ × LineFault)) (at : ℕ × LineFault) → link_of_draft said ≡ no_link at → said ≡ Err at
+same_fault : (said : Result Draft (ℕ × LineFault)) (at : ℕ × LineFault) → link_of_draft said ≡ no_link at →
+    said ≡ Err at
 same_fault (Ok d) at e = let bad : Ok (link_in d) ≡ no_link at = e in absurd cc
 same_fault (Err other) at e = let same : no_link other ≡ no_link at = e in cc
 

@@ -18,4 +18,5 @@ pub returns : goal.returns
 returns c =
     let past : length c.loop-i.out ≤ c.loop-i.i = omega (arith, c.loop-i.auto.out, c.loop-i-test.false) in
     sym (take_all c.loop-i.i c.loop-i.out past)
-    ∙ rising_end _ (take c.loop-i.i c.loop-i.out) (length c.args.out.now) c.loop-i.i c.loop-i.octet c.loop-i.invariant c.loop-i-test.false
+    ∙ rising_end _ (take c.loop-i.i c.loop-i.out) (length c.args.out.now) c.loop-i.i c.loop-i.octet c.loop-i.invariant
+    c.loop-i-test.false

@@ -8,4 +8,5 @@ pub returns : goal.returns
 returns c =
     let head : c.copy_from_slice.new.self ≡ to_be_bytes w64 c.args.number = search rules in
     ap₂ (λ a b. a ++ b) head c.fill_rising.ensures
-    ∙ vc_is c.args.number _ _ (let back = c.split_at_mut-head.ensures.back_len in omega (arith, c.requires, back)) (omega arith)
+    ∙ vc_is c.args.number _ _ (let back = c.split_at_mut-head.ensures.back_len in omega (arith, c.requires, back))
+    (omega arith)

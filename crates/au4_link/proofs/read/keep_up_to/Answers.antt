@@ -10,7 +10,8 @@ loop-actions-preserved c =
     let less = c.loop-actions-test.true in
     let is = c.len.ensures in
     record {
-      kept = keep_one c.args.actions.now.items c.loop-actions.actions.items _ (vec_len c.loop-actions.actions - vec_len c.args.actions.now) _
+      kept = keep_one c.args.actions.now.items c.loop-actions.actions.items _
+          (vec_len c.loop-actions.actions - vec_len c.args.actions.now) _
           c.in_ok-push.ensures.items c.loop-actions.invariant.kept (omega (arith, size, long));
       long = omega (arith, size, long);
       inside = omega (arith, size, less, is);

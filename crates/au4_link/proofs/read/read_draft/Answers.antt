@@ -18,7 +18,8 @@ loop-line-init c = record {
 pub loop-line-preserved : goal.loop-line-preserved
 loop-line-preserved c = record {
   value = c.loop-line.invariant.value
-      ∙ line_said c.loop-line.number _ _ _ _ _ _ c.in-Some.ensures.some c.in-Ok.ensures.ok.0 c.in-Ok.ensures.ok.1 c.in-Ok-add.ensures;
+      ∙ line_said c.loop-line.number _ _ _ _ _ _ c.in-Some.ensures.some c.in-Ok.ensures.ok.0 c.in-Ok.ensures.ok.1
+      c.in-Ok-add.ensures;
   stands = subst IsDraft (sym c.in-Ok-add.ensures) (draft-after _ _ c.loop-line.invariant.stands c.in-Ok.ensures.fits);
   small = omega (arith, c.loop-line.invariant.small, c.in-Some.ensures.moves);
 }
@@ -30,11 +31,14 @@ returns-in-Err-clause-err c =
 pub returns-then-draft-lt2-clause-err : goal.returns-then-draft-lt2-clause-err
 returns-then-draft-lt2-clause-err c =
     rw c.awaited_at.ensures
-    (short_told c.args.text.now c.loop-line.number c.loop-line.draft _ c.loop-line.invariant.value c.in_default.ensures.none (omega arith))
+    (short_told c.args.text.now c.loop-line.number c.loop-line.draft _ c.loop-line.invariant.value
+    c.in_default.ensures.none (omega arith))
 
 pub returns-clause-ok : goal.returns-clause-ok
 returns-clause-ok c =
-    whole_said c.args.text.now c.loop-line.number c.loop-line.draft _ c.loop-line.invariant.value c.in_default.ensures.none (omega arith)
+    whole_said c.args.text.now c.loop-line.number c.loop-line.draft _ c.loop-line.invariant.value
+    c.in_default.ensures.none (omega arith)
 
 pub returns-clause-stands : goal.returns-clause-stands
-returns-clause-stands c = let low = c.loop-line.invariant.stands.place in (c.loop-line.invariant.stands, omega (arith, low))
+returns-clause-stands c = let low = c.loop-line.invariant.stands.place in
+    (c.loop-line.invariant.stands, omega (arith, low))

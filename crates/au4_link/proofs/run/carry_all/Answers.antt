@@ -1,5 +1,6 @@
 -- A frame more, and all.
-use Rattle.std.proofs.Common.{◌≡◌, ◌+◌, ◌<◌, ◌≤◌, ℕ, List, [], ◌∷◌, ◌++◌, length, take, drop, get_or, None, Some, refl, sym, ◌∙◌, ap, subst, arith, append_assoc}
+use Rattle.std.proofs.Common.{◌≡◌, ◌+◌, ◌<◌, ◌≤◌, ℕ, List, [], ◌∷◌, ◌++◌, length, take, drop, get_or, None, Some, refl}
+use Rattle.std.proofs.Common.{sym, ◌∙◌, ap, subst, arith, append_assoc}
 use Rattle.std.proofs.lemmas.List.{length-take, take_all, take_more, take-append-drop}
 use Rattle.au4_pointer.specs.declared.Action.{Action}
 use Rattle.au4_pointer.specs.declared.Action.TheVariants.{Keep}
@@ -114,7 +115,8 @@ returns-clause-counts g c =
     let k = c.loop-a.invariant.carries fresh.0 fresh.1 in
     let all : take c.loop-a.a-index c.args.actions.now ≡ c.args.actions.now =
     take_all c.loop-a.a-index c.args.actions.now c.loop-a-test.false in
-    let n = counted-by g.K.ByteSink.written g.K.ByteSink.faults _ _ c.loop-a.feed c.loop-a.out fresh.0 fresh.0 c.args.start
+    let n = counted-by g.K.ByteSink.written g.K.ByteSink.faults _ _ c.loop-a.feed c.loop-a.out fresh.0 fresh.0
+    c.args.start
     (take c.loop-a.a-index c.args.actions.now) (first_vcs c.loop-a.feed.next) k
     (few-taken c.loop-a.a-index c.args.actions.now c.requires.few) in
     all-counts c.args.start c.args.actions.now (take c.loop-a.a-index c.args.actions.now) c.loop-a.feed.next

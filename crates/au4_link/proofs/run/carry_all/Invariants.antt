@@ -10,7 +10,8 @@ use Rattle.au4_link.proofs.run.carry_all.Given as goal
 abbrev pub invariant-loop-a : goal.invariant-loop-a
 invariant-loop-a g l = record {
   carries : (to : Start) → HasVcs g.K.ByteSink.written g.K.ByteSink.faults l.fn.out.lines l.fn.out.back to []
-      → Carries feeds (gives g.K.ByteSink.written g.K.ByteSink.faults) l.source l.sink l.feed l.out to to l.fn.start (take l.a-index l.actions)
+      → Carries feeds (gives g.K.ByteSink.written g.K.ByteSink.faults) l.source l.sink l.feed l.out to to l.fn.start
+      (take l.a-index l.actions)
       (first_vcs l.feed.next);
   cut : l.cut ≡ cuts l.fn.start (take l.a-index l.actions);
 }

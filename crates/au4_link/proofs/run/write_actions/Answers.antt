@@ -17,7 +17,8 @@ returns-clause-ok g c =
     let to : Start = start_at g.K.ByteSink.written g.K.ByteSink.faults c.args.out.now (name_of c.new.result) in
     let has = c.carry_all-counts.ensures.given to (record { text = c.new.ensures.fresh; count = λ few. refl }) in
     let told = c.line.ensures to (vc_texts (back_of c.args.start c.args.actions.now)) has.text in
-    let text : HasText g.K.ByteSink.written g.K.ByteSink.faults c.line.new.self to (text_of c.args.start c.args.actions.now) =
+    let text : HasText g.K.ByteSink.written g.K.ByteSink.faults c.line.new.self to
+    (text_of c.args.start c.args.actions.now) =
     subst (HasText g.K.ByteSink.written g.K.ByteSink.faults c.line.new.self to)
     (ap (λ t. vc_texts (back_of c.args.start c.args.actions.now) ++ t)
     (c.end_line-end.ensures.line ∙ c.carry_all-counts.ensures.counts)) told in
@@ -25,7 +26,8 @@ returns-clause-ok g c =
     (start_at g.K.ByteSink.written g.K.ByteSink.faults c.args.out.now n) (text_of c.args.start c.args.actions.now))
     (sym text.0) text in
     let end = c.finish-back.ensures.ok c.args.out.now (text_of c.args.start c.args.actions.now) named in
-    let k : OnOk c.finish-back.result.1 (Appends g.K.ByteSink.written g.K.ByteSink.faults c.args.out.now c.take_back.new.out
+    let k : OnOk c.finish-back.result.1
+    (Appends g.K.ByteSink.written g.K.ByteSink.faults c.args.out.now c.take_back.new.out
     (text_of c.args.start c.args.actions.now)) =
     subst (λ now. OnOk c.finish-back.result.1 (Appends g.K.ByteSink.written g.K.ByteSink.faults c.args.out.now now
     (text_of c.args.start c.args.actions.now))) (sym c.take_back.ensures) end in
@@ -37,7 +39,8 @@ returns-clause-err g c =
     let to : Start = start_at g.K.ByteSink.written g.K.ByteSink.faults c.args.out.now (name_of c.new.result) in
     let has = c.carry_all-counts.ensures.given to (record { text = c.new.ensures.fresh; count = λ few. refl }) in
     let told = c.line.ensures to (vc_texts (back_of c.args.start c.args.actions.now)) has.text in
-    let text : HasText g.K.ByteSink.written g.K.ByteSink.faults c.line.new.self to (text_of c.args.start c.args.actions.now) =
+    let text : HasText g.K.ByteSink.written g.K.ByteSink.faults c.line.new.self to
+    (text_of c.args.start c.args.actions.now) =
     subst (HasText g.K.ByteSink.written g.K.ByteSink.faults c.line.new.self to)
     (ap (λ t. vc_texts (back_of c.args.start c.args.actions.now) ++ t)
     (c.end_line-end.ensures.line ∙ c.carry_all-counts.ensures.counts)) told in
@@ -45,7 +48,8 @@ returns-clause-err g c =
     (start_at g.K.ByteSink.written g.K.ByteSink.faults c.args.out.now n) (text_of c.args.start c.args.actions.now))
     (sym text.0) text in
     let end = c.finish-back.ensures.err c.args.out.now (text_of c.args.start c.args.actions.now) named in
-    let k : OnErr c.finish-back.result.1 (AppendsPart g.K.ByteSink.written g.K.ByteSink.faults c.args.out.now c.take_back.new.out
+    let k : OnErr c.finish-back.result.1
+    (AppendsPart g.K.ByteSink.written g.K.ByteSink.faults c.args.out.now c.take_back.new.out
     (text_of c.args.start c.args.actions.now)) =
     subst (λ now. OnErr c.finish-back.result.1 (AppendsPart g.K.ByteSink.written g.K.ByteSink.faults c.args.out.now now
     (text_of c.args.start c.args.actions.now))) (sym c.take_back.ensures) end in

@@ -6,5 +6,7 @@ use Rattle.got_lines.specs.Told.{HasText}
 use Rattle.command_parts.proofs.report.write_refusals.Given as goal
 
 abbrev pub invariant-loop-item : goal.invariant-loop-item
-invariant-loop-item g l = (start : Start) (before : List ℕ) → HasText g.K.ByteSink.written g.K.ByteSink.faults l.fn.got start before
-    → HasText g.K.ByteSink.written g.K.ByteSink.faults l.got start (before ++ refused_texts (take l.item-index l.refusals))
+invariant-loop-item g l = (start : Start) (before : List ℕ) →
+    HasText g.K.ByteSink.written g.K.ByteSink.faults l.fn.got start before
+    → HasText g.K.ByteSink.written g.K.ByteSink.faults l.got start
+    (before ++ refused_texts (take l.item-index l.refusals))

@@ -1,5 +1,6 @@
 -- One more line was pushed its container.
-use Rattle.std.proofs.Common.{◌≡◌, [], ◌∷◌, ◌++◌, length, slice_get, slice_set, Some, inl, inr, refl, sym, ◌∙◌, ap, subst, arith}
+use Rattle.std.proofs.Common.{◌≡◌, [], ◌∷◌, ◌++◌, length, slice_get, slice_set, Some, inl, inr, refl, sym, ◌∙◌, ap}
+use Rattle.std.proofs.Common.{subst, arith}
 use Rattle.std.proofs.lemmas.Bool.{cases_eq}
 use Rattle.std.proofs.lemmas.Option.{slice_get_read, slice_get_within, get_or_from_slice_get}
 use Rattle.std.specs.Global.{Box}
@@ -23,17 +24,30 @@ loop-m-preserved c =
       count = length-slice_set i.tx.items i.m is ∙ i.invariant.count;
       each = λ k container old new low frame here there. elim (cases_eq k i.m) [
         | inl same ↦
-            let now : new ≡ is = set-here i.tx.items i.m is new (sym (ap (slice_get (slice_set i.tx.items i.m is)) same) ∙ there) in
-            let first : Some was ≡ Some old = sym at ∙ i.invariant.rest i.m (omega arith) ∙ ap (slice_get c.args.tx.now.items) (sym same) ∙ here in
+            let now : new ≡ is = set-here i.tx.items i.m is new
+            (sym (ap (slice_get (slice_set i.tx.items i.m is)) same) ∙ there) in
+            let first : Some was ≡ Some old = sym at ∙ i.invariant.rest i.m (omega arith)
+            ∙ ap (slice_get c.args.tx.now.items) (sym same) ∙ here in
             let before : was ≡ old = cc in
             let place = c.index-frame-m.result in
-            let item = c.container.ensures ∙ c.deref.ensures ∙ ap (λ (b : Box Container). b.value) c.index-frame-m.is ∙ sym (held-at c.args.frame.now i.m place container (omega arith))
-            ∙ get_or_from_slice_get (held c.args.frame.now) i.m container container (ap (slice_get (held c.args.frame.now)) (sym same) ∙ frame) in
-            let pushed : IsPushed container was is = record { same = e.same; passed = e.passed ∙ ap (λ x. out_passed was ++ x ∷ []) item; misses = e.quiet } in
-            subst (IsPushed container old) (sym now) (subst (λ (o : RingOut Container). IsPushed container o is) before pushed)
-        | inr other ↦ i.invariant.each k container old new (omega arith) frame here (sym (set-other i.tx.items i.m k is other) ∙ there)
+            let item = c.container.ensures ∙ c.deref.ensures ∙ ap (λ (b : Box Container). b.value) c.index-frame-m.is
+            ∙ sym (held-at c.args.frame.now i.m place container (omega arith))
+            ∙ get_or_from_slice_get (held c.args.frame.now) i.m container container
+            (ap (slice_get (held c.args.frame.now)) (sym same) ∙ frame) in
+            let pushed : IsPushed container was is =
+            record {
+              same = e.same;
+              passed = e.passed ∙ ap (λ x. out_passed was ++ x ∷ []) item;
+              misses =
+                  e.quiet;
+            } in
+            subst (IsPushed container old) (sym now)
+            (subst (λ (o : RingOut Container). IsPushed container o is) before pushed)
+        | inr other ↦ i.invariant.each k container old new (omega arith) frame here
+            (sym (set-other i.tx.items i.m k is other) ∙ there)
       ];
-      rest = λ k low. set-other i.tx.items i.m k is (λ (same : k ≡ i.m). let h : ⊥ = omega arith in h) ∙ i.invariant.rest k (omega arith);
+      rest = λ k low. set-other i.tx.items i.m k is (λ (same : k ≡ i.m). let h : ⊥ = omega arith in h)
+          ∙ i.invariant.rest k (omega arith);
     }
 
 pub returns : goal.returns

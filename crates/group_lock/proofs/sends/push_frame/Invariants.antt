@@ -9,7 +9,8 @@ use Rattle.group_lock.proofs.sends.push_frame.Given as goal
 abbrev pub invariant-loop-m : goal.invariant-loop-m
 invariant-loop-m l = record {
   count : length l.tx.items ≡ length l.fn.tx.items;
-  each : (k : ℕ) (container : Container) (old new : RingOut Container) → k < l.m → slice_get (held l.frame) k ≡ Some container →
+  each : (k : ℕ) (container : Container) (old new : RingOut Container) → k < l.m →
+      slice_get (held l.frame) k ≡ Some container →
       slice_get l.fn.tx.items k ≡ Some old → slice_get l.tx.items k ≡ Some new → IsPushed container old new;
   rest : (k : ℕ) → l.m ≤ k → slice_get l.tx.items k ≡ slice_get l.fn.tx.items k;
 }

@@ -8,7 +8,8 @@ abbrev pub invariant-loop-back : goal.invariant-loop-back
 invariant-loop-back l = record {
   moved : HasMoved l.fn.source.inbox l.source.inbox l.fn.back l.back;
   within : length l.source.inbox.cells ≤ l.source.inbox.room;
-  few : l.source.inbox.come + (l.source.inbox.room - length l.source.inbox.cells) ≤ l.fn.source.inbox.come + l.fn.source.inbox.room;
+  few : l.source.inbox.come + (l.source.inbox.room - length l.source.inbox.cells) ≤ l.fn.source.inbox.come +
+      l.fn.source.inbox.room;
   rest : l.source ≡ record l.fn.source { inbox = l.source.inbox };
   quiet : in_misses l.back ≡ in_misses l.fn.back;
 }

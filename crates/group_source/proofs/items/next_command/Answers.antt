@@ -7,12 +7,14 @@ use Rattle.group_source.proofs.items.next_command.Goals as goal
 pub returns-then-is_command_item : goal.returns-then-is_command_item
 returns-then-is_command_item c =
     let there = at-index c.args.items.now c.loop-i.i c.index-items-i.result c.loop-i-test.true c.index-items-i.is in
-    sym (place-here is_command c.args.items.now c.loop-i.i c.index-items-i.result there (sym c.is_command_item.ensures ∙ c.if-is_command_item.true)) ∙ c.loop-i.invariant
+    sym (place-here is_command c.args.items.now c.loop-i.i c.index-items-i.result there
+    (sym c.is_command_item.ensures ∙ c.if-is_command_item.true)) ∙ c.loop-i.invariant
 
 pub loop-i-preserved : goal.loop-i-preserved
 loop-i-preserved c =
     let there = at-index c.args.items.now c.loop-i.i c.index-items-i.result c.loop-i-test.true c.index-items-i.is in
-    place-passed is_command c.args.items.now c.loop-i.i c.index-items-i.result there (sym c.is_command_item.ensures ∙ c.if-is_command_item.false) ∙ c.loop-i.invariant
+    place-passed is_command c.args.items.now c.loop-i.i c.index-items-i.result there
+    (sym c.is_command_item.ensures ∙ c.if-is_command_item.false) ∙ c.loop-i.invariant
 
 pub returns : goal.returns
 returns c =

@@ -10,7 +10,8 @@ returns-else-item-refusals-clause-before c =
     let other = c.requires.other (c.loop-place.place - 1) _ (omega arith) in
     let up : suc (c.loop-place.place - 1) ≡ c.loop-place.place = omega arith in
     subst (λ n. AreBefore c.args.item (take n c.args.refusals.now)) up
-    (before-place c.args.item c.args.refusals.now (c.loop-place.place - 1) _ c.requires.order (omega arith) (less _ _ low other))
+    (before-place c.args.item c.args.refusals.now (c.loop-place.place - 1) _ c.requires.order (omega arith)
+    (less _ _ low other))
   where
     less : (a b : ℕ) → a ≤ b → (a ≡ b → ⊥) → a < b
     less a b low other = omega arith

@@ -4,7 +4,10 @@ use Rattle.group_source.specs.Landed.{AreAfter}
 use Rattle.group_source.proofs.landing.place_among.Given as goal
 
 abbrev pub invariant-loop-place : goal.invariant-loop-place
-invariant-loop-place l = record { within : l.place ≤ length l.refusals; after : AreAfter l.item (drop l.place l.refusals) }
+invariant-loop-place l = record {
+  within : l.place ≤ length l.refusals;
+  after : AreAfter l.item (drop l.place l.refusals);
+}
 
 abbrev pub decreases-loop-place : goal.decreases-loop-place
 decreases-loop-place l = l.place

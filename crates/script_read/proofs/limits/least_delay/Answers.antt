@@ -5,5 +5,6 @@ use Rattle.script_read.proofs.limits.least_delay.Goals as goal
 
 pub loop-delay-preserved : goal.loop-delay-preserved
 loop-delay-preserved c =
-    least_next c.in-Some.others.now c.loop-delay.delay-index _ c.loop-delay.low c.min-low.result c.loop-delay-test.true c.min-low.ensures
+    least_next c.in-Some.others.now c.loop-delay.delay-index _ c.loop-delay.low c.min-low.result c.loop-delay-test.true
+    c.min-low.ensures
     ∙ c.loop-delay.invariant

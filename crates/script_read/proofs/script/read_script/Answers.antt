@@ -7,4 +7,5 @@ use Rattle.script_read.proofs.script.read_script.Goals as goal
 pub returns-clause-valid : goal.returns-clause-valid
 returns-clause-valid c =
     subst IsValid (sym c.finished.ensures)
-    (IsValid-draft c.in-Ok.draft c.in-Ok.ensures.stands.0 c.in-Ok.ensures.stands.1 c.in-Ok.ensures.few (sym c.in_default.ensures))
+    (IsValid-draft c.in-Ok.draft c.in-Ok.ensures.stands.0 c.in-Ok.ensures.stands.1 c.in-Ok.ensures.few
+    (sym c.in_default.ensures))

@@ -5,4 +5,5 @@ use Rattle.vc_cell.specs.declared.Container.{Container}
 use Rattle.walk_core.proofs.opening.new_sent.Given as goal
 
 abbrev pub invariant-loop : goal.invariant-loop
-invariant-loop l = (length l.sent.items ≡ l.counter) × All (λ (frame : Vec (Box Container)). length frame.items ≡ l.lines) l.sent.items
+invariant-loop l = (length l.sent.items ≡ l.counter) ×
+    All (λ (frame : Vec (Box Container)). length frame.items ≡ l.lines) l.sent.items

@@ -7,7 +7,13 @@ use Rattle.walk_core.proofs.TakeLaws.{popping-none, popping-all, is-next, poppin
 use Rattle.walk_core.proofs.rows.pop_lines.Goals as goal
 
 pub loop-m-init : goal.loop-m-init
-loop-m-init c = record { size = refl; count = refl; rows = refl; pops = λ script can. popping-none script c.args.lines.now.items c.args.rows.now can }
+loop-m-init c = record {
+  size = refl;
+  count = refl;
+  rows = refl;
+  pops =
+      λ script can. popping-none script c.args.lines.now.items c.args.rows.now can;
+}
 
 pub returns-then-not-pop_into-clause-pops : goal.returns-then-not-pop_into-clause-pops
 returns-then-not-pop_into-clause-pops c script can =
@@ -21,8 +27,10 @@ returns-then-not-pop_into-clause-pops c script can =
     let there = at-index c.loop-m.lines.items m line (omega (arith, test, end, size)) c.index_mut.ensures.value in
     let next = is-next script c.args.lines.now.items c.loop-m.lines.items c.loop-m.rows m has line there in
     let calls = calls_on script m line.carried in
-    popping-waits script c.args.lines.now.items c.loop-m.lines.items c.loop-m.rows m has line there c.pop_into.new.self c.pop_into.new.rows
-    c.pop_into.ensures.others c.pop_into.ensures.rows (c.pop_into.ensures.popped calls _ next) (c.pop_into.ensures.has calls next.has) (c.pop_into.ensures.gathers calls _ next)
+    popping-waits script c.args.lines.now.items c.loop-m.lines.items c.loop-m.rows m has line there c.pop_into.new.self
+    c.pop_into.new.rows
+    c.pop_into.ensures.others c.pop_into.ensures.rows (c.pop_into.ensures.popped calls _ next)
+    (c.pop_into.ensures.has calls next.has) (c.pop_into.ensures.gathers calls _ next)
     (sym c.if-not-pop_into.true ∙ c.pop_into.ensures.decides calls _ next)
 
 pub loop-m-preserved : goal.loop-m-preserved
@@ -42,8 +50,10 @@ loop-m-preserved c =
           let has = inv.pops script can in
           let next = is-next script c.args.lines.now.items c.loop-m.lines.items c.loop-m.rows m has line there in
           let calls = calls_on script m line.carried in
-          popping-next script c.args.lines.now.items c.loop-m.lines.items c.loop-m.rows m has line there c.pop_into.new.self c.pop_into.new.rows
-          c.pop_into.ensures.others c.pop_into.ensures.rows (c.pop_into.ensures.popped calls _ next) (c.pop_into.ensures.has calls next.has) (c.pop_into.ensures.gathers calls _ next)
+          popping-next script c.args.lines.now.items c.loop-m.lines.items c.loop-m.rows m has line there
+          c.pop_into.new.self c.pop_into.new.rows
+          c.pop_into.ensures.others c.pop_into.ensures.rows (c.pop_into.ensures.popped calls _ next)
+          (c.pop_into.ensures.has calls next.has) (c.pop_into.ensures.gathers calls _ next)
           (sym c.if-not-pop_into.false ∙ c.pop_into.ensures.decides calls _ next);
     }
 
@@ -53,4 +63,5 @@ returns-clause-pops c script can =
     let test = c.loop-m-test.false in
     let end = c.len-m-end.ensures in
     let size = inv.size in
-    popping-all script c.args.lines.now.items c.loop-m.lines.items c.loop-m.rows c.loop-m.m (omega (arith, test, end, size)) (inv.pops script can)
+    popping-all script c.args.lines.now.items c.loop-m.lines.items c.loop-m.rows c.loop-m.m
+    (omega (arith, test, end, size)) (inv.pops script can)

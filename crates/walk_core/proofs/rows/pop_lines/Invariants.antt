@@ -11,5 +11,6 @@ invariant-loop-m l = record {
   size : length l.lines.items ≡ length l.fn.lines.items;
   count : line_count l.rows ≡ line_count l.fn.rows;
   rows : l.rows.rows ≡ l.fn.rows.rows;
-  pops : (script : Script) → CanPop script l.fn.lines.items l.fn.rows → Popping script l.fn.lines.items l.lines.items l.rows l.m;
+  pops : (script : Script) → CanPop script l.fn.lines.items l.fn.rows →
+      Popping script l.fn.lines.items l.lines.items l.rows l.m;
 }

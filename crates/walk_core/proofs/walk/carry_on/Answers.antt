@@ -18,7 +18,8 @@ returns-then-all_pushed-clause-has c script has sent =
     let all = all-carried script c.args.m c.args.own.now has (search (rules, c.if-all_pushed.ensures)) in
     record {
       has = subst (λ calls. Has c.flush.new.self calls)
-          (calls-flush script c.args.m c.args.own.now all ∙ ap (calls_on script c.args.m) (sym c.flush.ensures.carried)) (c.flush.ensures.has (calls_on script c.args.m c.args.own.now.carried) has.has);
+          (calls-flush script c.args.m c.args.own.now all ∙ ap (calls_on script c.args.m) (sym c.flush.ensures.carried))
+          (c.flush.ensures.has (calls_on script c.args.m c.args.own.now.carried) has.has);
       ring = c.flush.ensures.ring ∙ has.ring;
     }
 
@@ -26,18 +27,24 @@ pub returns-else-all_pushed-clause-has : goal.returns-else-all_pushed-clause-has
 returns-else-all_pushed-clause-has c script has sent =
     let some : c.args.own.now.core.pushed ≡ c.args.own.now.core.total → ⊥ = search (rules, c.if-all_pushed.ensures) in
     let within = c.all_pushed.ensures.within in
-    let left = not-carried script c.args.m c.args.own.now has (below c.args.own.now.core.pushed c.args.own.now.core.total within some) in
+    let left = not-carried script c.args.m c.args.own.now has
+    (below c.args.own.now.core.pushed c.args.own.now.core.total within some) in
     let places = c.requires.places in
     let slot : c.carried.result % 32 ≡ c.args.own.now.carried % 32 = ap (λ x. x % 32) c.carried.ensures in
     let frames = c.args.sent.now.items in
     let row : Vec (Box Container) = c.index_mut.result.now in
     let place : Box Container = c.index_mut-else-all_pushed.result.now in
-    let frame = at-index frames (c.args.own.now.carried % 32) row (omega (arith, places)) (c.index_mut.ensures.value ∙ ap (λ k. slice_index_or frames k row) slot) in
-    let read = at-index row.items c.args.m place (c.requires.lines (c.args.own.now.carried % 32) row frame) c.index_mut-else-all_pushed.ensures.value in
-    let is = same-some place.value (sent_at script c.args.m c.args.own.now.carried) (sym (map-get (λ (b : Box Container). b.value) row.items c.args.m place read) ∙ sent left row frame) in
+    let frame = at-index frames (c.args.own.now.carried % 32) row (omega (arith, places))
+    (c.index_mut.ensures.value ∙ ap (λ k. slice_index_or frames k row) slot) in
+    let read = at-index row.items c.args.m place (c.requires.lines (c.args.own.now.carried % 32) row frame)
+    c.index_mut-else-all_pushed.ensures.value in
+    let is = same-some place.value (sent_at script c.args.m c.args.own.now.carried)
+    (sym (map-get (λ (b : Box Container). b.value) row.items c.args.m place read) ∙ sent left row frame) in
     record {
       has = subst (λ calls. Has c.push.new.self calls)
-          (ap (and_push (calls_on script c.args.m c.args.own.now.carried)) is ∙ calls-push script c.args.m c.args.own.now left ∙ ap (calls_on script c.args.m) (sym c.push.ensures.carried))
+          (ap (and_push (calls_on script c.args.m c.args.own.now.carried)) is
+          ∙ calls-push script c.args.m c.args.own.now left
+          ∙ ap (calls_on script c.args.m) (sym c.push.ensures.carried))
           (c.push.ensures.has (calls_on script c.args.m c.args.own.now.carried) has.has);
       ring = c.push.ensures.ring ∙ has.ring;
     }
@@ -48,9 +55,13 @@ returns-else-all_pushed-clause-sent c =
     let slot : c.carried.result % 32 ≡ c.args.own.now.carried % 32 = ap (λ x. x % 32) c.carried.ensures in
     let frames = c.args.sent.now.items in
     let row : Vec (Box Container) = c.index_mut.result.now in
-    let frame = at-index frames (c.args.own.now.carried % 32) row (omega (arith, places)) (c.index_mut.ensures.value ∙ ap (λ k. slice_index_or frames k row) slot) in
-    subst (λ k. IsCarriedAt (c.args.own.now.carried % 32) c.args.m (map frame_in frames) (map frame_in (slice_set frames k (with_item row c.args.m c.push.new.container)))) (sym slot)
-    (changed-at frames (c.args.own.now.carried % 32) c.args.m row (with_item row c.args.m c.push.new.container) c.push.new.container frame refl)
+    let frame = at-index frames (c.args.own.now.carried % 32) row (omega (arith, places))
+    (c.index_mut.ensures.value ∙ ap (λ k. slice_index_or frames k row) slot) in
+    subst (λ k. IsCarriedAt (c.args.own.now.carried % 32) c.args.m (map frame_in frames)
+    (map frame_in (slice_set frames k (with_item row c.args.m c.push.new.container)))) (sym slot)
+    (changed-at frames (c.args.own.now.carried % 32) c.args.m row (with_item row c.args.m c.push.new.container)
+    c.push.new.container frame refl)
 
 pub returns-then-all_pushed-clause-sent : goal.returns-then-all_pushed-clause-sent
-returns-then-all_pushed-clause-sent c = unchanged-at (c.args.own.now.carried % 32) c.args.m (sent_frames c.args.sent.now)
+returns-then-all_pushed-clause-sent c =
+    unchanged-at (c.args.own.now.carried % 32) c.args.m (sent_frames c.args.sent.now)

@@ -10,7 +10,8 @@ returns-then-ticks-min-ge-SENDS c =
     let high = c.if-ticks-min-ge-SENDS.true in
     let least = c.min.ensures in
     let carried = c.carried.ensures in
-    sym (full-here c.args.total c.args.ticks c.args.lines.now c.loop-m.m c.index-lines-m.result there (omega (arith, high, least, carried))) ∙ c.loop-m.invariant
+    sym (full-here c.args.total c.args.ticks c.args.lines.now c.loop-m.m c.index-lines-m.result there
+    (omega (arith, high, least, carried))) ∙ c.loop-m.invariant
 
 pub loop-m-preserved : goal.loop-m-preserved
 loop-m-preserved c =
@@ -18,7 +19,8 @@ loop-m-preserved c =
     let low = c.if-ticks-min-ge-SENDS.false in
     let least = c.min.ensures in
     let carried = c.carried.ensures in
-    full-next c.args.total c.args.ticks c.args.lines.now c.loop-m.m c.index-lines-m.result there (omega (arith, low, least, carried)) ∙ c.loop-m.invariant
+    full-next c.args.total c.args.ticks c.args.lines.now c.loop-m.m c.index-lines-m.result there
+    (omega (arith, low, least, carried)) ∙ c.loop-m.invariant
 
 pub returns : goal.returns
 returns c =

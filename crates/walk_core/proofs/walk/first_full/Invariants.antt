@@ -5,4 +5,5 @@ use Rattle.walk_core.specs.Parts.{line_counts}
 use Rattle.walk_core.proofs.walk.first_full.Given as goal
 
 abbrev pub invariant-loop-m : goal.invariant-loop-m
-invariant-loop-m l = full l.total l.ticks l.m (map line_counts (drop l.m l.lines)) ≡ full l.total l.ticks 0 (map line_counts l.lines)
+invariant-loop-m l = full l.total l.ticks l.m (map line_counts (drop l.m l.lines)) ≡ full l.total l.ticks 0
+    (map line_counts l.lines)

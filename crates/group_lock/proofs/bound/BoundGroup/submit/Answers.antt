@@ -3,7 +3,10 @@ use Rattle.group_lock.proofs.SubmitLaws.{bound-submits, not-full}
 use Rattle.group_lock.proofs.bound.BoundGroup.submit.Goals as goal
 
 pub invariant_of-self : goal.invariant_of-self
-invariant_of-self g c = record { bound = bound-submits _ _ _ _ _ _ _ _ c.args.self.now.bound c.submit.ensures c.requires }
+invariant_of-self g c = record {
+  bound =
+      bound-submits _ _ _ _ _ _ _ _ c.args.self.now.bound c.submit.ensures c.requires;
+}
 
 pub returns-clause-submits : goal.returns-clause-submits
 returns-clause-submits g c = c.submit.ensures

@@ -21,7 +21,8 @@ invariant_of-self c =
     let inbox = c.take_cells.new.source.inbox in
     let back = c.take_cells.new.back in
     record {
-      keeps = subst (λ (s : Source). Keeps (parts s.core s.total s.landed g.journal s.inbox g.tx.items back) (length g.frame.items)) (sym c.take_cells.ensures.rest)
+      keeps = subst (λ (s : Source). Keeps (parts s.core s.total s.landed g.journal s.inbox g.tx.items back)
+          (length g.frame.items)) (sym c.take_cells.ensures.rest)
           (keeps-moved _ _ inbox back g.keeps c.take_cells.ensures.moved);
     }
 
@@ -53,7 +54,10 @@ returns c =
       received = m.received;
       moved = elim c.take_cells.ensures.until [
         | inl drained ↦ inl drained
-        | inr full ↦ inr (full-come _ _ (keeps-moved _ _ c.take_cells.new.source.inbox c.take_cells.new.back c.args.self.now.keeps m) full)
+        | inr full ↦ inr (full-come _ _
+            (keeps-moved _ _ c.take_cells.new.source.inbox c.take_cells.new.back c.args.self.now.keeps m) full)
       ];
-      taken = ap (λ (t : Terminal). told_taken c.take_cells.new.source.inbox.lost t.lag t.ticks (in_passed c.take_cells.new.back)) core ∙ told-moved _ _ c.take_cells.new.source.inbox c.take_cells.new.back c.args.self.now.keeps m;
+      taken = ap (λ (t : Terminal). told_taken c.take_cells.new.source.inbox.lost t.lag t.ticks
+          (in_passed c.take_cells.new.back)) core
+          ∙ told-moved _ _ c.take_cells.new.source.inbox c.take_cells.new.back c.args.self.now.keeps m;
     }

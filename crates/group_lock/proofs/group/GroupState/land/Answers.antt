@@ -46,8 +46,15 @@ returns-in-None c =
       commands = l.commands;
       refusals = subst (λ (w : Option Refusal). IsPlaced c.args.number
           (refused_by c.args.number w) g.source.landed.refusals c.land.new.self.landed.refusals) c.in-None.is e.placed;
-      script = record { lines = e.kind.lines; lag = e.kind.lag; size = e.kind.size; total = e.rest.total; lost = ap
-          (λ (i : Inbox). i.lost) e.rest.inbox; items = l.items };
+      script = record {
+        lines = e.kind.lines;
+        lag = e.kind.lag;
+        size = e.kind.size;
+        total = e.rest.total;
+        lost = ap
+            (λ (i : Inbox). i.lost) e.rest.inbox;
+        items = l.items;
+      };
       rings = record { ticks = e.ticks; inbox = ap (λ (i : Inbox). i.cells) e.rest.inbox; tx = refl; back = refl };
       made = e.made;
     })
@@ -69,8 +76,15 @@ returns-in-Some c =
       commands = l.commands;
       refusals = subst (λ (w : Option Refusal). IsPlaced c.args.number
           (refused_by c.args.number w) g.source.landed.refusals c.land.new.self.landed.refusals) c.in-Some.is e.placed;
-      script = record { lines = e.kind.lines; lag = e.kind.lag; size = e.kind.size; total = e.rest.total; lost = ap
-          (λ (i : Inbox). i.lost) e.rest.inbox; items = l.items };
+      script = record {
+        lines = e.kind.lines;
+        lag = e.kind.lag;
+        size = e.kind.size;
+        total = e.rest.total;
+        lost = ap
+            (λ (i : Inbox). i.lost) e.rest.inbox;
+        items = l.items;
+      };
       rings = record { ticks = e.ticks; inbox = ap (λ (i : Inbox). i.cells) e.rest.inbox; tx = refl; back = refl };
       made = e.made;
     })
@@ -111,7 +125,8 @@ invariant_of-self-in-None c =
     (is_client kind) c.args.number g.source.core.ticks c.requires.next g.keeps.ahead in
     record {
       keeps = rested g.source c.land.new.self c.push.new.self g.tx.items g.back _ e.rest
-          (keeps-accepted _ _ c.land.new.self.core c.land.new.self.landed c.push.new.self c.args.number kind g.keeps l.items (omega arith) (omega arith)
+          (keeps-accepted _ _ c.land.new.self.core c.land.new.self.landed c.push.new.self c.args.number kind g.keeps
+          l.items (omega arith) (omega arith)
           (c.push.ensures.entries
           ∙ ap (λ n. g.journal.entries ++ entry_of c.args.number n kind ∷ [])
           (c.ticks.ensures ∙ e.ticks)) e.ticks e.kind e.made
@@ -119,7 +134,8 @@ invariant_of-self-in-None c =
           (landed-behind g (is_client kind) c.args.number _ _ c.requires.next due g.keeps.behind
           l.frames l.commands)
           (subst (λ (w : Option Refusal). IsPlaced c.args.number
-              (refused_by c.args.number w) g.source.landed.refusals c.land.new.self.landed.refusals) c.in-None.is e.placed));
+          (refused_by c.args.number w) g.source.landed.refusals c.land.new.self.landed.refusals) c.in-None.is
+          e.placed));
     }
 
 pub invariant_of-self : goal.invariant_of-self
@@ -135,18 +151,22 @@ invariant_of-self c =
     let late = next-due g.source.landed
     (is_client kind) c.args.number g.source.core.ticks c.requires.next g.keeps.ahead in
     let is = refused-now (scenario_in at)
-    (told_in_parts at) g.source.core.ticks g.source.landed g.journal.entries c.args.number kind c.in-Some.why c.requires.next (omega arith)
+    (told_in_parts at) g.source.core.ticks g.source.landed g.journal.entries c.args.number kind c.in-Some.why
+    c.requires.next (omega arith)
     (sym (sym c.in-Some.is ∙ c.land.ensures.met ∙ refused-is g kind)) in
     record {
       keeps = rested g.source c.land.new.self g.journal g.tx.items g.back _ e.rest
           (subst (λ (core : Terminal). Keeps
-              (parts core g.source.total c.land.new.self.landed g.journal g.source.inbox g.tx.items g.back)
-              (length g.frame.items)) (sym (c.in-Some.ensures.unchanged refl))
-          (keeps-refused (parts g.source.core g.source.total g.source.landed g.journal g.source.inbox g.tx.items g.back) _ c.land.new.self.landed g.keeps l.items (omega arith) (omega arith)
+          (parts core g.source.total c.land.new.self.landed g.journal g.source.inbox g.tx.items g.back)
+          (length g.frame.items)) (sym (c.in-Some.ensures.unchanged refl))
+          (keeps-refused (parts g.source.core g.source.total g.source.landed g.journal g.source.inbox g.tx.items g.back)
+          _ c.land.new.self.landed g.keeps l.items (omega arith) (omega arith)
           (landed-behind g (is_client kind) c.args.number _ _ c.requires.next due g.keeps.behind
           l.frames l.commands)
           (refused-put (scenario_in at)
-          (told_in_parts at) g.source.core.ticks g.source.landed.items g.journal.entries c.args.number c.in-Some.why g.source.landed.refusals c.land.new.self.landed.refusals
+          (told_in_parts at) g.source.core.ticks g.source.landed.items g.journal.entries c.args.number c.in-Some.why
+          g.source.landed.refusals c.land.new.self.landed.refusals
           (subst (λ (w : Option Refusal). IsPlaced c.args.number
-              (refused_by c.args.number w) g.source.landed.refusals c.land.new.self.landed.refusals) c.in-Some.is e.placed) due is g.keeps.refused)));
+          (refused_by c.args.number w) g.source.landed.refusals c.land.new.self.landed.refusals) c.in-Some.is
+          e.placed) due is g.keeps.refused)));
     }

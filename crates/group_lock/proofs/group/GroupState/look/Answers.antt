@@ -10,7 +10,10 @@ first_full-requires c =
     omega arith
 
 pub invariant_of-self : goal.invariant_of-self
-invariant_of-self c = record { keeps = keeps-looked _ _ c.first_full.new.tx.items c.args.self.now.keeps c.first_full.ensures.looked }
+invariant_of-self c = record {
+  keeps =
+      keeps-looked _ _ c.first_full.new.tx.items c.args.self.now.keeps c.first_full.ensures.looked;
+}
 
 pub returns-clause-looks : goal.returns-clause-looks
 returns-clause-looks c = record {

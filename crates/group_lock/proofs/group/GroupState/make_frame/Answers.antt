@@ -32,8 +32,10 @@ pub push_frame-requires-clause-free : goal.push_frame-requires-clause-free
 push_frame-requires-clause-free c = c.requires.free
 
 -- what has landed is as it was
-rested : (was now : Source) (journal : Journal) (tx : List (RingOut Container)) (back : RingIn BackCell) (size : ℕ) → SameScript was now →
-    Keeps (parts now.core was.total was.landed journal now.inbox tx back) size → Keeps (parts now.core now.total now.landed journal now.inbox tx back) size
+rested : (was now : Source) (journal : Journal) (tx : List (RingOut Container)) (back : RingIn BackCell) (size : ℕ) →
+    SameScript was now →
+    Keeps (parts now.core was.total was.landed journal now.inbox tx back) size →
+    Keeps (parts now.core now.total now.landed journal now.inbox tx back) size
 rested was now journal tx back size same keeps =
     subst (λ n. Keeps (parts now.core n now.landed journal now.inbox tx back) size) (sym same.total)
     (subst (λ (l : Landed). Keeps (parts now.core was.total l journal now.inbox tx back) size) (sym same.landed) keeps)
@@ -43,25 +45,40 @@ invariant_of-self c =
     let g = c.args.self.now in
     let e = c.make-taken.ensures in
     let (left, none) = early-none g.source c.requires.early in
-    let made = made-by _ _ c.make-taken.new.self.core c.make-taken.new.self.inbox c.push_frame.new.tx.items c.make-taken.result (held c.deref.result.now) _ g.keeps refl (cell-there _ _ c.requires.cell)
-    e.cell e.inbox e.made (λ scenario cells has. ap held c.deref.ensures.value ∙ e.frame scenario cells has) e.ticks e.kind c.push_frame.ensures in
+    let made = made-by _ _ c.make-taken.new.self.core c.make-taken.new.self.inbox c.push_frame.new.tx.items
+    c.make-taken.result (held c.deref.result.now) _ g.keeps refl (cell-there _ _ c.requires.cell)
+    e.cell e.inbox e.made (λ scenario cells has. ap held c.deref.ensures.value ∙ e.frame scenario cells has) e.ticks
+    e.kind c.push_frame.ensures in
     let kept = keeps-made _ _ _ _ _ _ _ g.keeps made left none in
-    record { keeps = subst (Keeps _) (sym e.places) (rested g.source c.make-taken.new.self g.journal c.push_frame.new.tx.items g.back _ e.rest kept) }
+    record {
+      keeps = subst (Keeps _) (sym e.places)
+          (rested g.source c.make-taken.new.self g.journal c.push_frame.new.tx.items g.back _ e.rest kept);
+    }
 
 pub returns : goal.returns
 returns c =
     let g = c.args.self.now in
     let e = c.make-taken.ensures in
     let k = g.keeps in
-    let made = made-by _ _ c.make-taken.new.self.core c.make-taken.new.self.inbox c.push_frame.new.tx.items c.make-taken.result (held c.deref.result.now) _ k refl (cell-there _ _ c.requires.cell)
-    e.cell e.inbox e.made (λ scenario cells has. ap held c.deref.ensures.value ∙ e.frame scenario cells has) e.ticks e.kind c.push_frame.ensures in
+    let made = made-by _ _ c.make-taken.new.self.core c.make-taken.new.self.inbox c.push_frame.new.tx.items
+    c.make-taken.result (held c.deref.result.now) _ k refl (cell-there _ _ c.requires.cell)
+    e.cell e.inbox e.made (λ scenario cells has. ap held c.deref.ensures.value ∙ e.frame scenario cells has) e.ticks
+    e.kind c.push_frame.ensures in
     let size = ap length c.deref.ensures.value in
     let places = e.places in
     let first = k.places in
     let rings = k.rings in
     let long = length-map c.deref.result.now (λ (b : Box Container). b.value) in
     record {
-      script = record { lines = e.kind.lines; lag = e.kind.lag; size = e.kind.size; total = e.rest.total; lost = made.lost; items = ap (λ (l : Landed). l.items) e.rest.landed };
+      script = record {
+        lines = e.kind.lines;
+        lag = e.kind.lag;
+        size = e.kind.size;
+        total = e.rest.total;
+        lost =
+            made.lost;
+        items = ap (λ (l : Landed). l.items) e.rest.landed;
+      };
       landed = record {
         frames = ap (λ (l : Landed). l.frames) e.rest.landed;
         commands = ap (λ (l : Landed). l.commands) e.rest.landed;
@@ -73,7 +90,8 @@ returns c =
       ticks = e.ticks;
       sends = same-ends (held c.deref.result.now) _ _ (omega (arith, long)) c.push_frame.ensures;
       back = refl;
-      made = λ scenario has. subst (HasMade c.make-taken.new.self.core scenario) (sym (told-made _ _ _ _ _ _ _ k made)) (e.made scenario _ has);
+      made = λ scenario has. subst (HasMade c.make-taken.new.self.core scenario) (sym (told-made _ _ _ _ _ _ _ k made))
+          (e.made scenario _ has);
       pushed = λ scenario has m old new was is. pushed-made _ _ _ _ _ _ _ k made scenario has m old new was is;
       own = λ m old new was is. own-pushed _ _ _ _ _ _ _ k made m old new was is;
     }

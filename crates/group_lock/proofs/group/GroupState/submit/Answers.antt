@@ -40,9 +40,9 @@ pub due-requires : goal.due-requires
 due-requires c =
     let g = c.args.self.now in
     ap (λ (l : Landed). next_number l c.is_frame-2.result) c.landing-2.ensures
-        ∙ ap (next_number g.source.landed) c.is_frame-2.ensures
-        ∙ sym (c.next-next.ensures ∙ ap (λ (l : Landed). next_number l c.is_frame.result) c.landing.ensures
-        ∙ ap (next_number g.source.landed) c.is_frame.ensures)
+    ∙ ap (next_number g.source.landed) c.is_frame-2.ensures
+    ∙ sym (c.next-next.ensures ∙ ap (λ (l : Landed). next_number l c.is_frame.result) c.landing.ensures
+    ∙ ap (next_number g.source.landed) c.is_frame.ensures)
     ∙ is-some c.next-next.result c.args.number (not-false _ (sym c.if-ne.false ∙ c.ne.ensures))
 
 pub returns-then-now-due : goal.returns-then-now-due
@@ -77,8 +77,8 @@ pub land-requires-clause-next : goal.land-requires-clause-next
 land-requires-clause-next c =
     let g = c.args.self.now in
     sym (c.next-next.ensures ∙ ap (λ (l : Landed). next_number l c.is_frame.result) c.landing.ensures
-        ∙ ap (next_number g.source.landed) c.is_frame.ensures)
-        ∙ is-some c.next-next.result c.args.number (not-false _ (sym c.if-ne.false ∙ c.ne.ensures))
+    ∙ ap (next_number g.source.landed) c.is_frame.ensures)
+    ∙ is-some c.next-next.result c.args.number (not-false _ (sym c.if-ne.false ∙ c.ne.ensures))
 
 pub land-requires-clause-due : goal.land-requires-clause-due
 land-requires-clause-due c =

@@ -6,18 +6,23 @@ use Rattle.group_lock.proofs.TickLaws.{ticks-early, ticks-full, ticks-missing, t
 use Rattle.group_lock.proofs.group.GroupState.tick.Goals as goal
 
 pub returns-in-Some : goal.returns-in-Some
-returns-in-Some c = ticks-early c.args.self.now c.come.new.self c.in-Some.cause c.stopped.result c.stopped.ensures c.come.ensures (sym c.early_cause.ensures ∙ c.in-Some.is)
+returns-in-Some c = ticks-early c.args.self.now c.come.new.self c.in-Some.cause c.stopped.result c.stopped.ensures
+    c.come.ensures (sym c.early_cause.ensures ∙ c.in-Some.is)
 
 pub returns-in-Some-look : goal.returns-in-Some-look
 returns-in-Some-look c =
-    let free = free-early c.args.self.now c.come.new.self c.come.ensures (sym c.early_cause.ensures ∙ c.in_default.is) in
-    ticks-full c.args.self.now c.come.new.self c.look.new.self c.in-Some-look.line c.come.ensures c.look.ensures.looks free c.in-Some-look.ensures.full
+    let free = free-early c.args.self.now c.come.new.self c.come.ensures (sym c.early_cause.ensures ∙ c.in_default.is)
+    in
+    ticks-full c.args.self.now c.come.new.self c.look.new.self c.in-Some-look.line c.come.ensures c.look.ensures.looks
+    free c.in-Some-look.ensures.full
 
 pub returns-in-Some-missing : goal.returns-in-Some-missing
 returns-in-Some-missing c =
-    let free = free-early c.args.self.now c.come.new.self c.come.ensures (sym c.early_cause.ensures ∙ c.in_default.is) in
+    let free = free-early c.args.self.now c.come.new.self c.come.ensures (sym c.early_cause.ensures ∙ c.in_default.is)
+    in
     let (needs, none) = missing-some _ _ c.in-Some-missing.packet (sym c.missing.ensures ∙ c.in-Some-missing.is) in
-    ticks-missing c.args.self.now c.come.new.self c.look.new.self c.in-Some-missing.packet c.come.ensures c.look.ensures.looks free c.in_default-look.ensures.full (sym needs) none
+    ticks-missing c.args.self.now c.come.new.self c.look.new.self c.in-Some-missing.packet c.come.ensures
+    c.look.ensures.looks free c.in_default-look.ensures.full (sym needs) none
 
 pub make_frame-requires-clause-early : goal.make_frame-requires-clause-early
 make_frame-requires-clause-early c = ap early_in c.look.ensures.side ∙ sym c.early_cause.ensures ∙ c.in_default.is
@@ -30,5 +35,7 @@ make_frame-requires-clause-free c = c.in_default-look.ensures.full
 
 pub returns : goal.returns
 returns c =
-    let free = free-early c.args.self.now c.come.new.self c.come.ensures (sym c.early_cause.ensures ∙ c.in_default.is) in
-    ticks-ticked c.args.self.now c.come.new.self c.look.new.self c.make_frame.new.self c.come.ensures c.look.ensures.looks c.make_frame.ensures free
+    let free = free-early c.args.self.now c.come.new.self c.come.ensures (sym c.early_cause.ensures ∙ c.in_default.is)
+    in
+    ticks-ticked c.args.self.now c.come.new.self c.look.new.self c.make_frame.new.self c.come.ensures
+    c.look.ensures.looks c.make_frame.ensures free

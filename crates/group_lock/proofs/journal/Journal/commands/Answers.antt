@@ -19,5 +19,6 @@ returns c =
     let all = entries-kinds f.octets.items f.entries.items in
     let frames = c.self.invariant.frames in
     let size = f.entries.ok in
-    let count : c.len.result - f.frames ≡ length (orders_of (items_in (entries_in f.octets.items f.entries.items))) = omega arith in
+    let count : c.len.result - f.frames ≡ length (orders_of (items_in (entries_in f.octets.items f.entries.items))) =
+    omega arith in
     count ∙ ap (λ (j : Journal). length (orders_of (items_in j.entries))) c.self.view_is

@@ -1,5 +1,6 @@
 -- The entry is put behind the others.
-use Rattle.std.proofs.Common.{◌≡◌, ℕ, ◌+◌, ◌-◌, ◌<◌, ◌≤◌, Bool, true, false, if◌then◌else◌, List, [], ◌∷◌, ◌++◌, length, sym, ◌∙◌, ap, subst, arith, refl}
+use Rattle.std.proofs.Common.{◌≡◌, ℕ, ◌+◌, ◌-◌, ◌<◌, ◌≤◌, Bool, true, false, if◌then◌else◌, List, [], ◌∷◌, ◌++◌, length}
+use Rattle.std.proofs.Common.{sym, ◌∙◌, ap, subst, arith, refl}
 use Rattle.std.specs.Vec.{vec_capacity}
 use Rattle.session_model.specs.declared.script.ItemKind.{ItemKind}
 use Rattle.session_model.specs.declared.script.ItemKind.TheVariants.{Frame, Add, Remove}
@@ -20,7 +21,8 @@ at-most-one : (b : Bool) → (if b then 1 else 0) ≤ 1
 at-most-one true = omega arith
 at-most-one false = omega arith
 
-moved : (octets now : List ℕ) (entries after : List Entry) (slots bytes left room wide space frames count : ℕ) → now ≡ octets → after ≡ entries → left ≡ bytes → wide ≡ room → count ≡ frames →
+moved : (octets now : List ℕ) (entries after : List Entry) (slots bytes left room wide space frames count : ℕ) →
+    now ≡ octets → after ≡ entries → left ≡ bytes → wide ≡ room → count ≡ frames →
     AreEntries octets entries slots bytes room space frames → AreEntries now after slots left wide space count
 moved octets now entries after slots bytes left room wide space frames count a b d e f are =
     subst (λ l. AreEntries l after slots left wide space count) (sym a)
@@ -47,12 +49,18 @@ invariant_of-self c =
     let bytes = subst (λ (j : Journal). size_of kind ≤ j.bytes) (sym c.self.view_is) c.requires.bytes in
     let same = size-octets kind in
     let octets = c.enter-what.ensures.octets in
-    let is = kept-push f.octets.items (octets_of kind) f.entries.items entry kind f.slots f.bytes (vec_capacity f.entries) (vec_capacity f.octets) f.frames c.self.invariant (omega arith) (omega arith)
-    (subst (λ l. kind_in l entry.what ≡ kind) octets c.enter-what.ensures.kind) (subst (λ l. IsThere (length l) entry.what) octets c.enter-what.ensures.there)
+    let is = kept-push f.octets.items (octets_of kind) f.entries.items entry kind f.slots f.bytes
+    (vec_capacity f.entries) (vec_capacity f.octets) f.frames c.self.invariant (omega arith) (omega arith)
+    (subst (λ l. kind_in l entry.what ≡ kind) octets c.enter-what.ensures.kind)
+    (subst (λ l. IsThere (length l) entry.what) octets c.enter-what.ensures.there)
     (vec_capacity c.enter-what.new.kept) c.enter-what.ensures.room in
-    moved (f.octets.items ++ octets_of kind) c.enter-what.new.kept.items (f.entries.items ++ entry ∷ []) c.push_reserved.new.self.items (f.slots - 1) (f.bytes - length (octets_of kind)) (f.bytes - c.len.result)
-    (vec_capacity f.entries) (vec_capacity c.push_reserved.new.self) (vec_capacity c.enter-what.new.kept) (f.frames + (if is_client kind then 1 else 0)) (f.frames + c.frames.result)
-    octets c.push_reserved.ensures.items (ap (λ n. f.bytes - n) (c.len.ensures ∙ sym same)) c.push_reserved.ensures.capacity (ap (λ n. f.frames + n) c.frames.ensures) is
+    moved (f.octets.items ++ octets_of kind) c.enter-what.new.kept.items
+    (f.entries.items ++ entry ∷ []) c.push_reserved.new.self.items (f.slots - 1) (f.bytes - length (octets_of kind))
+    (f.bytes - c.len.result)
+    (vec_capacity f.entries) (vec_capacity c.push_reserved.new.self) (vec_capacity c.enter-what.new.kept)
+    (f.frames + (if is_client kind then 1 else 0)) (f.frames + c.frames.result)
+    octets c.push_reserved.ensures.items (ap (λ n. f.bytes - n) (c.len.ensures ∙ sym same))
+    c.push_reserved.ensures.capacity (ap (λ n. f.frames + n) c.frames.ensures) is
 
 pub returns-clause-entries : goal.returns-clause-entries
 returns-clause-entries c =
@@ -61,5 +69,6 @@ returns-clause-entries c =
     let entry : Entry = record { number = c.args.number; ticks = c.args.ticks; what = c.enter-what.result } in
     ap (λ l. entries_in l c.push_reserved.new.self.items) c.enter-what.ensures.octets
     ∙ ap (entries_in (f.octets.items ++ octets_of kind)) c.push_reserved.ensures.items
-    ∙ entries-push f.octets.items (octets_of kind) f.entries.items entry kind c.self.invariant.there (subst (λ l. kind_in l entry.what ≡ kind) c.enter-what.ensures.octets c.enter-what.ensures.kind)
+    ∙ entries-push f.octets.items (octets_of kind) f.entries.items entry kind c.self.invariant.there
+    (subst (λ l. kind_in l entry.what ≡ kind) c.enter-what.ensures.octets c.enter-what.ensures.kind)
     ∙ ap (λ (j : Journal). j.entries ++ entry_of c.args.number c.args.ticks kind ∷ []) c.self.view_is

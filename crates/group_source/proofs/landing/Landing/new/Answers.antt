@@ -20,11 +20,23 @@ invariant_of-result c =
     let long = c.len.ensures in
     let size = ap length c.in_ok-items.ensures ∙ length-map c.args.items.now bare in
     let few = c.requires.few in
-    let dues : dues_of copy.items ≡ dues_of c.args.items.now = ap dues_of c.in_ok-items.ensures ∙ bare-dues c.args.items.now in
-    let is = none-yet copy.items c.next_frame-frame.result c.next_command-command.result (vec_capacity none) (omega arith)
-    (subst (λ l. IsNonDecreasing (frame_dues l)) (sym dues) c.requires.frames) (subst (λ l. IsNonDecreasing (command_dues l)) (sym dues) c.requires.commands)
+    let dues : dues_of copy.items ≡ dues_of c.args.items.now = ap dues_of c.in_ok-items.ensures
+    ∙ bare-dues c.args.items.now in
+    let is = none-yet copy.items c.next_frame-frame.result c.next_command-command.result (vec_capacity none)
+    (omega arith)
+    (subst (λ l. IsNonDecreasing (frame_dues l)) (sym dues) c.requires.frames)
+    (subst (λ l. IsNonDecreasing (command_dues l)) (sym dues) c.requires.commands)
     (c.next_frame-frame.ensures ∙ ap (λ items. 0 + place_of is_frame 0 items) c.deref.ensures.value)
     (c.next_command-command.ensures ∙ ap (λ items. 0 + place_of is_command 0 items) c.deref-2.ensures.value)
     (omega arith) in
-    subst (λ (refusals : List (ℕ × Refusal)). IsLanded (record { items = copy.items; frames = 0; commands = 0; refused_frames = 0; refused_commands = 0; refusals = refusals }) c.next_frame-frame.result c.next_command-command.result (vec_capacity none))
+    subst (λ (refusals : List (ℕ × Refusal)). IsLanded
+    (record {
+      items = copy.items;
+      frames = 0;
+      commands = 0;
+      refused_frames = 0;
+      refused_commands = 0;
+      refusals =
+          refusals;
+    }) c.next_frame-frame.result c.next_command-command.result (vec_capacity none))
     (sym c.in_ok-refusals.ensures.items) is

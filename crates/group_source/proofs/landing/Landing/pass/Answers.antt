@@ -19,7 +19,8 @@ invariant_of-self c =
     let there = subst (λ (l : Landed). next_place l true < length l.items) (sym c.self.view_is) low in
     let place = c.self.invariant.frame in
     frame-landed _ f.frame f.command _ c.next_frame-self-inside.result c.self.invariant (omega (arith, there, place))
-    (c.next_frame-self-inside.ensures ∙ ap (λ items. (f.frame + 1) + place_of is_frame 0 (drop (f.frame + 1) items)) c.deref.ensures.value)
+    (c.next_frame-self-inside.ensures
+    ∙ ap (λ items. (f.frame + 1) + place_of is_frame 0 (drop (f.frame + 1) items)) c.deref.ensures.value)
 
 pub invariant_of-self-else-client : goal.invariant_of-self-else-client
 invariant_of-self-else-client c =
@@ -27,43 +28,90 @@ invariant_of-self-else-client c =
     let low = subst (λ b. next_place c.args.self.now b < length c.args.self.now.items) c.if-client.false c.requires in
     let there = subst (λ (l : Landed). next_place l false < length l.items) (sym c.self.view_is) low in
     let place = c.self.invariant.command in
-    command-landed _ f.frame f.command _ c.next_command-self-inside.result c.self.invariant (omega (arith, there, place))
-    (c.next_command-self-inside.ensures ∙ ap (λ items. (f.command + 1) + place_of is_command 0 (drop (f.command + 1) items)) c.deref-else-client.ensures.value)
+    command-landed _ f.frame f.command _ c.next_command-self-inside.result c.self.invariant
+    (omega (arith, there, place))
+    (c.next_command-self-inside.ensures
+    ∙ ap (λ items. (f.command + 1) + place_of is_command 0 (drop (f.command + 1) items))
+    c.deref-else-client.ensures.value)
 
 pub returns-then-client-clause-passed : goal.returns-then-client-clause-passed
 returns-then-client-clause-passed c =
     let now = c.args.self.now in
     let low = subst (λ b. next_place now b < length now.items) c.if-client.true c.requires in
-    subst (λ b. next_place now b < next_place (record { items = c.self.inside.items.items; frames = c.self.inside.frames + 1; commands = c.self.inside.commands; refused_frames = c.self.inside.refused_frames; refused_commands = c.self.inside.refused_commands; refusals = c.self.inside.refusals.items }) b) (sym c.if-client.true)
-    (subst (λ (l : Landed). next_place now true < place_of is_frame (l.frames + 1) l.items) (sym c.self.view_is) (next-later now true low))
+    subst (λ b. next_place now b < next_place
+    (record {
+      items = c.self.inside.items.items;
+      frames = c.self.inside.frames + 1;
+      commands =
+          c.self.inside.commands;
+      refused_frames = c.self.inside.refused_frames;
+      refused_commands =
+          c.self.inside.refused_commands;
+      refusals = c.self.inside.refusals.items;
+    }) b) (sym c.if-client.true)
+    (subst (λ (l : Landed). next_place now true < place_of is_frame (l.frames + 1) l.items) (sym c.self.view_is)
+    (next-later now true low))
 
 pub returns-else-client-clause-passed : goal.returns-else-client-clause-passed
 returns-else-client-clause-passed c =
     let now = c.args.self.now in
     let low = subst (λ b. next_place now b < length now.items) c.if-client.false c.requires in
-    subst (λ b. next_place now b < next_place (record { items = c.self.inside.items.items; frames = c.self.inside.frames; commands = c.self.inside.commands + 1; refused_frames = c.self.inside.refused_frames; refused_commands = c.self.inside.refused_commands; refusals = c.self.inside.refusals.items }) b) (sym c.if-client.false)
-    (subst (λ (l : Landed). next_place now false < place_of is_command (l.commands + 1) l.items) (sym c.self.view_is) (next-later now false low))
+    subst (λ b. next_place now b < next_place
+    (record {
+      items = c.self.inside.items.items;
+      frames = c.self.inside.frames;
+      commands =
+          c.self.inside.commands + 1;
+      refused_frames = c.self.inside.refused_frames;
+      refused_commands =
+          c.self.inside.refused_commands;
+      refusals = c.self.inside.refusals.items;
+    }) b) (sym c.if-client.false)
+    (subst (λ (l : Landed). next_place now false < place_of is_command (l.commands + 1) l.items) (sym c.self.view_is)
+    (next-later now false low))
 
 pub returns-then-client-clause-others : goal.returns-then-client-clause-others
 returns-then-client-clause-others c =
     let now = c.args.self.now in
-    let is = subst (λ (l : Landed). IsLanded l c.self.inside.frame c.self.inside.command (vec_capacity c.self.inside.refusals)) c.self.view_is c.self.invariant in
-    subst (λ (l : Landed). AreOthers (next_place now c.args.client) l.refusals) (sym c.self.view_is) (fresh-next now _ _ _ c.args.client is c.requires)
+    let is = subst (λ (l : Landed). IsLanded l c.self.inside.frame c.self.inside.command
+    (vec_capacity c.self.inside.refusals)) c.self.view_is c.self.invariant in
+    subst (λ (l : Landed). AreOthers (next_place now c.args.client) l.refusals) (sym c.self.view_is)
+    (fresh-next now _ _ _ c.args.client is c.requires)
 
 pub returns-else-client-clause-others : goal.returns-else-client-clause-others
 returns-else-client-clause-others c =
     let now = c.args.self.now in
-    let is = subst (λ (l : Landed). IsLanded l c.self.inside.frame c.self.inside.command (vec_capacity c.self.inside.refusals)) c.self.view_is c.self.invariant in
-    subst (λ (l : Landed). AreOthers (next_place now c.args.client) l.refusals) (sym c.self.view_is) (fresh-next now _ _ _ c.args.client is c.requires)
+    let is = subst (λ (l : Landed). IsLanded l c.self.inside.frame c.self.inside.command
+    (vec_capacity c.self.inside.refusals)) c.self.view_is c.self.invariant in
+    subst (λ (l : Landed). AreOthers (next_place now c.args.client) l.refusals) (sym c.self.view_is)
+    (fresh-next now _ _ _ c.args.client is c.requires)
 
 pub returns-then-client-clause-fewer : goal.returns-then-client-clause-fewer
 returns-then-client-clause-fewer c =
-    let now : Landed = record { items = c.self.inside.items.items; frames = c.self.inside.frames + 1; commands = c.self.inside.commands; refused_frames = c.self.inside.refused_frames; refused_commands = c.self.inside.refused_commands; refusals = c.self.inside.refusals.items } in
+    let now : Landed = record {
+      items = c.self.inside.items.items;
+      frames = c.self.inside.frames + 1;
+      commands =
+          c.self.inside.commands;
+      refused_frames = c.self.inside.refused_frames;
+      refused_commands =
+          c.self.inside.refused_commands;
+      refusals = c.self.inside.refusals.items;
+    } in
     let few = c.self.invariant.few_frames in
     subst (λ b. refused_of now b < landed_of now b) (sym c.if-client.true) (omega arith)
 
 pub returns-else-client-clause-fewer : goal.returns-else-client-clause-fewer
 returns-else-client-clause-fewer c =
-    let now : Landed = record { items = c.self.inside.items.items; frames = c.self.inside.frames; commands = c.self.inside.commands + 1; refused_frames = c.self.inside.refused_frames; refused_commands = c.self.inside.refused_commands; refusals = c.self.inside.refusals.items } in
+    let now : Landed = record {
+      items = c.self.inside.items.items;
+      frames = c.self.inside.frames;
+      commands =
+          c.self.inside.commands + 1;
+      refused_frames = c.self.inside.refused_frames;
+      refused_commands =
+          c.self.inside.refused_commands;
+      refusals = c.self.inside.refusals.items;
+    } in
     let few = c.self.invariant.few_commands in
     subst (λ b. refused_of now b < landed_of now b) (sym c.if-client.false) (omega arith)

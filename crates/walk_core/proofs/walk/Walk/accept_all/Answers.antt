@@ -9,21 +9,30 @@ use Rattle.walk_core.proofs.RoundLaws.{landed-none, frame-turn, frame-end, frame
 use Rattle.walk_core.proofs.walk.Walk.accept_all.Goals as goal
 
 pub loop-init : goal.loop-init
-loop-init c = record { script = refl; landed = landed-none (walk_plan c.args.self.now.script) c.args.self.now.counts Accept (λ (s : Counts). s.frames); rows = refl }
+loop-init c = record {
+  script = refl;
+  landed =
+      landed-none (walk_plan c.args.self.now.script) c.args.self.now.counts Accept (λ (s : Counts). s.frames);
+  rows =
+      refl;
+}
 
 pub returns-in-Stalled-clause-counts : goal.returns-in-Stalled-clause-counts
 returns-in-Stalled-clause-counts c =
     let inv = c.loop.invariant in
     let after = c.accept.ensures.counts ∙ ap (λ (x : Script). counts_after x c.loop.self.counts Accept) inv.script in
-    let said = sym c.in-Stalled.is ∙ c.accept.ensures.moved ∙ ap (λ (x : Script). moved_of x c.loop.self.counts Accept) inv.script in
-    frame-end c.args.self.now.script c.args.self.now.counts c.loop.self.counts c.accept.new.self.counts _ inv.landed after said
+    let said = sym c.in-Stalled.is ∙ c.accept.ensures.moved
+    ∙ ap (λ (x : Script). moved_of x c.loop.self.counts Accept) inv.script in
+    frame-end c.args.self.now.script c.args.self.now.counts c.loop.self.counts c.accept.new.self.counts _ inv.landed
+    after said
 
 pub loop-smaller : goal.loop-smaller
 loop-smaller c =
     let inv = c.loop.invariant in
     let after = c.accept.ensures.counts ∙ ap (λ (x : Script). counts_after x c.loop.self.counts Accept) inv.script in
     let said = c.accept.ensures.moved ∙ ap (λ (x : Script). moved_of x c.loop.self.counts Accept) inv.script in
-    (frame-turn c.args.self.now.script c.args.self.now.counts c.loop.self.counts c.accept.new.self.counts c.accept.result inv.landed after said c.in_default.not-Stalled).1
+    (frame-turn c.args.self.now.script c.args.self.now.counts c.loop.self.counts c.accept.new.self.counts
+    c.accept.result inv.landed after said c.in_default.not-Stalled).1
 
 pub loop-preserved : goal.loop-preserved
 loop-preserved c =
@@ -32,6 +41,7 @@ loop-preserved c =
     let said = c.accept.ensures.moved ∙ ap (λ (x : Script). moved_of x c.loop.self.counts Accept) inv.script in
     record {
       script = c.accept.ensures.script ∙ inv.script;
-      landed = (frame-turn c.args.self.now.script c.args.self.now.counts c.loop.self.counts c.accept.new.self.counts c.accept.result inv.landed after said c.in_default.not-Stalled).0;
+      landed = (frame-turn c.args.self.now.script c.args.self.now.counts c.loop.self.counts c.accept.new.self.counts
+          c.accept.result inv.landed after said c.in_default.not-Stalled).0;
       rows = ap (λ (s : Counts). s.rows) after ∙ frame-rows c.args.self.now.script c.loop.self.counts ∙ inv.rows;
     }

@@ -14,13 +14,13 @@ pub returns-then-is_empty-clause-counts : goal.returns-then-is_empty-clause-coun
 returns-then-is_empty-clause-counts c =
     let none : c.self.inside.ring ≡ [] = search (rules, c.if-is_empty.ensures) in
     subst (λ (w : Walked). w.counts ≡ counts_after w.script w.counts Back) c.self.view_is
-        (back-stays _ _ _ c.self.invariant.back none).0
+    (back-stays _ _ _ c.self.invariant.back none).0
 
 pub returns-then-is_empty-clause-moved : goal.returns-then-is_empty-clause-moved
 returns-then-is_empty-clause-moved c =
     let none : c.self.inside.ring ≡ [] = search (rules, c.if-is_empty.ensures) in
     subst (λ (w : Walked). Stalled BackEmpty ≡ moved_of w.script w.counts Back) c.self.view_is
-        (back-stays _ _ _ c.self.invariant.back none).1
+    (back-stays _ _ _ c.self.invariant.back none).1
 
 pub move_one-requires-clause-room : goal.move_one-requires-clause-room
 move_one-requires-clause-room c = inbox-room _ _ _ _ _ c.self.invariant
@@ -33,8 +33,8 @@ invariant_of-self c =
     let some : c.self.inside.ring ≡ [] → ⊥ = search (rules, c.if-is_empty.ensures) in
     let f = c.self.inside in
     subst (λ (s : Source). IsWalk f.script
-        (parts_of s (sent_frames f.sent) f.lines.items f.rows f.sink c.move_one.new.self) s.landed f.got f.last)
-        (sym c.move_one.ensures.rest)
+    (parts_of s (sent_frames f.sent) f.lines.items f.rows f.sink c.move_one.new.self) s.landed f.got f.last)
+    (sym c.move_one.ensures.rest)
     (back-kept _ _ _ _ _ c.self.invariant some
     (path_of c.move_one.new.self c.move_one.new.source.inbox) c.move_one.ensures.moved)
 
@@ -43,7 +43,8 @@ returns-clause-counts c =
     let some : c.self.inside.ring ≡ [] → ⊥ = search (rules, c.if-is_empty.ensures) in
     let f = c.self.inside in
     ap (λ (s : Source). counts_of
-        (parts_of s (sent_frames f.sent) f.lines.items f.rows f.sink c.move_one.new.self) s.landed) c.move_one.ensures.rest
+    (parts_of s (sent_frames f.sent) f.lines.items f.rows f.sink c.move_one.new.self) s.landed)
+    c.move_one.ensures.rest
     ∙ back-counts _ _ _ _ _ c.self.invariant some
     (path_of c.move_one.new.self c.move_one.new.source.inbox) c.move_one.ensures.moved
     ∙ ap (λ (w : Walked). counts_after w.script w.counts Back) c.self.view_is
@@ -52,4 +53,4 @@ pub returns-clause-moved : goal.returns-clause-moved
 returns-clause-moved c =
     let some : c.self.inside.ring ≡ [] → ⊥ = search (rules, c.if-is_empty.ensures) in
     subst (λ (w : Walked). Yes ≡ moved_of w.script w.counts Back) c.self.view_is
-        (back-moved _ _ _ c.self.invariant.back some).1
+    (back-moved _ _ _ c.self.invariant.back some).1

@@ -2,7 +2,8 @@
 use Rattle.std.proofs.Common.{rules, refl, ap, arith}
 use Rattle.walk_core.specs.Moved.{Walked}
 use Rattle.walk_core.proofs.CarryLaws.{frame-size, sent-places}
-use Rattle.walk_core.proofs.CarrySteps.{line-low, line-within, line-stays, line-runs, line-free, line-kept, line-counts, line-moves}
+use Rattle.walk_core.proofs.CarrySteps.{line-low, line-within, line-stays, line-runs, line-free, line-kept, line-counts}
+use Rattle.walk_core.proofs.CarrySteps.{line-moves}
 use Rattle.walk_core.proofs.walk.Walk.carry.Goals as goal
 
 pub index-requires : goal.index-requires

@@ -21,11 +21,14 @@ loop-line-preserved c =
     let size = paths-size c.args.self.now.script valid in
     let lines = ap (λ (w : Walked). w.script.config.lines) c.self.view_is in
     let test = c.loop-line-test.true in
-    let after = c.carry.ensures.counts ∙ ap (λ (x : Script). counts_after x c.loop-line.self.counts (Carry c.loop-line.line)) inv.script in
+    let after = c.carry.ensures.counts
+    ∙ ap (λ (x : Script). counts_after x c.loop-line.self.counts (Carry c.loop-line.line)) inv.script in
     record {
       script = c.carry.ensures.script ∙ inv.script;
-      left = carry-turn c.args.self.now.script c.args.self.now.counts c.loop-line.self.counts c.carry.new.self.counts c.loop-line.line _ (omega (arith, size, lines, test)) inv.left after;
-      rows = ap (λ (s : Counts). s.rows) after ∙ carry-rows c.args.self.now.script c.loop-line.self.counts c.loop-line.line ∙ inv.rows;
+      left = carry-turn c.args.self.now.script c.args.self.now.counts c.loop-line.self.counts c.carry.new.self.counts
+          c.loop-line.line _ (omega (arith, size, lines, test)) inv.left after;
+      rows = ap (λ (s : Counts). s.rows) after
+          ∙ carry-rows c.args.self.now.script c.loop-line.self.counts c.loop-line.line ∙ inv.rows;
     }
 
 pub returns-clause-counts : goal.returns-clause-counts
@@ -36,4 +39,5 @@ returns-clause-counts c =
     let lines = ap (λ (w : Walked). w.script.config.lines) c.self.view_is in
     let test = c.loop-line-test.false in
     ap (λ (x : Script). run (walk_plan x) c.loop-line.self.counts (Back ∷ Take ∷ [])) inv.script
-    ∙ carry-end c.args.self.now.script c.args.self.now.counts c.loop-line.self.counts c.loop-line.line _ (omega (arith, size, lines, test)) inv.left
+    ∙ carry-end c.args.self.now.script c.args.self.now.counts c.loop-line.self.counts c.loop-line.line _
+    (omega (arith, size, lines, test)) inv.left

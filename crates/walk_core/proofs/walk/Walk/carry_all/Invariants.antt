@@ -7,7 +7,8 @@ use Rattle.walk_core.proofs.walk.Walk.carry_all.Given as goal
 abbrev pub invariant-loop-line : goal.invariant-loop-line
 invariant-loop-line l = record {
   script : l.self.script ≡ l.fn.self.script;
-  left : run (walk_plan l.fn.self.script) l.self.counts (carries_from l.line (drop l.line (walk_plan l.fn.self.script).paths))
+  left : run (walk_plan l.fn.self.script) l.self.counts
+      (carries_from l.line (drop l.line (walk_plan l.fn.self.script).paths))
       ≡ run (walk_plan l.fn.self.script) l.fn.self.counts (carries_from 0 (walk_plan l.fn.self.script).paths);
   rows : l.self.counts.rows ≡ l.fn.self.counts.rows;
 }

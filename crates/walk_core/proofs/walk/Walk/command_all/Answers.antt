@@ -9,21 +9,30 @@ use Rattle.walk_core.proofs.RoundLaws.{landed-none, command-turn, command-end, c
 use Rattle.walk_core.proofs.walk.Walk.command_all.Goals as goal
 
 pub loop-init : goal.loop-init
-loop-init c = record { script = refl; landed = landed-none (walk_plan c.args.self.now.script) c.args.self.now.counts Command (λ (s : Counts). s.commands); rows = refl }
+loop-init c = record {
+  script = refl;
+  landed =
+      landed-none (walk_plan c.args.self.now.script) c.args.self.now.counts Command (λ (s : Counts). s.commands);
+  rows =
+      refl;
+}
 
 pub returns-in-Stalled-clause-counts : goal.returns-in-Stalled-clause-counts
 returns-in-Stalled-clause-counts c =
     let inv = c.loop.invariant in
     let after = c.command.ensures.counts ∙ ap (λ (x : Script). counts_after x c.loop.self.counts Command) inv.script in
-    let said = sym c.in-Stalled.is ∙ c.command.ensures.moved ∙ ap (λ (x : Script). moved_of x c.loop.self.counts Command) inv.script in
-    command-end c.args.self.now.script c.args.self.now.counts c.loop.self.counts c.command.new.self.counts _ inv.landed after said
+    let said = sym c.in-Stalled.is ∙ c.command.ensures.moved
+    ∙ ap (λ (x : Script). moved_of x c.loop.self.counts Command) inv.script in
+    command-end c.args.self.now.script c.args.self.now.counts c.loop.self.counts c.command.new.self.counts _ inv.landed
+    after said
 
 pub loop-smaller : goal.loop-smaller
 loop-smaller c =
     let inv = c.loop.invariant in
     let after = c.command.ensures.counts ∙ ap (λ (x : Script). counts_after x c.loop.self.counts Command) inv.script in
     let said = c.command.ensures.moved ∙ ap (λ (x : Script). moved_of x c.loop.self.counts Command) inv.script in
-    (command-turn c.args.self.now.script c.args.self.now.counts c.loop.self.counts c.command.new.self.counts c.command.result inv.landed after said c.in_default.not-Stalled).1
+    (command-turn c.args.self.now.script c.args.self.now.counts c.loop.self.counts c.command.new.self.counts
+    c.command.result inv.landed after said c.in_default.not-Stalled).1
 
 pub loop-preserved : goal.loop-preserved
 loop-preserved c =
@@ -32,6 +41,7 @@ loop-preserved c =
     let said = c.command.ensures.moved ∙ ap (λ (x : Script). moved_of x c.loop.self.counts Command) inv.script in
     record {
       script = c.command.ensures.script ∙ inv.script;
-      landed = (command-turn c.args.self.now.script c.args.self.now.counts c.loop.self.counts c.command.new.self.counts c.command.result inv.landed after said c.in_default.not-Stalled).0;
+      landed = (command-turn c.args.self.now.script c.args.self.now.counts c.loop.self.counts c.command.new.self.counts
+          c.command.result inv.landed after said c.in_default.not-Stalled).0;
       rows = ap (λ (s : Counts). s.rows) after ∙ command-rows c.args.self.now.script c.loop.self.counts ∙ inv.rows;
     }

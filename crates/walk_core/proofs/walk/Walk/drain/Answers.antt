@@ -20,10 +20,13 @@ pub loop-self-smaller : goal.loop-self-smaller
 loop-self-smaller g c =
     let inv = c.loop-self.invariant in
     let s : Counts = c.loop-self.self.counts in
-    let valid = subst IsValid inv.script (subst (λ (w : Walked). IsValid w.script) c.self.view_is c.self.invariant.valid) in
-    let walked = subst (λ (x : Script). IsWalked x s) inv.script (subst (λ (w : Walked). IsWalked w.script w.counts) c.self.view_is c.self.invariant.walked) in
+    let valid = subst IsValid inv.script
+    (subst (λ (w : Walked). IsValid w.script) c.self.view_is c.self.invariant.valid) in
+    let walked = subst (λ (x : Script). IsWalked x s) inv.script
+    (subst (λ (w : Walked). IsWalked w.script w.counts) c.self.view_is c.self.invariant.walked) in
     let rows = ap (λ (w : Walked). w.counts.rows) c.self.view_is in
-    let ticks = ap (λ (w : Walked). w.script.config.ticks) c.self.view_is ∙ ap (λ (x : Script). x.config.ticks) inv.script in
+    let ticks = ap (λ (w : Walked). w.script.config.ticks) c.self.view_is
+    ∙ ap (λ (x : Script). x.config.ticks) inv.script in
     let taken = c.taken.ensures in
     let test = c.loop-self-test.true in
     let open_ : s.rows < c.args.self.now.script.config.ticks = omega (arith, test, taken, rows, ticks) in
@@ -36,32 +39,40 @@ loop-self-preserved g c =
     let script : Script = c.args.self.now.script in
     let s : Counts = c.loop-self.self.counts in
     let next : Counts = c.round.new.self.counts in
-    let valid = subst IsValid inv.script (subst (λ (w : Walked). IsValid w.script) c.self.view_is c.self.invariant.valid) in
-    let walked = subst (λ (x : Script). IsWalked x s) inv.script (subst (λ (w : Walked). IsWalked w.script w.counts) c.self.view_is c.self.invariant.walked) in
+    let valid = subst IsValid inv.script
+    (subst (λ (w : Walked). IsValid w.script) c.self.view_is c.self.invariant.valid) in
+    let walked = subst (λ (x : Script). IsWalked x s) inv.script
+    (subst (λ (w : Walked). IsWalked w.script w.counts) c.self.view_is c.self.invariant.walked) in
     let rows = ap (λ (w : Walked). w.counts.rows) c.self.view_is in
-    let ticks = ap (λ (w : Walked). w.script.config.ticks) c.self.view_is ∙ ap (λ (x : Script). x.config.ticks) inv.script in
+    let ticks = ap (λ (w : Walked). w.script.config.ticks) c.self.view_is
+    ∙ ap (λ (x : Script). x.config.ticks) inv.script in
     let taken = c.taken.ensures in
     let test = c.loop-self-test.true in
     let open_ : s.rows < script.config.ticks = omega (arith, test, taken, rows, ticks) in
     let after = c.round.ensures.counts ∙ ap (λ (x : Script). run (walk_plan x) s (round (walk_plan x))) inv.script in
-    let more : s.rows ≤ next.rows = subst (λ (n : Counts). s.rows ≤ n.rows) (sym after) (run-rises script s (round (walk_plan script))) in
+    let more : s.rows ≤ next.rows =
+    subst (λ (n : Counts). s.rows ≤ n.rows) (sym after) (run-rises script s (round (walk_plan script))) in
     let rises = inv.rises in
     record {
       script = c.round.ensures.script ∙ inv.script;
       left = (round-turn script s next valid walked open_ after).1 ∙ inv.left;
       rises = omega (arith, rises, more);
-      gives = gives-then g.F.FrameOut.stands_for c.args.out.now c.loop-self.out c.round.new.out script c.args.self.now.counts.rows s.rows next.rows rises more inv.gives
-          (subst (λ (x : Script). GivesRows g.F.FrameOut.stands_for c.loop-self.out c.round.new.out x s.rows next.rows) inv.script c.round.ensures.gives);
+      gives = gives-then g.F.FrameOut.stands_for c.args.out.now c.loop-self.out c.round.new.out script
+          c.args.self.now.counts.rows s.rows next.rows rises more inv.gives
+          (subst (λ (x : Script). GivesRows g.F.FrameOut.stands_for c.loop-self.out c.round.new.out x s.rows next.rows)
+          inv.script c.round.ensures.gives);
     }
 
 pub returns-clause-counts : goal.returns-clause-counts
 returns-clause-counts g c =
     let inv = c.loop-self.invariant in
     let rows = ap (λ (w : Walked). w.counts.rows) c.self.view_is in
-    let ticks = ap (λ (w : Walked). w.script.config.ticks) c.self.view_is ∙ ap (λ (x : Script). x.config.ticks) inv.script in
+    let ticks = ap (λ (w : Walked). w.script.config.ticks) c.self.view_is
+    ∙ ap (λ (x : Script). x.config.ticks) inv.script in
     let taken = c.taken.ensures in
     let test = c.loop-self-test.false in
-    let shut : c.args.self.now.script.config.ticks ≤ c.loop-self.self.counts.rows = omega (arith, test, taken, rows, ticks) in
+    let shut : c.args.self.now.script.config.ticks ≤ c.loop-self.self.counts.rows =
+    omega (arith, test, taken, rows, ticks) in
     drained-end c.args.self.now.script c.loop-self.self.counts _ shut inv.left
 
 pub returns-clause-all : goal.returns-clause-all
@@ -83,4 +94,5 @@ returns-clause-gives g c =
     let all = ap (λ (w : Walked). w.counts.rows) (sym c.self.view_is)
     ∙ all-taken c.self.inside.script _ c.self.invariant.valid c.self.invariant.walked shut
     ∙ ap (λ (w : Walked). w.script.config.ticks) c.self.view_is ∙ ap (λ (x : Script). x.config.ticks) inv.script in
-    subst (GivesRows g.F.FrameOut.stands_for c.args.out.now c.loop-self.out c.args.self.now.script c.args.self.now.counts.rows) all inv.gives
+    subst (GivesRows g.F.FrameOut.stands_for c.args.out.now c.loop-self.out c.args.self.now.script
+    c.args.self.now.counts.rows) all inv.gives

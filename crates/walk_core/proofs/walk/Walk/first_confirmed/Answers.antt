@@ -9,5 +9,6 @@ use Rattle.walk_core.proofs.walk.Walk.first_confirmed.Goals as goal
 
 pub returns : goal.returns
 returns c =
-    subst (λ (w : Walked). c.first_confirmed.result ≡ first_place (segments_of (session_rows w.script w.counts.rows)).last.octets) c.self.view_is
+    subst (λ (w : Walked). c.first_confirmed.result ≡ first_place
+    (segments_of (session_rows w.script w.counts.rows)).last.octets) c.self.view_is
     (mark-is _ _ _ _ _ c.first_confirmed.result c.self.invariant c.first_confirmed.ensures)

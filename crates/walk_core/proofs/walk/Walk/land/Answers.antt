@@ -47,7 +47,8 @@ returns-then-ticks-due-clause-moved c =
     let stays = land-stays _ _ _ _ _ c.self.invariant c.args.client (NotDue c.due-due.result)
     (land-early _ _ _ _ _ c.self.invariant c.args.client c.in-Some.number c.ticks.result c.due-due.result next
     c.ticks.ensures late (omega (arith, low))) in
-    subst (λ (w : Walked). Stalled (NotDue c.due-due.result) ≡ moved_of w.script w.counts (landing_of c.args.client)) c.self.view_is
+    subst (λ (w : Walked). Stalled (NotDue c.due-due.result) ≡ moved_of w.script w.counts (landing_of c.args.client))
+    c.self.view_is
     stays.1
 
 pub land-requires : goal.land-requires

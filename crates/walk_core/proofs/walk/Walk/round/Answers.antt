@@ -22,9 +22,12 @@ returns-clause-counts g c =
     let r = c.back.new.self.counts in
     round-parts script c.args.self.now.counts a b t m r c.take.new.self.counts
     c.accept_all.ensures.counts
-    (c.command_all.ensures.counts ∙ ap (λ (x : Script). run (walk_plan x) a (replicate (suc (length (walk_plan x).items)) Command)) c.accept_all.ensures.script)
+    (c.command_all.ensures.counts ∙ ap
+    (λ (x : Script). run (walk_plan x) a (replicate (suc (length (walk_plan x).items)) Command))
+    c.accept_all.ensures.script)
     (c.tick.ensures.counts ∙ ap (λ (x : Script). counts_after x b Tick) b_script)
-    (ap (λ (x : Script). run (walk_plan x) m (Back ∷ Take ∷ [])) (sym m_script) ∙ c.carry_all.ensures.counts ∙ ap (λ (x : Script). run (walk_plan x) t (carries_from 0 (walk_plan x).paths)) t_script)
+    (ap (λ (x : Script). run (walk_plan x) m (Back ∷ Take ∷ [])) (sym m_script) ∙ c.carry_all.ensures.counts
+    ∙ ap (λ (x : Script). run (walk_plan x) t (carries_from 0 (walk_plan x).paths)) t_script)
     (c.back.ensures.counts ∙ ap (λ (x : Script). counts_after x m Back) m_script)
     (c.take.ensures.counts ∙ ap (λ (x : Script). counts_after x r Take) r_script)
 
@@ -35,8 +38,12 @@ returns-clause-gives g c =
     let m_script = c.carry_all.ensures.script ∙ c.tick.ensures.script ∙ b_script in
     let r_script = c.back.ensures.script ∙ m_script in
     let e = c.take.new.self.counts.rows in
-    let same = round-rows script c.accept_all.new.self.counts c.command_all.new.self.counts c.tick.new.self.counts c.carry_all.new.self.counts c.back.new.self.counts c.take.new.self.counts c.args.self.now.counts
-    c.accept_all.ensures.rows c.command_all.ensures.rows (c.tick.ensures.counts ∙ ap (λ (x : Script). counts_after x c.command_all.new.self.counts Tick) b_script)
-    c.carry_all.ensures.rows (c.back.ensures.counts ∙ ap (λ (x : Script). counts_after x c.carry_all.new.self.counts Back) m_script) in
+    let same = round-rows script c.accept_all.new.self.counts c.command_all.new.self.counts c.tick.new.self.counts
+    c.carry_all.new.self.counts c.back.new.self.counts c.take.new.self.counts c.args.self.now.counts
+    c.accept_all.ensures.rows c.command_all.ensures.rows
+    (c.tick.ensures.counts ∙ ap (λ (x : Script). counts_after x c.command_all.new.self.counts Tick) b_script)
+    c.carry_all.ensures.rows (c.back.ensures.counts
+    ∙ ap (λ (x : Script). counts_after x c.carry_all.new.self.counts Back) m_script) in
     subst (λ n. GivesRows g.F.FrameOut.stands_for c.args.out.now c.take.new.out script n e) same
-    (subst (λ (x : Script). GivesRows g.F.FrameOut.stands_for c.args.out.now c.take.new.out x c.back.new.self.counts.rows e) r_script c.take.ensures.gives)
+    (subst (λ (x : Script). GivesRows g.F.FrameOut.stands_for c.args.out.now c.take.new.out x
+    c.back.new.self.counts.rows e) r_script c.take.ensures.gives)

@@ -1,5 +1,6 @@
 -- What waits in a send ring.
-use Rattle.std.proofs.Common.{rules, ◌%◌, ◌<◌, ◌≤◌, min, length, slice_get, slice_index_or, Some, refl, ◌∙◌, ap, sym, subst, arith}
+use Rattle.std.proofs.Common.{rules, ◌%◌, ◌<◌, ◌≤◌, min, length, slice_get, slice_index_or, Some, refl, ◌∙◌, ap, sym}
+use Rattle.std.proofs.Common.{subst, arith}
 use Rattle.session_model.specs.Counts.{in_send}
 use Rattle.group_source.proofs.ItemLaws.{at-index}
 use Rattle.walk_core.specs.Moved.{Walked}

@@ -12,9 +12,11 @@ use Rattle.walk_core.proofs.walk.Walk.step.Goals as goal
 pub prove-unreachable-requires : goal.prove-unreachable-requires
 prove-unreachable-requires g c =
     let valid = subst (λ (w : Walked). IsValid w.script) c.self.view_is c.self.invariant.valid in
-    let size = has-paths c.args.self.now.script (valid-walks c.args.self.now.script valid) ∙ valid.network.windows_each in
+    let size = has-paths c.args.self.now.script (valid-walks c.args.self.now.script valid)
+    ∙ valid.network.windows_each in
     let lines = ap (λ (w : Walked). w.script.config.lines) c.self.view_is in
-    let has : c.in-Carry.line < length (walk_plan c.args.self.now.script).paths = subst (HasLine (walk_plan c.args.self.now.script)) c.in-Carry.is c.requires in
+    let has : c.in-Carry.line < length (walk_plan c.args.self.now.script).paths =
+    subst (HasLine (walk_plan c.args.self.now.script)) c.in-Carry.is c.requires in
     let test = c.if-prove.true in
     omega (arith, size, lines, has, test)
 
@@ -31,4 +33,5 @@ returns-in-Command-clause-gives g c =
 pub returns-in-Carry-clause-gives : goal.returns-in-Carry-clause-gives
 returns-in-Carry-clause-gives g c =
     gives-none g.F.FrameOut.stands_for c.args.out.now c.args.self.now.script _ _
-    (ap (λ (s : Counts). s.rows) c.carry.ensures.counts ∙ carry-rows c.args.self.now.script c.args.self.now.counts c.in-Carry.line)
+    (ap (λ (s : Counts). s.rows) c.carry.ensures.counts
+    ∙ carry-rows c.args.self.now.script c.args.self.now.counts c.in-Carry.line)

@@ -5,13 +5,15 @@ use Rattle.walk_core.specs.Moved.{Walked}
 use Rattle.walk_core.specs.Take.{take_cause}
 use Rattle.walk_core.proofs.TakenLaws.{cause-full, cause-none}
 use Rattle.walk_core.proofs.walk.Walk.take_stall.Goals as goal
-use Rattle.walk_core.proofs.walk.Walk.take_stall.Goals.{else-ends_packet-via-then-ends_packet+else-is_full, else-ends_packet-via-else-ends_packet}
+use Rattle.walk_core.proofs.walk.Walk.take_stall.Goals.{else-ends_packet-via-then-ends_packet+else-is_full}
+use Rattle.walk_core.proofs.walk.Walk.take_stall.Goals.{else-ends_packet-via-else-ends_packet}
 
 pub returns-then-is_full : goal.returns-then-is_full
 returns-then-is_full c =
     let low = c.if-row-self.false in
     subst (λ (w : Walked). Some BackFull ≡ take_cause w.script.config.ticks w.counts) c.self.view_is
-    (cause-full _ _ _ _ _ c.self.invariant c.taken-row.result c.taken-row.ensures (omega (arith, low)) c.if-ends_packet.ensures c.if-is_full.ensures)
+    (cause-full _ _ _ _ _ c.self.invariant c.taken-row.result c.taken-row.ensures
+    (omega (arith, low)) c.if-ends_packet.ensures c.if-is_full.ensures)
 
 pub returns-else-ends_packet : goal.returns-else-ends_packet
 returns-else-ends_packet c =

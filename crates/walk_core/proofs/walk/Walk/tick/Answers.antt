@@ -1,5 +1,6 @@
 -- A tick is made.
-use Rattle.std.proofs.Common.{◌≡◌, ℕ, [], ◌/◌, ◌%◌, ◌==◌, if◌then◌else◌, List, length, Some, None, refl, sym, ◌∙◌, ap, subst}
+use Rattle.std.proofs.Common.{◌≡◌, ℕ, [], ◌/◌, ◌%◌, ◌==◌, if◌then◌else◌, List, length, Some, None, refl, sym, ◌∙◌, ap}
+use Rattle.std.proofs.Common.{subst}
 use Rattle.std.proofs.Common.{arith, Option}
 use Rattle.std.specs.Option.{is_some}
 use Rattle.session_model.specs.declared.packet.Packet.{Packet}
@@ -30,19 +31,21 @@ returns-in-Some-clause-counts c =
     let e = sym c.in-Some.is ∙ c.tick_stall.ensures
     ∙ ap (λ (w : Walked). (step (walk_plan w.script) w.counts Tick).cause) (sym c.self.view_is) in
     subst (λ (w : Walked). w.counts ≡ counts_after w.script w.counts Tick) c.self.view_is
-        (tick-stays _ _ _ _ _ c.self.invariant c.in-Some.cause e).0
+    (tick-stays _ _ _ _ _ c.self.invariant c.in-Some.cause e).0
 
 pub make-back-requires-clause-places : goal.make-back-requires-clause-places
 make-back-requires-clause-places c =
     let f = c.self.inside in
     let size = ap length c.deref.ensures.value ∙ c.self.invariant.lines.size in
-    let sent = sent-read f.script f.source.core.ticks c.ticks-ticks.result f.lines.items c.deref.result.now _ _ c.ticks-ticks.ensures c.deref.ensures.value (c.next_place-place.ensures.has f.script size)
+    let sent = sent-read f.script f.source.core.ticks c.ticks-ticks.result f.lines.items c.deref.result.now _ _
+    c.ticks-ticks.ensures c.deref.ensures.value (c.next_place-place.ensures.has f.script size)
     c.self.invariant.sent in
     let places = c.next_place-place.ensures.places in
     let at = c.next_place-place.ensures.place in
     let there = at-index c.next_place-place.new.sent.items c.next_place-place.result c.index_mut.result.now
     (omega (arith, places, at)) c.index_mut.ensures.value in
-    frame-size f.script f.source.core.ticks _ c.next_place-place.new.sent.items sent c.next_place-place.result c.index_mut.result.now there ∙ sym c.self.invariant.source.lines
+    frame-size f.script f.source.core.ticks _ c.next_place-place.new.sent.items sent c.next_place-place.result
+    c.index_mut.result.now there ∙ sym c.self.invariant.source.lines
 
 pub make-back-requires-clause-early : goal.make-back-requires-clause-early
 make-back-requires-clause-early c =
@@ -67,7 +70,7 @@ rested script was now sent lines rows sink ring got last same is =
     subst (λ n. IsWalk script (record (parts_of now sent lines rows sink ring) { total = n }) now.landed got last)
     (sym same.total)
     (subst (λ (l : Landed). IsWalk script
-        (record (parts_of now sent lines rows sink ring) { total = was.total }) l got last) (sym same.landed) is)
+    (record (parts_of now sent lines rows sink ring) { total = was.total }) l got last) (sym same.landed) is)
 
 pub invariant_of-self : goal.invariant_of-self
 invariant_of-self c =
@@ -80,13 +83,15 @@ invariant_of-self c =
     ∙ ap (λ n. if n % 16 == 8 then Some
     (record { packet = n / 16; back = c.make-back.result }) else f.last) c.ticks-ticks.ensures in
     let size = ap length c.deref.ensures.value ∙ c.self.invariant.lines.size in
-    let sent = sent-read f.script f.source.core.ticks c.ticks-ticks.result f.lines.items c.deref.result.now _ _ c.ticks-ticks.ensures c.deref.ensures.value (c.next_place-place.ensures.has f.script size)
+    let sent = sent-read f.script f.source.core.ticks c.ticks-ticks.result f.lines.items c.deref.result.now _ _
+    c.ticks-ticks.ensures c.deref.ensures.value (c.next_place-place.ensures.has f.script size)
     c.self.invariant.sent in
     rested f.script f.source c.make-back.new.self _ _ _ _ f.ring _ _ m.rest
     (tick-kept_at _ _ _ _ _ (sent-placed _ _ _ _ _ _ c.self.invariant sent) e c.make-back.result
     (path_of f.ring c.make-back.new.self.inbox) m.cell left
     c.make-back.new.self.core m.made m.ticks m.kind (held c.make-back.new.frame.items) m.frame
-    c.next_note-self-inside.result noted c.next_place-place.new.sent.items c.make-back.new.frame refl refl c.next_place-place.result
+    c.next_note-self-inside.result noted c.next_place-place.new.sent.items c.make-back.new.frame refl refl
+    c.next_place-place.result
     (c.next_place-place.ensures.place ∙ ap (λ n. n % 32) c.ticks-ticks.ensures))
 
 pub returns-clause-counts : goal.returns-clause-counts

@@ -19,7 +19,8 @@ first_full-requires-clause-made c k d low =
 pub returns-in-Some : goal.returns-in-Some
 returns-in-Some c =
     ap Some c.stall_early.ensures
-    ∙ subst (λ (w : Walked). Some (early_stall c.in-Some.cause) ≡ (step (walk_plan w.script) w.counts Tick).cause) c.self.view_is
+    ∙ subst (λ (w : Walked). Some (early_stall c.in-Some.cause) ≡ (step (walk_plan w.script) w.counts Tick).cause)
+    c.self.view_is
     (early-cause _ _ _ _ _ c.self.invariant c.in-Some.cause (sym c.early_cause.ensures ∙ c.in-Some.is))
 
 pub returns-in-Some-first_full : goal.returns-in-Some-first_full
@@ -29,7 +30,7 @@ returns-in-Some-first_full c =
     ∙ ap (λ n. full f.script.config.ticks n 0 (map line_counts c.deref.result.now)) c.ticks.ensures
     ∙ ap (λ lines. full f.script.config.ticks f.source.core.ticks 0 (map line_counts lines)) c.deref.ensures.value in
     subst (λ (w : Walked). Some (TxFull c.in-Some-first_full.line)
-        ≡ (step (walk_plan w.script) w.counts Tick).cause) c.self.view_is
+    ≡ (step (walk_plan w.script) w.counts Tick).cause) c.self.view_is
     (full-cause _ _ _ _ _ c.self.invariant (sym c.early_cause.ensures ∙ c.in_default.is) c.in-Some-first_full.line
     (sym filled ∙ c.in-Some-first_full.is))
 
@@ -40,7 +41,7 @@ returns-in-Some-missing c =
     ∙ ap (λ n. full f.script.config.ticks n 0 (map line_counts c.deref.result.now)) c.ticks.ensures
     ∙ ap (λ lines. full f.script.config.ticks f.source.core.ticks 0 (map line_counts lines)) c.deref.ensures.value in
     subst (λ (w : Walked). Some (BackMissing c.in-Some-missing.packet)
-        ≡ (step (walk_plan w.script) w.counts Tick).cause) c.self.view_is
+    ≡ (step (walk_plan w.script) w.counts Tick).cause) c.self.view_is
     (missing-stalls _ _ _ _ _ c.self.invariant (sym c.early_cause.ensures ∙ c.in_default.is) c.in-Some-missing.packet
     (sym filled ∙ c.in_default-first_full.is)
     (sym c.missing.ensures ∙ c.in-Some-missing.is))

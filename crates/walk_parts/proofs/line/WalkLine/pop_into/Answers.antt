@@ -1,5 +1,6 @@
 -- Each cell leaves the line open, up to the last one.
-use Rattle.std.proofs.Common.{rules, ◌≡◌, ◌+◌, ◌-◌, ◌%◌, true, false, List, length, take, slice_set, refl, sym, ◌∙◌, ap, subst, arith}
+use Rattle.std.proofs.Common.{rules, ◌≡◌, ◌+◌, ◌-◌, ◌%◌, true, false, List, length, take, slice_set, refl, sym, ◌∙◌, ap}
+use Rattle.std.proofs.Common.{subst, arith}
 use Rattle.std.specs.Prelude.{is_none}
 use Rattle.std.specs.Global.{Box}
 use Rattle.std.proofs.lemmas.List.{length-map, map-set}
@@ -16,7 +17,8 @@ use Rattle.realign_core.proofs.GatherLaws.{length-slice_set}
 use Rattle.realign_core.specs.Gather.{Stands as Gathers, with_cell}
 use Rattle.walk_parts.specs.Ringed.{Ringed, Has, is_at, popped_until, leaves_open}
 use Rattle.walk_parts.proofs.RingLaws.{cell-read, has-popped}
-use Rattle.walk_parts.proofs.PopLaws.{waits-is, with-set, set-same, take-next, until-shut, until-none, until-next, none-some}
+use Rattle.walk_parts.proofs.PopLaws.{waits-is, with-set, set-same, take-next, until-shut, until-none, until-next}
+use Rattle.walk_parts.proofs.PopLaws.{none-some}
 use Rattle.walk_parts.proofs.line.WalkLine.pop_into.Goals as goal
 
 pub loop-self-init : goal.loop-self-init
@@ -28,7 +30,8 @@ loop-self-init c =
     record {
       core = ap (λ (line : Ringed). line.core) c.self.view_is;
       signs = ap (λ (line : Ringed). line.signs) c.self.view_is;
-      size = sym (length-map c.self.inside.places.items (λ (b : Box Container). b.value)) ∙ ap (λ (line : Ringed). length line.places) c.self.view_is;
+      size = sym (length-map c.self.inside.places.items (λ (b : Box Container). b.value))
+          ∙ ap (λ (line : Ringed). length line.places) c.self.view_is;
       carried = ap (λ (line : Ringed). line.carried) c.self.view_is;
       given = given;
       more = omega (arith, popped);
@@ -37,9 +40,12 @@ loop-self-init c =
       rows = refl;
       has = λ calls has. subst (λ (line : Ringed). Has line calls) (sym c.self.view_is) has;
       gathers = λ calls cells next.
-          subst (Gathers c.args.rows.now) (sym (ap (λ y. slice_set cells c.args.line (take y (path_cells calls))) popped ∙ set-same cells c.args.line _ next.own)) next.gathers;
+          subst (Gathers c.args.rows.now)
+          (sym (ap (λ y. slice_set cells c.args.line (take y (path_cells calls))) popped
+          ∙ set-same cells c.args.line _ next.own)) next.gathers;
       until = λ calls cells next.
-          ap (λ y. popped_until (c.args.self.now.given - y) (λ y. leaves_open (path_cells calls) c.args.rows.now.rows y) y) popped;
+          ap (λ y. popped_until (c.args.self.now.given - y) (λ y. leaves_open (path_cells calls) c.args.rows.now.rows y)
+          y) popped;
     }
 
 pub returns-then-not-waits_for-clause-popped : goal.returns-then-not-waits_for-clause-popped
@@ -49,8 +55,10 @@ returns-then-not-waits_for-clause-popped c calls cells next =
     let own : List Cell = take c.loop-self.self-inside.popped (path_cells calls) in
     let waits = c.waits_for.ensures.waits _ (inv.gathers calls cells next) in
     let at : c.waits_for.result ≡ is_none (verdict own c.args.rows.now.rows) =
-    waits ∙ ap (λ t. is_at c.args.line (first_open (slice_set cells c.args.line own) t)) inv.rows ∙ waits-is cells c.args.line c.args.rows.now.rows _ own next.own next.before in
-    sym (until-shut (c.args.self.now.given - c.loop-self.self-inside.popped) (λ y. leaves_open (path_cells calls) c.args.rows.now.rows y) c.loop-self.self-inside.popped (sym at ∙ shut))
+    waits ∙ ap (λ t. is_at c.args.line (first_open (slice_set cells c.args.line own) t)) inv.rows
+    ∙ waits-is cells c.args.line c.args.rows.now.rows _ own next.own next.before in
+    sym (until-shut (c.args.self.now.given - c.loop-self.self-inside.popped)
+    (λ y. leaves_open (path_cells calls) c.args.rows.now.rows y) c.loop-self.self-inside.popped (sym at ∙ shut))
     ∙ inv.until calls cells next
 
 pub returns-then-not-waits_for-clause-decides : goal.returns-then-not-waits_for-clause-decides
@@ -60,7 +68,8 @@ returns-then-not-waits_for-clause-decides c calls cells next =
     let own : List Cell = take c.loop-self.self-inside.popped (path_cells calls) in
     let waits = c.waits_for.ensures.waits _ (inv.gathers calls cells next) in
     let at : c.waits_for.result ≡ is_none (verdict own c.args.rows.now.rows) =
-    waits ∙ ap (λ t. is_at c.args.line (first_open (slice_set cells c.args.line own) t)) inv.rows ∙ waits-is cells c.args.line c.args.rows.now.rows _ own next.own next.before in
+    waits ∙ ap (λ t. is_at c.args.line (first_open (slice_set cells c.args.line own) t)) inv.rows
+    ∙ waits-is cells c.args.line c.args.rows.now.rows _ own next.own next.before in
     none-some (verdict own c.args.rows.now.rows) false (sym shut ∙ at)
 
 pub loop-self-preserved : goal.loop-self-preserved
@@ -96,28 +105,44 @@ loop-self-preserved c =
           ∙ ap (λ n. slice_set (held boxes) (y % n) c.offer_boxed.new.container.value) count in
           let before = inv.has calls has in
           let inside = c.loop-self.self-inside in
-          subst (λ p. Has (record { core = inside.core; signs = inside.signs.items; places = p; carried = inside.carried; given = inside.given; popped = y + 1 }) calls) (sym put)
-          (has-popped _ calls c.offer_boxed.new.container.value before test (omega (arith, given, more, signs, room, was, is)));
+          subst (λ p. Has (record {
+            core = inside.core;
+            signs = inside.signs.items;
+            places = p;
+            carried =
+                inside.carried;
+            given = inside.given;
+            popped = y + 1;
+          }) calls) (sym put)
+          (has-popped _ calls c.offer_boxed.new.container.value before test
+          (omega (arith, given, more, signs, room, was, is)));
       gathers = λ calls cells next.
           let path : List Cell = path_cells calls in
           let before = inv.has calls next.has in
           let count_given = before.given in
           let (cell, there) = slice_get-some path y (omega (arith, count_given, test)) in
-          let read = cell-read c.loop-self.self-inside.signs.items boxes y c.len.result c.index.result.now c.index_mut.result.now
-          (omega (arith, signs, some)) (omega (arith, signs, places, beside)) count c.index.ensures c.index_mut.ensures.value in
+          let read = cell-read c.loop-self.self-inside.signs.items boxes y c.len.result c.index.result.now
+          c.index_mut.result.now
+          (omega (arith, signs, some)) (omega (arith, signs, places, beside)) count c.index.ensures
+          c.index_mut.ensures.value in
           let is : cell_with c.sign_of-sign.result c.index_mut.result.now.value ≡ cell =
-          c.sign_of-sign.ensures c.index_mut.result.now.value cell (sym read ∙ before.holds y cell (omega arith) test there) in
+          c.sign_of-sign.ensures c.index_mut.result.now.value cell
+          (sym read ∙ before.holds y cell (omega arith) test there) in
           let low = slice_get_within cells c.args.line _ next.own in
           subst (Gathers c.offer_boxed.new.self)
-          (ap (λ x. with_cell (slice_set cells c.args.line (take y path)) c.args.line x) is ∙ with-set cells c.args.line (take y path) cell low ∙ ap (slice_set cells c.args.line) (sym (take-next path y cell there)))
+          (ap (λ x. with_cell (slice_set cells c.args.line (take y path)) c.args.line x) is
+          ∙ with-set cells c.args.line (take y path) cell low
+          ∙ ap (slice_set cells c.args.line) (sym (take-next path y cell there)))
           (c.offer_boxed.ensures.stands _ (inv.gathers calls cells next));
       until = λ calls cells next.
           let open' : c.waits_for.result ≡ true = search (rules, c.if-not-waits_for.false) in
           let own : List Cell = take c.loop-self.self-inside.popped (path_cells calls) in
           let waits = c.waits_for.ensures.waits _ (inv.gathers calls cells next) in
           let at : c.waits_for.result ≡ is_none (verdict own c.args.rows.now.rows) =
-          waits ∙ ap (λ t. is_at c.args.line (first_open (slice_set cells c.args.line own) t)) inv.rows ∙ waits-is cells c.args.line c.args.rows.now.rows _ own next.own next.before in
-          until-next c.args.self.now.given (λ y. leaves_open (path_cells calls) c.args.rows.now.rows y) c.loop-self.self-inside.popped (omega (arith, given, test)) (sym at ∙ open')
+          waits ∙ ap (λ t. is_at c.args.line (first_open (slice_set cells c.args.line own) t)) inv.rows
+          ∙ waits-is cells c.args.line c.args.rows.now.rows _ own next.own next.before in
+          until-next c.args.self.now.given (λ y. leaves_open (path_cells calls) c.args.rows.now.rows y)
+          c.loop-self.self-inside.popped (omega (arith, given, test)) (sym at ∙ open')
           ∙ inv.until calls cells next;
     }
 
@@ -126,7 +151,8 @@ returns-clause-popped c calls cells next =
     let inv = c.loop-self.invariant in
     let given = inv.given in
     let test = c.loop-self-test.false in
-    sym (until-none c.args.self.now.given (λ y. leaves_open (path_cells calls) c.args.rows.now.rows y) c.loop-self.self-inside.popped (omega (arith, given, test)))
+    sym (until-none c.args.self.now.given (λ y. leaves_open (path_cells calls) c.args.rows.now.rows y)
+    c.loop-self.self-inside.popped (omega (arith, given, test)))
     ∙ inv.until calls cells next
 
 pub returns-clause-decides : goal.returns-clause-decides
@@ -135,4 +161,5 @@ returns-clause-decides c calls cells next =
     let own : List Cell = take c.loop-self.self-inside.popped (path_cells calls) in
     let waits = c.waits_for-2.ensures.waits _ (inv.gathers calls cells next) in
     none-some (verdict own c.args.rows.now.rows) c.waits_for-2.result
-    (waits ∙ ap (λ t. is_at c.args.line (first_open (slice_set cells c.args.line own) t)) inv.rows ∙ waits-is cells c.args.line c.args.rows.now.rows _ own next.own next.before)
+    (waits ∙ ap (λ t. is_at c.args.line (first_open (slice_set cells c.args.line own) t)) inv.rows
+    ∙ waits-is cells c.args.line c.args.rows.now.rows _ own next.own next.before)

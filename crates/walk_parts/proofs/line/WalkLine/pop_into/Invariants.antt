@@ -29,8 +29,10 @@ invariant-loop-self l = record {
   gathers : (calls : Calls) (cells : List (List Cell)) → IsNext l.fn.self calls l.fn.rows cells l.line →
       Gathers l.rows (slice_set cells l.line (take l.self-inside.popped (path_cells calls)));
   until : (calls : Calls) (cells : List (List Cell)) → IsNext l.fn.self calls l.fn.rows cells l.line →
-      popped_until (l.fn.self.given - l.self-inside.popped) (λ y. leaves_open (path_cells calls) l.fn.rows.rows y) l.self-inside.popped
-      ≡ popped_until (l.fn.self.given - l.fn.self.popped) (λ y. leaves_open (path_cells calls) l.fn.rows.rows y) l.fn.self.popped;
+      popped_until (l.fn.self.given - l.self-inside.popped) (λ y. leaves_open (path_cells calls) l.fn.rows.rows y)
+      l.self-inside.popped
+      ≡ popped_until (l.fn.self.given - l.fn.self.popped) (λ y. leaves_open (path_cells calls) l.fn.rows.rows y)
+      l.fn.self.popped;
 }
 
 abbrev pub decreases-loop-self : goal.decreases-loop-self

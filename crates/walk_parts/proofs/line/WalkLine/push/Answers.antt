@@ -1,5 +1,6 @@
 -- The ring holds what the carry gave.
-use Rattle.std.proofs.Common.{rules, ◌≡◌, ◌+◌, ◌-◌, ◌%◌, ◌<◌, ◌∙◌, [], ◌∷◌, length, slice_set, ap, subst, sym, arith, length-append}
+use Rattle.std.proofs.Common.{rules, ◌≡◌, ◌+◌, ◌-◌, ◌%◌, ◌<◌, ◌∙◌, [], ◌∷◌, length, slice_set, ap, subst, sym, arith}
+use Rattle.std.proofs.Common.{length-append}
 use Rattle.std.specs.Global.{Box}
 use Rattle.std.specs.Prelude.{option_map}
 use Rattle.std.proofs.lemmas.List.{map-set, length-map}
@@ -21,16 +22,24 @@ returns-clause-has c calls has =
     let size = ap (λ (line : Ringed). length line.signs) c.self.view_is in
     let grown = length-append calls.containers (c.args.container.now.value ∷ []) in
     let count : c.len-size.result ≡ length c.self.inside.signs.items = search (rules, c.len-size.ensures) in
-    let few : c.self.inside.given < c.self.inside.popped + length c.self.inside.signs.items = omega (arith, room, given, popped, size) in
-    let same = length-map c.exchange.new.places.items (λ (b : Box Container). b.value) ∙ c.exchange.ensures.size ∙ sym (length-map c.self.inside.places.items (λ (b : Box Container). b.value)) in
+    let few : c.self.inside.given < c.self.inside.popped + length c.self.inside.signs.items =
+    omega (arith, room, given, popped, size) in
+    let same = length-map c.exchange.new.places.items (λ (b : Box Container). b.value) ∙ c.exchange.ensures.size
+    ∙ sym (length-map c.self.inside.places.items (λ (b : Box Container). b.value)) in
     let changed = has-changed _ calls (held c.exchange.new.places.items) own is.some is.pops few
     (λ k apart free. slice_get-map (λ (b : Box Container). b.value) c.exchange.new.places.items k
     ∙ ap (option_map (λ (b : Box Container). b.value))
-    (c.exchange.ensures.others k (λ e. apart (e ∙ ap (λ n. c.self.inside.given % n) count)) (λ e. free (e ∙ ap (λ n. (c.self.inside.popped + n - 1) % n) count)))
+    (c.exchange.ensures.others k (λ e. apart (e ∙ ap (λ n. c.self.inside.given % n) count))
+    (λ e. free (e ∙ ap (λ n. (c.self.inside.popped + n - 1) % n) count)))
     ∙ sym (slice_get-map (λ (b : Box Container). b.value) c.self.inside.places.items k)) in
-    has-more _ _ calls (and_push calls c.args.container.now.value) c.push_box-carry.result c.push_box-carry.new.out.value _ _ _ changed is.some (same ∙ is.beside)
-    few (c.push_box-carry.ensures.stands calls own.core) (omega (arith, grown)) (c.push_box-carry.ensures.cells calls own.core)
-    (c.keep.ensures.signs ∙ ap (λ n. with_sign c.push_box-carry.result (c.self.inside.given % n) c.self.inside.signs.items) count)
-    (map-set (λ (b : Box Container). b.value) c.exchange.new.places.items (c.self.inside.given % c.len-size.result) c.push_box-carry.new.out
-    ∙ ap (λ n. slice_set (held c.exchange.new.places.items) (c.self.inside.given % n) c.push_box-carry.new.out.value) count)
+    has-more _ _ calls (and_push calls c.args.container.now.value) c.push_box-carry.result
+    c.push_box-carry.new.out.value _ _ _ changed is.some (same ∙ is.beside)
+    few (c.push_box-carry.ensures.stands calls own.core) (omega (arith, grown))
+    (c.push_box-carry.ensures.cells calls own.core)
+    (c.keep.ensures.signs ∙ ap (λ n. with_sign c.push_box-carry.result
+    (c.self.inside.given % n) c.self.inside.signs.items) count)
+    (map-set (λ (b : Box Container). b.value) c.exchange.new.places.items (c.self.inside.given % c.len-size.result)
+    c.push_box-carry.new.out
+    ∙ ap (λ n. slice_set (held c.exchange.new.places.items) (c.self.inside.given % n) c.push_box-carry.new.out.value)
+    count)
     c.keep.ensures.count

@@ -22,5 +22,6 @@ pub returns-clause-moved : goal.returns-clause-moved
 returns-clause-moved c =
     moves c.self.inside.packets.items c.pop_front.new.self.items c.in-Some.packet c.nibbles.result
     c.args.source.now.inbox c.put.new.self.inbox (sym c.pop_front.ensures.value ∙ c.in-Some.is)
-    (ap (λ (b : Buffer Packet). b.items) c.pop_front.ensures.items) c.nibbles.ensures (ap (λ (s : Source). s.inbox) c.put.ensures)
+    (ap (λ (b : Buffer Packet). b.items) c.pop_front.ensures.items) c.nibbles.ensures
+    (ap (λ (s : Source). s.inbox) c.put.ensures)
     ∙ ap (λ (ring : List Packet). and_moved (path_of ring c.args.source.now.inbox)) c.self.view_is
