@@ -1,4 +1,5 @@
 //! What a line of a noise's text says, and what its lines so far say.
+ghost use Rattle.std.specs.Prelude.{◌≡◌, length};
 
 use fcs_model::Flip;
 use session_model::Octets;
@@ -16,6 +17,15 @@ impl Model for FrameList {
     ghost view = { λ frames. frames.0.items };
 }
 
+impl FrameList {
+    /// How many there are.
+    pub fn count(&self) -> u64
+        ensures { result ≡ length self.now }
+    {
+        self.0.len() as u64
+    }
+}
+
 /// Bits of a stream that are turned over.
 #[derive(Drop)]
 pub struct FlipList(pub Vec<Flip>);
@@ -27,6 +37,15 @@ impl Model for FlipList {
     ghost Value = { List Flip };
 
     ghost view = { λ flips. flips.0.items };
+}
+
+impl FlipList {
+    /// How many there are.
+    pub fn count(&self) -> u64
+        ensures { result ≡ length self.now }
+    {
+        self.0.len() as u64
+    }
 }
 
 /// Frames with an FCS that are sent one after another, and the bits of their stream that are turned over on the way.

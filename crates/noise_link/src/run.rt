@@ -73,8 +73,8 @@ impl NoiseRun {
         let mut line = [0u8; END_ROOM];
         let end = end_line(
             Counts {
-                frames: noise.frames.0.len() as u64,
-                flips: noise.flips.0.len() as u64,
+                frames: noise.frames.count(),
+                flips: noise.flips.count(),
                 got,
                 dropped,
             },

@@ -21,7 +21,7 @@ pub loop-line-preserved : goal.loop-line-preserved
 loop-line-preserved c = record {
   value = c.loop-line.invariant.value
       ∙ line_said c.loop-line.number _ _ _ _ _ _ c.in-Some.ensures.some c.in-Ok.ensures.ok.0 c.in-Ok.ensures.ok.1
-          c.in-Ok-add.ensures;
+      c.in-Ok-add.ensures;
   stands = subst IsDraft (sym c.in-Ok-add.ensures) (draft-after _ _ c.loop-line.invariant.stands c.in-Ok.ensures.fits);
   small = omega (arith, c.loop-line.invariant.small, c.in-Some.ensures.moves);
   sized =
@@ -38,4 +38,4 @@ returns-in-Err-clause-err c =
 pub returns-clause-ok : goal.returns-clause-ok
 returns-clause-ok c =
     whole_said c.args.text.now c.loop-line.number c.loop-line.draft _ c.loop-line.invariant.value
-        c.in_default.ensures.none
+    c.in_default.ensures.none

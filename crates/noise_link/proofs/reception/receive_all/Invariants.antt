@@ -1,5 +1,5 @@
 -- The octets so far were received.
-use Rattle.std.proofs.Common.{◌≡◌, ◌+◌, ◌≤◌, [], take}
+use Rattle.std.proofs.Common.{◌+◌, ◌≤◌, [], take}
 use Rattle.outside_io.specs.Start.{Start}
 use Rattle.noise_link.specs.Run.{Received}
 use Rattle.noise_link.proofs.reception.receive_all.Given as goal

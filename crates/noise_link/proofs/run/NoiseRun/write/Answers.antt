@@ -16,7 +16,7 @@ receive_all-requires-clause-stands g c = (
     stands = c.self.invariant;
     text = subst (λ o. HasText g.K.ByteSink.written g.K.ByteSink.faults c.new.result
         (start_at g.K.ByteSink.written g.K.ByteSink.faults c.args.out.now (name_of c.new.result))
-            (got_texts (delivered o)))
+        (got_texts (delivered o)))
         (sym none-come) c.new.ensures.fresh;
     got = ap (λ o. length (delivered o)) (sym none-come);
     dropped = ap (λ o. length (causes o)) (sym none-come);
@@ -39,14 +39,14 @@ returns-clause-ok g c =
     let text : HasText g.K.ByteSink.written g.K.ByteSink.faults c.line.new.self to (noise_text c.args.noise.now) =
     subst (HasText g.K.ByteSink.written g.K.ByteSink.faults c.line.new.self to)
     (text-is c.args.noise.now c.as_slice.result.now _ _ _ c.receive_all.new.reception.got
-    c.receive_all.new.reception.dropped octets c.len.ensures c.len-2.ensures has.got has.dropped
+    c.receive_all.new.reception.dropped octets c.count.ensures c.count-2.ensures has.got has.dropped
     c.end_line-end.ensures.line) told in
     let named = subst (λ n. HasText g.K.ByteSink.written g.K.ByteSink.faults c.line.new.self
     (start_at g.K.ByteSink.written g.K.ByteSink.faults c.args.out.now n) (noise_text c.args.noise.now))
     (sym text.0) text in
     let end = c.finish-back.ensures.ok c.args.out.now (noise_text c.args.noise.now) named in
     let k : OnOk c.finish-back.result.1
-            (Appends g.K.ByteSink.written g.K.ByteSink.faults c.args.out.now c.take_back.new.out
+    (Appends g.K.ByteSink.written g.K.ByteSink.faults c.args.out.now c.take_back.new.out
     (noise_text c.args.noise.now)) =
     subst (λ now. OnOk c.finish-back.result.1 (Appends g.K.ByteSink.written g.K.ByteSink.faults c.args.out.now now
     (noise_text c.args.noise.now))) (sym c.take_back.ensures) end in
@@ -69,14 +69,14 @@ returns-clause-err g c =
     let text : HasText g.K.ByteSink.written g.K.ByteSink.faults c.line.new.self to (noise_text c.args.noise.now) =
     subst (HasText g.K.ByteSink.written g.K.ByteSink.faults c.line.new.self to)
     (text-is c.args.noise.now c.as_slice.result.now _ _ _ c.receive_all.new.reception.got
-    c.receive_all.new.reception.dropped octets c.len.ensures c.len-2.ensures has.got has.dropped
+    c.receive_all.new.reception.dropped octets c.count.ensures c.count-2.ensures has.got has.dropped
     c.end_line-end.ensures.line) told in
     let named = subst (λ n. HasText g.K.ByteSink.written g.K.ByteSink.faults c.line.new.self
     (start_at g.K.ByteSink.written g.K.ByteSink.faults c.args.out.now n) (noise_text c.args.noise.now))
     (sym text.0) text in
     let end = c.finish-back.ensures.err c.args.out.now (noise_text c.args.noise.now) named in
     let k : OnErr c.finish-back.result.1
-            (AppendsPart g.K.ByteSink.written g.K.ByteSink.faults c.args.out.now c.take_back.new.out
+    (AppendsPart g.K.ByteSink.written g.K.ByteSink.faults c.args.out.now c.take_back.new.out
     (noise_text c.args.noise.now)) =
     subst (λ now. OnErr c.finish-back.result.1 (AppendsPart g.K.ByteSink.written g.K.ByteSink.faults c.args.out.now now
     (noise_text c.args.noise.now))) (sym c.take_back.ensures) end in
