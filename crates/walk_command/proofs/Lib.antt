@@ -8,3 +8,4 @@ pub mod RoomLaws
 pub mod SeeLaws
 pub mod CommandLaws
 pub mod TakenLaws
+pub mod ReadBackLaws

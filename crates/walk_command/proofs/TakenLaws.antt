@@ -23,7 +23,7 @@ pub taken-none : (script : Script) → taken_frames script 0 ≡ []
 unfolding taken_frames
 taken-none script = refl
 
-taken-more : (script : Script) (row : ℕ) → taken_frames script (row + 1) ≡ taken_frames script row ++ frames_of_row script row
+pub taken-more : (script : Script) (row : ℕ) → taken_frames script (row + 1) ≡ taken_frames script row ++ frames_of_row script row
 unfolding taken_frames
 taken-more script row =
     let same : range_with_len 0 (row + 1) ≡ range_with_len 0 row ++ row ∷ [] =

@@ -1,5 +1,5 @@
 //! `capture`: a script's walk is made, and the frames that it delivers are written as a capture.
-ghost use Rattle.std.specs.Prelude.{◌≡◌, ◌≢◌, ℕ, List, None, OnOk, OnErr, map, replicate, string_bytes};
+ghost use Rattle.std.specs.Prelude.{◌≡◌, ◌≢◌, ℕ, List, None, Ok, OnOk, OnErr, map, replicate, string_bytes};
 ghost use Rattle.std.specs.List.{flat_map};
 ghost use Rattle.outside_io.specs.Start.{Start};
 ghost use Rattle.outside_io.specs.Transfer.{Appends, AppendsPart};
@@ -10,7 +10,8 @@ ghost use Rattle.session_model.specs.Counts.{begin, run, run_line, drain, bound}
 ghost use Rattle.walk_law.specs.Walk.{walk_plan, IsWalked};
 ghost use Rattle.walk_law.specs.Delivered.{delivered_of};
 ghost use Rattle.headline_law.specs.Texts.{counts_in};
-ghost use Rattle.capture_file.specs.Written.{RowFrame};
+ghost use Rattle.capture_file.specs.Written.{RowFrame, due_frames};
+ghost use Rattle.capture_file.specs.Reading.{capture_said};
 ghost use Rattle.command_parts.specs.Status.{HasRunAt};
 ghost use Rattle.command_parts.specs.Task.{reads};
 ghost use Rattle.command_parts.specs.Ends.{Ends, lent};
@@ -179,4 +180,11 @@ pub fn capture<S: ByteSource, K: ByteSink, E: ByteSink>(
 pub fn capture_law()
     ensures { (script : Script) (rows : ℕ) →
         map (λ (own : RowFrame). own.frame) (taken_frames script rows) ≡ delivered_of script rows }
+{}
+
+/// The capture of a valid script's walk is read as the frames in it, each due as many ticks after the first one as the row that gave it comes
+/// after the row of that.
+pub fn capture_read_law()
+    ensures { (script : Script) → IsValid script → capture_said (capture_octets script)
+        ≡ Ok (due_frames (taken_frames script (counts_in script).rows)) }
 {}

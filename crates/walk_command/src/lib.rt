@@ -23,7 +23,7 @@ mod top;
 mod trace;
 mod walk;
 
-pub use capture::capture_law;
+pub use capture::{capture_law, capture_read_law};
 pub use command::WalkCommand;
 pub use end::WalkEnd;
 pub use top::walk_top;
