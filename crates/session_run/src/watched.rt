@@ -57,8 +57,7 @@ pub fn run_watched<R: Threads + Wait + Sync, K: ByteSink, G: Gate>(
 {
     let opened = open(alloc, &script, workers)?;
     let (log, posts) = make_log(alloc, script.config.lines, QUEUE, MOST)?;
-    let left =
-        run_opened::<Brand, R, K, G>(rt, gate, &script, opened, posts, Some(log), out);
+    let left = run_opened::<Brand, R, K, G>(rt, gate, &script, opened, posts, Some(log), out);
     let Left { ended, posts, log } = left;
     match log {
         Some(log) => Ok((ended, log.finish(rt, posts))),
