@@ -1,5 +1,6 @@
 -- The texts of one alarm more, and of one line more.
-use Rattle.std.proofs.Common.{◌≡◌, ℕ, suc, ◌+◌, ◌<◌, ◌==◌, length, take, get_or, true, false, List, [], ◌∷◌, ◌++◌, sym, ◌∙◌, ap, arith}
+use Rattle.std.proofs.Common.{◌≡◌, ℕ, suc, ◌+◌, ◌<◌, ◌==◌, length, take, get_or, true, false, List, [], ◌∷◌, ◌++◌, sym}
+use Rattle.std.proofs.Common.{◌∙◌, ap, arith}
 use Rattle.std.specs.List.{flat_map, range_with_len}
 use Rattle.std.proofs.Math.Seq.{take-suc}
 use Rattle.std.proofs.lemmas.Grind.{flat_map-append}
@@ -28,7 +29,8 @@ alarms_more m alarms alarm =
     ap alarm_texts (line-append m alarms (alarm ∷ []))
     ∙ flat_map-append alarm_text (of_line m alarms) (of_line m (alarm ∷ []))
 
-pub own_text : (m : ℕ) (alarm : Alarm) → (alarm.line == m) ≡ true → alarm_texts (of_line m (alarm ∷ [])) ≡ alarm_text alarm
+pub own_text : (m : ℕ) (alarm : Alarm) → (alarm.line == m) ≡ true →
+    alarm_texts (of_line m (alarm ∷ [])) ≡ alarm_text alarm
 own_text m alarm own = rw own (append-nil (alarm_text alarm))
 
 pub other_text : (m : ℕ) (alarm : Alarm) (before : List ℕ) → (alarm.line == m) ≡ false →

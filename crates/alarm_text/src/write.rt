@@ -36,8 +36,8 @@ fn write_line<K: ByteSink>(line: u8, alarms: &[Alarm], got: &mut GotLines<K>)
     }
 }
 
-/// Writes the alarms of so many lines of a group, a line of text for each: those of line 0 in their order, then those of
-/// line 1, and so on.
+/// Writes the alarms of so many lines of a group, a line of text for each: those of line 0 in their order,
+/// then those of line 1, and so on.
 pub fn write_alarms<K: ByteSink>(lines: u8, alarms: &[Alarm], got: &mut GotLines<K>)
     ensures { (start : Start) (before : List ℕ) →
         HasText K.written K.faults got.old start before →

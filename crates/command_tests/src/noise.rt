@@ -1,5 +1,6 @@
-//! Noise: frames with an FCS of whose stream bits are turned over, what is wrong with a text, and inputs and outputs that
-//! fail. What is expected comes of a model of the definitions. Rows stand behind functions, so that no proof sees them.
+//! Noise: frames with an FCS of whose stream bits are turned over, what is wrong with a text, and inputs and
+//! outputs that fail. What is expected comes of a model of the definitions. Rows stand behind functions, so
+//! that no proof sees them.
 
 use crate::rows::Program::Walk;
 use crate::rows::{Turns, try_rows};

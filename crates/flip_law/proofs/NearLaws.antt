@@ -26,7 +26,7 @@ unfolding core_header with_check
 octet_bits-core_header pli =
     octet_bits-octets_of 4 (xors (bits 32 0xb6ab31e0) (with_check pli))
     (length_xors (bits 32 0xb6ab31e0) (with_check pli) (length-bits 32 0xb6ab31e0 ∙ sym (length-with_check pli))
-        ∙ length-with_check pli)
+    ∙ length-with_check pli)
 
 -- ---- two headers that differ by flips
 -- their words differ by them
@@ -39,9 +39,9 @@ words_differ p q flips size e =
     sym (octet_bits-core_header q) ∙ ap octet_bits e ∙ octet_bits-flipped flips (core_header p) four
     ∙ ap (λ l. xors l flips) (octet_bits-core_header p) ∙ xors_assoc mask (with_check p) flips in
     let long : length (xors (with_check p) flips) ≡ 32 =
-            length_xors (with_check p) flips (length-with_check p ∙ sym size) ∙ size in
+    length_xors (with_check p) flips (length-with_check p ∙ sym size) ∙ size in
     sym (xors_twice mask (with_check q) (le_of_eq (length-with_check q ∙ sym (length-bits 32 0xb6ab31e0))))
-        ∙ ap (xors mask) same
+    ∙ ap (xors mask) same
     ∙ xors_twice mask (xors (with_check p) flips) (le_of_eq (long ∙ sym (length-bits 32 0xb6ab31e0)))
 
 -- ---- what is read
@@ -275,7 +275,7 @@ module _ (octets : List ℕ) (four : length octets ≡ 4) (below : All (λ o. o 
         ∙ octet_bits-flipped flips (core_header pli) (n.size ∙ sym (ap (λ n. 8 * n) (length-core_header pli)))
         ∙ ap (λ l. xors l flips) (octet_bits-core_header pli) in
         let both : length (xors (with_check pli) flips) ≡ 32 =
-                length_xors (with_check pli) flips (length-with_check pli ∙ sym n.size)
+        length_xors (with_check pli) flips (length-with_check pli ∙ sym n.size)
         ∙ n.size in
         let same : plain ≡ xors (with_check pli) flips =
         plain_is ∙ ap (xors mask) (sent ∙ xors_assoc mask (with_check pli) flips)
@@ -294,7 +294,7 @@ module _ (octets : List ℕ) (four : length octets ≡ 4) (below : All (λ o. o 
         ap (λ l. xors l flips) (octet_bits-core_header pli)
         ∙ xors_assoc mask (with_check pli) flips
         ∙ ap (xors mask) (xors_twice (with_check pli) plain (le_of_eq (length-plain ∙ sym (length-with_check pli)))
-            ∙ plain_is)
+        ∙ plain_is)
         ∙ xors_twice mask (octet_bits octets) (le_of_eq (size_of_all ∙ sym length-mask)) in
         record {
           fits = fits;

@@ -133,7 +133,8 @@ module _ (read : List ℕ → Option ℕ) where
       length octets < 8 + pli → search refused octets ≡ None
   search-short refused octets pli found short =
       search-header refused octets pli None found
-      (λ k enough. let few : length (drop (4 + pli) octets) < 4 = omega (arith, length-drop (4 + pli) octets, short) in rw (lt-leb 4 (length (drop (4 + pli) octets)) few) refl)
+      (λ k enough. let few : length (drop (4 + pli) octets) < 4 = omega (arith, length-drop (4 + pli) octets, short) in
+      rw (lt-leb 4 (length (drop (4 + pli) octets)) few) refl)
 
   -- after its area there is no header
   pub search-refused : (refused : Bool) (octets : List ℕ) (pli : ℕ) → header_with read octets ≡ Some pli →

@@ -49,25 +49,25 @@ last-four area room =
 
 module _ (area : List ℕ) (room : 12 ≤ length area) (said found : ℕ) (fits : said < 2 ^ 32) (also : found < 2 ^ 32)
     (last : to_be_bytes w32 said ≡ drop (length area - 4) area) (check : to_be_bytes w32 found ≡ fcs_of (info_of area))
-    where
-  sized : by_size area ≡ by_check (to_be_bytes w32 said) (info_of area)
-  sized = rw (le-ltb (length area) 12 room) (ap (λ said. by_check said (info_of area)) (sym last))
+  where
+    sized : by_size area ≡ by_check (to_be_bytes w32 said) (info_of area)
+    sized = rw (le-ltb (length area) 12 room) (ap (λ said. by_check said (info_of area)) (sym last))
 
-  pub sized-right : said ≡ found → by_size area ≡ delivery (info_of area)
-  sized-right same =
-      let is : bytes_eq (to_be_bytes w32 said) (fcs_of (info_of area)) ≡ true =
-      (bytes_eq-Decides (to_be_bytes w32 said) (fcs_of (info_of area))).1 (ap (to_be_bytes w32) same ∙ check) in
-      sized ∙ rw is refl
+    pub sized-right : said ≡ found → by_size area ≡ delivery (info_of area)
+    sized-right same =
+        let is : bytes_eq (to_be_bytes w32 said) (fcs_of (info_of area)) ≡ true =
+        (bytes_eq-Decides (to_be_bytes w32 said) (fcs_of (info_of area))).1 (ap (to_be_bytes w32) same ∙ check) in
+        sized ∙ rw is refl
 
-  pub sized-wrong : said ≢ found → by_size area ≡ dropping (Fcs said found)
-  sized-wrong other =
-      let differ : to_be_bytes w32 said ≢ fcs_of (info_of area) = λ e.
-      other (sym (word-is said fits) ∙ ap word_of (e ∙ sym check) ∙ word-is found also) in
-      sized
-      ∙ rw (eq_by (to_be_bytes w32 said) (fcs_of (info_of area))
-      (bytes_eq (to_be_bytes w32 said) (fcs_of (info_of area))) refl differ)
-      (ap₂ (λ said found. dropping (Fcs said found)) (word-is said fits)
-      (ap word_of (sym check) ∙ word-is found also))
+    pub sized-wrong : said ≢ found → by_size area ≡ dropping (Fcs said found)
+    sized-wrong other =
+        let differ : to_be_bytes w32 said ≢ fcs_of (info_of area) = λ e.
+        other (sym (word-is said fits) ∙ ap word_of (e ∙ sym check) ∙ word-is found also) in
+        sized
+        ∙ rw (eq_by (to_be_bytes w32 said) (fcs_of (info_of area))
+        (bytes_eq (to_be_bytes w32 said) (fcs_of (info_of area))) refl differ)
+        (ap₂ (λ said found. dropping (Fcs said found)) (word-is said fits)
+        (ap word_of (sym check) ∙ word-is found also))
 
 -- ---- how an area ended
 by_length : (long : Bool) (area : List ℕ) →

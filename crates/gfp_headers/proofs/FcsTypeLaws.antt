@@ -23,7 +23,7 @@ unfolding fcs_type_fault
 fcs_type_fault-check octets field said found e s f h =
     let right : found ≡ hec_of (type_field octets) = f ∙ ap hec_of e in
     ap (λ b. if b then fcs_field_fault (type_field octets) else Some
-        (Check (type_check octets) (hec_of (type_field octets))))
+    (Check (type_check octets) (hec_of (type_field octets))))
     (ne_eqb (type_check octets) (hec_of (type_field octets)) (λ same. h (s ∙ same ∙ sym right)))
     ∙ ap₂ (λ a b. Some (Check a b)) (sym s) (sym right)
 
@@ -34,7 +34,7 @@ unfolding fcs_type_fault
 fcs_type_fault-field octets field said found e s f same =
     let right : type_check octets ≡ hec_of (type_field octets) = sym s ∙ same ∙ f ∙ ap hec_of e in
     ap (λ b. if b then fcs_field_fault (type_field octets) else Some
-        (Check (type_check octets) (hec_of (type_field octets))))
+    (Check (type_check octets) (hec_of (type_field octets))))
     (eq-eqb (type_check octets) (hec_of (type_field octets)) right)
     ∙ ap fcs_field_fault (sym e)
 
@@ -51,7 +51,7 @@ none_tells false b c d x y z w e = absurd cc
 field_one : (field : ℕ) → field < 2 ^ 16 → fcs_field_fault field ≡ None → field ≡ 0x1001
 field_one field h e =
     let t = none_tells (field / 2 ^ 13 == 0) (field / 2 ^ 12 % 2 == 1) (field / 2 ^ 8 % 2 ^ 4 == 0)
-            (field % 2 ^ 8 == 1) _ _ _ _ e in
+    (field % 2 ^ 8 == 1) _ _ _ _ e in
     let pti = eqb-true (field / 2 ^ 13) 0 t.0 in
     let pfi = eqb-true (field / 2 ^ 12 % 2) 1 t.1 in
     let exi = eqb-true (field / 2 ^ 8 % 2 ^ 4) 0 t.2 in
@@ -71,7 +71,7 @@ type_header_only (a ∷ b ∷ c ∷ d ∷ []) field said found size below e s f 
     let one : field ≡ 0x1001 = field_one field small none in
     let check : 256 * c + d ≡ 0x1352 = sym s ∙ same ∙ f ∙ ap hec_of one ∙ hec_of_field in
     ap₂ (λ x l. x ∷ l) (omega arith)
-        (ap₂ (λ x l. x ∷ l) (omega arith) (ap₂ (λ x y. x ∷ y ∷ []) (omega arith) (omega arith)))
+    (ap₂ (λ x l. x ∷ l) (omega arith) (ap₂ (λ x y. x ∷ y ∷ []) (omega arith) (omega arith)))
 type_header_only [] field said found size below e s f same none = absurd (omega arith)
 type_header_only (a ∷ []) field said found size below e s f same none = absurd (omega arith)
 type_header_only (a ∷ b ∷ []) field said found size below e s f same none = absurd (omega arith)

@@ -24,7 +24,7 @@ computed = refl
 bits-bit : (k : ℕ) → k < 32 → bits 32 (2 ^ (31 - k)) ≡ bit_at k
 bits-bit k h =
     ap (bits 32) (sym (nat_eq_tells (number (bit_at k)) (2 ^ (31 - k))
-        (all_below_at 32 (λ k. number (bit_at k) == 2 ^ (31 - k)) k computed h)))
+    (all_below_at 32 (λ k. number (bit_at k) == 2 ^ (31 - k)) k computed h)))
     ∙ ap (λ n. bits n (number (bit_at k))) (sym (length-bit_at k h)) ∙ bits-number (bit_at k)
 
 bits-place : (place : ℕ) → place < 32 → bits 32 (2 ^ place) ≡ bit_at (31 - place)
@@ -112,7 +112,7 @@ module _ (word check : ℕ) (w : word < 2 ^ 16) (c : check < 2 ^ 16) where
   -- a word that is fixed so is that of the header, or of one with one bit turned over
   pub fixed-sound : (right : ℕ) → IsFixed word check right
       → IsSound (word * 2 ^ 16 + check) ⊎
-          ((place : ℕ) × (place < 32) × IsSound (bit_xor (word * 2 ^ 16 + check) (2 ^ place)))
+      ((place : ℕ) × (place < 32) × IsSound (bit_xor (word * 2 ^ 16 + check) (2 ^ place)))
   unfolding header given with_check
   fixed-sound right fixed =
       let flips : List Bool = xors (with_check right) given in
@@ -131,7 +131,7 @@ module _ (word check : ℕ) (w : word < 2 ^ 16) (c : check < 2 ^ 16) where
             let behind : at.after ≡ 31 - at.before = omega (arith, at.size, long) in
             let inside : at.before < 32 = omega (arith, at.size, long) in
             let is : flips ≡ bit_at at.before = at.bits
-                    ∙ ap (λ n. replicate at.before false ++ true ∷ replicate n false) behind in
+            ∙ ap (λ n. replicate at.before false ++ true ∷ replicate n false) behind in
             let turned : with_check right ≡ bits 32 (bit_xor header (2 ^ (31 - at.before))) =
             back ∙ ap₂ xors given-is (is ∙ sym (bits-bit at.before inside))
             ∙ sym (bits-xor 32 header (2 ^ (31 - at.before))) in

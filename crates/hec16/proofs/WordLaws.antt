@@ -134,8 +134,12 @@ with_check pli = bits 16 pli ++ hec_bits pli
 
 pub length-with_check : (pli : ℕ) → length (with_check pli) ≡ 32
 unfolding with_check
-length-with_check pli = omega (arith, length-append (bits 16 pli) (hec_bits pli), length-bits 16 pli,
-    length-hec_bits pli)
+length-with_check pli = omega (
+  arith,
+  length-append (bits 16 pli) (hec_bits pli),
+  length-bits 16 pli,
+  length-hec_bits pli,
+)
 
 left-with_check : (pli : ℕ) → left (with_check pli) ≡ left (replicate 32 false)
 unfolding with_check left
@@ -157,9 +161,9 @@ flips_leave : (p q : ℕ) (flips : List Bool) → length flips ≡ 32 → with_c
 flips_leave p q flips size e =
     let difference : flips ≡ xors (with_check p) (with_check q) =
     sym (xors_twice (with_check p) flips (le_of_eq (size ∙ sym (length-with_check p))))
-        ∙ ap (xors (with_check p)) (sym e) in
+    ∙ ap (xors (with_check p)) (sym e) in
     ap left difference ∙ left-xors (with_check p) (with_check q) ∙ ap₂ xors (left-with_check p) (left-with_check q)
-        ∙ nothing_twice
+    ∙ nothing_twice
 
 same_word : (p q : ℕ) → p < 2 ^ 16 → q < 2 ^ 16 → with_check q ≡ with_check p → q ≡ p
 unfolding with_check
@@ -173,7 +177,7 @@ pub none_differ : (p q : ℕ) (flips : List Bool) → p < 2 ^ 16 → q < 2 ^ 16 
     → with_check q ≡ xors (with_check p) flips → q ≡ p
 none_differ p q flips hp hq none e =
     same_word p q hp hq (e ∙ ap (xors (with_check p)) none
-        ∙ xors-zeros_right 32 (with_check p) (le_of_eq (length-with_check p)))
+    ∙ xors-zeros_right 32 (with_check p) (le_of_eq (length-with_check p)))
 
 -- one flip makes no header
 pub one_differs : (p q k : ℕ) → k < 32 → with_check q ≢ xors (with_check p) (bit_at k)
@@ -216,9 +220,9 @@ through p q third size =
     ∙ ap (xors (xors (with_check p) (with_check q))) (xors-self third ∙ ap (λ n. replicate n false) size)
     ∙ xors-zeros_right 32 (xors (with_check p) (with_check q))
     (le_of_eq (length_xors (with_check p) (with_check q) (length-with_check p ∙ sym (length-with_check q))
-        ∙ length-with_check q)) in
+    ∙ length-with_check q)) in
     sym (ap (xors (with_check p)) same
-        ∙ xors_twice (with_check p) (with_check q) (le_of_eq (length-with_check q ∙ sym (length-with_check p))))
+    ∙ xors_twice (with_check p) (with_check q) (le_of_eq (length-with_check q ∙ sym (length-with_check p))))
 
 within_two : (p q : ℕ) (first second : List Bool) → p < 2 ^ 16 → q < 2 ^ 16 → length first ≡ 32 → length second ≡ 32
     → count first ≤ 1 → count second ≤ 1 →

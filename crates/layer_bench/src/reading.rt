@@ -36,7 +36,11 @@ impl Counts {
             }
             Err(ScriptFault::Memory) => return Err(AllocError),
             Err(fault) => {
-                if let ScriptFault::Line { number: _, fault: _ } = fault {
+                if let ScriptFault::Line {
+                    number: _,
+                    fault: _,
+                } = fault
+                {
                     self.lines = self.lines.wrapping_add(1);
                 } else {
                     self.limits = self.limits.wrapping_add(1);

@@ -1,5 +1,7 @@
 -- The alarms of more cells, cell by cell, and how many cells a line sends.
-use Rattle.std.proofs.Common.{◌≡◌, ℕ, zero, suc, ◌+◌, ◌-◌, ◌<◌, ◌≤◌, min, nat_lt, Bool, true, false, if◌then◌else◌, List, [], ◌∷◌, ◌++◌, length, take, refl, sym, ◌∙◌, ap, ap₂, subst, arith, append_assoc, length-append}
+use Rattle.std.proofs.Common.{◌≡◌, ℕ, zero, suc, ◌+◌, ◌-◌, ◌<◌, ◌≤◌, min, nat_lt, Bool, true, false, if◌then◌else◌}
+use Rattle.std.proofs.Common.{List, [], ◌∷◌, ◌++◌, length, take, refl, sym, ◌∙◌, ap, ap₂, subst, arith, append_assoc}
+use Rattle.std.proofs.Common.{length-append}
 use Rattle.std.proofs.lemmas.List.{append-nil}
 use Rattle.std.proofs.Math.Nat.{min-eq_left}
 use Rattle.vc_cell.specs.declared.Container.{Container}
@@ -13,7 +15,8 @@ use Rattle.member_ring.specs.declared.alarm.AlarmKind.TheVariants.{Ends}
 use Rattle.member_ring.specs.Alarms.{alarm_at, return_of, failure_of, alarms_from, failed_after, alarms_of_line}
 
 -- ---- more cells
-pub failed-more : (failed : Bool) (sent more : List Cell) → failed_after failed (sent ++ more) ≡ failed_after (failed_after failed sent) more
+pub failed-more : (failed : Bool) (sent more : List Cell) →
+    failed_after failed (sent ++ more) ≡ failed_after (failed_after failed sent) more
 unfolding failed_after
 failed-more failed [] more = refl
 failed-more failed (Good c ∷ sent) more = failed-more false sent more
@@ -24,7 +27,8 @@ next-place : (i n : ℕ) → suc i + n ≡ i + suc n
 next-place i n = omega arith
 
 pub alarms-more : (m i : ℕ) (failed : Bool) (sent more : List Cell) →
-    alarms_from m i failed (sent ++ more) ≡ alarms_from m i failed sent ++ alarms_from m (i + length sent) (failed_after failed sent) more
+    alarms_from m i failed (sent ++ more) ≡ alarms_from m i failed sent ++ alarms_from m (i + length sent)
+    (failed_after failed sent) more
 unfolding alarms_from failed_after
 alarms-more m i failed [] more = ap (λ (k : ℕ). alarms_from m k failed more) (let e : i ≡ i + 0 = omega arith in e)
 alarms-more m i failed (Good c ∷ sent) more =
@@ -48,8 +52,10 @@ alarms-none m i failed = refl
 
 -- ---- after one more carry, by what was noted of the cells before
 pub noted-more : (m place : ℕ) (failed : Bool) (sent more : List Cell) (last next : List Alarm) →
-    failed ≡ failed_after false sent → place ≡ min (length sent) 4294967295 → next ≡ last ++ alarms_from m place failed more →
-    length (sent ++ more) ≤ 4294967296 → (before : List Alarm) → before ++ last ≡ alarms_of_line m sent → before ++ next ≡ alarms_of_line m (sent ++ more)
+    failed ≡ failed_after false sent → place ≡ min (length sent) 4294967295 →
+    next ≡ last ++ alarms_from m place failed more →
+    length (sent ++ more) ≤ 4294967296 → (before : List Alarm) → before ++ last ≡ alarms_of_line m sent →
+    before ++ next ≡ alarms_of_line m (sent ++ more)
 noted-more m place failed sent [] last next fails at is few before had =
     ap (λ l. before ++ l) (is ∙ ap (λ l. last ++ l) (alarms-none m place failed) ∙ append-nil last) ∙ had
     ∙ ap (alarms_of_line m) (sym (append-nil sent))
@@ -59,10 +65,12 @@ noted-more m place failed sent (cell ∷ more) last next fails at is few before 
     ap (λ l. before ++ l) (is ∙ ap₂ (λ (k : ℕ) (b : Bool). last ++ alarms_from m k b (cell ∷ more)) here fails)
     ∙ sym (append_assoc before last (alarms_from m (length sent) (failed_after false sent) (cell ∷ more)))
     ∙ ap (λ l. l ++ alarms_from m (length sent) (failed_after false sent) (cell ∷ more)) had
-    ∙ ap (λ (k : ℕ). alarms_of_line m sent ++ alarms_from m k (failed_after false sent) (cell ∷ more)) (let e : length sent ≡ 0 + length sent = omega arith in e)
+    ∙ ap (λ (k : ℕ). alarms_of_line m sent ++ alarms_from m k (failed_after false sent) (cell ∷ more))
+    (let e : length sent ≡ 0 + length sent = omega arith in e)
     ∙ sym (alarms-more m 0 false sent (cell ∷ more))
 
-pub place-more : (place next : ℕ) (sent more : List Cell) → place ≡ min (length sent) 4294967295 → next ≡ min (place + length more) 4294967295 →
+pub place-more : (place next : ℕ) (sent more : List Cell) → place ≡ min (length sent) 4294967295 →
+    next ≡ min (place + length more) 4294967295 →
     next ≡ min (length (sent ++ more)) 4294967295
 place-more place next sent more at is = let size = length-append sent more in omega (arith, at, is, size)
 
@@ -83,9 +91,11 @@ path-few carries n (suc k) (x ∷ xs) =
     omega (arith, size, one, rest)
 
 one-end : (total n : ℕ) → length (end_of total n) ≤ 1
-one-end total n = elim (nat_lt total n) as (λ b. length (if b then End ∷ [] else []) ≤ 1) [ true ↦ omega arith | false ↦ omega arith ]
+one-end total n = elim (nat_lt total n) as (λ b. length (if b then End ∷ [] else []) ≤ 1)
+    [ true ↦ omega arith | false ↦ omega arith ]
 
-pub cells-few : (carries : ℕ → Carried) (delay total : ℕ) (xs : List Container) (i : ℕ) → length (cells carries delay total xs i) ≤ length xs + 1
+pub cells-few : (carries : ℕ → Carried) (delay total : ℕ) (xs : List Container) (i : ℕ) →
+    length (cells carries delay total xs i) ≤ length xs + 1
 cells-few carries delay total xs i =
     let size = length-append (path carries 0 (take (i - delay) xs)) (end_of total (i - delay)) in
     let some = path-few carries 0 (i - delay) xs in

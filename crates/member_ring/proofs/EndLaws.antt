@@ -12,7 +12,8 @@ pub in-then : {T : Type 0} (a b c : RingIn T) → SameIn a b → SameIn b c → 
 in-then a b c s t = ((t.0.0 ∙ s.0.0, t.0.1 ∙ s.0.1, t.0.2 ∙ s.0.2, t.0.3 ∙ s.0.3), t.1 ∙ s.1)
 
 -- ends of one ring are ends of one ring later
-pub ends-moved : {T : Type 0} (out later : RingOut T) (into after : RingIn T) → AreEnds out into → SameOut out later → SameIn into after → AreEnds later after
+pub ends-moved : {T : Type 0} (out later : RingOut T) (into after : RingIn T) → AreEnds out into → SameOut out later →
+    SameIn into after → AreEnds later after
 ends-moved out later into after e s t =
     (t.0.0 ∙ (e.0 ∙ sym s.0.0), t.0.1 ∙ (e.1 ∙ sym s.0.1), t.0.2 ∙ (e.2 ∙ sym s.0.2), t.0.3 ∙ (e.3 ∙ sym s.0.3))
 

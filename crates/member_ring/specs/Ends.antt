@@ -1,6 +1,7 @@
 -- What is known of the ends of a ring.
 use Rattle.std.specs.Prelude.{◌≡◌, ℕ, List, []}
-use Rattle.rtrb.specs.Ring.{sent, received, known_free, known_items, producer_capacity, consumer_capacity, IsPair, SameProducer, SameConsumer}
+use Rattle.rtrb.specs.Ring.{sent, received, known_free, known_items, producer_capacity, consumer_capacity, IsPair}
+use Rattle.rtrb.specs.Ring.{SameProducer, SameConsumer}
 use Rattle.member_ring.specs.declared.ends.RingOut.{RingOut}
 use Rattle.member_ring.specs.declared.ends.RingIn.{RingIn}
 

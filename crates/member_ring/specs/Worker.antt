@@ -62,14 +62,16 @@ pub record WasEmpty (a b : LineWorker) : Type 0 where
   pub missed : in_misses b.consumer ≡ one_more (in_misses a.consumer)
   pub other : out_misses b.producer ≡ out_misses a.producer
 
--- the next container is there, or all were popped; no slot for a cell was known to be free, and a look at the ring missed
+-- the next container is there, or all were popped; no slot for a cell was known to be free, and a look at the ring
+-- missed
 pub record WasFull (a b : LineWorker) : Type 0 where
   pub ready : length (in_passed a.consumer) < total_of a → 0 < length (in_items b.consumer)
   pub none : out_free a.producer ≡ 0
   pub missed : out_misses b.producer ≡ one_more (out_misses a.producer)
   pub other : in_misses b.consumer ≡ in_misses a.consumer
 
--- the same worker later: where places are numbers of 32 bits, the alarms of what it sent since were added to those of its last burst
+-- the same worker later: where places are numbers of 32 bits, the alarms of what it sent since were added to those of
+-- its last burst
 pub record HasNoted (a b : LineWorker) : Type 0 where
   pub grown : length (out_passed a.producer) ≤ length (out_passed b.producer)
   pub alarms : length (out_passed b.producer) ≤ 4294967296 → (before : List Alarm) →

@@ -2,7 +2,8 @@
 ghost use Rattle.std.specs.Prelude.{◌≡◌, ◌+◌, ◌<◌, ◌≤◌, ◌↔◌, [], ◌∷◌, ◌++◌, length, IsTrue, IsFalse, IfOk};
 ghost use mathlib.Core.List.{IsPrefix};
 ghost use Rattle.outside_io.specs.Faults.{one_more};
-ghost use Rattle.member_ring.specs.Ends.{out_passed, out_free, out_misses, in_passed, in_items, in_misses, AreEnds, SameOut, SameIn, AreFresh};
+ghost use Rattle.member_ring.specs.Ends.{out_passed, out_free, out_misses, in_passed, in_items, in_misses, AreEnds};
+ghost use Rattle.member_ring.specs.Ends.{SameOut, SameIn, AreFresh};
 
 use rtrb::{Consumer, Producer, RingBuffer};
 use std::alloc::{AllocError, Global};
@@ -114,7 +115,8 @@ impl<T: Drop> RingIn<T> {
         self.consumer.peek_known()
     }
 
-    /// Looks for items while the other end lies beside: what was popped, and then the items that are known, are what was pushed.
+    /// Looks for items while the other end lies beside: what was popped, and then the items that are known,
+    /// are what was pushed.
     pub fn beside(&mut self, out: &mut RingOut<T>)
         requires { AreEnds out.old self.old }
         ensures fifo { in_passed self.new ++ in_items self.new ≡ out_passed out.new }

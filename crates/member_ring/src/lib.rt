@@ -1,6 +1,6 @@
-//! The rings between the parts of a group, and the line of a member as a worker that runs burst by burst. The ends are a few lines
-//! over `rtrb`; no other module touches it. A worker takes no lock and waits for nobody. Threads are not started here.
-//! Begin with `RingOut` and `RingIn`, and then `LineWorker`.
+//! The rings between the parts of a group, and the line of a member as a worker that runs burst by burst. The
+//! ends are a few lines over `rtrb`; no other module touches it. A worker takes no lock and waits for nobody.
+//! Threads are not started here. Begin with `RingOut` and `RingIn`, and then `LineWorker`.
 #![tactic(auto)]
 
 mod alarm;

@@ -65,7 +65,8 @@ impl LineWorker {
     ghost use Rattle.session_model.specs.Path.{cells};
     ghost use Rattle.member_ring.specs.Ends.{out_passed, in_passed};
     ghost use Rattle.member_ring.specs.Calls.{IsOpened};
-    ghost use Rattle.member_ring.specs.Worker.{number_of, delay_of, windows_of, total_of, flushes_of, carries_of, IsLater, WasEmpty, WasFull};
+    ghost use Rattle.member_ring.specs.Worker.{number_of, delay_of, windows_of, total_of, flushes_of, carries_of};
+    ghost use Rattle.member_ring.specs.Worker.{IsLater, WasEmpty, WasFull};
     ghost use Rattle.member_ring.specs.Worker.{raised_by, last_raised, HasNoted};
 
     /// The worker of line number `line`, over fresh rings and a line into which nothing was pushed.
@@ -95,9 +96,9 @@ impl LineWorker {
         }
     }
 
-    /// Passes the gate, and then makes up to 16 carries. What was sent since the worker was made is, whatever the bursts were, the
-    /// cells of the path of its line for the containers that were received. Once the end was pushed no burst is made, and the alarms
-    /// are still those of the one before.
+    /// Passes the gate, and then makes up to 16 carries. What was sent since the worker was made is, whatever
+    /// the bursts were, the cells of the path of its line for the containers that were received. Once the end
+    /// was pushed no burst is made, and the alarms are still those of the one before.
     pub fn burst<G: Gate>(&mut self, gate: &G) -> Burst
         ensures sent { out_passed self.new.producer
             ≡ cells (carried (windows_of self.new)) (delay_of self.new) (total_of self.new)
@@ -171,8 +172,8 @@ impl LineWorker {
         self.pass()
     }
 
-    /// Carries the next container, where it is there and there is a slot for its cell. It goes into the line from where it lies in the
-    /// ring.
+    /// Carries the next container, where it is there and there is a slot for its cell. It goes into the line
+    /// from where it lies in the ring.
     fn pass(&mut self) -> Burst
         requires more { self.old.core.pushed < self.old.core.total }
         requires room { length (last_raised self.old) < 16 }

@@ -1,5 +1,6 @@
 -- What a session that has ended writes, and what is handed back.
-use Rattle.std.proofs.Common.{◌≡◌, ◌≤◌, ℕ, List, [], ◌++◌, length, Option, Some, None, IfSome, Result, Ok, Err, refl, sym, ap, subst, append_assoc}
+use Rattle.std.proofs.Common.{◌≡◌, ◌≤◌, ℕ, List, [], ◌++◌, length, Option, Some, None, IfSome, Result, Ok, Err, refl}
+use Rattle.std.proofs.Common.{sym, ap, subst, append_assoc}
 use Rattle.outside_io.specs.Transfer.{Appends, AppendsPart}
 use Rattle.outside_io.proofs.Parts.{Appends-then, AppendsPart-then, AppendsPart-longer}
 use Rattle.session_model.specs.declared.script.Script.{Script}
@@ -24,7 +25,8 @@ use Rattle.command_parts.proofs.EndLaws.{is-done, known-text}
 use Rattle.run_command.specs.Ended.{end_text}
 
 -- what follows the got lines, of the session's own numbers
-pub end-written : {K : Type 0} (written : K → Option (List ℕ)) (faults : K → ℕ) (first last : GotLines K) (start : Start) (refusals : List (ℕ × Refusal)) (totals : Totals) (script : Script)
+pub end-written : {K : Type 0} (written : K → Option (List ℕ)) (faults : K → ℕ) (first last : GotLines K)
+    (start : Start) (refusals : List (ℕ × Refusal)) (totals : Totals) (script : Script)
     → refusals ≡ refusals_among script (numbered 0 script.items)
     → totals ≡ totals_among script script.config.ticks script.config.ticks (numbered 0 script.items)
     → HasText written faults first start []
@@ -32,14 +34,18 @@ pub end-written : {K : Type 0} (written : K → Option (List ℕ)) (faults : K �
     → HasText written faults last start (before ++ refused_texts refusals ++ total_text totals))
     → HasText written faults last start (end_text script)
 end-written written faults first last start refusals totals script refused counted fresh rest =
-    let P : List (ℕ × Refusal) → Type 0 = λ refusals. HasText written faults last start (refused_texts refusals ++ total_text totals) in
-    let Q : Totals → Type 0 = λ totals. HasText written faults last start (refused_texts (refusals_among script (numbered 0 script.items)) ++ total_text totals) in
+    let P : List (ℕ × Refusal) → Type 0 =
+    λ refusals. HasText written faults last start (refused_texts refusals ++ total_text totals) in
+    let Q : Totals → Type 0 = λ totals. HasText written faults last start
+    (refused_texts (refusals_among script (numbered 0 script.items)) ++ total_text totals) in
     subst Q counted (subst P refused (rest start [] fresh))
 
 -- the got lines and what follows them are the whole report
-whole-report : (script : Script) → got_texts (delivered_of script script.config.ticks) ++ end_text script ≡ final_report script
+whole-report : (script : Script) →
+    got_texts (delivered_of script script.config.ticks) ++ end_text script ≡ final_report script
 whole-report script =
-    sym (append_assoc (got_texts (delivered_of script script.config.ticks)) (refused_texts (refusals_among script (numbered 0 script.items)))
+    sym (append_assoc (got_texts (delivered_of script script.config.ticks))
+    (refused_texts (refusals_among script (numbered 0 script.items)))
     (total_text (totals_among script script.config.ticks script.config.ticks (numbered 0 script.items))))
 
 module _ {K : Type 0} (written : K → Option (List ℕ)) (faults : K → ℕ) (script : Script) where
@@ -47,22 +53,30 @@ module _ {K : Type 0} (written : K → Option (List ℕ)) (faults : K → ℕ) (
   got = got_texts (delivered_of script script.config.ticks)
 
   -- the got lines, and then the rest
-  pub run-all : (old middle new : K) → Appends written faults old middle (got_texts (delivered_of script script.config.ticks)) → Appends written faults middle new (end_text script)
+  pub run-all : (old middle new : K) →
+      Appends written faults old middle (got_texts (delivered_of script script.config.ticks)) →
+      Appends written faults middle new (end_text script)
       → Appends written faults old new (final_report script)
   run-all old middle new before then =
       let P : List ℕ → Type 0 = λ text. Appends written faults old new text in
       subst P (whole-report script) (Appends-then written faults old middle new got (end_text script) before then)
 
-  run-part : (old new : K) → AppendsPart written faults old new (got ++ end_text script) → AppendsPart written faults old new (final_report script)
-  run-part old new stops = let P : List ℕ → Type 0 = λ text. AppendsPart written faults old new text in subst P (whole-report script) stops
+  run-part : (old new : K) → AppendsPart written faults old new (got ++ end_text script) →
+      AppendsPart written faults old new (final_report script)
+  run-part old new stops = let P : List ℕ → Type 0 = λ text. AppendsPart written faults old new text in
+      subst P (whole-report script) stops
 
   -- a fault comes in the rest
-  pub run-got : (old middle new : K) → Appends written faults old middle (got_texts (delivered_of script script.config.ticks)) → AppendsPart written faults middle new (end_text script)
+  pub run-got : (old middle new : K) →
+      Appends written faults old middle (got_texts (delivered_of script script.config.ticks)) →
+      AppendsPart written faults middle new (end_text script)
       → AppendsPart written faults old new (final_report script)
-  run-got old middle new before stops = run-part old new (AppendsPart-then written faults old middle new got (end_text script) before stops)
+  run-got old middle new before stops =
+      run-part old new (AppendsPart-then written faults old middle new got (end_text script) before stops)
 
   -- a fault comes in the got lines
-  pub run-cut : (old new : K) → AppendsPart written faults old new (got_texts (delivered_of script script.config.ticks)) → AppendsPart written faults old new (final_report script)
+  pub run-cut : (old new : K) → AppendsPart written faults old new (got_texts (delivered_of script script.config.ticks))
+      → AppendsPart written faults old new (final_report script)
   run-cut old new stops = run-part old new (AppendsPart-longer written faults old new got (end_text script) stops)
 
 -- ---- the headline
@@ -76,12 +90,16 @@ module _ {S K E : Type 0} (source : Lent S) (out : Lent K) (notes : Lent E) (sta
 
   told-by : (answer : Script → Answer) → HasReport answer → (text : List ℕ) (of : Result Script ScriptFault) → script_of text ≡ of → length text ≤ 67108864
       → WritesAll out notes (answer_of answer of) → IsHead text
-  told-by answer has text (Ok script) is few all = (final_report script, has script all, run_headline text script few is)
+  told-by answer has text (Ok script) is few all =
+      (final_report script, has script all, run_headline text script few is)
   told-by answer has text (Err fault) is few all = absurd all
 
-  pub tells-headline : (answer : Script → Answer) → HasReport answer → Ends source out notes (reads (script_answer answer)) status → status ≡ 0
+  pub tells-headline : (answer : Script → Answer) → HasReport answer →
+      Ends source out notes (reads (script_answer answer)) status → status ≡ 0
       → IfSome (source.octets source.old) IsHead
   tells-headline answer has ends at =
       let it = is-done source out notes (reads (script_answer answer)) status ends at in
       let text = it.meets.0 in
-      known-text source IsHead text it.meets.1 (told-by answer has text (script_of text) refl it.meets.1.fits (subst (WritesAll out notes) (sym it.meets.2) it.written))
+      known-text source IsHead text it.meets.1
+      (told-by answer has text (script_of text) refl it.meets.1.fits
+      (subst (WritesAll out notes) (sym it.meets.2) it.written))

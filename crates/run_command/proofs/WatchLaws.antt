@@ -1,5 +1,6 @@
 -- The alarms of a session as text, and what is written of it where a write fails.
-use Rattle.std.proofs.Common.{◌≡◌, ℕ, zero, suc, ◌+◌, ◌<◌, List, [], ◌++◌, Option, refl, sym, ◌∙◌, ap, ap₂, subst, arith}
+use Rattle.std.proofs.Common.{◌≡◌, ℕ, zero, suc, ◌+◌, ◌<◌, List, [], ◌++◌, Option, refl, sym, ◌∙◌, ap, ap₂, subst}
+use Rattle.std.proofs.Common.{arith}
 use Rattle.std.specs.List.{flat_map, range_with_len}
 use Rattle.std.proofs.lemmas.List.{append-nil}
 use Rattle.outside_io.specs.Transfer.{Appends}
@@ -14,7 +15,8 @@ use Rattle.alarm_text.proofs.TextLaws.{texts_more}
 use Rattle.walk_law.specs.Rings.{line_cells}
 use Rattle.run_command.specs.Watch.{alarms_text}
 
-texts-same : (f g : ℕ → List ℕ) (n : ℕ) → ((m : ℕ) → m < n → f m ≡ g m) → flat_map f (range_with_len 0 n) ≡ flat_map g (range_with_len 0 n)
+texts-same : (f g : ℕ → List ℕ) (n : ℕ) → ((m : ℕ) → m < n → f m ≡ g m) →
+    flat_map f (range_with_len 0 n) ≡ flat_map g (range_with_len 0 n)
 texts-same f g zero same = refl
 texts-same f g (suc n) same =
     let more : n + 1 ≡ suc n = omega arith in
@@ -22,15 +24,25 @@ texts-same f g (suc n) same =
     subst (λ k. flat_map f (range_with_len 0 k) ≡ flat_map g (range_with_len 0 k)) more
     (texts_more f n ∙ ap₂ (λ a b. a ++ b) rest (same n (omega arith)) ∙ sym (texts_more g n))
 
-pub told-text : (script : Script) (list : List Alarm) → ((m : ℕ) → m < script.config.lines → of_line m list ≡ alarms_of_line m (line_cells script m)) →
+pub told-text : (script : Script) (list : List Alarm) →
+    ((m : ℕ) → m < script.config.lines → of_line m list ≡ alarms_of_line m (line_cells script m)) →
     lines_text script.config.lines list ≡ alarms_text script
 told-text script list same =
-    texts-same (λ m. alarm_texts (of_line m list)) (λ m. alarm_texts (alarms_of_line m (line_cells script m))) script.config.lines (λ m low. ap alarm_texts (same m low))
+    texts-same (λ m. alarm_texts (of_line m list)) (λ m. alarm_texts (alarms_of_line m (line_cells script m)))
+    script.config.lines (λ m low. ap alarm_texts (same m low))
 
 module _ {K : Type 0} (written : K → Option (List ℕ)) (faults : K → ℕ) where
   -- nothing of a text is a prefix of it, and so is all of it
   pub some-none : (k : K) (text : List ℕ) → AppendsSome written faults k k text
-  some-none k text = let none = Appends-none written faults k in record { part = []; rest = text; prefix = refl; appended = none.appended; quiet = none.quiet }
+  some-none k text = let none = Appends-none written faults k in
+      record { part = []; rest = text; prefix = refl; appended = none.appended; quiet = none.quiet }
 
-  pub some-all : (old new : K) (text : List ℕ) → Appends written faults old new text → AppendsSome written faults old new text
-  some-all old new text all = record { part = text; rest = []; prefix = append-nil text; appended = all.appended; quiet = all.quiet }
+  pub some-all : (old new : K) (text : List ℕ) → Appends written faults old new text →
+      AppendsSome written faults old new text
+  some-all old new text all = record {
+    part = text;
+    rest = [];
+    prefix = append-nil text;
+    appended = all.appended;
+    quiet = all.quiet;
+  }

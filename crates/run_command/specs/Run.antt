@@ -1,5 +1,6 @@
 -- `run`: a script's session, and its report.
-use Rattle.std.specs.Prelude.{ℕ, ◌==◌, ◌&&◌, List, [], length, bytes_eq, slice_index_or, codes, Option, Some, None, if◌then◌else◌}
+use Rattle.std.specs.Prelude.{ℕ, ◌==◌, ◌&&◌, List, [], length, bytes_eq, slice_index_or, codes, Option, Some, None}
+use Rattle.std.specs.Prelude.{if◌then◌else◌}
 use Rattle.walk_law.specs.Report.{final_report}
 use Rattle.cmd_words.specs.Words.{number_in}
 use Rattle.command_parts.specs.Task.{Answer, writes}
@@ -14,7 +15,8 @@ run_of None = None
 
 abbrev pub run_words : List (List ℕ) → Option RunCommand
 run_words words =
-    if length words == 2 && bytes_eq (slice_index_or words 0 []) (codes "run") then run_of (number_in 1 64 (slice_index_or words 1 [])) else None
+    if length words == 2 && bytes_eq (slice_index_or words 0 []) (codes "run") then run_of
+    (number_in 1 64 (slice_index_or words 1 [])) else None
 
 abbrev pub run_answer : List ℕ → Answer
 run_answer = script_answer (λ script. writes (final_report script))

@@ -1,5 +1,6 @@
 -- `watch`: a script's session as `run` writes it, and the alarms of its lines.
-use Rattle.std.specs.Prelude.{ℕ, ◌==◌, ◌&&◌, List, [], length, bytes_eq, slice_index_or, codes, Option, Some, None, if◌then◌else◌}
+use Rattle.std.specs.Prelude.{ℕ, ◌==◌, ◌&&◌, List, [], length, bytes_eq, slice_index_or, codes, Option, Some, None}
+use Rattle.std.specs.Prelude.{if◌then◌else◌}
 use Rattle.std.specs.List.{flat_map, range_with_len}
 use Rattle.session_model.specs.declared.script.Script.{Script}
 use Rattle.member_ring.specs.Alarms.{alarms_of_line}
@@ -19,11 +20,13 @@ watch_of None = None
 
 abbrev pub watch_words : List (List ℕ) → Option RunCommand
 watch_words words =
-    if length words == 2 && bytes_eq (slice_index_or words 0 []) (codes "watch") then watch_of (number_in 1 64 (slice_index_or words 1 [])) else None
+    if length words == 2 && bytes_eq (slice_index_or words 0 []) (codes "watch") then watch_of
+    (number_in 1 64 (slice_index_or words 1 [])) else None
 
 -- the alarms of each line over all cells of its path, line by line from 0 and by place
 abbrev pub alarms_text : Script → List ℕ
-alarms_text script = flat_map (λ m. alarm_texts (alarms_of_line m (line_cells script m))) (range_with_len 0 script.config.lines)
+alarms_text script = flat_map (λ m. alarm_texts (alarms_of_line m (line_cells script m)))
+    (range_with_len 0 script.config.lines)
 
 abbrev pub watch_answer : List ℕ → Answer
 watch_answer = script_answer (λ script. writes_both (final_report script) (alarms_text script))

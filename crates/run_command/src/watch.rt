@@ -57,8 +57,8 @@ fn tell_alarms<E: ByteSink>(lines: u8, list: &AlarmList, notes: &mut E) -> Resul
     end
 }
 
-/// Reads a script, runs its session with so many threads for its lines, and writes what comes of it, and the alarms of its lines. A
-/// write that fails, on `out` or on `notes`, is the last one but for the note on it.
+/// Reads a script, runs its session with so many threads for its lines, and writes what comes of it, and the
+/// alarms of its lines. A write that fails, on `out` or on `notes`, is the last one but for the note on it.
 pub fn watch<R: Threads + Wait + Sync, S: ByteSource, K: ByteSink, E: ByteSink, G: Gate>(
     rt: &R,
     alloc: Global,

@@ -1,5 +1,6 @@
 -- One line more is opened.
-use Rattle.std.proofs.Common.{◌≡◌, ◌⊎◌, inl, inr, ℕ, zero, suc, ◌+◌, ◌<◌, List, [], ◌∷◌, ◌++◌, length, get_or, slice_get, slice_index_or, Some, None, refl, sym, ◌∙◌, ap, subst, arith, length-append}
+use Rattle.std.proofs.Common.{◌≡◌, ◌⊎◌, inl, inr, ℕ, zero, suc, ◌+◌, ◌<◌, List, [], ◌∷◌, ◌++◌, length, get_or}
+use Rattle.std.proofs.Common.{slice_get, slice_index_or, Some, None, refl, sym, ◌∙◌, ap, subst, arith, length-append}
 use Rattle.vc_cell.specs.declared.Container.{Container}
 use Rattle.vc_cell.specs.declared.Cell.{Cell}
 use Rattle.session_model.specs.declared.window.Window.{Window}
@@ -12,7 +13,8 @@ use Rattle.member_ring.specs.Calls.{IsOpened}
 use Rattle.member_ring.specs.declared.worker.LineWorker.{LineWorker}
 use Rattle.session_parts.specs.Opened.{IsLineOf, AreOpened}
 
-pub get-last : {X : Type 0} (xs : List X) (x : X) (m : ℕ) (y : X) → slice_get (xs ++ x ∷ []) m ≡ Some y → (slice_get xs m ≡ Some y) ⊎ ((m ≡ length xs) × (y ≡ x))
+pub get-last : {X : Type 0} (xs : List X) (x : X) (m : ℕ) (y : X) → slice_get (xs ++ x ∷ []) m ≡ Some y →
+    (slice_get xs m ≡ Some y) ⊎ ((m ≡ length xs) × (y ≡ x))
 get-last [] x zero y e = inr (refl, let h : y ≡ x = cc in h)
 get-last [] x (suc m) y e = absurd cc
 get-last (z ∷ xs) x zero y e = inl e
@@ -27,14 +29,17 @@ beyond (x ∷ xs) zero n y there at size = omega (arith, at, size)
 beyond (x ∷ xs) (suc m) zero y there at size = omega (arith, at)
 beyond (x ∷ xs) (suc m) (suc n) y there at size = beyond xs m n y there (omega (arith, at)) (omega (arith, size))
 
-pub index-is : {X : Type 0} (xs : List X) (m : ℕ) (x d : X) → m < length xs → x ≡ get_or xs m x → x ≡ slice_index_or xs m d
+pub index-is : {X : Type 0} (xs : List X) (m : ℕ) (x d : X) → m < length xs → x ≡ get_or xs m x →
+    x ≡ slice_index_or xs m d
 index-is [] m x d within is = absurd (omega arith)
 index-is (y ∷ xs) zero x d within is = is
 index-is (y ∷ xs) (suc m) x d within is = index-is xs m x d (omega arith) is
 
-pub opened-own : (line : Line) (delay total : ℕ) (windows : List Window) → Stands line (opened delay windows total) → IsOpened line
+pub opened-own : (line : Line) (delay total : ℕ) (windows : List Window) → Stands line (opened delay windows total) →
+    IsOpened line
 opened-own line delay total windows stands =
-    let same : opened line.delay line.windows line.total ≡ opened delay windows total = rw (stands.delay, stands.windows, stands.total) refl in
+    let same : opened line.delay line.windows line.total ≡ opened delay windows total =
+    rw (stands.delay, stands.windows, stands.total) refl in
     subst (Stands line) (sym same) stands
 
 pub none-opened : (config : Config) → AreOpened config 0 [] [] []
@@ -50,8 +55,10 @@ none-opened config = record {
   receives = λ m worker into there. absurd cc;
 }
 
-pub opened-more : (config : Config) (n : ℕ) (tx : List (RingOut Container)) (workers : List LineWorker) (rx : List (RingIn Cell))
-    (out : RingOut Container) (worker : LineWorker) (into : RingIn Cell) → AreOpened config n tx workers rx → out_passed out ≡ [] → in_passed into ≡ [] → out_passed worker.producer ≡ [] →
+pub opened-more : (config : Config) (n : ℕ) (tx : List (RingOut Container)) (workers : List LineWorker)
+    (rx : List (RingIn Cell))
+    (out : RingOut Container) (worker : LineWorker) (into : RingIn Cell) → AreOpened config n tx workers rx →
+    out_passed out ≡ [] → in_passed into ≡ [] → out_passed worker.producer ≡ [] →
     IsLineOf config n worker → AreEnds out worker.consumer → AreEnds worker.producer into →
     AreOpened config (n + 1) (tx ++ out ∷ []) (workers ++ worker ∷ []) (rx ++ into ∷ [])
 opened-more config n tx workers rx out worker into are unused fresh quiet line send receive = record {
@@ -72,7 +79,8 @@ opened-more config n tx workers rx out worker into are unused fresh quiet line s
   ];
   lines = λ m one there. elim (get-last workers worker m one there) [
     | inl before ↦ are.lines m one before
-    | inr (at, is) ↦ subst (λ (k : ℕ). IsLineOf config k one) (sym (at ∙ are.workers_count)) (subst (IsLineOf config n) (sym is) line)
+    | inr (at, is) ↦ subst (λ (k : ℕ). IsLineOf config k one) (sym (at ∙ are.workers_count))
+        (subst (IsLineOf config n) (sym is) line)
   ];
   sends = λ m one other there here. elim (get-last tx out m one there) [
     | inl before ↦ elim (get-last workers worker m other here) [
@@ -81,7 +89,8 @@ opened-more config n tx workers rx out worker into are unused fresh quiet line s
     ]
     | inr (at, is) ↦ elim (get-last workers worker m other here) [
       | inl before' ↦ absurd (beyond workers m n other before' (at ∙ are.tx_count) are.workers_count)
-      | inr (at', is') ↦ subst (λ (a : RingOut Container). AreEnds a other.consumer) (sym is) (subst (λ (b : LineWorker). AreEnds out b.consumer) (sym is') send)
+      | inr (at', is') ↦ subst (λ (a : RingOut Container). AreEnds a other.consumer) (sym is)
+          (subst (λ (b : LineWorker). AreEnds out b.consumer) (sym is') send)
     ]
   ];
   receives = λ m one other there here. elim (get-last workers worker m one there) [
@@ -91,7 +100,8 @@ opened-more config n tx workers rx out worker into are unused fresh quiet line s
     ]
     | inr (at, is) ↦ elim (get-last rx into m other here) [
       | inl before' ↦ absurd (beyond rx m n other before' (at ∙ are.workers_count) are.rx_count)
-      | inr (at', is') ↦ subst (λ (a : LineWorker). AreEnds a.producer other) (sym is) (subst (λ (b : RingIn Cell). AreEnds worker.producer b) (sym is') receive)
+      | inr (at', is') ↦ subst (λ (a : LineWorker). AreEnds a.producer other) (sym is)
+          (subst (λ (b : RingIn Cell). AreEnds worker.producer b) (sym is') receive)
     ]
   ];
 }

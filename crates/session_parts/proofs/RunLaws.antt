@@ -19,19 +19,31 @@ module _ {K : Type 0} (written : K → Option (List ℕ)) (faults : K → ℕ) w
   abbrev seen_of : K → Seen
   seen_of k = seen (written k) (faults k)
 
-  told-then : (failed next : Bool) (first : Seen) (old new : K) (text more : List ℕ) → Told failed first (seen_of old) text → Writes written faults failed next old new more →
+  told-then : (failed next : Bool) (first : Seen) (old new : K) (text more : List ℕ) →
+      Told failed first (seen_of old) text → Writes written faults failed next old new more →
       Told next first (seen_of new) (text ++ more)
   told-then false false first old new text more told writes =
-      Appends-then known_of faults_of first (seen_of old) (seen_of new) text more told (record { appended = writes.appended; quiet = writes.quiet })
+      Appends-then known_of faults_of first (seen_of old) (seen_of new) text more told
+      (record { appended = writes.appended; quiet = writes.quiet })
   told-then false true first old new text more told writes =
       AppendsPart-then known_of faults_of first (seen_of old) (seen_of new) text more told
-      (record { part = writes.part; rest = writes.rest; prefix = writes.prefix; cut = writes.cut; appended = writes.appended; counted = writes.counted })
+      (record {
+        part = writes.part;
+        rest = writes.rest;
+        prefix = writes.prefix;
+        cut = writes.cut;
+        appended =
+            writes.appended;
+        counted = writes.counted;
+      })
   told-then true next first old new text more told writes =
       subst (λ (failed : Bool). Told failed first (seen_of new) (text ++ more)) (sym writes.0)
-      (subst (λ (k : K). AppendsPart known_of faults_of first (seen_of k) (text ++ more)) (sym writes.1) (AppendsPart-longer known_of faults_of first (seen_of old) text more told))
+      (subst (λ (k : K). AppendsPart known_of faults_of first (seen_of k) (text ++ more)) (sym writes.1)
+      (AppendsPart-longer known_of faults_of first (seen_of old) text more told))
 
   pub run-then : (begun : Begun) (a b : SinkWorker) (old new : K) → Stands b → IsLater a b →
-      Writes written faults (has_failed a) (has_failed b) old new (got_texts (added_frames (size_of b) (cells_of b) (taken_of a) (taken_of b))) →
+      Writes written faults (has_failed a) (has_failed b) old new
+      (got_texts (added_frames (size_of b) (cells_of b) (taken_of a) (taken_of b))) →
       HasRun begun a (seen_of old) → HasRun begun b (seen_of new)
   run-then begun a b old new stands later writes run =
       let before = given_frames (size_of a) (cells_of a) (taken_of a) in
@@ -40,18 +52,31 @@ module _ {K : Type 0} (written : K → Option (List ℕ)) (faults : K → ℕ) w
         stands = stands;
         later = (later.0 ∙ run.later.0, later-then (parts_of begun.sink) (parts_of a) (parts_of b) run.later.1 later.1);
         told = subst (Told (has_failed b) begun.first (seen_of new))
-            (sym (ap got_texts (given-then (parts_of a) (parts_of b) run.stands.keeps later.1) ∙ flat_map-append got_text before more))
-            (told-then (has_failed a) (has_failed b) begun.first old new (got_texts before) (got_texts more) run.told writes);
+            (sym (ap got_texts (given-then (parts_of a) (parts_of b) run.stands.keeps later.1)
+            ∙ flat_map-append got_text before more))
+            (told-then (has_failed a) (has_failed b) begun.first old new (got_texts before)
+            (got_texts more) run.told writes);
       }
 
   -- what a session has written, by what was there when it began
-  pub run-writes : (first now : K) (begun : Begun) (sink : SinkWorker) → begun.first ≡ seen_of first → HasRun begun sink (seen_of now) →
-      Writes written faults false (has_failed sink) first now (got_texts (given_frames (size_of sink) (cells_of sink) (taken_of sink)))
+  pub run-writes : (first now : K) (begun : Begun) (sink : SinkWorker) → begun.first ≡ seen_of first →
+      HasRun begun sink (seen_of now) →
+      Writes written faults false (has_failed sink) first now
+      (got_texts (given_frames (size_of sink) (cells_of sink) (taken_of sink)))
   run-writes first now begun sink is run =
       told-writes (has_failed sink) (got_texts (given_frames (size_of sink) (cells_of sink) (taken_of sink)))
-      (subst (λ (s : Seen). Told (has_failed sink) s (seen_of now) (got_texts (given_frames (size_of sink) (cells_of sink) (taken_of sink)))) is run.told)
+      (subst (λ (s : Seen). Told (has_failed sink) s (seen_of now)
+      (got_texts (given_frames (size_of sink) (cells_of sink) (taken_of sink)))) is run.told)
     where
-      told-writes : (failed : Bool) (text : List ℕ) → Told failed (seen_of first) (seen_of now) text → Writes written faults false failed first now text
+      told-writes : (failed : Bool) (text : List ℕ) → Told failed (seen_of first) (seen_of now) text →
+          Writes written faults false failed first now text
       told-writes false text told = record { appended = told.appended; quiet = told.quiet }
       told-writes true text told =
-          record { part = told.part; rest = told.rest; prefix = told.prefix; cut = told.cut; appended = told.appended; counted = told.counted }
+          record {
+            part = told.part;
+            rest = told.rest;
+            prefix = told.prefix;
+            cut = told.cut;
+            appended = told.appended;
+            counted = told.counted;
+          }

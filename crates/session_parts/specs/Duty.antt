@@ -9,7 +9,8 @@ use Rattle.alarm_log.specs.declared.log.AlarmLog.{AlarmLog}
 use Rattle.alarm_log.specs.Logs.{SameLog}
 use Rattle.sink_worker.specs.Worker.{Stands, IsLater, cells_of, size_of, taken_of, has_failed}
 
--- how a session began: what the sink had written and how many writes had failed; the name of the reference by which is written; its worker;
+-- how a session began: what the sink had written and how many writes had failed; the name of the reference by which is
+-- written; its worker;
 -- and its log, where lines are watched
 pub record Begun : Type 0 where
   pub first : Seen
@@ -17,11 +18,13 @@ pub record Begun : Type 0 where
   pub sink : SinkWorker
   pub log : Option AlarmLog
 
--- the worker is later, and has written since then the lines of all frames that its rows give, or a prefix of them up to a write that failed
+-- the worker is later, and has written since then the lines of all frames that its rows give, or a prefix of them up to
+-- a write that failed
 pub record HasRun (begun : Begun) (sink : SinkWorker) (now : Seen) : Type 0 where
   pub stands : Stands sink
   pub later : IsLater begun.sink sink
-  pub told : Writes known_of faults_of false (has_failed sink) begun.first now (got_texts (given_frames (size_of sink) (cells_of sink) (taken_of sink)))
+  pub told : Writes known_of faults_of false (has_failed sink) begun.first now
+      (got_texts (given_frames (size_of sink) (cells_of sink) (taken_of sink)))
 
 -- the same log later, or none as before
 abbrev pub IsLogLater : Option AlarmLog → Option AlarmLog → Type 0

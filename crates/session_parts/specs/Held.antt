@@ -25,4 +25,5 @@ IsToldBy flag (Here own) = Unit {0}
 
 -- each at the flag of its own place
 abbrev pub AreToldBy : List Flag → List Held → Type 0
-AreToldBy flags held = (w : ℕ) (flag : Flag) (one : Held) → slice_get flags w ≡ Some flag → slice_get held w ≡ Some one → IsToldBy (flag_of flag) one
+AreToldBy flags held = (w : ℕ) (flag : Flag) (one : Held) → slice_get flags w ≡ Some flag →
+    slice_get held w ≡ Some one → IsToldBy (flag_of flag) one

@@ -12,24 +12,30 @@ use Rattle.watched_line.specs.Served.{worker_of}
 
 -- each worker has pushed the end
 abbrev pub AreDone : List LineWorker → Type 0
-AreDone workers = (m : ℕ) (worker : LineWorker) → slice_get workers m ≡ Some worker → Contains (out_passed worker.producer) End
+AreDone workers = (m : ℕ) (worker : LineWorker) → slice_get workers m ≡ Some worker →
+    Contains (out_passed worker.producer) End
 
 -- so it is with each line that is served
 abbrev pub AreServedDone : List ServedLine → Type 0
-AreServedDone lines = (m : ℕ) (line : ServedLine) → slice_get lines m ≡ Some line → Contains (out_passed (worker_of line).producer) End
+AreServedDone lines = (m : ℕ) (line : ServedLine) → slice_get lines m ≡ Some line →
+    Contains (out_passed (worker_of line).producer) End
 
 -- ---- ends of the same rings, by line
 abbrev pub AreSendEnds : List (RingOut Container) → List LineWorker → Type 0
 AreSendEnds tx workers =
-    (m : ℕ) (out : RingOut Container) (worker : LineWorker) → slice_get tx m ≡ Some out → slice_get workers m ≡ Some worker → AreEnds out worker.consumer
+    (m : ℕ) (out : RingOut Container) (worker : LineWorker) → slice_get tx m ≡ Some out →
+    slice_get workers m ≡ Some worker → AreEnds out worker.consumer
 
 abbrev pub AreReceiveEnds : List LineWorker → List (RingIn Cell) → Type 0
 AreReceiveEnds workers rx =
-    (m : ℕ) (worker : LineWorker) (into : RingIn Cell) → slice_get workers m ≡ Some worker → slice_get rx m ≡ Some into → AreEnds worker.producer into
+    (m : ℕ) (worker : LineWorker) (into : RingIn Cell) → slice_get workers m ≡ Some worker →
+    slice_get rx m ≡ Some into → AreEnds worker.producer into
 
--- ---- a look at two ends that lie beside each other: they are ends of one ring, what has passed stays, and what was pushed is what was
+-- ---- a look at two ends that lie beside each other: they are ends of one ring, what has passed stays, and what was
+-- pushed is what was
 -- popped and what is still there
-pub record IsSendLaid (out : RingOut Container) (worker : LineWorker) (out' : RingOut Container) (worker' : LineWorker) : Type 0 where
+pub record IsSendLaid (out : RingOut Container) (worker : LineWorker) (out' : RingOut Container)
+    (worker' : LineWorker) : Type 0 where
   pub ends : AreEnds out' worker'.consumer
   pub fifo : in_passed worker'.consumer ++ in_items worker'.consumer ≡ out_passed out'
   pub pushed : out_passed out' ≡ out_passed out
@@ -39,7 +45,8 @@ pub record IsSendLaid (out : RingOut Container) (worker : LineWorker) (out' : Ri
   pub core : worker'.core ≡ worker.core
   pub producer : worker'.producer ≡ worker.producer
 
-pub record IsReceiveLaid (worker : LineWorker) (into : RingIn Cell) (worker' : LineWorker) (into' : RingIn Cell) : Type 0 where
+pub record IsReceiveLaid (worker : LineWorker) (into : RingIn Cell) (worker' : LineWorker)
+    (into' : RingIn Cell) : Type 0 where
   pub ends : AreEnds worker'.producer into'
   pub fifo : in_passed into' ++ in_items into' ≡ out_passed worker'.producer
   pub pushed : out_passed worker'.producer ≡ out_passed worker.producer
@@ -50,7 +57,8 @@ pub record IsReceiveLaid (worker : LineWorker) (into : RingIn Cell) (worker' : L
   pub consumer : worker'.consumer ≡ worker.consumer
 
 -- so it is with each pair of the first ones of two lists, and the others are as they were
-pub record PairsBelow {A B : Type 0} (R : A → B → A → B → Type 0) (n : ℕ) (as_ : List A) (bs : List B) (as' : List A) (bs' : List B) : Type 0 where
+pub record PairsBelow {A B : Type 0} (R : A → B → A → B → Type 0) (n : ℕ) (as_ : List A) (bs : List B) (as' : List A)
+    (bs' : List B) : Type 0 where
   pub first_count : length as' ≡ length as_
   pub second_count : length bs' ≡ length bs
   pub each : (m : ℕ) (a : A) (b : B) (a' : A) (b' : B) → m < n → slice_get as_ m ≡ Some a → slice_get bs m ≡ Some b →
@@ -59,7 +67,8 @@ pub record PairsBelow {A B : Type 0} (R : A → B → A → B → Type 0) (n : �
   pub second_rest : (m : ℕ) → n ≤ m → slice_get bs' m ≡ slice_get bs m
 
 -- and with all
-abbrev pub AreSendsLaid : List (RingOut Container) → List LineWorker → List (RingOut Container) → List LineWorker → Type 0
+abbrev pub AreSendsLaid : List (RingOut Container) → List LineWorker → List (RingOut Container) → List LineWorker →
+    Type 0
 AreSendsLaid tx workers tx' workers' = PairsBelow IsSendLaid (length workers) tx workers tx' workers'
 
 abbrev pub AreReceivesLaid : List LineWorker → List (RingIn Cell) → List LineWorker → List (RingIn Cell) → Type 0

@@ -22,11 +22,13 @@ share_of shares w workers = filter (λ (worker : ServedLine). line_of worker % s
 
 -- each share has its workers
 abbrev pub AreDealt : List ServedLine → ℕ → List (Vec ServedLine) → Type 0
-AreDealt workers shares dealt = (w : ℕ) (share : Vec ServedLine) → slice_get dealt w ≡ Some share → share.items ≡ share_of shares w workers
+AreDealt workers shares dealt = (w : ℕ) (share : Vec ServedLine) → slice_get dealt w ≡ Some share →
+    share.items ≡ share_of shares w workers
 
 -- each share has its workers, later
 abbrev pub AreBack : List ServedLine → ℕ → List (Vec ServedLine) → Type 0
-AreBack workers shares back = (w : ℕ) (share : Vec ServedLine) → slice_get back w ≡ Some share → AreServedLater (share_of shares w workers) share.items
+AreBack workers shares back = (w : ℕ) (share : Vec ServedLine) → slice_get back w ≡ Some share →
+    AreServedLater (share_of shares w workers) share.items
 
 -- shares beside each other, of which each of the second has the workers of the first, later
 abbrev pub SharesLater : List (Vec ServedLine) → List (Vec ServedLine) → Type 0
@@ -34,4 +36,5 @@ SharesLater old new = AllZip (λ (a b : Vec ServedLine). AreServedLater a.items 
 
 -- shares that are empty, each with room for so many workers
 abbrev pub HaveRoom : ℕ → List (Vec ServedLine) → Type 0
-HaveRoom most shares = (w : ℕ) (share : Vec ServedLine) → slice_get shares w ≡ Some share → (share.items ≡ []) × (most ≤ vec_capacity share)
+HaveRoom most shares = (w : ℕ) (share : Vec ServedLine) → slice_get shares w ≡ Some share → (share.items ≡ []) ×
+    (most ≤ vec_capacity share)

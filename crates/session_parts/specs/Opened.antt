@@ -18,7 +18,8 @@ pub record IsLineOf (config : Config) (m : ℕ) (worker : LineWorker) : Type 0 w
   pub total : total_of worker ≡ config.ticks
 
 -- the workers of the first lines, between a send ring and a receive ring each, through which nothing has passed
-pub record AreOpened (config : Config) (n : ℕ) (tx : List (RingOut Container)) (workers : List LineWorker) (rx : List (RingIn Cell)) : Type 0 where
+pub record AreOpened (config : Config) (n : ℕ) (tx : List (RingOut Container)) (workers : List LineWorker)
+    (rx : List (RingIn Cell)) : Type 0 where
   pub tx_count : length tx ≡ n
   pub workers_count : length workers ≡ n
   pub rx_count : length rx ≡ n

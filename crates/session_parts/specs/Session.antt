@@ -23,23 +23,29 @@ use Rattle.sink_worker.specs.Worker.{cells_of, taken_of, got_of}
 use Rattle.session_parts.specs.Laid.{AreDone, AreSendEnds, AreReceiveEnds}
 use Rattle.session_parts.specs.Opened.{IsLineOf}
 
--- ---- what the ends of all rings say once they were laid beside each other, where the source was told these return cells
-pub record IsGathered (script : Script) (returns : List (Option Told)) (tx : List (RingOut Container)) (workers : List LineWorker) (rx : List (RingIn Cell)) : Type 0 where
+-- ---- what the ends of all rings say once they were laid beside each other, where the source was told these return
+-- cells
+pub record IsGathered (script : Script) (returns : List (Option Told)) (tx : List (RingOut Container))
+    (workers : List LineWorker) (rx : List (RingIn Cell)) : Type 0 where
   pub tx_count : length tx ≡ script.config.lines
   pub workers_count : length workers ≡ script.config.lines
   pub rx_count : length rx ≡ script.config.lines
-  pub sent : (m : ℕ) (out : RingOut Container) → slice_get tx m ≡ Some out → out_passed out ≡ containers_of (scenario_of script) returns m script.config.ticks
+  pub sent : (m : ℕ) (out : RingOut Container) → slice_get tx m ≡ Some out →
+      out_passed out ≡ containers_of (scenario_of script) returns m script.config.ticks
   pub lines : (m : ℕ) (worker : LineWorker) → slice_get workers m ≡ Some worker → IsLineOf script.config m worker
   pub done : AreDone workers
-  pub sends : (m : ℕ) (out : RingOut Container) (worker : LineWorker) → slice_get tx m ≡ Some out → slice_get workers m ≡ Some worker →
+  pub sends : (m : ℕ) (out : RingOut Container) (worker : LineWorker) → slice_get tx m ≡ Some out →
+      slice_get workers m ≡ Some worker →
       in_passed worker.consumer ++ in_items worker.consumer ≡ out_passed out
-  pub receives : (m : ℕ) (worker : LineWorker) (into : RingIn Cell) → slice_get workers m ≡ Some worker → slice_get rx m ≡ Some into →
+  pub receives : (m : ℕ) (worker : LineWorker) (into : RingIn Cell) → slice_get workers m ≡ Some worker →
+      slice_get rx m ≡ Some into →
       in_passed into ++ in_items into ≡ out_passed worker.producer
 
 -- ---- the session of a script has ended
 -- the return cells that its sink sends
 abbrev pub session_backs : Script → List BackCell
-session_backs script = map (λ k. Nibbles (packet_nibbles (said_packet script k))) (range_with_len 0 (packets_in script.config.ticks))
+session_backs script = map (λ k. Nibbles (packet_nibbles (said_packet script k)))
+    (range_with_len 0 (packets_in script.config.ticks))
 
 -- the worker of line m received all containers of the session on that line, and sent all cells of its path
 pub record IsLineEnded (script : Script) (m : ℕ) (worker : LineWorker) : Type 0 where
@@ -47,16 +53,21 @@ pub record IsLineEnded (script : Script) (m : ℕ) (worker : LineWorker) : Type 
   pub received : in_passed worker.consumer ≡ sent_on (scenario_of script) m
   pub sent : out_passed worker.producer ≡ line_cells script m
 
--- the two ends of each ring are here; the send rings passed the containers of the session; so did the workers of the lines, in their order; what the sink received decides all
--- rows, and what it didn't take of the cells is still there; it sent the session's return cells, and took all rows and their frames
-pub record IsEnded (script : Script) (tx : List (RingOut Container)) (back : RingIn BackCell) (workers : List LineWorker) (sink : SinkWorker) : Type 0 where
+-- the two ends of each ring are here; the send rings passed the containers of the session; so did the workers of the
+-- lines, in their order; what the sink received decides all
+-- rows, and what it didn't take of the cells is still there; it sent the session's return cells, and took all rows and
+-- their frames
+pub record IsEnded (script : Script) (tx : List (RingOut Container)) (back : RingIn BackCell)
+    (workers : List LineWorker) (sink : SinkWorker) : Type 0 where
   pub count : length workers ≡ script.config.lines
   pub send_ends : AreSendEnds tx workers
   pub receive_ends : AreReceiveEnds workers sink.rx.items
   pub return_ends : AreEnds sink.back back
-  pub sends : (m : ℕ) (out : RingOut Container) → slice_get tx m ≡ Some out → out_passed out ≡ sent_on (scenario_of script) m
+  pub sends : (m : ℕ) (out : RingOut Container) → slice_get tx m ≡ Some out →
+      out_passed out ≡ sent_on (scenario_of script) m
   pub lines : (m : ℕ) (worker : LineWorker) → slice_get workers m ≡ Some worker → IsLineEnded script m worker
-  pub cells : (m : ℕ) (into : RingIn Cell) → slice_get sink.rx.items m ≡ Some into → in_passed into ++ in_items into ≡ line_cells script m
+  pub cells : (m : ℕ) (into : RingIn Cell) → slice_get sink.rx.items m ≡ Some into →
+      in_passed into ++ in_items into ≡ line_cells script m
   pub decided : (t : ℕ) → t < script.config.ticks → AreDecidedAt (cells_of sink) t
   pub backs : out_passed sink.back ≡ session_backs script
   pub returns : in_passed back ++ in_items back ≡ session_backs script

@@ -1,5 +1,5 @@
-//! Bells: a thread that can't go on looks some times whether it was rung for, and then sleeps until it is. They carry no fact: what a
-//! thread may rely on is said by flags alone.
+//! Bells: a thread that can't go on looks some times whether it was rung for, and then sleeps until it is.
+//! They carry no fact: what a thread may rely on is said by flags alone.
 
 use std::hint;
 use std::sync::Wait;
@@ -21,9 +21,10 @@ const LOOKS: u32 = 100;
 /// The longest sleep, in milliseconds. A ring ends it sooner; it is there so that a ring that is lost costs no more.
 const SLEEP: u64 = 1;
 
-/// The bell of a thread, its owner. Whoever did something that may let the owner go on rings. The owner takes note of all rings, then
-/// looks whether it can go on, and only then waits: what came after the note is rung, and so the wait ends. Those behind the owner, which
-/// take what it makes, are heard only while it waits for them.
+/// The bell of a thread, its owner. Whoever did something that may let the owner go on rings. The owner takes
+/// note of all rings, then looks whether it can go on, and only then waits: what came after the note is rung,
+/// and so the wait ends. Those behind the owner, which take what it makes, are heard only while it waits for
+/// them.
 #[derive(Drop)]
 pub struct Bell {
     behind: AtomicBool,
@@ -70,8 +71,8 @@ impl Bell {
         self.sleep(rt);
     }
 
-    /// Waits as `wait` does, also for those behind the owner. Where they weren't heard at its last look it returns at once, so that the
-    /// owner looks again.
+    /// Waits as `wait` does, also for those behind the owner. Where they weren't heard at its last look it
+    /// returns at once, so that the owner looks again.
     pub fn wait_for_behind<R: Wait>(&self, rt: &R) {
         if self.behind.load(Ordering::SeqCst) {
             self.sleep(rt);

@@ -1,5 +1,5 @@
-//! What the calling thread does while others run: a duty of its own. It owns what it writes to for that time, so that what was written is
-//! known once the duty comes back.
+//! What the calling thread does while others run: a duty of its own. It owns what it writes to for that time,
+//! so that what was written is known once the duty comes back.
 ghost use Rattle.std.specs.Prelude.{◌≡◌};
 ghost use Rattle.session_parts.specs.Duty.{IsLogLater};
 
@@ -20,7 +20,8 @@ pub enum Turned {
     Over,
 }
 
-/// A duty is done turn by turn. However often, it stands for the session that began as it did. A turn says exactly where it is over.
+/// A duty is done turn by turn. However often, it stands for the session that began as it did. A turn says
+/// exactly where it is over.
 pub trait Duty: Drop {
     ghost use Rattle.std.specs.Prelude.{◌≡◌, ◌↔◌};
     ghost use Rattle.session_parts.specs.Duty.{Begun};
@@ -36,8 +37,8 @@ pub trait Duty: Drop {
         ensures stays { is_over self.old → is_over self.new };
 }
 
-/// The duty of a sink: to take rows, and to write the lines of their frames. Where lines are watched it moves alarms from the queue of
-/// their log too.
+/// The duty of a sink: to take rows, and to write the lines of their frames. Where lines are watched it moves
+/// alarms from the queue of their log too.
 #[derive(Drop)]
 pub struct SinkDuty<'a, R, K> {
     rt: &'a R,

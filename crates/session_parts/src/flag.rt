@@ -7,7 +7,8 @@ use std::snapshot::Snapshot;
 use std::sync::{OnceLock, OnceToken, Wait};
 use std::thread::Promise;
 
-/// A flag that tells a thread to come back, and the bell at which is rung for that thread. Once the flag is stored it stays so.
+/// A flag that tells a thread to come back, and the bell at which is rung for that thread. Once the flag is
+/// stored it stays so.
 #[derive(Drop)]
 pub struct Flag {
     stored: OnceLock<()>,
@@ -87,8 +88,8 @@ impl<'s> Heed<'s> {
         self.flag.stored.witness()
     }
 
-    /// Takes note of all rings so far, and then gives the evidence that it was stored, if it was. What is stored after the look is rung
-    /// after the note.
+    /// Takes note of all rings so far, and then gives the evidence that it was stored, if it was. What is
+    /// stored after the look is rung after the note.
     pub fn note(self) -> Option<OnceToken<'s, ()>>
         ensures { IfSome result (λ told. told.of ≡ heeded self.entry) }
     {

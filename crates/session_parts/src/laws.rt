@@ -21,8 +21,8 @@ ghost use Rattle.member_ring.specs.Ends.{out_passed, in_passed};
 ghost use Rattle.member_ring.specs.declared.worker.LineWorker.{LineWorker};
 ghost use Rattle.session_parts.specs.Session.{IsGathered, session_backs};
 
-/// Each line that has come to its end received all that was made for it and sent the cells of its path, and what the sink popped has come
-/// of it, whatever the source was told.
+/// Each line that has come to its end received all that was made for it and sent the cells of its path, and
+/// what the sink popped has come of it, whatever the source was told.
 pub fn gathered_law()
     ensures lines { (script : Script) (returns : List (Option Told)) (tx : List (RingOut Container))
         (workers : List LineWorker) (rx : List (RingIn Cell)) →
@@ -38,8 +38,8 @@ pub fn gathered_law()
         ComeOfLines (scenario_of script) returns script.config.ticks (received rx) }
 {}
 
-/// Where the source was told what the sink said by cells that decide all rows, what was made is the session's, and so are the frames of
-/// the rows and the return cells.
+/// Where the source was told what the sink said by cells that decide all rows, what was made is the
+/// session's, and so are the frames of the rows and the return cells.
 pub fn ended_law()
     ensures made { (script : Script) → IsValid script → (n : ℕ) (own : List (List Cell)) →
         IsCourse (scenario_of script) script.config.ticks n own → (m : ℕ) →

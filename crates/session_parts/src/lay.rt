@@ -2,7 +2,8 @@
 ghost use Rattle.std.specs.Prelude.{◌≡◌, ◌↔◌, length, IsTrue, Contains};
 ghost use Rattle.member_ring.specs.Ends.{AreEnds, out_passed};
 ghost use Rattle.watched_line.specs.Served.{worker_of, IsServedLater, AreServedLater};
-ghost use Rattle.session_parts.specs.Laid.{AreServedDone, AreSendEnds, AreReceiveEnds, IsSendLaid, IsReceiveLaid, AreSendsLaid, AreReceivesLaid};
+ghost use Rattle.session_parts.specs.Laid.{AreServedDone, AreSendEnds, AreReceiveEnds, IsSendLaid, IsReceiveLaid};
+ghost use Rattle.session_parts.specs.Laid.{AreSendsLaid, AreReceivesLaid};
 
 use member_ring::{Burst, Gate, LineWorker, RingIn, RingOut};
 use std::sync::Wait;

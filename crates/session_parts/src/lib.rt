@@ -1,6 +1,7 @@
-//! The parts of a session that need no group: the workers of lines are dealt to line threads and come back; the sink is a duty of the
-//! calling thread; threads come back with evidence that their flags were stored, and sleep at their bells while they can't go on; and the
-//! ends of rings are laid beside each other at the end. Begin with `start_shares`, `Flag` and `Duty`.
+//! The parts of a session that need no group: the workers of lines are dealt to line threads and come back;
+//! the sink is a duty of the calling thread; threads come back with evidence that their flags were stored,
+//! and sleep at their bells while they can't go on; and the ends of rings are laid beside each other at the
+//! end. Begin with `start_shares`, `Flag` and `Duty`.
 #![tactic(auto)]
 
 mod bell;

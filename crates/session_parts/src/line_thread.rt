@@ -111,7 +111,8 @@ fn go_on<R: Wait>(rt: &R, bell: &Bell, source: &Bell, sink: &Bell, served: Serve
     }
 }
 
-/// Serves workers until the flag is stored, and gives the evidence that it is. Once all have come to their end it sleeps until then.
+/// Serves workers until the flag is stored, and gives the evidence that it is. Once all have come to their
+/// end it sleeps until then.
 fn serve<'s, R: Wait, G: Gate>(
     rt: &R,
     gate: &G,

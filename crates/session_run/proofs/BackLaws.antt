@@ -6,7 +6,9 @@ use Rattle.session_parts.specs.Lines.{AreDealt, AreBack, SharesLater}
 use Rattle.watched_line.specs.Served.{AreServedLater}
 use Rattle.session_parts.proofs.DealLaws.{zip-at}
 
-pub back-dealt : (workers : List ServedLine) (n : ℕ) (dealt back : List (Vec ServedLine)) → AreDealt workers n dealt → SharesLater dealt back → AreBack workers n back
+pub back-dealt : (workers : List ServedLine) (n : ℕ) (dealt back : List (Vec ServedLine)) → AreDealt workers n dealt →
+    SharesLater dealt back → AreBack workers n back
 back-dealt workers n dealt back deal later w share there =
-    let (was, found, is) = zip-at (λ (a b : Vec ServedLine). AreServedLater a.items b.items) dealt back w share later there in
+    let (was, found, is) = zip-at (λ (a b : Vec ServedLine). AreServedLater a.items b.items) dealt back w share later
+    there in
     subst (λ l. AreServedLater l share.items) (deal w was found) is

@@ -1,5 +1,6 @@
 -- What has come of a session that was opened, once all have done what they had to do.
-use Rattle.std.proofs.Common.{◌≡◌, ℕ, ◌≤◌, Bool, true, false, List, [], ◌∷◌, length, slice_get, Option, Some, refl, sym, ◌∙◌, ap, subst, arith}
+use Rattle.std.proofs.Common.{◌≡◌, ℕ, ◌≤◌, Bool, true, false, List, [], ◌∷◌, length, slice_get, Option, Some, refl, sym}
+use Rattle.std.proofs.Common.{◌∙◌, ap, subst, arith}
 use Rattle.std.specs.Prelude.{Contains}
 use Rattle.std.proofs.lemmas.List.{nil_from_length}
 use Rattle.std.proofs.lemmas.Option.{slice_get_within}
@@ -38,22 +39,27 @@ use Rattle.session_run.specs.Beside.{AreLaid, IsSessionOf}
 use Rattle.session_run.specs.Session.{IsSinkOf, IsOpen, HasComeToEnd}
 
 -- the members of a session are its script, and the ends of its group as they were made
-pub bound-own : (named : Script) (tx : List (RingOut Container)) (back : List (RingIn BackCell)) (script : Script) (first group : GroupState) → IsSessionOf named tx back script first →
+pub bound-own : (named : Script) (tx : List (RingOut Container)) (back : List (RingIn BackCell)) (script : Script)
+    (first group : GroupState) → IsSessionOf named tx back script first →
     IsBound named tx back group → IsBound script first.tx.items (first.back ∷ []) group
 bound-own named tx back script first group is bound =
     subst (λ l. IsBound script first.tx.items l group) is.returns
     (subst (λ l. IsBound script l back group) is.sends (subst (λ s. IsBound s tx back group) is.script bound))
 
 -- the worker of a sink where a session begins
-pub run-begins : (script : Script) (sink : SinkWorker) (first : Seen) (name : ℕ) (log : Option AlarmLog) → IsSinkOf script sink → HasRun (record { first = first; name = name; sink = sink; log = log }) sink first
+pub run-begins : (script : Script) (sink : SinkWorker) (first : Seen) (name : ℕ) (log : Option AlarmLog) →
+    IsSinkOf script sink → HasRun (record { first = first; name = name; sink = sink; log = log }) sink first
 run-begins script sink first name log is =
     let none : given_frames (size_of sink) (cells_of sink) (taken_of sink) ≡ [] =
-    nil_from_length (given_frames (size_of sink) (cells_of sink) (taken_of sink)) (frames-none (size_of sink) (cells_of sink) (taken_of sink) is.taken) in
+    nil_from_length (given_frames (size_of sink) (cells_of sink) (taken_of sink))
+    (frames-none (size_of sink) (cells_of sink) (taken_of sink) is.taken) in
     record {
       stands = is.stands;
       later = (refl, later-refl (parts_of sink));
-      told = subst (λ failed. Writes known_of faults_of false failed first first (got_texts (given_frames (size_of sink) (cells_of sink) (taken_of sink)))) (sym is.failed)
-          (subst (λ frames. Writes known_of faults_of false false first first (got_texts frames)) (sym none) (Appends-none known_of faults_of first));
+      told = subst (λ failed. Writes known_of faults_of false failed first first
+          (got_texts (given_frames (size_of sink) (cells_of sink) (taken_of sink)))) (sym is.failed)
+          (subst (λ frames. Writes known_of faults_of false false first first (got_texts frames)) (sym none)
+          (Appends-none known_of faults_of first));
     }
 
 module _ {K : Type 0} (written : K → Option (List ℕ)) (faults : K → ℕ) where
@@ -62,55 +68,74 @@ module _ {K : Type 0} (written : K → Option (List ℕ)) (faults : K → ℕ) w
   begun_of old name sink log = record { first = seen (written old) (faults old); name = name; sink = sink; log = log }
 
   -- a worker that is handed on, with what it writes to
-  pub handed-on : (begun : Begun) (a b : SinkWorker) (old new : K) → b ≡ a → new ≡ old → HasRun begun a (seen (written old) (faults old)) → HasRun begun b (seen (written new) (faults new))
+  pub handed-on : (begun : Begun) (a b : SinkWorker) (old new : K) → b ≡ a → new ≡ old →
+      HasRun begun a (seen (written old) (faults old)) → HasRun begun b (seen (written new) (faults new))
   handed-on begun a b old new is same run =
       subst (λ (sink : SinkWorker). HasRun begun sink (seen (written new) (faults new))) (sym is)
       (subst (λ (k : K). HasRun begun a (seen (written k) (faults k))) (sym same) run)
 
   -- what was written as a whole, or in part
-  pub writes-whole : (failed : Bool) (old new : K) (own text : List ℕ) → own ≡ text → Writes written faults false failed old new own → failed ≡ false → Appends written faults old new text
+  pub writes-whole : (failed : Bool) (old new : K) (own text : List ℕ) → own ≡ text →
+      Writes written faults false failed old new own → failed ≡ false → Appends written faults old new text
   writes-whole false old new own text is writes none = subst (Appends written faults old new) is writes
   writes-whole true old new own text is writes none = absurd cc
 
-  pub writes-part : (failed : Bool) (old new : K) (own text : List ℕ) → own ≡ text → Writes written faults false failed old new own → failed ≡ true → AppendsPart written faults old new text
+  pub writes-part : (failed : Bool) (old new : K) (own text : List ℕ) → own ≡ text →
+      Writes written faults false failed old new own → failed ≡ true → AppendsPart written faults old new text
   writes-part false old new own text is writes some = absurd cc
   writes-part true old new own text is writes some = subst (AppendsPart written faults old new) is writes
 
-module _ (script : Script) (first : GroupState) (begun : List LineWorker) (taker : SinkWorker) (open' : IsOpen script first begun taker)
-    (group : GroupState) (lines : List LineWorker) (sink : SinkWorker) (bound : IsBound script first.tx.items (first.back ∷ []) group) (later : AreLater begun lines) (after : IsSinkLater taker sink) where
+module _ (script : Script) (first : GroupState) (begun : List LineWorker) (taker : SinkWorker)
+    (open' : IsOpen script first begun taker)
+    (group : GroupState) (lines : List LineWorker) (sink : SinkWorker)
+    (bound : IsBound script first.tx.items (first.back ∷ []) group) (later : AreLater begun lines)
+    (after : IsSinkLater taker sink) where
   as-many : length lines ≡ length begun
   as-many = zip-length IsLater begun lines later
 
   -- the worker of a line as it began
-  old-at : (m : ℕ) (worker : LineWorker) → slice_get lines m ≡ Some worker → (old : LineWorker) × (slice_get begun m ≡ Some old) × IsLater old worker
+  old-at : (m : ℕ) (worker : LineWorker) → slice_get lines m ≡ Some worker → (old : LineWorker) ×
+      (slice_get begun m ≡ Some old) × IsLater old worker
   old-at m worker there = zip-at IsLater begun lines m worker later there
 
   pub send-ends : AreSendEnds group.tx.items lines
   send-ends m out worker at there =
       let (old, was, grew) = old-at m worker there in
       let inside = slice_get_within begun m old was in
-      let (out', at') = slice_get-inside first.tx.items m (omega (arith, inside, open'.lines.tx_count, open'.lines.workers_count)) in
-      ends-moved out' out old.consumer worker.consumer (open'.lines.sends m out' old at' was) (bound.sends.each m out' out at' at) grew.same.consumer
+      let (out', at') = slice_get-inside first.tx.items m
+      (omega (arith, inside, open'.lines.tx_count, open'.lines.workers_count)) in
+      ends-moved out' out old.consumer worker.consumer (open'.lines.sends m out' old at' was)
+      (bound.sends.each m out' out at' at) grew.same.consumer
 
   pub receive-ends : AreReceiveEnds lines sink.rx.items
   receive-ends m worker into there at =
       let (old, was, grew) = old-at m worker there in
       let inside = slice_get_within begun m old was in
-      let (into', at') = slice_get-inside taker.rx.items m (omega (arith, inside, open'.lines.rx_count, open'.lines.workers_count)) in
-      ends-moved old.producer worker.producer into' into (open'.lines.receives m old into' was at') grew.same.producer (after.1.ends.each m into' into at' at)
+      let (into', at') = slice_get-inside taker.rx.items m
+      (omega (arith, inside, open'.lines.rx_count, open'.lines.workers_count)) in
+      ends-moved old.producer worker.producer into' into (open'.lines.receives m old into' was at') grew.same.producer
+      (after.1.ends.each m into' into at' at)
 
   pub return-ends : AreEnds sink.back group.back
-  return-ends = ends-moved taker.back sink.back first.back group.back open'.returns after.1.back (bound.returns.each 0 first.back group.back refl refl)
+  return-ends = ends-moved taker.back sink.back first.back group.back open'.returns after.1.back
+      (bound.returns.each 0 first.back group.back refl refl)
 
   pub counts : (length group.tx.items ≡ length lines) × (length sink.rx.items ≡ length lines)
-  counts =
-      (omega (arith, bound.sends.count, as-many, open'.lines.tx_count, open'.lines.workers_count), omega (arith, after.1.ends.count, as-many, open'.lines.rx_count, open'.lines.workers_count))
+  counts = (
+    omega (arith, bound.sends.count, as-many, open'.lines.tx_count, open'.lines.workers_count),
+    omega (arith, after.1.ends.count, as-many, open'.lines.rx_count, open'.lines.workers_count),
+  )
 
 -- all have done what they had to do, and the ends of all rings were laid beside each other
-module _ (script : Script) (first : GroupState) (begun : List LineWorker) (taker : SinkWorker) (open' : IsOpen script first begun taker)
-    (group : GroupState) (lines : List LineWorker) (sink : SinkWorker) (bound : IsBound script first.tx.items (first.back ∷ []) group) (later : AreLater begun lines) (after : IsSinkLater taker sink)
-    (made : total_of group ≤ ticks_of group) (done : AreDone lines) (taken : taken_of sink ≡ rows_of sink) (stands : Stands sink)
-    (group' : GroupState) (lines' : List LineWorker) (sink' : SinkWorker) (laid : AreLaid group lines sink group' lines' sink') where
+module _ (script : Script) (first : GroupState) (begun : List LineWorker) (taker : SinkWorker)
+    (open' : IsOpen script first begun taker)
+    (group : GroupState) (lines : List LineWorker) (sink : SinkWorker)
+    (bound : IsBound script first.tx.items (first.back ∷ []) group) (later : AreLater begun lines)
+    (after : IsSinkLater taker sink)
+    (made : total_of group ≤ ticks_of group) (done : AreDone lines) (taken : taken_of sink ≡ rows_of sink)
+    (stands : Stands sink)
+    (group' : GroupState) (lines' : List LineWorker) (sink' : SinkWorker)
+    (laid : AreLaid group lines sink group' lines' sink') where
   line-of : (m : ℕ) (worker : LineWorker) → slice_get lines' m ≡ Some worker → IsLineOf script.config m worker
   line-of m worker there =
       let inside = slice_get_within lines' m worker there in
@@ -157,13 +182,19 @@ module _ (script : Script) (first : GroupState) (begun : List LineWorker) (taker
       }
 
 -- what was written by the sink is what the sink says that was laid
-pub writes-laid : {K : Type 0} (written : K → Option (List ℕ)) (faults : K → ℕ) (old new : K) (group group' : GroupState) (lines lines' : List LineWorker) (sink sink' : SinkWorker) →
+pub writes-laid : {K : Type 0} (written : K → Option (List ℕ)) (faults : K → ℕ) (old new : K)
+    (group group' : GroupState) (lines lines' : List LineWorker) (sink sink' : SinkWorker) →
     AreLaid group lines sink group' lines' sink' →
-    Writes written faults false (has_failed sink) old new (got_texts (given_frames (size_of sink) (cells_of sink) (taken_of sink))) →
-    Writes written faults false (has_failed sink') old new (got_texts (given_frames (size_of sink') (cells_of sink') (taken_of sink')))
+    Writes written faults false (has_failed sink) old new
+    (got_texts (given_frames (size_of sink) (cells_of sink) (taken_of sink))) →
+    Writes written faults false (has_failed sink') old new
+    (got_texts (given_frames (size_of sink') (cells_of sink') (taken_of sink')))
 writes-laid written faults old new group group' lines lines' sink sink' laid writes =
-    let frames : given_frames (size_of sink') (cells_of sink') (taken_of sink') ≡ given_frames (size_of sink) (cells_of sink) (taken_of sink) =
-    ap (λ size. given_frames size (cells_of sink') (taken_of sink')) laid.size ∙ ap (λ cells. given_frames (size_of sink) cells (taken_of sink')) laid.cells
+    let frames : given_frames (size_of sink') (cells_of sink') (taken_of sink') ≡ given_frames (size_of sink)
+    (cells_of sink) (taken_of sink) =
+    ap (λ size. given_frames size (cells_of sink') (taken_of sink')) laid.size
+    ∙ ap (λ cells. given_frames (size_of sink) cells (taken_of sink')) laid.cells
     ∙ ap (given_frames (size_of sink) (cells_of sink)) laid.taken in
-    subst (λ failed. Writes written faults false failed old new (got_texts (given_frames (size_of sink') (cells_of sink') (taken_of sink')))) (sym laid.failed)
+    subst (λ failed. Writes written faults false failed old new
+    (got_texts (given_frames (size_of sink') (cells_of sink') (taken_of sink')))) (sym laid.failed)
     (subst (λ own. Writes written faults false (has_failed sink) old new (got_texts own)) (sym frames) writes)

@@ -17,7 +17,8 @@ use Rattle.group_lock.specs.Session.{IsBound}
 use Rattle.session_parts.specs.Laid.{AreSendEnds, AreReceiveEnds}
 
 -- the members of a session are this script, and the ends of this group's rings
-pub record IsSessionOf (of_script : Script) (tx : List (RingOut Container)) (back : List (RingIn BackCell)) (own : Script) (group : GroupState) : Type 0 where
+pub record IsSessionOf (of_script : Script) (tx : List (RingOut Container)) (back : List (RingIn BackCell))
+    (own : Script) (group : GroupState) : Type 0 where
   pub script : of_script ≡ own
   pub sends : tx ≡ group.tx.items
   pub returns : back ≡ group.back ∷ []
@@ -31,20 +32,26 @@ pub record HasLookedLine (old new : LineWorker) : Type 0 where
   pub popped : in_passed new.consumer ≡ in_passed old.consumer
   pub pushed : out_passed new.producer ≡ out_passed old.producer
 
--- a look was made at the ends of each ring: what was pushed is what was popped and what is still there. Nothing else has changed
-pub record AreLaid (group : GroupState) (lines : List LineWorker) (sink : SinkWorker) (group' : GroupState) (lines' : List LineWorker) (sink' : SinkWorker) : Type 0 where
-  pub landed : (script : Script) (tx : List (RingOut Container)) (back : List (RingIn BackCell)) → IsBound script tx back group → IsBound script tx back group'
+-- a look was made at the ends of each ring: what was pushed is what was popped and what is still there. Nothing else
+-- has changed
+pub record AreLaid (group : GroupState) (lines : List LineWorker) (sink : SinkWorker) (group' : GroupState)
+    (lines' : List LineWorker) (sink' : SinkWorker) : Type 0 where
+  pub landed : (script : Script) (tx : List (RingOut Container)) (back : List (RingIn BackCell)) →
+      IsBound script tx back group → IsBound script tx back group'
   pub ticks : ticks_of group' ≡ ticks_of group
   pub tx_count : length group'.tx.items ≡ length group.tx.items
   pub count : length lines' ≡ length lines
   pub rx_count : length sink'.rx.items ≡ length sink.rx.items
-  pub workers : (m : ℕ) (old new : LineWorker) → slice_get lines m ≡ Some old → slice_get lines' m ≡ Some new → HasLookedLine old new
+  pub workers : (m : ℕ) (old new : LineWorker) → slice_get lines m ≡ Some old → slice_get lines' m ≡ Some new →
+      HasLookedLine old new
   pub send_ends : AreSendEnds group'.tx.items lines'
   pub receive_ends : AreReceiveEnds lines' sink'.rx.items
   pub return_ends : AreEnds sink'.back group'.back
-  pub sends : (m : ℕ) (out : RingOut Container) (worker : LineWorker) → slice_get group'.tx.items m ≡ Some out → slice_get lines' m ≡ Some worker →
+  pub sends : (m : ℕ) (out : RingOut Container) (worker : LineWorker) → slice_get group'.tx.items m ≡ Some out →
+      slice_get lines' m ≡ Some worker →
       in_passed worker.consumer ++ in_items worker.consumer ≡ out_passed out
-  pub receives : (m : ℕ) (worker : LineWorker) (into : RingIn Cell) → slice_get lines' m ≡ Some worker → slice_get sink'.rx.items m ≡ Some into →
+  pub receives : (m : ℕ) (worker : LineWorker) (into : RingIn Cell) → slice_get lines' m ≡ Some worker →
+      slice_get sink'.rx.items m ≡ Some into →
       in_passed into ++ in_items into ≡ out_passed worker.producer
   pub returns : in_passed group'.back ++ in_items group'.back ≡ out_passed sink'.back
   pub cells : cells_of sink' ≡ cells_of sink

@@ -30,8 +30,10 @@ pub record IsSinkOf (script : Script) (sink : SinkWorker) : Type 0 where
   pub failed : has_failed sink ≡ false
   pub stands : Stands sink
 
--- a group that is bound to the script, the workers of its lines and of its sink, with the ends of their rings; nothing has moved
-pub record IsOpen (script : Script) (group : GroupState) (workers : List LineWorker) (worker : SinkWorker) : Type 0 where
+-- a group that is bound to the script, the workers of its lines and of its sink, with the ends of their rings; nothing
+-- has moved
+pub record IsOpen (script : Script) (group : GroupState) (workers : List LineWorker)
+    (worker : SinkWorker) : Type 0 where
   pub bound : IsBound script group.tx.items (group.back ∷ []) group
   pub lines : AreOpened script.config script.config.lines group.tx.items workers worker.rx.items
   pub returns : AreEnds worker.back group.back
@@ -45,7 +47,8 @@ pub record IsAllDone (group : GroupState) (lines : List ServedLine) (sink : Sink
   pub taken : taken_of sink ≡ rows_of sink
 
 -- the same, and the two ends of each ring say the same
-pub record HasComeToEnd (script : Script) (group : GroupState) (workers : List LineWorker) (sink : SinkWorker) : Type 0 where
+pub record HasComeToEnd (script : Script) (group : GroupState) (workers : List LineWorker)
+    (sink : SinkWorker) : Type 0 where
   pub of_script : IsOf script group
   pub landed : HasLandedOf script group
   pub made : total_of group ≤ ticks_of group
@@ -57,9 +60,11 @@ pub record HasComeToEnd (script : Script) (group : GroupState) (workers : List L
   pub send_ends : AreSendEnds group.tx.items workers
   pub receive_ends : AreReceiveEnds workers sink.rx.items
   pub return_ends : AreEnds sink.back group.back
-  pub sends : (m : ℕ) (out : RingOut Container) (worker : LineWorker) → slice_get group.tx.items m ≡ Some out → slice_get workers m ≡ Some worker →
+  pub sends : (m : ℕ) (out : RingOut Container) (worker : LineWorker) → slice_get group.tx.items m ≡ Some out →
+      slice_get workers m ≡ Some worker →
       in_passed worker.consumer ++ in_items worker.consumer ≡ out_passed out
-  pub receives : (m : ℕ) (worker : LineWorker) (into : RingIn Cell) → slice_get workers m ≡ Some worker → slice_get sink.rx.items m ≡ Some into →
+  pub receives : (m : ℕ) (worker : LineWorker) (into : RingIn Cell) → slice_get workers m ≡ Some worker →
+      slice_get sink.rx.items m ≡ Some into →
       in_passed into ++ in_items into ≡ out_passed worker.producer
   pub returns : in_passed group.back ++ in_items group.back ≡ out_passed sink.back
   pub stands : Stands sink
@@ -68,11 +73,13 @@ pub record HasComeToEnd (script : Script) (group : GroupState) (workers : List L
   pub taken : taken_of sink ≡ script.config.ticks
 
 -- ---- the end, by the script
--- the numbers of its ticks, its accepted frames and commands and its refused items; rows and delivered frames are counted elsewhere
+-- the numbers of its ticks, its accepted frames and commands and its refused items; rows and delivered frames are
+-- counted elsewhere
 abbrev pub group_totals : Script → Totals
 group_totals script = record (totals_among script script.config.ticks 0 (numbered 0 script.items)) { got = 0 }
 
--- the group has made all frames and landed all items; each that it accepted is an item of the script, and those that it refused are the
+-- the group has made all frames and landed all items; each that it accepted is an item of the script, and those that it
+-- refused are the
 -- script's
 pub record IsGroupEnded (script : Script) (group : GroupState) : Type 0 where
   pub ticks : ticks_of group ≡ script.config.ticks

@@ -77,8 +77,9 @@ fn join_started<'s, R: Threads>(rt: &R, child: Option<Child<'s>>, stored: &OnceT
     }
 }
 
-/// Does a duty until nothing is left of it, and before each turn what has no thread. Not at all where this isn't wanted. A turn that finds
-/// nothing to do comes after all that has no thread has gone on, and so then others are waited for.
+/// Does a duty until nothing is left of it, and before each turn what has no thread. Not at all where this
+/// isn't wanted. A turn that finds nothing to do comes after all that has no thread has gone on, and so then
+/// others are waited for.
 fn attend<R: Wait, G: Gate, D: Duty>(
     rt: &R,
     gate: &G,
@@ -115,8 +116,8 @@ fn attend<R: Wait, G: Gate, D: Duty>(
     unreachable!()
 }
 
-/// Runs the client, the operator, the source and the shares of the lines on threads, and the duty here. Where one of the first three
-/// can't be started, the others are stopped at once.
+/// Runs the client, the operator, the source and the shares of the lines on threads, and the duty here. Where
+/// one of the first three can't be started, the others are stopped at once.
 fn shares_beside<'x, Y: Session, R: Threads + Wait + Sync, G: Gate, D: Duty>(
     rt: &'x R,
     gate: &'x G,
@@ -191,7 +192,8 @@ fn shares_beside<'x, Y: Session, R: Threads + Wait + Sync, G: Gate, D: Duty>(
     )
 }
 
-/// Runs the client, the operator, the source and all lines on threads, and the duty here, as long as there is something left of it.
+/// Runs the client, the operator, the source and all lines on threads, and the duty here, as long as there is
+/// something left of it.
 pub(crate) fn lines_beside<Y: Session, R: Threads + Wait + Sync, G: Gate, D: Duty>(
     rt: &R,
     gate: &G,

@@ -45,7 +45,8 @@ fn land_held<Y: Session, G: Gate>(gate: &G, group: &mut BoundGroup<Y>, items: &[
     }
 }
 
-/// Makes a turn of each: of the source or of who holds it, of the lines and of the sink. Says whether all was done before.
+/// Makes a turn of each: of the source or of who holds it, of the lines and of the sink. Says whether all was
+/// done before.
 fn round<Y: Session, R: Wait, K: ByteSink, G: Gate>(
     rt: &R,
     gate: &G,

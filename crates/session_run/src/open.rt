@@ -123,8 +123,8 @@ fn open_ends(
     Ok((group, sink))
 }
 
-/// Opens a session of a script for this number of line threads. What has the most parts is opened last, so that little is let go where
-/// memory is short.
+/// Opens a session of a script for this number of line threads. What has the most parts is opened last, so
+/// that little is let go where memory is short.
 pub(crate) fn open(alloc: Global, script: &Script, workers: u8) -> Result<Opened, AllocError>
     requires script { IsValid script.now }
     requires some { 0 < workers }

@@ -11,7 +11,8 @@ use std::alloc::{AllocError, Global};
 use std::sync::Wait;
 use watched_line::ServedLine;
 
-/// The flags at which threads look before each turn, each with its bell, and the bell of the sink, which is told by none.
+/// The flags at which threads look before each turn, each with its bell, and the bell of the sink, which is
+/// told by none.
 #[derive(Drop)]
 pub(crate) struct Flags {
     pub(crate) client: Flag,

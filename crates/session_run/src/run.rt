@@ -18,10 +18,11 @@ use std::marker::Brand;
 use std::sync::Wait;
 use std::thread::Threads;
 
-/// Runs the session of a script: the client, the operator and the source, and lines on `workers` threads, beside each other, and the
-/// sink here, which writes a line on `out` for each frame that is delivered. Whatever has no thread, and whatever is left once the
-/// others have ended, is done here too. Whatever the order in which they went on, what has come of it is what the script says. The
-/// error comes before anything is written.
+/// Runs the session of a script: the client, the operator and the source, and lines on `workers` threads,
+/// beside each other, and the sink here, which writes a line on `out` for each frame that is delivered.
+/// Whatever has no thread, and whatever is left once the others have ended, is done here too. Whatever the
+/// order in which they went on, what has come of it is what the script says. The error comes before anything
+/// is written.
 pub fn run_session<R: Threads + Wait + Sync, K: ByteSink, G: Gate>(
     rt: &R,
     alloc: Global,

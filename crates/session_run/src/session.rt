@@ -38,7 +38,8 @@ use watched_line::{serve_lines, split_lines};
 /// A session that has ended: both ends of each of its rings.
 #[derive(Drop)]
 pub struct Ended {
-    /// The group: the ends of the send rings where containers were pushed, and of the return ring where return cells were popped.
+    /// The group: the ends of the send rings where containers were pushed, and of the return ring where
+    /// return cells were popped.
     pub group: GroupState,
     /// The workers of the lines, in the order of the lines.
     pub lines: Vec<LineWorker>,
@@ -72,8 +73,8 @@ fn lay_beside(group: GroupState, lines: Vec<LineWorker>, sink: SinkWorker) -> En
     Ended { group, lines, sink }
 }
 
-/// Runs a session that was opened: its threads beside each other, and then what they haven't done. Each line is watched through the post
-/// at its place, where there is one.
+/// Runs a session that was opened: its threads beside each other, and then what they haven't done. Each line
+/// is watched through the post at its place, where there is one.
 pub(crate) fn run_opened<Y: Session, R: Threads + Wait + Sync, K: ByteSink, G: Gate>(
     rt: &R,
     gate: &G,

@@ -56,8 +56,9 @@ pub(crate) fn hand_in<Y: Session>(group: &mut BoundGroup<Y>, number: u32, kind: 
     }
 }
 
-/// Lands an item once it is due. Where the flag is stored first it doesn't land, and the evidence is given that it is. Before it waits it
-/// rings for the source, which can't go on before all items that are due have landed.
+/// Lands an item once it is due. Where the flag is stored first it doesn't land, and the evidence is given
+/// that it is. Before it waits it rings for the source, which can't go on before all items that are due have
+/// landed.
 fn land<'s, Y: Session, R: Wait, G: Gate>(
     rt: &R,
     gate: &G,
@@ -125,8 +126,8 @@ fn ring_for(flags: &Flags, items: &[Item], number: u32) {
     }
 }
 
-/// Rings for those that go on with what a tick has made, or without whom none was made, and then waits for them. `made` is how many
-/// frames were made.
+/// Rings for those that go on with what a tick has made, or without whom none was made, and then waits for
+/// them. `made` is how many frames were made.
 fn go_on<R: Wait>(rt: &R, flags: &Flags, items: &[Item], answer: TickAnswer, made: u32) {
     match answer {
         TickAnswer::Ticked => {
@@ -146,8 +147,8 @@ fn go_on<R: Wait>(rt: &R, flags: &Flags, items: &[Item], answer: TickAnswer, mad
     }
 }
 
-/// Makes the frames one after another as they can be made, and comes back once the flag is stored. After the last one return cells are
-/// still moved.
+/// Makes the frames one after another as they can be made, and comes back once the flag is stored. After the
+/// last one return cells are still moved.
 pub(crate) fn tick_all<'s, Y: Session, R: Wait, G: Gate>(
     rt: &R,
     gate: &G,

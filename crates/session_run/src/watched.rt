@@ -29,8 +29,9 @@ const QUEUE: u32 = 1024;
 /// The most alarms of a line: two for each of 256 windows, and one for its end.
 const MOST: u32 = 513;
 
-/// Runs the session of a script as `run_session` does, and beside it collects the alarms of each line in the order in which the line
-/// raised them: each line posts those of a burst through a post of its own, and they come to one list through one queue.
+/// Runs the session of a script as `run_session` does, and beside it collects the alarms of each line in the
+/// order in which the line raised them: each line posts those of a burst through a post of its own, and they
+/// come to one list through one queue.
 pub fn run_watched<R: Threads + Wait + Sync, K: ByteSink, G: Gate>(
     rt: &R,
     alloc: Global,

@@ -28,7 +28,8 @@ pub record Parts : Type 0 where
 abbrev pub parts : Gather → Core → List (RingIn Cell) → RingOut BackCell → Parts
 parts rows core rx back = record { rows = rows; core = core; rx = rx; back = back }
 
--- the parts stand where the cells that were popped have brought them, and the return packets of the rows taken were sent
+-- the parts stand where the cells that were popped have brought them, and the return packets of the rows taken were
+-- sent
 pub record Keeps (at : Parts) : Type 0 where
   pub gathers : Gathers at.rows (received at.rx)
   pub stands : Stands at.core (received at.rx)
@@ -62,12 +63,15 @@ pub record IsFull (t : ℕ) (old new : RingOut BackCell) : Type 0 where
   pub none : out_free old ≡ 0
   pub counted : out_misses new ≡ one_more (out_misses old)
 
--- what an answer says: a row was taken or a cell popped; or neither was, since the next row isn't decided on a line of which no cell was
+-- what an answer says: a row was taken or a cell popped; or neither was, since the next row isn't decided on a line of
+-- which no cell was
 -- there; or since it is decided on each line and there was no slot for the return packet that it makes
 abbrev pub Does : Parts → Parts → SinkBurst → Type 0
 Does a b Moved = Progress a b
-Does a b (Idle (Waiting line)) = Rests a b × (first_open (received a.rx) a.core.taken ≡ Some line) × Missed a.rx b.rx line
-Does a b (Idle BackFull) = Rests a b × (first_open (received a.rx) a.core.taken ≡ None) × IsFull a.core.taken a.back b.back
+Does a b (Idle (Waiting line)) = Rests a b × (first_open (received a.rx) a.core.taken ≡ Some line) ×
+    Missed a.rx b.rx line
+Does a b (Idle BackFull) = Rests a b × (first_open (received a.rx) a.core.taken ≡ None) ×
+    IsFull a.core.taken a.back b.back
 Does a b Done = Rests a b
 
 -- the frames of the rows taken were given, after whatever had been given before

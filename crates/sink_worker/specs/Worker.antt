@@ -42,7 +42,8 @@ has_failed worker = worker.failed
 abbrev pub IsLater : SinkWorker → SinkWorker → Type 0
 IsLater a b = (ticks_of b ≡ ticks_of a) × Later (parts_of a) (parts_of b)
 
--- the worker stands where the cells that were popped have brought it: rows, frames and return packets are those of these cells, of which
+-- the worker stands where the cells that were popped have brought it: rows, frames and return packets are those of
+-- these cells, of which
 -- the return packets were sent, and the frames counted
 pub record Stands (worker : SinkWorker) : Type 0 where
   pub keeps : Keeps (parts_of worker)

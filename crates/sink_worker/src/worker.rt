@@ -42,10 +42,11 @@ impl SinkWorker {
     ghost use Rattle.sink_worker.specs.Told.{Writes, count_of};
     ghost use Rattle.sink_worker.specs.Received.{received, backs};
     ghost use Rattle.sink_worker.specs.Parts.{Does};
-    ghost use Rattle.sink_worker.specs.Worker.{cells_of, parts_of, lines_of, size_of, ticks_of, taken_of, got_of, has_failed, IsLater, Stands};
+    ghost use Rattle.sink_worker.specs.Worker.{cells_of, parts_of, lines_of, size_of, ticks_of, taken_of, got_of};
+    ghost use Rattle.sink_worker.specs.Worker.{has_failed, IsLater, Stands};
 
-    /// The worker of the sink of a group of `lines` lines, whose containers have `size` payload octets, for `ticks` rows, over fresh
-    /// rings, one for each line, and a fresh return ring.
+    /// The worker of the sink of a group of `lines` lines, whose containers have `size` payload octets, for
+    /// `ticks` rows, over fresh rings, one for each line, and a fresh return ring.
     pub fn new(
         alloc: Global,
         lines: u8,
@@ -84,8 +85,9 @@ impl SinkWorker {
         })
     }
 
-    /// Passes the gate, and then takes up to 16 rows as far as cells and slots are there. Of each frame that comes through the line is
-    /// written on `out`. After a write that failed nothing more is written, then or later, and rows are taken as before.
+    /// Passes the gate, and then takes up to 16 rows as far as cells and slots are there. Of each frame that
+    /// comes through the line is written on `out`. After a write that failed nothing more is written, then or
+    /// later, and rows are taken as before.
     pub fn burst<K: ByteSink, G: Gate>(&mut self, out: &mut K, gate: &G) -> SinkBurst
         ensures stands { Stands self.old → Stands self.new }
         ensures sent { Stands self.old →

@@ -1,5 +1,6 @@
 -- What words without a fault say.
-use Rattle.std.proofs.Common.{◌≡◌, ℕ, zero, suc, ◌<◌, ◌≤◌, ◌+◌, nat_le, ◌&&◌, not, Bool, true, false, List, [], ◌∷◌, length, ap, sym, arith, refl, subst, All}
+use Rattle.std.proofs.Common.{◌≡◌, ℕ, zero, suc, ◌<◌, ◌≤◌, ◌+◌, nat_le, ◌&&◌, not, Bool, true, false, List, [], ◌∷◌}
+use Rattle.std.proofs.Common.{length, ap, sym, arith, refl, subst, All}
 use Rattle.std.specs.Prelude.{Option, None, Some, Result, Ok, Err, option_map}
 use Rattle.std.specs.Option.{option_or}
 use Rattle.std.specs.Result.{result_unwrap_or}
@@ -71,7 +72,8 @@ pub one_field : (f : Field) (at : ℕ) (ws : List (List ℕ)) → length ws ≡ 
 one_field f at [] size none = absurd (omega (arith, size))
 one_field f at (w ∷ ws) size none = (or_none (field_fault f at 0 w) (fields_fault [] (at + 1) (number_of w) ws) none).0
 
-pub two_fields : (f g : Field) (at n : ℕ) (ws : List (List ℕ)) → length ws ≡ 2 → fields_fault (f ∷ g ∷ []) at n ws ≡ None
+pub two_fields : (f g : Field) (at n : ℕ) (ws : List (List ℕ)) → length ws ≡ 2 →
+    fields_fault (f ∷ g ∷ []) at n ws ≡ None
     → (field_fault f at n (word_at 0 ws) ≡ None) × (field_fault g (at + 1) (number_at 0 ws) (word_at 1 ws) ≡ None)
 two_fields f g at n [] size none = absurd (omega (arith, size))
 two_fields f g at n (w ∷ []) size none = absurd (omega (arith, size))
@@ -91,6 +93,7 @@ four_fields f g h k at [] size none = absurd (omega (arith, size))
 four_fields f g h k at (w ∷ []) size none = absurd (omega (arith, size))
 four_fields f g h k at (w ∷ v ∷ ws) size none =
     let one = or_none (field_fault f at 0 w) (fields_fault (g ∷ h ∷ k ∷ []) (at + 1) (number_of w) (v ∷ ws)) none in
-    let two = or_none (field_fault g (at + 1) (number_of w) v) (fields_fault (h ∷ k ∷ []) (at + 1 + 1) (number_of v) ws) one.1 in
+    let two = or_none (field_fault g (at + 1) (number_of w) v) (fields_fault (h ∷ k ∷ []) (at + 1 + 1) (number_of v) ws)
+    one.1 in
     let rest = two_fields h k (at + 1 + 1) (number_of v) ws (omega (arith, size)) two.1 in
     record { first = one.0; second = two.0; third = rest.0; fourth = rest.1 }

@@ -1,5 +1,6 @@
 -- What a word of a line has to be, and the fault of one that isn't.
-use Rattle.std.specs.Prelude.{ℕ, ⊤, ◌≡◌, ◌+◌, ◌&&◌, nat_le, not, Bool, List, [], ◌∷◌, length, Option, Some, None, Result, Ok, Err, bytes_eq, if◌then◌else◌}
+use Rattle.std.specs.Prelude.{ℕ, ⊤, ◌≡◌, ◌+◌, ◌&&◌, nat_le, not, Bool, List, [], ◌∷◌, length, Option, Some, None}
+use Rattle.std.specs.Prelude.{Result, Ok, Err, bytes_eq, if◌then◌else◌}
 use Rattle.std.specs.Option.{option_or}
 use Rattle.std.specs.List.{list_any}
 use Rattle.hex.specs.Hex.{decode_of}
@@ -64,4 +65,5 @@ field_fault (one_of names) at before w = name_fault at names w
 abbrev pub fields_fault : List Field → ℕ → ℕ → List (List ℕ) → Option FieldFault
 fields_fault [] at before ws = None
 fields_fault (f ∷ fs) at before [] = None
-fields_fault (f ∷ fs) at before (w ∷ ws) = option_or (field_fault f at before w) (fields_fault fs (at + 1) (number_of w) ws)
+fields_fault (f ∷ fs) at before (w ∷ ws) =
+    option_or (field_fault f at before w) (fields_fault fs (at + 1) (number_of w) ws)

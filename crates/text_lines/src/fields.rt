@@ -47,7 +47,8 @@ pub fn number_within(word: &[u8], at: u64, least: u64, most: u64) -> Result<u64,
     Ok(n)
 }
 
-/// The octets that hexadecimal digits of either case say, from `least` to `most` of them. They are word `at` of their line.
+/// The octets that hexadecimal digits of either case say, from `least` to `most` of them. They are word `at`
+/// of their line.
 pub fn octets_within(
     alloc: Global,
     digits: &[u8],

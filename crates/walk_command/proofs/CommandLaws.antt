@@ -1,5 +1,6 @@
 -- What is known of a command by the words that it was, and of its task.
-use Rattle.std.proofs.Common.{◌≡◌, ◌<◌, ◌≤◌, ℕ, List, Option, Some, None, IfSome, Bool, true, false, ◌&&◌, nat_le, inl, inr, refl, sym, ◌∙◌, ap, subst, arith, if◌then◌else◌, map}
+use Rattle.std.proofs.Common.{◌≡◌, ◌<◌, ◌≤◌, ℕ, List, Option, Some, None, IfSome, Bool, true, false, ◌&&◌, nat_le, inl}
+use Rattle.std.proofs.Common.{inr, refl, sym, ◌∙◌, ap, subst, arith, if◌then◌else◌, map}
 use Rattle.std.specs.Prelude.{String, string_bytes, IsNone, nat_lt, length, drop, ◌==◌, bytes_eq, codes}
 use Rattle.std.specs.Option.{option_or}
 use Rattle.std.specs.declared.alloc.Global.{Global}
@@ -15,7 +16,8 @@ use Rattle.command_parts.specs.Status.{HasRunAt}
 use Rattle.command_parts.specs.declared.stop.Stop.TheVariants.{Memory}
 use Rattle.command_parts.proofs.StopLaws.{made-beside, ends-no-memory}
 use Rattle.walk_command.specs.declared.command.WalkCommand.{WalkCommand}
-use Rattle.walk_command.specs.declared.command.WalkCommand.TheVariants.{Walk, Trace, Fates, Capture, Gfp, Frames, Decode, Noise, Au4, Make, Stream}
+use Rattle.walk_command.specs.declared.command.WalkCommand.TheVariants.{Walk, Trace, Fates, Capture, Gfp, Frames}
+use Rattle.walk_command.specs.declared.command.WalkCommand.TheVariants.{Decode, Noise, Au4, Make, Stream}
 use Rattle.walk_command.specs.Walk.{word_at, is_word, walk_words}
 use Rattle.walk_command.specs.Trace.{trace_words}
 use Rattle.walk_command.specs.Fates.{fates_words}
@@ -48,7 +50,8 @@ number-fits : (least most : ℕ) (w : List ℕ) → IfSome (number_in least most
 number-fits least most w =
     elim (cases_Bool (is_number w && (nat_le least (number_of w) && nat_le (number_of w) most))) [
       | inl within ↦
-          let both = and_parts (nat_le least (number_of w)) (nat_le (number_of w) most) (and_parts (is_number w) (nat_le least (number_of w) && nat_le (number_of w) most) within).1 in
+          let both = and_parts (nat_le least (number_of w)) (nat_le (number_of w) most)
+          (and_parts (is_number w) (nat_le least (number_of w) && nat_le (number_of w) most) within).1 in
           rw within (leb-true least (number_of w) both.0, leb-true (number_of w) most both.1)
       | inr outside ↦ rw outside tt
     ]
@@ -61,7 +64,8 @@ if-fits : (test : Bool) (f : Option WalkCommand) → IfSome f Fits → IfSome (i
 if-fits true f fits = fits
 if-fits false f fits = tt
 
-load-fits : (number lines ticks : Option ℕ) → IfSome lines (IsWithin 1 64) → IfSome ticks (IsWithin 1 1000000) → IfSome (load_of number lines ticks) Fits
+load-fits : (number lines ticks : Option ℕ) → IfSome lines (IsWithin 1 64) → IfSome ticks (IsWithin 1 1000000) →
+    IfSome (load_of number lines ticks) Fits
 load-fits (Some number) (Some lines) (Some ticks) a b = (a, b)
 load-fits (Some number) (Some lines) None a b = tt
 load-fits (Some number) None ticks a b = tt
@@ -80,7 +84,8 @@ ticks-fit (Some first) (Some end) a =
 ticks-fit (Some first) None a = tt
 ticks-fit None end a = tt
 
-rate-fits : (octets mbits : Option ℕ) (ticks : Option (ℕ × ℕ)) (number : Option ℕ) → IfSome octets (IsWithin 64 9600) → IfSome mbits (IsWithin 1 400000)
+rate-fits : (octets mbits : Option ℕ) (ticks : Option (ℕ × ℕ)) (number : Option ℕ) → IfSome octets (IsWithin 64 9600) →
+    IfSome mbits (IsWithin 1 400000)
     → IfSome ticks AreTicks → IfSome (rate_of octets mbits ticks number) Fits
 rate-fits (Some octets) (Some mbits) (Some ticks) (Some number) a b c =
     record { least = a.0; most = a.1; some = b.0; fast = b.1; before = c.0; end = c.1 }
@@ -133,12 +138,14 @@ numbers-fit ws =
     let end = number_in 0 1000000 (word_at 3 ws) in
     let number = number_in 0 18446744073709551615 (word_at 4 ws) in
     if-fits (length ws == 5) (rate_of octets mbits (ticks_of first end) number)
-    (rate-fits octets mbits (ticks_of first end) number (number-fits 64 9600 (word_at 0 ws)) (number-fits 1 400000 (word_at 1 ws))
+    (rate-fits octets mbits (ticks_of first end) number (number-fits 64 9600 (word_at 0 ws))
+    (number-fits 1 400000 (word_at 1 ws))
     (ticks-fit first end (number-fits 0 1000000 (word_at 3 ws))))
 
 stream-fits : (words : List (List ℕ)) → IfSome (stream_words words) Fits
 stream-fits words =
-    if-fits (nat_le 1 (length words) && bytes_eq (word_at 0 words) (codes "stream")) (numbers_in (drop 1 words)) (numbers-fit (drop 1 words))
+    if-fits (nat_le 1 (length words) && bytes_eq (word_at 0 words) (codes "stream")) (numbers_in (drop 1 words))
+    (numbers-fit (drop 1 words))
 
 named-fits : (words : List (List ℕ)) → IfSome (command_of words) Fits
 named-fits words =
@@ -169,10 +176,12 @@ named-fits words =
 pub fits : (words : List (String Global)) (command : WalkCommand) → command_in words ≡ Some command → Fits command
 fits words command is =
     let P : Option WalkCommand → Type 0 = λ o. IfSome o Fits in
-    subst P is (if-fits (are_plain (map string_bytes words)) (command_of (map string_bytes words)) (named-fits (map string_bytes words)))
+    subst P is (if-fits (are_plain (map string_bytes words)) (command_of (map string_bytes words))
+    (named-fits (map string_bytes words)))
 
 -- ---- what stands of any command
-pub any-command : (P : WalkCommand → Type 0) (o : Option WalkCommand) → ((command : WalkCommand) → P command) → IfSome o P
+pub any-command : (P : WalkCommand → Type 0) (o : Option WalkCommand) → ((command : WalkCommand) → P command) →
+    IfSome o P
 any-command P None all = tt
 any-command P (Some command) all = all command
 
@@ -203,16 +212,27 @@ not-run status (inl at) is = omega (arith, at, is)
 not-run status (inr at) is = omega (arith, at, is)
 
 -- ---- the ends
-module _ {S K E : Type 0} (source : Lent S) (out : Lent K) (notes : Lent E) (words : List (String Global)) (status : ℕ) where
-  pub ends-made : (command : WalkCommand) (answer : Answer) → command_in words ≡ Some command → task_at command ≡ makes answer → Kept source
+module _ {S K E : Type 0} (source : Lent S) (out : Lent K) (notes : Lent E) (words : List (String Global))
+    (status : ℕ) where
+  pub ends-made : (command : WalkCommand) (answer : Answer) → command_in words ≡ Some command →
+      task_at command ≡ makes answer → Kept source
       → Ends no_source out notes (makes answer) status → Ends source out notes (task_of words) status
   ends-made command answer is task kept ends =
       let P : Task → Type 0 = λ task. Ends source out notes task status in
       subst P (sym (ap task_for is ∙ task)) (made-beside source out notes answer status kept ends)
 
-  pub ends-usage : IsNone (command_in words) → status ≡ 2 → Kept source → Kept out → IsTold notes usage → Ends source out notes (task_of words) status
+  pub ends-usage : IsNone (command_in words) → status ≡ 2 → Kept source → Kept out → IsTold notes usage →
+      Ends source out notes (task_of words) status
   ends-usage is at kept nothing told =
-      no_command at (record { usage = usage; none = none-task (command_in words) is; unread = kept; nothing = nothing; told = told })
+      no_command at (record {
+        usage = usage;
+        none = none-task (command_in words) is;
+        unread = kept;
+        nothing = nothing;
+        told = told;
+      })
 
-  pub ends-wanting : (IsNone (command_in words) → ⊥) → status ≡ 7 → Kept source → Kept out → IsTold notes (note_of Memory) → Ends source out notes (task_of words) status
-  ends-wanting some at kept nothing told = ends-no-memory source out notes (task_of words) status (is-command (command_in words) some) at kept nothing told
+  pub ends-wanting : (IsNone (command_in words) → ⊥) → status ≡ 7 → Kept source → Kept out →
+      IsTold notes (note_of Memory) → Ends source out notes (task_of words) status
+  ends-wanting some at kept nothing told =
+      ends-no-memory source out notes (task_of words) status (is-command (command_in words) some) at kept nothing told

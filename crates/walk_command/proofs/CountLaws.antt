@@ -1,5 +1,6 @@
 -- How far an event, a round and the event lines of a script move the counts of a walk.
-use Rattle.std.proofs.Common.{◌≡◌, ℕ, zero, suc, ◌+◌, ◌<◌, ◌≤◌, ◌&&◌, nat_le, nat_lt, inl, inr, List, [], ◌∷◌, ◌++◌, length, replicate, take, slice_get, get_or, Option, Some, None, refl, ◌∙◌, ap, arith}
+use Rattle.std.proofs.Common.{◌≡◌, ℕ, zero, suc, ◌+◌, ◌<◌, ◌≤◌, ◌&&◌, nat_le, nat_lt, inl, inr, List, [], ◌∷◌, ◌++◌}
+use Rattle.std.proofs.Common.{length, replicate, take, slice_get, get_or, Option, Some, None, refl, ◌∙◌, ap, arith}
 use Rattle.std.specs.List.{flat_map}
 use Rattle.std.proofs.lemmas.Bool.{cases_Bool}
 use Rattle.std.proofs.lemmas.Grind.{flat_map-append}
@@ -9,7 +10,10 @@ use Rattle.session_model.specs.declared.script.EventLine.TheVariants.{Client, Op
 use Rattle.session_model.specs.declared.script.EventLine.TheVariants as line
 use Rattle.session_model.specs.declared.walk.Event.{Event}
 use Rattle.session_model.specs.declared.walk.Event.TheVariants.{Accept, Command, Tick, Carry, Back, Take}
-use Rattle.session_model.specs.Counts.{LinePath, LineCounts, Plan, Counts, in_send, in_receive, in_return, held, full, is_missing, tick_full, tick_held, tick, carry_at, back, pop_lines, take_popped, take_row, is_back_full, land_due, frame_dues, command_dues, step, run, carries_from, round, begin, bound, drain, run_line, run_lines, walked}
+use Rattle.session_model.specs.Counts.{LinePath, LineCounts, Plan, Counts, in_send, in_receive, in_return, held, full}
+use Rattle.session_model.specs.Counts.{is_missing, tick_full, tick_held, tick, carry_at, back, pop_lines, take_popped}
+use Rattle.session_model.specs.Counts.{take_row, is_back_full, land_due, frame_dues, command_dues, step, run}
+use Rattle.session_model.specs.Counts.{carries_from, round, begin, bound, drain, run_line, run_lines, walked}
 use Rattle.progress_law.proofs.ReachLaws.{run-append}
 
 -- the same rows and ticks
@@ -32,7 +36,8 @@ rises : (s next : Counts) → Same s next → Rises s next
 rises s next one = let a = one.rows in let b = one.ticks in record { rows = omega (arith, a); ticks = omega (arith, b) }
 
 pub rises-then : (s next last : Counts) → Rises s next → Rises next last → Rises s last
-rises-then s next last one two = record { rows = omega (arith, one.rows, two.rows); ticks = omega (arith, one.ticks, two.ticks) }
+rises-then s next last one two =
+    record { rows = omega (arith, one.rows, two.rows); ticks = omega (arith, one.ticks, two.ticks) }
 
 -- ---- one event
 land-same : (ticks : ℕ) (due : Option ℕ) (s next : Counts) → Same s next → Same s (land_due ticks due s next).counts
@@ -40,9 +45,11 @@ land-same ticks None s next e = same s
 land-same ticks (Some due) s next e = elim (cases_Bool (nat_lt ticks due)) [ inl h ↦ rw h (same s) | inr h ↦ rw h e ]
 
 back-same : (s : Counts) → Same s (back s).counts
-back-same s = elim (cases_Bool (nat_le (in_return s) 0)) [ inl h ↦ rw h (same s) | inr h ↦ rw h (record { rows = refl; ticks = refl }) ]
+back-same s = elim (cases_Bool (nat_le (in_return s) 0))
+    [ inl h ↦ rw h (same s) | inr h ↦ rw h (record { rows = refl; ticks = refl }) ]
 
-carried-same : (plan : Plan) (s : Counts) (m : ℕ) (path : Option LinePath) (line : Option LineCounts) → Same s (carry_at plan s m path line).counts
+carried-same : (plan : Plan) (s : Counts) (m : ℕ) (path : Option LinePath) (line : Option LineCounts) →
+    Same s (carry_at plan s m path line).counts
 carried-same plan s m None line = same s
 carried-same plan s m (Some path) None = same s
 carried-same plan s m (Some path) (Some line) =
@@ -50,7 +57,8 @@ carried-same plan s m (Some path) (Some line) =
       | inl a ↦ rw a (same s)
       | inr a ↦ rw a (elim (cases_Bool (nat_lt line.carried plan.ticks && nat_le (in_send plan.ticks s.ticks line) 0)) [
         | inl b ↦ rw b (same s)
-        | inr b ↦ rw b (elim (cases_Bool (nat_le plan.ring (in_receive path line))) [ inl d ↦ rw d (same s) | inr d ↦ rw d (record { rows = refl; ticks = refl }) ])
+        | inr b ↦ rw b (elim (cases_Bool (nat_le plan.ring (in_receive path line)))
+            [ inl d ↦ rw d (same s) | inr d ↦ rw d (record { rows = refl; ticks = refl }) ])
       ])
     ]
 
@@ -65,7 +73,8 @@ no-tick s = record { rows = refl; least = omega arith; most = omega arith }
 
 full-ticks : (line : Option ℕ) (plan : Plan) (s : Counts) → Ticks s (tick_full line plan s).counts
 full-ticks (Some line) plan s = no-tick s
-full-ticks None plan s = elim (cases_Bool (is_missing plan s)) [ inl h ↦ rw h (no-tick s) | inr h ↦ rw h (record { rows = refl; least = omega arith; most = omega arith }) ]
+full-ticks None plan s = elim (cases_Bool (is_missing plan s))
+    [ inl h ↦ rw h (no-tick s) | inr h ↦ rw h (record { rows = refl; least = omega arith; most = omega arith }) ]
 
 held-ticks : (item : Option ℕ) (plan : Plan) (s : Counts) → Ticks s (tick_held item plan s).counts
 held-ticks (Some item) plan s = no-tick s
@@ -87,7 +96,8 @@ record Takes (s next : Counts) : Type 0 where
 no-row : (s : Counts) → Takes s s
 no-row s = record { rows = omega arith; one = omega arith; ticks = refl }
 
-popped-takes : (s : Counts) (lines : List LineCounts) (waiting : Option ℕ) → Takes s (take_popped s lines waiting).counts
+popped-takes : (s : Counts) (lines : List LineCounts) (waiting : Option ℕ) →
+    Takes s (take_popped s lines waiting).counts
 popped-takes s lines (Some line) = record { rows = omega arith; one = omega arith; ticks = refl }
 popped-takes s lines None = record { rows = omega arith; one = omega arith; ticks = refl }
 
@@ -97,15 +107,18 @@ take-takes plan s =
       | inl a ↦ rw a (no-row s)
       | inr a ↦ rw a (elim (cases_Bool (is_back_full s)) [
         | inl b ↦ rw b (no-row s)
-        | inr b ↦ rw b (popped-takes s (pop_lines s.rows 0 plan.paths s.lines).lines (pop_lines s.rows 0 plan.paths s.lines).waiting)
+        | inr b ↦ rw b (popped-takes s (pop_lines s.rows 0 plan.paths s.lines).lines
+            (pop_lines s.rows 0 plan.paths s.lines).waiting)
       ])
     ]
 
 accept-same : (plan : Plan) (s : Counts) → Same s (step plan s Accept).counts
-accept-same plan s = land-same s.ticks (slice_get (frame_dues plan.items) s.frames) s (record s { frames = s.frames + 1 }) (record { rows = refl; ticks = refl })
+accept-same plan s = land-same s.ticks (slice_get (frame_dues plan.items) s.frames) s
+    (record s { frames = s.frames + 1 }) (record { rows = refl; ticks = refl })
 
 command-same : (plan : Plan) (s : Counts) → Same s (step plan s Command).counts
-command-same plan s = land-same s.ticks (slice_get (command_dues plan.items) s.commands) s (record s { commands = s.commands + 1 }) (record { rows = refl; ticks = refl })
+command-same plan s = land-same s.ticks (slice_get (command_dues plan.items) s.commands) s
+    (record s { commands = s.commands + 1 }) (record { rows = refl; ticks = refl })
 
 carry-same : (plan : Plan) (s : Counts) (m : ℕ) → Same s (step plan s (Carry m)).counts
 carry-same plan s m = carried-same plan s m (slice_get plan.paths m) (slice_get s.lines m)
@@ -117,29 +130,35 @@ pub record Moves (s next : Counts) : Type 0 where
   pub one : next.rows ≤ s.rows + 1
 
 still : (s next : Counts) → Same s next → Moves s next
-still s next one = let a = one.rows in let b = one.ticks in record { rises = rises s next one; most = omega (arith, b); one = omega (arith, a) }
+still s next one = let a = one.rows in let b = one.ticks in
+    record { rises = rises s next one; most = omega (arith, b); one = omega (arith, a) }
 
 pub step-moves : (plan : Plan) (s : Counts) (event : Event) → Moves s (step plan s event).counts
 step-moves plan s Accept = still s (step plan s Accept).counts (accept-same plan s)
 step-moves plan s Command = still s (step plan s Command).counts (command-same plan s)
-step-moves plan s Tick = let t = tick-ticks plan s in let a = t.rows in record { rises = record { rows = omega (arith, a); ticks = t.least }; most = t.most; one = omega (arith, a) }
+step-moves plan s Tick = let t = tick-ticks plan s in let a = t.rows in
+    record { rises = record { rows = omega (arith, a); ticks = t.least }; most = t.most; one = omega (arith, a) }
 step-moves plan s (Carry m) = still s (step plan s (Carry m)).counts (carry-same plan s m)
 step-moves plan s Back = still s (step plan s Back).counts (back-same s)
-step-moves plan s Take = let t = take-takes plan s in let a = t.ticks in record { rises = record { rows = t.rows; ticks = omega (arith, a) }; most = omega (arith, a); one = t.one }
+step-moves plan s Take = let t = take-takes plan s in let a = t.ticks in
+    record { rises = record { rows = t.rows; ticks = omega (arith, a) }; most = omega (arith, a); one = t.one }
 
 -- ---- many events
 pub run-rises : (plan : Plan) (s : Counts) (events : List Event) → Rises s (run plan s events)
 unfolding run
 run-rises plan s [] = rises s s (same s)
 run-rises plan s (event ∷ events) =
-    rises-then s (step plan s event).counts (run plan (step plan s event).counts events) (step-moves plan s event).rises (run-rises plan (step plan s event).counts events)
+    rises-then s (step plan s event).counts (run plan (step plan s event).counts events) (step-moves plan s event).rises
+    (run-rises plan (step plan s event).counts events)
 
 -- one try more
 pub replicate-last : {X : Type 0} (k : ℕ) (x : X) → replicate (k + 1) x ≡ replicate k x ++ x ∷ []
 replicate-last zero x = refl
-replicate-last (suc k) x = ap (λ n. replicate n x) (let e : suc k + 1 ≡ suc (k + 1) = omega arith in e) ∙ ap (λ l. x ∷ l) (replicate-last k x)
+replicate-last (suc k) x = ap (λ n. replicate n x) (let e : suc k + 1 ≡ suc (k + 1) = omega arith in e)
+    ∙ ap (λ l. x ∷ l) (replicate-last k x)
 
-pub run-last : (plan : Plan) (s : Counts) (k : ℕ) (event : Event) → run plan s (replicate (k + 1) event) ≡ (step plan (run plan s (replicate k event)) event).counts
+pub run-last : (plan : Plan) (s : Counts) (k : ℕ) (event : Event) →
+    run plan s (replicate (k + 1) event) ≡ (step plan (run plan s (replicate k event)) event).counts
 unfolding run
 run-last plan s k event = ap (run plan s) (replicate-last k event) ∙ run-append plan s (replicate k event) (event ∷ [])
 
@@ -147,7 +166,8 @@ run-last plan s k event = ap (run plan s) (replicate-last k event) ∙ run-appen
 abbrev all-of : List (List Event) → List Event
 all-of tries = flat_map (λ (events : List Event). events) tries
 
-pub rounds-last : (plan : Plan) (s : Counts) (k : ℕ) → run_line plan s (Round (k + 1)) ≡ run plan (run_line plan s (Round k)) (round plan)
+pub rounds-last : (plan : Plan) (s : Counts) (k : ℕ) →
+    run_line plan s (Round (k + 1)) ≡ run plan (run_line plan s (Round k)) (round plan)
 rounds-last plan s k =
     ap (λ tries. run plan s (all-of tries)) (replicate-last k (round plan))
     ∙ ap (run plan s) (flat_map-append (λ (events : List Event). events) (replicate k (round plan)) (round plan ∷ [])
@@ -160,7 +180,8 @@ drain-rises zero plan s = rises s s (same s)
 drain-rises (suc k) plan s =
     elim (cases_Bool (nat_le plan.ticks s.rows)) [
       | inl h ↦ rw h (rises s s (same s))
-      | inr h ↦ rw h (rises-then s (run plan s (round plan)) (drain k plan (run plan s (round plan))) (run-rises plan s (round plan)) (drain-rises k plan (run plan s (round plan))))
+      | inr h ↦ rw h (rises-then s (run plan s (round plan)) (drain k plan (run plan s (round plan)))
+          (run-rises plan s (round plan)) (drain-rises k plan (run plan s (round plan))))
     ]
 
 pub line-rises : (plan : Plan) (s : Counts) (line : EventLine) → Rises s (run_line plan s line)
@@ -177,10 +198,12 @@ pub lines-rises : (plan : Plan) (s : Counts) (lines : List EventLine) → Rises 
 unfolding run_lines
 lines-rises plan s [] = rises s s (same s)
 lines-rises plan s (line ∷ lines) =
-    rises-then s (run_line plan s line) (run_lines plan (run_line plan s line) lines) (line-rises plan s line) (lines-rises plan (run_line plan s line) lines)
+    rises-then s (run_line plan s line) (run_lines plan (run_line plan s line) lines) (line-rises plan s line)
+    (lines-rises plan (run_line plan s line) lines)
 
 -- ---- event lines, one by one
-lines-append : (plan : Plan) (s : Counts) (xs ys : List EventLine) → run_lines plan s (xs ++ ys) ≡ run_lines plan (run_lines plan s xs) ys
+lines-append : (plan : Plan) (s : Counts) (xs ys : List EventLine) →
+    run_lines plan s (xs ++ ys) ≡ run_lines plan (run_lines plan s xs) ys
 unfolding run_lines
 lines-append plan s [] ys = refl
 lines-append plan s (x ∷ xs) ys = lines-append plan (run_line plan s x) xs ys
@@ -189,41 +212,53 @@ pub lines-none : (plan : Plan) (s : Counts) → run_lines plan s [] ≡ s
 unfolding run_lines
 lines-none plan s = refl
 
-pub lines-last : (plan : Plan) (s : Counts) (lines : List EventLine) (k : ℕ) (line : EventLine) → slice_get lines k ≡ Some line
+pub lines-last : (plan : Plan) (s : Counts) (lines : List EventLine) (k : ℕ) (line : EventLine) →
+    slice_get lines k ≡ Some line
     → run_lines plan s (take (k + 1) lines) ≡ run_line plan (run_lines plan s (take k lines)) line
 unfolding run_lines
-lines-last plan s lines k line is = ap (run_lines plan s) (take-one lines k line is) ∙ lines-append plan s (take k lines) (line ∷ [])
+lines-last plan s lines k line is = ap (run_lines plan s) (take-one lines k line is)
+    ∙ lines-append plan s (take k lines) (line ∷ [])
   where
-    take-one : (xs : List EventLine) (k : ℕ) (x : EventLine) → slice_get xs k ≡ Some x → take (k + 1) xs ≡ take k xs ++ x ∷ []
+    take-one : (xs : List EventLine) (k : ℕ) (x : EventLine) → slice_get xs k ≡ Some x →
+        take (k + 1) xs ≡ take k xs ++ x ∷ []
     take-one [] k x e = absurd cc
     take-one (y ∷ xs) zero x e = ap (λ z. z ∷ []) (let a : y ≡ x = cc in a)
-    take-one (y ∷ xs) (suc k) x e = ap (λ n. take n (y ∷ xs)) (let n : suc k + 1 ≡ suc (k + 1) = omega arith in n) ∙ ap (λ l. y ∷ l) (take-one xs k x e)
+    take-one (y ∷ xs) (suc k) x e = ap (λ n. take n (y ∷ xs)) (let n : suc k + 1 ≡ suc (k + 1) = omega arith in n)
+        ∙ ap (λ l. y ∷ l) (take-one xs k x e)
 
 -- where there are lines, a walk is these
-pub lines-some : (plan : Plan) (lines : List EventLine) → 0 < length lines → walked plan lines ≡ run_lines plan (begin plan) lines
+pub lines-some : (plan : Plan) (lines : List EventLine) → 0 < length lines →
+    walked plan lines ≡ run_lines plan (begin plan) lines
 lines-some plan [] some = absurd (omega (arith, some))
 lines-some plan (line ∷ lines) some = refl
 
-pub lines-no : (plan : Plan) (lines : List EventLine) → length lines ≡ 0 → walked plan lines ≡ drain (bound plan) plan (begin plan)
+pub lines-no : (plan : Plan) (lines : List EventLine) → length lines ≡ 0 →
+    walked plan lines ≡ drain (bound plan) plan (begin plan)
 lines-no plan [] none = refl
 lines-no plan (line ∷ lines) none = absurd (omega (arith, none))
 
 -- ---- a round makes one tick or none, and takes one row or none
-runs-same : (plan : Plan) (event : Event) → ((s : Counts) → Same s (step plan s event).counts) → (s : Counts) (k : ℕ) → Same s (run plan s (replicate k event))
+runs-same : (plan : Plan) (event : Event) → ((s : Counts) → Same s (step plan s event).counts) → (s : Counts) (k : ℕ) →
+    Same s (run plan s (replicate k event))
 unfolding run
 runs-same plan event each s zero = same s
 runs-same plan event each s (suc k) =
-    same-then s (step plan s event).counts (run plan (step plan s event).counts (replicate k event)) (each s) (runs-same plan event each (step plan s event).counts k)
+    same-then s (step plan s event).counts (run plan (step plan s event).counts (replicate k event)) (each s)
+    (runs-same plan event each (step plan s event).counts k)
 
-carries-ticks : (plan : Plan) (s : Counts) (m : ℕ) (paths : List LinePath) → (run plan s (carries_from m paths)).ticks ≡ s.ticks
+carries-ticks : (plan : Plan) (s : Counts) (m : ℕ) (paths : List LinePath) →
+    (run plan s (carries_from m paths)).ticks ≡ s.ticks
 unfolding run carries_from
 carries-ticks plan s m [] = (take-takes plan (back s).counts).ticks ∙ (back-same s).ticks
-carries-ticks plan s m (path ∷ paths) = carries-ticks plan (step plan s (Carry m)).counts (suc m) paths ∙ (carry-same plan s m).ticks
+carries-ticks plan s m (path ∷ paths) = carries-ticks plan (step plan s (Carry m)).counts (suc m) paths
+    ∙ (carry-same plan s m).ticks
 
-carries-rows : (plan : Plan) (s : Counts) (m : ℕ) (paths : List LinePath) → (run plan s (carries_from m paths)).rows ≤ s.rows + 1
+carries-rows : (plan : Plan) (s : Counts) (m : ℕ) (paths : List LinePath) →
+    (run plan s (carries_from m paths)).rows ≤ s.rows + 1
 unfolding run carries_from
 carries-rows plan s m [] = omega (arith, (take-takes plan (back s).counts).one, (back-same s).rows)
-carries-rows plan s m (path ∷ paths) = omega (arith, carries-rows plan (step plan s (Carry m)).counts (suc m) paths, (carry-same plan s m).rows)
+carries-rows plan s m (path ∷ paths) =
+    omega (arith, carries-rows plan (step plan s (Carry m)).counts (suc m) paths, (carry-same plan s m).rows)
 
 pub round-moves : (plan : Plan) (s : Counts) → Moves s (run plan s (round plan))
 unfolding run
@@ -239,7 +274,8 @@ round-moves plan s =
     let is_b = (runs-same plan Command (command-same plan) a n).ticks in
     let is_t = (tick-ticks plan b).most in
     let last = carries-ticks plan t 0 plan.paths in
-    let all : run plan s (round plan) ≡ run plan t cs_ = run-append plan s as_ (bs_ ++ Tick ∷ cs_) ∙ run-append plan a bs_ (Tick ∷ cs_) in
+    let all : run plan s (round plan) ≡ run plan t cs_ = run-append plan s as_ (bs_ ++ Tick ∷ cs_)
+    ∙ run-append plan a bs_ (Tick ∷ cs_) in
     let end : (run plan s (round plan)).ticks ≡ t.ticks = ap (λ (x : Counts). x.ticks) all ∙ last in
     let row_a = (runs-same plan Accept (accept-same plan) s n).rows in
     let row_b = (runs-same plan Command (command-same plan) a n).rows in

@@ -9,8 +9,10 @@ use Rattle.walk_law.specs.Walk.{walk_plan, IsWalked}
 use Rattle.headline_law.specs.Texts.{counts_in}
 use Rattle.walk_command.proofs.TraceLaws.{turn-walked, lines-walked}
 
-pub walked-on : (was now : Script) (s next : Counts) (events : List Event) → IsWalked was s → now ≡ was → next ≡ run (walk_plan was) s events → IsWalked now next
-walked-on was now s next events walked same made = subst (λ (x : Script). IsWalked x next) (sym same) (turn-walked was s next events walked made)
+pub walked-on : (was now : Script) (s next : Counts) (events : List Event) → IsWalked was s → now ≡ was →
+    next ≡ run (walk_plan was) s events → IsWalked now next
+walked-on was now s next events walked same made =
+    subst (λ (x : Script). IsWalked x next) (sym same) (turn-walked was s next events walked made)
 
 pub counts-walked : (script : Script) → IsWalked script (counts_in script)
 unfolding run_lines

@@ -8,7 +8,8 @@ use Rattle.command_parts.specs.Task.{Task, none, reads, makes}
 use Rattle.command_parts.specs.Ends.{Lent}
 use Rattle.walk_core.specs.Moved.{Walked}
 use Rattle.walk_command.specs.declared.command.WalkCommand.{WalkCommand}
-use Rattle.walk_command.specs.declared.command.WalkCommand.TheVariants.{Walk, Trace, Fates, Capture, Gfp, Frames, Decode, Noise, Au4, Make, Stream}
+use Rattle.walk_command.specs.declared.command.WalkCommand.TheVariants.{Walk, Trace, Fates, Capture, Gfp, Frames}
+use Rattle.walk_command.specs.declared.command.WalkCommand.TheVariants.{Decode, Noise, Au4, Make, Stream}
 use Rattle.walk_command.specs.Walk.{walk_words, walk_answer}
 use Rattle.walk_command.specs.Trace.{trace_words, trace_answer}
 use Rattle.walk_command.specs.Capture.{capture_words, capture_answer}
@@ -28,7 +29,8 @@ usage = codes "usage: vcat_walk walk, trace, fates, capture, gfp, frames, decode
 -- ---- a line for each command
 abbrev pub command_of : List (List ℕ) → Option WalkCommand
 command_of words =
-    option_or (option_or (option_or (option_or (option_or (option_or (option_or (option_or (option_or (option_or (walk_words words)
+    option_or (option_or (option_or
+    (option_or (option_or (option_or (option_or (option_or (option_or (option_or (walk_words words)
     (trace_words words))
     (fates_words words))
     (capture_words words))

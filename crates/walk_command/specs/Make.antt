@@ -1,5 +1,6 @@
 -- `make`: the walk of a load from a number, and what is written of it.
-use Rattle.std.specs.Prelude.{◌≡◌, ℕ, ◌*◌, ◌≤◌, ◌==◌, ◌&&◌, min, List, ◌++◌, sum, length, codes, decimal, bytes_eq, Option, Some, None, if◌then◌else◌}
+use Rattle.std.specs.Prelude.{◌≡◌, ℕ, ◌*◌, ◌≤◌, ◌==◌, ◌&&◌, min, List, ◌++◌, sum, length, codes, decimal, bytes_eq}
+use Rattle.std.specs.Prelude.{Option, Some, None, if◌then◌else◌}
 use Rattle.std.specs.List.{sum_by}
 use Rattle.session_model.specs.declared.script.Script.{Script}
 use Rattle.session_model.specs.Counts.{Counts}
@@ -26,7 +27,8 @@ load_of None lines ticks = None
 abbrev pub make_words : List (List ℕ) → Option WalkCommand
 make_words words =
     if length words == 4 && bytes_eq (word_at 0 words) (codes "make") then
-    load_of (number_in 0 18446744073709551615 (word_at 1 words)) (number_in 1 64 (word_at 2 words)) (number_in 1 1000000 (word_at 3 words))
+    load_of (number_in 0 18446744073709551615 (word_at 1 words)) (number_in 1 64 (word_at 2 words))
+    (number_in 1 1000000 (word_at 3 words))
     else None
 
 -- how many octets some frames have, and the sum of these
@@ -50,7 +52,8 @@ lines_text lines ticks totals octets total = made_text lines ticks ++ total_text
 -- those of a script after some counts
 abbrev pub sums_text : Script → Counts → List ℕ
 sums_text script s =
-    lines_text script.config.lines script.config.ticks (totals_of script s) (octet_count (delivered_of script s.rows)) (octet_sum (delivered_of script s.rows))
+    lines_text script.config.lines script.config.ticks (totals_of script s) (octet_count (delivered_of script s.rows))
+    (octet_sum (delivered_of script s.rows))
 
 -- those of the load of a number, whose walk drains
 abbrev pub make_text : ℕ → ℕ → ℕ → List ℕ

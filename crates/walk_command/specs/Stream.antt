@@ -1,5 +1,6 @@
 -- `stream`: the script lines of a client that sends at a rate.
-use Rattle.std.specs.Prelude.{ℕ, ◌==◌, ◌&&◌, nat_le, nat_lt, List, length, drop, codes, bytes_eq, Option, Some, None, if◌then◌else◌}
+use Rattle.std.specs.Prelude.{ℕ, ◌==◌, ◌&&◌, nat_le, nat_lt, List, length, drop, codes, bytes_eq, Option, Some, None}
+use Rattle.std.specs.Prelude.{if◌then◌else◌}
 use Rattle.session_model.specs.Limits.{longest_input}
 use Rattle.rate_load.specs.declared.lines.RateLoad.{RateLoad}
 use Rattle.rate_load.specs.Lines.{rate_text}
@@ -24,12 +25,14 @@ rate_of (Some octets) (Some mbits) None number = None
 rate_of (Some octets) None ticks number = None
 rate_of None mbits ticks number = None
 
--- 64 to 9,600 octets, 1 to 400,000 megabits a second, from a tick to before another of at most 1,000,000, and a number below 2^64
+-- 64 to 9,600 octets, 1 to 400,000 megabits a second, from a tick to before another of at most 1,000,000, and a number
+-- below 2^64
 abbrev pub numbers_in : List (List ℕ) → Option WalkCommand
 numbers_in ws =
     if length ws == 5 then
     rate_of (number_in 64 9600 (word_at 0 ws)) (number_in 1 400000 (word_at 1 ws))
-    (ticks_of (number_in 0 1000000 (word_at 2 ws)) (number_in 0 1000000 (word_at 3 ws))) (number_in 0 18446744073709551615 (word_at 4 ws))
+    (ticks_of (number_in 0 1000000 (word_at 2 ws)) (number_in 0 1000000 (word_at 3 ws)))
+    (number_in 0 18446744073709551615 (word_at 4 ws))
     else None
 
 abbrev pub stream_words : List (List ℕ) → Option WalkCommand

@@ -1,5 +1,6 @@
 -- `walk`: a script's walk, and its report.
-use Rattle.std.specs.Prelude.{ℕ, ◌==◌, ◌&&◌, List, length, bytes_eq, slice_index_or, [], codes, Bool, Option, Some, None, if◌then◌else◌}
+use Rattle.std.specs.Prelude.{ℕ, ◌==◌, ◌&&◌, List, length, bytes_eq, slice_index_or, [], codes, Bool, Option, Some}
+use Rattle.std.specs.Prelude.{None, if◌then◌else◌}
 use Rattle.headline_law.specs.Texts.{walk_text}
 use Rattle.command_parts.specs.Task.{Answer, writes}
 use Rattle.command_parts.specs.Scripts.{script_answer}

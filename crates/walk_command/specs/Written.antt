@@ -1,4 +1,5 @@
--- What is written so far of a decoding, as private clauses say it. `written` and `faults` are the sink's, `start` is the sink before the
+-- What is written so far of a decoding, as private clauses say it. `written` and `faults` are the sink's, `start` is
+-- the sink before the
 -- first line, and `now` is the sink as it is.
 use Rattle.std.specs.Prelude.{◌≡◌, ℕ, List, length, Option}
 use Rattle.outside_io.specs.Transfer.{Appends, AppendsPart}
@@ -6,7 +7,8 @@ use Rattle.session_model.specs.Decode.{packets_in}
 use Rattle.session_model.specs.DecodeText.{found_texts}
 
 -- the lines of the packets in these octets are written, and `packets` is their number
-pub record HasLines {K : Type 0} (written : K → Option (List ℕ)) (faults : K → ℕ) (octets : List ℕ) (start now : K) (packets : ℕ) : Type 0 where
+pub record HasLines {K : Type 0} (written : K → Option (List ℕ)) (faults : K → ℕ) (octets : List ℕ) (start now : K)
+    (packets : ℕ) : Type 0 where
   pub count : packets ≡ length (packets_in octets)
   pub lines : Appends written faults start now (found_texts (packets_in octets))
 

@@ -182,8 +182,8 @@ pub fn capture_law()
         map (λ (own : RowFrame). own.frame) (taken_frames script rows) ≡ delivered_of script rows }
 {}
 
-/// The capture of a valid script's walk is read as the frames in it, each due as many ticks after the first one as the row that gave it comes
-/// after the row of that.
+/// The capture of a valid script's walk is read as the frames in it, each due as many ticks after the first
+/// one as the row that gave it comes after the row of that.
 pub fn capture_read_law()
     ensures { (script : Script) → IsValid script → capture_said (capture_octets script)
         ≡ Ok (due_frames (taken_frames script (counts_in script).rows)) }

@@ -1,5 +1,6 @@
 //! `decode`: the packets in the H4 octets of a line are found, and a line is written of each.
-ghost use Rattle.std.specs.Prelude.{◌≡◌, ℕ, ◌+◌, ◌<◌, ◌≤◌, List, [], ◌∷◌, ◌++◌, length, None, IfOk, OnOk, OnErr, map, string_bytes};
+ghost use Rattle.std.specs.Prelude.{◌≡◌, ℕ, ◌+◌, ◌<◌, ◌≤◌, List, [], ◌∷◌, ◌++◌, length, None, IfOk, OnOk, OnErr, map};
+ghost use Rattle.std.specs.Prelude.{string_bytes};
 ghost use Rattle.outside_io.specs.Transfer.{Appends, AppendsPart};
 ghost use Rattle.session_model.specs.DecodeText.{decoded_text};
 ghost use Rattle.trace_core.specs.Decoder.{Stands};

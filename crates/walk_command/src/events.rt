@@ -1,6 +1,7 @@
-//! What the event lines of a script say is made, and what comes of it is written: the lines of delivered frames, of refused items and of
-//! totals, and after each decision step its line on `notes`.
-ghost use Rattle.std.specs.Prelude.{◌≡◌, ◌≢◌, ◌+◌, ◌-◌, ◌≤◌, ◌<◌, ℕ, List, ◌++◌, length, replicate, false, IfSome, IfNone, OnOk, OnErr};
+//! What the event lines of a script say is made, and what comes of it is written: the lines of delivered
+//! frames, of refused items and of totals, and after each decision step its line on `notes`.
+ghost use Rattle.std.specs.Prelude.{◌≡◌, ◌≢◌, ◌+◌, ◌-◌, ◌≤◌, ◌<◌, ℕ, List, ◌++◌, length, replicate, false, IfSome};
+ghost use Rattle.std.specs.Prelude.{IfNone, OnOk, OnErr};
 ghost use Rattle.std.specs.List.{flat_map};
 ghost use Rattle.outside_io.specs.Transfer.{Appends, AppendsPart};
 ghost use Rattle.session_model.specs.declared.walk.Event.{Event};
@@ -289,7 +290,8 @@ fn trace_event_line<F: MayFail, E: ByteSink>(
     }
 }
 
-/// Makes what the event lines of a walk's script say. Where there are none, it drains. Answers whether a write has failed.
+/// Makes what the event lines of a walk's script say. Where there are none, it drains. Answers whether a
+/// write has failed.
 fn trace_event_lines<F: MayFail, E: ByteSink>(
     walk: &mut Walk,
     lines: &[EventLine],

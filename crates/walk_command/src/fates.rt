@@ -1,5 +1,5 @@
-//! `fates`: a script's walk is made, and what became of each of its frames is written, with the rows that were spoiled and what was
-//! confirmed after each break.
+//! `fates`: a script's walk is made, and what became of each of its frames is written, with the rows that
+//! were spoiled and what was confirmed after each break.
 ghost use Rattle.std.specs.Prelude.{◌≡◌, ◌≢◌, None, map, string_bytes};
 ghost use Rattle.command_parts.specs.Status.{HasRunAt};
 ghost use Rattle.command_parts.specs.Task.{reads};
@@ -26,15 +26,17 @@ pub fn words(words: &[String]) -> Option<WalkCommand>
     }
 }
 
-/// Reads a script, makes its walk and writes what became of each frame. All memory is taken before the first octet is written.
+/// Reads a script, makes its walk and writes what became of each frame. All memory is taken before the first
+/// octet is written.
 pub fn fates<S: ByteSource, K: ByteSink, E: ByteSink>(
     alloc: Global,
     script: &mut S,
     out: &mut K,
     notes: &mut E,
 ) -> WalkEnd
-    // That the text says `starts true` exactly where what is confirmed first after each break is the place of a piece, and that then the
-    // frames with the fate `got` are the delivered ones, in order and each once, is `fate_law` of the crate of that name.
+    // That the text says `starts true` exactly where what is confirmed first after each break is the place of
+    // a piece, and that then the frames with the fate `got` are the delivered ones, in order and each once,
+    // is `fate_law` of the crate of that name.
     ensures ends { Ends (lent S.left S.faults script.old script.new)
         (lent K.written K.faults out.old out.new) (lent E.written E.faults notes.old notes.new)
         (reads fates_answer) result.status }

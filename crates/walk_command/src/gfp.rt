@@ -25,16 +25,17 @@ pub fn words(words: &[String]) -> Option<WalkCommand>
     }
 }
 
-/// Reads a script, makes its walk and writes a capture of the GFP frames that the taken rows carry. All memory is taken before the first
-/// octet is written.
+/// Reads a script, makes its walk and writes a capture of the GFP frames that the taken rows carry. All
+/// memory is taken before the first octet is written.
 pub fn gfp<S: ByteSource, K: ByteSink, E: ByteSink>(
     alloc: Global,
     script: &mut S,
     out: &mut K,
     notes: &mut E,
 ) -> WalkEnd
-    // That these frames are those whose pieces end by the place at which the rows end, in order and each once, is `carried_law` of `walk_gfp`;
-    // that each is what the source sent is `gfp_law` of `capture_file` and that law.
+    // That these frames are those whose pieces end by the place at which the rows end, in order and each
+    // once, is `carried_law` of `walk_gfp`; that each is what the source sent is `gfp_law` of `capture_file`
+    // and that law.
     ensures ends { Ends (lent S.left S.faults script.old script.new)
         (lent K.written K.faults out.old out.new) (lent E.written E.faults notes.old notes.new)
         (reads gfp_answer) result.status }

@@ -1,5 +1,6 @@
 //! The octets that lines of hexadecimal digits say.
-ghost use Rattle.std.specs.Prelude.{◌≡◌, ℕ, ◌≤◌, ◌+◌, ◌*◌, ◌/◌, ◌++◌, List, length, vec_len, Ok, Err, Some, None, IfOk, OnOk, OnErr};
+ghost use Rattle.std.specs.Prelude.{◌≡◌, ℕ, ◌≤◌, ◌+◌, ◌*◌, ◌/◌, ◌++◌, List, length, vec_len, Ok, Err, Some, None, IfOk};
+ghost use Rattle.std.specs.Prelude.{OnOk, OnErr};
 ghost use Rattle.std.specs.Vec.{vec_capacity};
 ghost use Rattle.text_lines.specs.Words.{words};
 ghost use Rattle.walk_command.specs.HexLines.{hex_text_of, line_octets};
@@ -18,7 +19,8 @@ pub enum HexLinesFault {
     Memory,
 }
 
-/// Appends the octets of a line, where it is sound. There has to be room for half as many octets as the line has characters.
+/// Appends the octets of a line, where it is sound. There has to be room for half as many octets as the line
+/// has characters.
 fn take_line(line: &[u8], octets: &mut Vec<u8>) -> Result<(), NotHex>
     requires room { vec_len octets.old + length line.now / 2 ≤ vec_capacity octets.old }
     ensures ok { OnOk result ((part : List ℕ) × (line_octets (words line.now) ≡ Some part)

@@ -10,7 +10,8 @@ ghost use Rattle.command_parts.specs.Status.{HasRunAt};
 ghost use Rattle.command_parts.specs.Task.{makes};
 ghost use Rattle.command_parts.specs.Ends.{Ends, lent, no_source};
 ghost use Rattle.walk_command.specs.Ended.{IsWalkOf};
-ghost use Rattle.walk_command.specs.Make.{octet_count, octet_sum, made_text, sum_text, lines_text, load_of, make_words, make_answer};
+ghost use Rattle.walk_command.specs.Make.{octet_count, octet_sum, made_text, sum_text, lines_text, load_of, make_words};
+ghost use Rattle.walk_command.specs.Make.{make_answer};
 ghost use Rattle.cmd_words.specs.Words.{number_in};
 ghost use Rattle.session_model.specs.Limits.{longest_frame};
 

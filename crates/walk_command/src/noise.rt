@@ -1,4 +1,5 @@
-//! `noise`: frames with an FCS are sent, bits of their stream are turned over, and the frames that get through are written.
+//! `noise`: frames with an FCS are sent, bits of their stream are turned over, and the frames that get
+//! through are written.
 ghost use Rattle.std.specs.Prelude.{◌≡◌, None, map, string_bytes};
 ghost use Rattle.command_parts.specs.Task.{reads};
 ghost use Rattle.command_parts.specs.Ends.{Ends, lent};

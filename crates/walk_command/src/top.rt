@@ -24,23 +24,25 @@ use command_parts::{Stop, tell_usage};
 use outside_io::{ByteSink, ByteSource};
 use std::alloc::Global;
 
-/// Runs the command that the words say. `walk` reads a script, makes its walk and writes on `out` the got lines of the frames that it
-/// delivers, the lines of refused items, and the line of totals; without event lines the walk drains, and with event lines it makes just
-/// these. `trace` does the same, and writes a line for each decision step of the source on `notes`. `make` runs the load of a number and
-/// writes three lines. `fates` makes the walk of a script and writes what became of each of its frames. `capture`
-/// makes the walk of a script and writes a capture of the frames that it delivers, `gfp` one of the GFP frames that
-/// its source sent and the taken rows carry. `frames` reads a capture and writes the line of a script for each frame
-/// in it. `decode` reads the H4 octets of a line in hexadecimal digits and writes the control packets in them.
-/// `noise` reads frames and flips, and writes the frames with an FCS that get through when these bits of their stream
-/// are turned over, and the counts. `au4` reads what the pointers of AU-4 frames do, and writes a line of each
-/// numbered VC-4 that comes whole over them, and
-/// the counts. `stream` writes the script lines of a client that sends at a rate.
+/// Runs the command that the words say. `walk` reads a script, makes its walk and writes on `out` the got
+/// lines of the frames that it delivers, the lines of refused items, and the line of totals; without event
+/// lines the walk drains, and with event lines it makes just these. `trace` does the same, and writes a line
+/// for each decision step of the source on `notes`. `make` runs the load of a number and writes three lines.
+/// `fates` makes the walk of a script and writes what became of each of its frames. `capture` makes the walk
+/// of a script and writes a capture of the frames that it delivers, `gfp` one of the GFP frames that its
+/// source sent and the taken rows carry. `frames` reads a capture and writes the line of a script for each
+/// frame in it. `decode` reads the H4 octets of a line in hexadecimal digits and writes the control packets
+/// in them. `noise` reads frames and flips, and writes the frames with an FCS that get through when these
+/// bits of their stream are turned over, and the counts. `au4` reads what the pointers of AU-4 frames do, and
+/// writes a line of each numbered VC-4 that comes whole over them, and the counts. `stream` writes the script
+/// lines of a client that sends at a rate.
 ///
-/// The status is 2 where the words are no command, 3 where the input can't be read, 8 where it or the text of `stream` has more than
-/// 67,108,864 octets, 5 where one of its lines is faulty, or of a capture its head or a record, 6 where a script's slips, spread or lag
-/// don't fit its rings, 4 where an output can't be written, 7 where memory is short, and else 0. Of those that hold the first in this order
-/// is told; want of memory may come in the place of any but 2, before anything is written. A note says on `notes` what went wrong. After a
-/// fault nothing more is written but that note.
+/// The status is 2 where the words are no command, 3 where the input can't be read, 8 where it or the text of
+/// `stream` has more than 67,108,864 octets, 5 where one of its lines is faulty, or of a capture its head or
+/// a record, 6 where a script's slips, spread or lag don't fit its rings, 4 where an output can't be written,
+/// 7 where memory is short, and else 0. Of those that hold the first in this order is told; want of memory
+/// may come in the place of any but 2, before anything is written. A note says on `notes` what went wrong.
+/// After a fault nothing more is written but that note.
 pub fn walk_top<S: ByteSource, K: ByteSink, E: ByteSink>(
     alloc: Global,
     words: &[String],
@@ -48,14 +50,16 @@ pub fn walk_top<S: ByteSource, K: ByteSink, E: ByteSink>(
     out: &mut K,
     notes: &mut E,
 ) -> WalkEnd
-    // By the status: what was read, what of it is answered, what is written of that and where, and which call failed. What a command
-    // answers is one definition a command, and `task_of` names it by the words. What an end says stands fact by fact in `end_law`.
+    // By the status: what was read, what of it is answered, what is written of that and where, and which call
+    // failed. What a command answers is one definition a command, and `task_of` names it by the words. What
+    // an end says stands fact by fact in `end_law`.
     ensures ends { Ends (lent S.left S.faults script.old script.new)
         (lent K.written K.faults out.old out.new) (lent E.written E.faults notes.old notes.new)
         (task_of words.now) result.status }
 
-    // The headline, of a source that tells its octets: what is written of a script is, in order and each once, exactly those accepted
-    // frames that the taken rows carry and that aren't lost, as got lines; then the refused items and the totals.
+    // The headline, of a source that tells its octets: what is written of a script is, in order and each
+    // once, exactly those accepted frames that the taken rows carry and that aren't lost, as got lines; then
+    // the refused items and the totals.
     ensures headline { IfSome (command_in words.now) (λ command. RunsScript command →
         result.status ≡ 0 → IfSome (S.left script.old) (λ text. (written : List ℕ)
         × Appends K.written K.faults out.old out.new written × IsWalkHeadline text written)) }

@@ -23,8 +23,8 @@ pub fn words(words: &[String]) -> Option<WalkCommand>
     }
 }
 
-/// Reads a script, makes its walk and writes what comes of it and its trace. A write that fails, on `out` or on `notes`, is the last
-/// one but for the note on it; the walk goes on to its end.
+/// Reads a script, makes its walk and writes what comes of it and its trace. A write that fails, on `out` or
+/// on `notes`, is the last one but for the note on it; the walk goes on to its end.
 pub fn trace<S: ByteSource, K: ByteSink, E: ByteSink>(
     alloc: Global,
     script: &mut S,

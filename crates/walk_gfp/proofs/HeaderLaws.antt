@@ -1,5 +1,6 @@
 -- The carried frames are those of the pieces, and the stream has the core header of each.
-use Rattle.std.proofs.Common.{◌≡◌, ℕ, ◌+◌, List, [], ◌∷◌, ◌++◌, length, map, filter, take, drop, All, refl, sym, ◌∙◌, ap}
+use Rattle.std.proofs.Common.{◌≡◌, ℕ, ◌+◌, List, [], ◌∷◌, ◌++◌, length, map, filter, take, drop, All, refl, sym, ◌∙◌}
+use Rattle.std.proofs.Common.{ap}
 use Rattle.std.proofs.Common.{subst, arith, append_assoc}
 use Rattle.std.specs.List.{flat_map, Contains}
 use Rattle.std.proofs.lemmas.List.Elements.{All-nil, All-cons, All-weaker}

@@ -1,5 +1,6 @@
 -- The accepted frames among the items that have landed, one after another, and how many of them rows can carry.
-use Rattle.std.proofs.Common.{◌≡◌, ℕ, zero, suc, ◌+◌, ◌-◌, ◌<◌, ◌≤◌, Bool, true, false, List, [], ◌∷◌, ◌++◌, length, map}
+use Rattle.std.proofs.Common.{◌≡◌, ℕ, zero, suc, ◌+◌, ◌-◌, ◌<◌, ◌≤◌, Bool, true, false, List, [], ◌∷◌, ◌++◌, length}
+use Rattle.std.proofs.Common.{map}
 use Rattle.std.proofs.Common.{filter, take, drop, All, Option, Some, None, slice_get, refl, sym, ◌∙◌, ap, ap₂, subst}
 use Rattle.std.proofs.Common.{arith, inl, inr, append-nil, append_assoc, length-append, length-take, option_map}
 use Rattle.std.specs.Prelude.{nat_lt, nat_le, ◌||◌, if◌then◌else◌}
@@ -134,7 +135,8 @@ module _ (script : Script) (s : Counts) (valid : IsValid script) (walked : IsWal
 -- ---- a frame that isn't refused isn't long
 not-refused : (waiting : List (List ℕ)) (frame : List ℕ) → option_map frame_fault (refusal_while waiting frame) ≡ None →
     length frame ≤ longest_frame
-not-refused waiting frame none = by (nat_lt (length frame) shortest_frame) (nat_lt longest_frame (length frame)) refl none
+not-refused waiting frame none =
+    by (nat_lt (length frame) shortest_frame) (nat_lt longest_frame (length frame)) refl none
   where
     by : (a b : Bool) → nat_lt longest_frame (length frame) ≡ b →
         option_map frame_fault (if a || b then Some (Length (length frame))

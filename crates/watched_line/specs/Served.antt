@@ -1,5 +1,6 @@
 -- Lines that are served, and the posts of those that are watched.
-use Rattle.std.specs.Prelude.{◌≡◌, ℕ, ◌+◌, ◌*◌, ◌<◌, ◌≤◌, List, [], ◌∷◌, ◌++◌, length, slice_get, Option, Some, None, option_to_list}
+use Rattle.std.specs.Prelude.{◌≡◌, ℕ, ◌+◌, ◌*◌, ◌<◌, ◌≤◌, List, [], ◌∷◌, ◌++◌, length, slice_get, Option, Some, None}
+use Rattle.std.specs.Prelude.{option_to_list}
 use Rattle.std.specs.List.{AllZip}
 use Rattle.session_model.specs.Damage.{AreWindows}
 use Rattle.member_ring.specs.declared.worker.LineWorker.{LineWorker}

@@ -27,8 +27,8 @@ pub fn serve_lines(
     served
 }
 
-/// The workers and the posts of lines. It takes no memory. Where each line is watched, what was posted through the post at a place
-/// are the alarms of the worker there.
+/// The workers and the posts of lines. It takes no memory. Where each line is watched, what was posted
+/// through the post at a place are the alarms of the worker there.
 pub fn split_lines(
     lines: Vec<ServedLine>,
     workers: Vec<LineWorker>,

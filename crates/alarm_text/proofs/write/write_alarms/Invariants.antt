@@ -6,5 +6,6 @@ use Rattle.alarm_text.specs.Text.{lines_text}
 use Rattle.alarm_text.proofs.write.write_alarms.Given as goal
 
 abbrev pub invariant-loop-line : goal.invariant-loop-line
-invariant-loop-line g l = (start : Start) (before : List ℕ) → HasText g.K.ByteSink.written g.K.ByteSink.faults l.fn.got start before
+invariant-loop-line g l = (start : Start) (before : List ℕ) →
+    HasText g.K.ByteSink.written g.K.ByteSink.faults l.fn.got start before
     → HasText g.K.ByteSink.written g.K.ByteSink.faults l.got start (before ++ lines_text l.line l.alarms)

@@ -7,5 +7,7 @@ use Rattle.alarm_text.specs.Text.{alarm_texts}
 use Rattle.alarm_text.proofs.write.write_line.Given as goal
 
 abbrev pub invariant-loop-alarm : goal.invariant-loop-alarm
-invariant-loop-alarm g l = (start : Start) (before : List ℕ) → HasText g.K.ByteSink.written g.K.ByteSink.faults l.fn.got start before
-    → HasText g.K.ByteSink.written g.K.ByteSink.faults l.got start (before ++ alarm_texts (of_line l.line (take l.alarm-index l.alarms)))
+invariant-loop-alarm g l = (start : Start) (before : List ℕ) →
+    HasText g.K.ByteSink.written g.K.ByteSink.faults l.fn.got start before
+    → HasText g.K.ByteSink.written g.K.ByteSink.faults l.got start
+    (before ++ alarm_texts (of_line l.line (take l.alarm-index l.alarms)))

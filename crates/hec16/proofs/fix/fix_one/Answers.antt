@@ -38,7 +38,7 @@ neither c right fixed =
     elim (fixed-sound c.args.word c.args.check c.ranges.word.fits c.ranges.check.fits right fixed) [
       | inl sound ↦ (
           let yes : IsTrue c.is_sound.result =
-                  c.is_sound.ensures.1 (subst IsSound (sym c.header_of-header.ensures) sound) in
+          c.is_sound.ensures.1 (subst IsSound (sym c.header_of-header.ensures) sound) in
           let no : true ≡ false = sym yes ∙ c.if-is_sound.false in
           absurd cc)
       | inr found ↦ c.loop-place.invariant found.0 (omega (arith, found.1, c.loop-place-test.false)) found.2

@@ -8,7 +8,8 @@ use Rattle.member_ring.proofs.raised.fails_after.Goals as goal
 
 of-carry : (failed : Bool) (container : Container) (carry known : CarrySign) → carry ≡ known →
     failed_after failed (carry_cells known container) ≡ failed_after failed (carry_cells carry container)
-of-carry failed container carry known is = ap (λ (one : CarrySign). failed_after failed (carry_cells one container)) (sym is)
+of-carry failed container carry known is =
+    ap (λ (one : CarrySign). failed_after failed (carry_cells one container)) (sym is)
 
 pub returns-in-Nothing : goal.returns-in-Nothing
 unfolding failed_after

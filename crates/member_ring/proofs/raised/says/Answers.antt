@@ -10,7 +10,8 @@ use Rattle.member_ring.specs.declared.alarm.AlarmKind.TheVariants.{Fails, Return
 use Rattle.member_ring.specs.Alarms.{alarms_from, alarm_if}
 use Rattle.member_ring.proofs.raised.says.Goals as goal
 
-good-says : (m i : ℕ) (failed : Bool) (c : Container) → alarms_from m i failed (Good c ∷ []) ≡ alarm_if m i (then_some failed Returns)
+good-says : (m i : ℕ) (failed : Bool) (c : Container) →
+    alarms_from m i failed (Good c ∷ []) ≡ alarm_if m i (then_some failed Returns)
 unfolding alarms_from
 good-says m i true c = refl
 good-says m i false c = refl
@@ -22,17 +23,20 @@ fail-says m i false = refl
 
 of-carry : (m i : ℕ) (failed : Bool) (container : Container) (carry known : CarrySign) → carry ≡ known →
     alarms_from m i failed (carry_cells carry container) ≡ alarms_from m i failed (carry_cells known container)
-of-carry m i failed container carry known is = ap (λ (one : CarrySign). alarms_from m i failed (carry_cells one container)) is
+of-carry m i failed container carry known is =
+    ap (λ (one : CarrySign). alarms_from m i failed (carry_cells one container)) is
 
 pub returns-in-Nothing : goal.returns-in-Nothing
 unfolding alarms_from
 returns-in-Nothing c m i container = of-carry m i c.args.failed container _ _ c.in-Nothing.is
 
 pub returns-in-Good : goal.returns-in-Good
-returns-in-Good c m i container = of-carry m i c.args.failed container _ _ c.in-Good.is ∙ good-says m i c.args.failed container ∙ ap (alarm_if m i) (sym c.then_some.ensures)
+returns-in-Good c m i container = of-carry m i c.args.failed container _ _ c.in-Good.is
+    ∙ good-says m i c.args.failed container ∙ ap (alarm_if m i) (sym c.then_some.ensures)
 
 pub returns-in-Fail : goal.returns-in-Fail
-returns-in-Fail c m i container = of-carry m i c.args.failed container _ _ c.in-Fail.is ∙ fail-says m i c.args.failed ∙ ap (alarm_if m i) (sym c.then_some-in-Fail.ensures)
+returns-in-Fail c m i container = of-carry m i c.args.failed container _ _ c.in-Fail.is ∙ fail-says m i c.args.failed
+    ∙ ap (alarm_if m i) (sym c.then_some-in-Fail.ensures)
 
 pub returns-in-End : goal.returns-in-End
 unfolding alarms_from

@@ -1,5 +1,6 @@
 -- A worker that was done before its burst is as it was.
-use Rattle.std.proofs.Common.{◌≡◌, inl, inr, ℕ, ◌+◌, ◌<◌, Bool, true, false, Some, get_or, slice_get, length, sym, ◌∙◌, subst, ap, arith}
+use Rattle.std.proofs.Common.{◌≡◌, inl, inr, ℕ, ◌+◌, ◌<◌, Bool, true, false, Some, get_or, slice_get, length, sym, ◌∙◌}
+use Rattle.std.proofs.Common.{subst, ap, arith}
 use Rattle.std.specs.Prelude.{Contains}
 use Rattle.std.proofs.Math.ListN.{set}
 use Rattle.std.proofs.lemmas.Bool.{cases_Bool}
@@ -21,7 +22,8 @@ below-it m n low other = omega (arith, low, other)
 
 pub loop-worker-init : goal.loop-worker-init
 loop-worker-init g c = record {
-  later = subst (AreServedLater c.args.workers.now.items) (sym c.deref_mut-worker-items.ensures.value) (zip-refl IsServedLater served-refl c.args.workers.now.items);
+  later = subst (AreServedLater c.args.workers.now.items) (sym c.deref_mut-worker-items.ensures.value)
+      (zip-refl IsServedLater served-refl c.args.workers.now.items);
   done = λ yes m worker low there. absurd (omega (arith, low));
   same = λ yes. c.deref_mut-worker-items.ensures.value;
   left = λ no. absurd cc;
@@ -44,14 +46,16 @@ loop-worker-preserved g c =
         | else-not-carry_one w ↦ λ yes m worker low found.
             elim (set-found items i m c.carry_one.new.worker worker within found) [
               | inl (at, is) ↦ subst (λ (one : ServedLine). Contains (out_passed (worker_of one).producer) End)
-                  (sym (is ∙ c.carry_one.ensures.stays w.if-not-carry_one.false)) (c.carry_one.ensures.done.0 w.if-not-carry_one.false)
+                  (sym (is ∙ c.carry_one.ensures.stays w.if-not-carry_one.false))
+                  (c.carry_one.ensures.done.0 w.if-not-carry_one.false)
               | inr (other, is) ↦ before.done (sym w.done-is ∙ yes) m worker (below-it m i low other) is
             ]
       ];
       same = elim c.if-not-carry_one.branch [
         | then-not-carry_one w ↦ λ yes. absurd (let no' = w.done-is in cc)
         | else-not-carry_one w ↦ λ yes.
-            ap (set items i) (c.carry_one.ensures.stays w.if-not-carry_one.false) ∙ set-same items i c.worker-item.result within ∙ before.same (sym w.done-is ∙ yes)
+            ap (set items i) (c.carry_one.ensures.stays w.if-not-carry_one.false)
+            ∙ set-same items i c.worker-item.result within ∙ before.same (sym w.done-is ∙ yes)
       ];
       left = elim c.if-not-carry_one.branch [
         | then-not-carry_one w ↦ λ no all.
@@ -72,13 +76,20 @@ pub returns-clause-later : goal.returns-clause-later
 returns-clause-later g c =
     let v = c.args.workers.now in
     let items = c.loop-worker.worker-items in
-    subst (AreServedLater v.items) (sym (with_items_is v items (omega (arith, c.loop-worker.auto.worker-items, ap (length {A = ServedLine}) c.deref_mut-worker-items.ensures.value, v.ok.0)))) c.loop-worker.invariant.later
+    subst (AreServedLater v.items) (sym
+    (with_items_is v items (omega (
+      arith,
+      c.loop-worker.auto.worker-items,
+      ap (length {A = ServedLine}) c.deref_mut-worker-items.ensures.value,
+      v.ok.0,
+    )))) c.loop-worker.invariant.later
 
 pub returns-clause-done : goal.returns-clause-done
 returns-clause-done g c = (
   λ yes. subst AreServedDone (c.loop-worker.invariant.same yes)
       (λ m worker there. c.loop-worker.invariant.done yes m worker
-      (let inside = slice_get_within c.loop-worker.worker-items m worker there in omega (arith, inside, c.loop-worker-test.false, c.loop-worker.auto.worker-items)) there),
+      (let inside = slice_get_within c.loop-worker.worker-items m worker there in omega
+      (arith, inside, c.loop-worker-test.false, c.loop-worker.auto.worker-items)) there),
   λ all. by_done c.loop-worker.done (λ no. c.loop-worker.invariant.left no all),
 )
   where
@@ -89,4 +100,9 @@ pub returns-clause-stays : goal.returns-clause-stays
 returns-clause-stays g c = λ yes.
     let v = c.args.workers.now in
     let items = c.loop-worker.worker-items in
-    with_items_is v items (omega (arith, c.loop-worker.auto.worker-items, ap (length {A = ServedLine}) c.deref_mut-worker-items.ensures.value, v.ok.0)) ∙ c.loop-worker.invariant.same yes
+    with_items_is v items (omega (
+      arith,
+      c.loop-worker.auto.worker-items,
+      ap (length {A = ServedLine}) c.deref_mut-worker-items.ensures.value,
+      v.ok.0,
+    )) ∙ c.loop-worker.invariant.same yes

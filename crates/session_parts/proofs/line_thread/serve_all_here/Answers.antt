@@ -18,21 +18,36 @@ loop-share-init g c = record {
 pub loop-share-preserved : goal.loop-share-preserved
 loop-share-preserved g c = record {
   held = λ shares held.
-      zip-set (λ (share : Vec ServedLine) (one : Held). IsHeldOf share.items one) shares c.loop-share.share-items c.loop-share.share-index c.share-item.result c.serve_here.new.held
-      (omega (arith, c.loop-share-test.true, c.loop-share.auto.share-items)) (λ share one. c.serve_here.ensures.held share.items one) (c.loop-share.invariant.held shares held);
+      zip-set (λ (share : Vec ServedLine) (one : Held). IsHeldOf share.items one) shares c.loop-share.share-items
+      c.loop-share.share-index c.share-item.result c.serve_here.new.held
+      (omega (arith, c.loop-share-test.true, c.loop-share.auto.share-items))
+      (λ share one. c.serve_here.ensures.held share.items one) (c.loop-share.invariant.held shares held);
   told = λ flags told.
       told-set flags c.loop-share.share-items c.loop-share.share-index c.share-item.result c.serve_here.new.held
-      (omega (arith, c.loop-share-test.true, c.loop-share.auto.share-items)) c.serve_here.ensures.told (c.loop-share.invariant.told flags told);
+      (omega (arith, c.loop-share-test.true, c.loop-share.auto.share-items)) c.serve_here.ensures.told
+      (c.loop-share.invariant.told flags told);
 }
 
 pub returns-clause-held : goal.returns-clause-held
 returns-clause-held g c = λ shares held.
     let v = c.args.held.now in
     let items = c.loop-share.share-items in
-    subst (AreHeldOf shares) (sym (with_items_is v items (omega (arith, c.loop-share.auto.share-items, ap (length {A = Held}) c.deref_mut-share-items.ensures.value, v.ok.0)))) (c.loop-share.invariant.held shares held)
+    subst (AreHeldOf shares) (sym (with_items_is v items
+    (omega (
+      arith,
+      c.loop-share.auto.share-items,
+      ap (length {A = Held}) c.deref_mut-share-items.ensures.value,
+      v.ok.0,
+    )))) (c.loop-share.invariant.held shares held)
 
 pub returns-clause-told : goal.returns-clause-told
 returns-clause-told g c = λ flags told.
     let v = c.args.held.now in
     let items = c.loop-share.share-items in
-    subst (AreToldBy flags) (sym (with_items_is v items (omega (arith, c.loop-share.auto.share-items, ap (length {A = Held}) c.deref_mut-share-items.ensures.value, v.ok.0)))) (c.loop-share.invariant.told flags told)
+    subst (AreToldBy flags) (sym (with_items_is v items
+    (omega (
+      arith,
+      c.loop-share.auto.share-items,
+      ap (length {A = Held}) c.deref_mut-share-items.ensures.value,
+      v.ok.0,
+    )))) (c.loop-share.invariant.told flags told)

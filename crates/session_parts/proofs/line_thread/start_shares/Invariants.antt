@@ -11,5 +11,6 @@ invariant-loop-workers g l = record {
   count : vec_len l.held + into_iter_len l.workers-iterator ≡ vec_len l.fn.shares;
   room : vec_capacity l.held ≡ vec_capacity l.fn.room;
   told : AreToldBy l.flags l.held.items;
-  each : (future : List Held) → AreHeldOf (into_iter_items l.workers-iterator) future → AreHeldOf l.fn.shares.items (l.held.items ++ future);
+  each : (future : List Held) → AreHeldOf (into_iter_items l.workers-iterator) future →
+      AreHeldOf l.fn.shares.items (l.held.items ++ future);
 }

@@ -15,7 +15,8 @@ abbrev pub invariant-loop-share : goal.invariant-loop-share
 invariant-loop-share g l = record {
   count : vec_len l.shares + into_iter_len l.share-iterator ≡ vec_len l.fn.held;
   room : vec_capacity l.shares ≡ vec_capacity l.fn.room;
-  told : (k : ℕ) (flag : Flag) (one : Held) → slice_get l.flags (vec_len l.shares + k) ≡ Some flag → slice_get (into_iter_items l.share-iterator) k ≡ Some one →
+  told : (k : ℕ) (flag : Flag) (one : Held) → slice_get l.flags (vec_len l.shares + k) ≡ Some flag →
+      slice_get (into_iter_items l.share-iterator) k ≡ Some one →
       IsToldBy (flag_of flag) one;
   each : (given : List (Vec ServedLine)) → AreHeldOf given l.fn.held.items →
       (rest : List (Vec ServedLine)) × AreHeldOf rest (into_iter_items l.share-iterator)

@@ -7,7 +7,8 @@ use Rattle.session_parts.proofs.OpenLaws.{none-opened, opened-more, opened-own}
 use Rattle.session_parts.proofs.open.open_lines.Goals as goal
 
 pub loop-line-init : goal.loop-line-init
-loop-line-init c = rw (c.in_ok-tx.ensures.items, c.in_ok-workers.ensures.items, c.in_ok-rx.ensures.items) (none-opened c.args.config.now)
+loop-line-init c = rw (c.in_ok-tx.ensures.items, c.in_ok-workers.ensures.items, c.in_ok-rx.ensures.items)
+    (none-opened c.args.config.now)
 
 pub loop-line-preserved : goal.loop-line-preserved
 loop-line-preserved c =
@@ -17,8 +18,10 @@ loop-line-preserved c =
     let stands = c.in_ok-core.ensures in
     let same : c.from.result ≡ c.loop-line.line = c.from.ensures in
     rw (c.in_ok-push.ensures.items, c.in_ok-push-2.ensures.items, c.in_ok-push-3.ensures.items)
-    (opened-more config c.loop-line.line c.loop-line.tx.items c.loop-line.workers.items c.loop-line.rx.items ends.tx worker ends.rx_out c.loop-line.invariant
-    c.in_ok-ends.ensures.send.pushed c.in_ok-ends.ensures.receive.popped (ap out_passed c.new.ensures.ends.1 ∙ c.in_ok-ends.ensures.receive.pushed)
+    (opened-more config c.loop-line.line c.loop-line.tx.items c.loop-line.workers.items c.loop-line.rx.items ends.tx
+    worker ends.rx_out c.loop-line.invariant
+    c.in_ok-ends.ensures.send.pushed c.in_ok-ends.ensures.receive.popped
+    (ap out_passed c.new.ensures.ends.1 ∙ c.in_ok-ends.ensures.receive.pushed)
     (record {
       number = c.new.ensures.line;
       delay = c.new.ensures.delay ∙ stands.delay ∙ ap (λ (k : ℕ). slice_index_or config.delays k 0) same;
@@ -26,7 +29,8 @@ loop-line-preserved c =
       total = c.new.ensures.total ∙ stands.total;
     })
     (subst (AreEnds ends.tx) (sym c.new.ensures.ends.0) c.in_ok-ends.ensures.send.ends)
-    (subst (λ (out : RingOut Cell). AreEnds out ends.rx_out) (sym c.new.ensures.ends.1) c.in_ok-ends.ensures.receive.ends))
+    (subst (λ (out : RingOut Cell). AreEnds out ends.rx_out)
+    (sym c.new.ensures.ends.1) c.in_ok-ends.ensures.receive.ends))
 
 pub new-requires-clause-core : goal.new-requires-clause-core
 new-requires-clause-core c = opened-own _ _ _ _ c.in_ok-core.ensures

@@ -12,8 +12,10 @@ invariant-loop-line l = record {
   count : vec_len l.shares ≡ vec_len l.fn.shares;
   most : vec_len l.lines + l.line ≤ l.fn.count;
   room : vec_capacity l.lines ≡ vec_capacity l.fn.room;
-  back : (workers : List ServedLine) → length workers ≡ l.fn.count → AreNumbered 0 workers → AreBack workers (vec_len l.fn.shares) l.fn.shares.items →
-      AreBack (take l.line workers) (vec_len l.fn.shares) l.shares.items × AreServedLater (drop l.line workers) (reverse l.lines.items);
+  back : (workers : List ServedLine) → length workers ≡ l.fn.count → AreNumbered 0 workers →
+      AreBack workers (vec_len l.fn.shares) l.fn.shares.items →
+      AreBack (take l.line workers) (vec_len l.fn.shares) l.shares.items ×
+      AreServedLater (drop l.line workers) (reverse l.lines.items);
 }
 
 abbrev pub decreases-loop-line : goal.decreases-loop-line

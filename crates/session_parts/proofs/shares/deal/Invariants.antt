@@ -12,7 +12,9 @@ invariant-loop-worker l = record {
   count : (l.count ≡ vec_len l.fn.shares) × (vec_len l.shares ≡ vec_len l.fn.shares);
   left : l.line + into_iter_len l.worker-iterator ≡ vec_len l.fn.lines;
   numbers : AreNumbered l.line (into_iter_items l.worker-iterator);
-  room : (w : ℕ) (share : Vec ServedLine) → slice_get l.shares.items w ≡ Some share → (length share.items ≤ l.line) × (vec_len l.fn.lines ≤ vec_capacity share);
+  room : (w : ℕ) (share : Vec ServedLine) → slice_get l.shares.items w ≡ Some share → (length share.items ≤ l.line) ×
+      (vec_len l.fn.lines ≤ vec_capacity share);
   dealt : (w : ℕ) (share : Vec ServedLine) → slice_get l.shares.items w ≡ Some share →
-      share.items ++ share_of (vec_len l.fn.shares) w (into_iter_items l.worker-iterator) ≡ share_of (vec_len l.fn.shares) w l.fn.lines.items;
+      share.items ++ share_of (vec_len l.fn.shares) w (into_iter_items l.worker-iterator) ≡ share_of
+      (vec_len l.fn.shares) w l.fn.lines.items;
 }

@@ -16,7 +16,9 @@ returns-clause-lines g c =
     let back = c.shares_beside-shares.result.0 in
     let later = c.shares_beside-shares.ensures.shares in
     let long = zip-length (λ (a b : Vec ServedLine). AreServedLater a.items b.items) dealt.items back.items later in
-    let same : vec_len back ≡ vec_len shares = omega (arith, long, c.deal-shares.ensures.count, back.ok.0, dealt.ok.0) in
+    let same : vec_len back ≡ vec_len shares =
+    omega (arith, long, c.deal-shares.ensures.count, back.ok.0, dealt.ok.0) in
     let size : length lines ≡ c.len-count.result = omega (arith, c.len-count.ensures, c.args.lines.ok.0) in
     c.collect.ensures lines size c.requires.numbers
-    (subst (λ (n : ℕ). AreBack lines n back.items) (sym same) (back-dealt lines (vec_len shares) dealt.items back.items c.deal-shares.ensures.dealt later))
+    (subst (λ (n : ℕ). AreBack lines n back.items) (sym same)
+    (back-dealt lines (vec_len shares) dealt.items back.items c.deal-shares.ensures.dealt later))

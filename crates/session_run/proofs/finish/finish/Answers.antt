@@ -14,7 +14,8 @@ loop-preserved g c = record {
 }
 
 pub returns-then-round-clause-lines : goal.returns-then-round-clause-lines
-returns-then-round-clause-lines g c = zip-then IsServedLater served-then _ _ _ c.loop.invariant.lines c.round.ensures.lines
+returns-then-round-clause-lines g c =
+    zip-then IsServedLater served-then _ _ _ c.loop.invariant.lines c.round.ensures.lines
 
 pub returns-then-round-clause-run : goal.returns-then-round-clause-run
 returns-then-round-clause-run g c = λ begun first. c.round.ensures.run begun (c.loop.invariant.run begun first)

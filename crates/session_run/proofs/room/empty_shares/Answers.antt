@@ -14,5 +14,6 @@ pub loop-preserved : goal.loop-preserved
 loop-preserved c = record {
   count = search rules;
   room = subst (HaveRoom c.args.lines) (sym c.in_ok-push.ensures.items)
-      (room-more c.args.lines c.loop.shares.items c.in_ok-with_capacity.field-0 c.loop.invariant.room c.in_ok-with_capacity.ensures.items c.in_ok-with_capacity.ensures.capacity);
+      (room-more c.args.lines c.loop.shares.items c.in_ok-with_capacity.field-0 c.loop.invariant.room
+      c.in_ok-with_capacity.ensures.items c.in_ok-with_capacity.ensures.capacity);
 }

@@ -9,19 +9,29 @@ use Rattle.session_run.proofs.RunLaws.{writes-whole, writes-part}
 use Rattle.session_run.proofs.run.run_session.Goals as goal
 
 pub returns-clause-rings : goal.returns-clause-rings
-returns-clause-rings g c = session-ended c.args.script c.requires.script c.run_opened-left.result.ended.group c.run_opened-left.result.ended.lines.items c.run_opened-left.result.ended.sink c.run_opened-left.ensures.end
+returns-clause-rings g c = session-ended c.args.script c.requires.script c.run_opened-left.result.ended.group
+    c.run_opened-left.result.ended.lines.items c.run_opened-left.result.ended.sink c.run_opened-left.ensures.end
 
 pub returns-clause-group : goal.returns-clause-group
-returns-clause-group g c = group-ended c.args.script c.requires.script c.run_opened-left.result.ended.group c.run_opened-left.result.ended.lines.items c.run_opened-left.result.ended.sink c.run_opened-left.ensures.end
+returns-clause-group g c = group-ended c.args.script c.requires.script c.run_opened-left.result.ended.group
+    c.run_opened-left.result.ended.lines.items c.run_opened-left.result.ended.sink c.run_opened-left.ensures.end
 
 pub returns-clause-written : goal.returns-clause-written
 returns-clause-written g c = λ none.
     let sink = c.run_opened-left.result.ended.sink in
-    writes-whole g.K.ByteSink.written g.K.ByteSink.faults (has_failed sink) c.args.out.now c.run_opened-left.new.out (got_texts (given_frames (size_of sink) (cells_of sink) (taken_of sink)))
-    (got_texts (delivered_of c.args.script c.args.script.config.ticks)) (ap got_texts (frames-ended c.args.script c.requires.script c.run_opened-left.result.ended.group c.run_opened-left.result.ended.lines.items c.run_opened-left.result.ended.sink c.run_opened-left.ensures.end)) c.run_opened-left.ensures.written none
+    writes-whole g.K.ByteSink.written g.K.ByteSink.faults (has_failed sink) c.args.out.now c.run_opened-left.new.out
+    (got_texts (given_frames (size_of sink) (cells_of sink) (taken_of sink)))
+    (got_texts (delivered_of c.args.script c.args.script.config.ticks))
+    (ap got_texts (frames-ended c.args.script c.requires.script c.run_opened-left.result.ended.group
+    c.run_opened-left.result.ended.lines.items c.run_opened-left.result.ended.sink c.run_opened-left.ensures.end))
+    c.run_opened-left.ensures.written none
 
 pub returns-clause-part : goal.returns-clause-part
 returns-clause-part g c = λ some.
     let sink = c.run_opened-left.result.ended.sink in
-    writes-part g.K.ByteSink.written g.K.ByteSink.faults (has_failed sink) c.args.out.now c.run_opened-left.new.out (got_texts (given_frames (size_of sink) (cells_of sink) (taken_of sink)))
-    (got_texts (delivered_of c.args.script c.args.script.config.ticks)) (ap got_texts (frames-ended c.args.script c.requires.script c.run_opened-left.result.ended.group c.run_opened-left.result.ended.lines.items c.run_opened-left.result.ended.sink c.run_opened-left.ensures.end)) c.run_opened-left.ensures.written some
+    writes-part g.K.ByteSink.written g.K.ByteSink.faults (has_failed sink) c.args.out.now c.run_opened-left.new.out
+    (got_texts (given_frames (size_of sink) (cells_of sink) (taken_of sink)))
+    (got_texts (delivered_of c.args.script c.args.script.config.ticks))
+    (ap got_texts (frames-ended c.args.script c.requires.script c.run_opened-left.result.ended.group
+    c.run_opened-left.result.ended.lines.items c.run_opened-left.result.ended.sink c.run_opened-left.ensures.end))
+    c.run_opened-left.ensures.written some

@@ -13,5 +13,6 @@ invariant-loop g l = record {
   later : Later (parts l.fn.rows l.fn.core l.fn.rx.items l.fn.back) (parts l.rows l.core l.rx.items l.back);
   keeps : Keeps (parts l.fn.rows l.fn.core l.fn.rx.items l.fn.back) → Keeps (parts l.rows l.core l.rx.items l.back);
   gives : Keeps (parts l.fn.rows l.fn.core l.fn.rx.items l.fn.back) →
-      Gives g.F.FrameOut.stands_for l.fn.out l.out (parts l.fn.rows l.fn.core l.fn.rx.items l.fn.back) (parts l.rows l.core l.rx.items l.back);
+      Gives g.F.FrameOut.stands_for l.fn.out l.out (parts l.fn.rows l.fn.core l.fn.rx.items l.fn.back)
+      (parts l.rows l.core l.rx.items l.back);
 }

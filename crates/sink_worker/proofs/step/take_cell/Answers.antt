@@ -11,9 +11,11 @@ returns-clause-took c took' =
     let items = c.args.rx.now.items in
     let took = c.pass_cell.ensures.took took' in
     let within : c.from.result < length items = omega (arith, c.from.ensures, c.requires.line, c.requires.rings) in
-    subst (λ m. TookCell items (slice_set items c.from.result c.pass_cell.new.end) c.args.rows.now c.pass_cell.new.rows m) c.from.ensures (record {
+    subst (λ m. TookCell items (slice_set items c.from.result c.pass_cell.new.end) c.args.rows.now c.pass_cell.new.rows
+    m) c.from.ensures (record {
       cell = took.cell;
-      passed = map-with_cell in_passed items c.from.result c.index_mut.result.now c.pass_cell.new.end took.cell within c.index_mut.ensures.value took.passed;
+      passed = map-with_cell in_passed items c.from.result c.index_mut.result.now c.pass_cell.new.end took.cell within
+          c.index_mut.ensures.value took.passed;
       grew = subst (λ m. Grew c.args.rows.now c.pass_cell.new.rows m took.cell) (sym c.from.ensures) took.grew;
     })
 
@@ -21,8 +23,11 @@ pub returns-clause-stays : goal.returns-clause-stays
 returns-clause-stays c none' =
     let items = c.args.rx.now.items in
     let stays = c.pass_cell.ensures.stays none' in
-    let within : c.from.result < length items = omega (arith, c.from.ensures, c.requires.line, c.requires.rings) in
-    (map-still in_passed items c.from.result c.index_mut.result.now c.pass_cell.new.end within c.index_mut.ensures.value stays.0, stays.1)
+    let within : c.from.result < length items = omega (arith, c.from.ensures, c.requires.line, c.requires.rings) in (
+      map-still in_passed items c.from.result c.index_mut.result.now c.pass_cell.new.end within c.index_mut.ensures.value
+          stays.0,
+      stays.1,
+    )
 
 pub returns-clause-missed : goal.returns-clause-missed
 returns-clause-missed c none' =
@@ -44,5 +49,6 @@ returns-clause-same c =
     let within : c.from.result < length items = omega (arith, c.from.ensures, c.requires.line, c.requires.rings) in
     record {
       count = set-length items c.from.result c.pass_cell.new.end;
-      each = set-each SameIn (λ a. ((refl, refl, refl, refl), refl)) items c.from.result c.index_mut.result.now c.pass_cell.new.end within c.index_mut.ensures.value c.pass_cell.ensures.same;
+      each = set-each SameIn (λ a. ((refl, refl, refl, refl), refl)) items c.from.result c.index_mut.result.now
+          c.pass_cell.new.end within c.index_mut.ensures.value c.pass_cell.ensures.same;
     }

@@ -16,17 +16,20 @@ returns-clause-keeps g c none keeps =
     let found : c.has_room.result ≡ true = (let open_ = c.if-not-has_room.false in cc) in
     let answer : c.take-answer.result ≡ Taken (back_at cells t) =
     c.take-answer.ensures.answer cells keeps.gathers keeps.stands ∙ ap (λ o. answer_by o cells t) none in
-    let taken : c.take-answer.new.self.taken ≡ t + 1 = c.take-answer.ensures.taken ∙ ap (λ a. t + rows_taken a) answer in
+    let taken : c.take-answer.new.self.taken ≡ t + 1 = c.take-answer.ensures.taken
+    ∙ ap (λ a. t + rows_taken a) answer in
     let packet : c.packet_of.result ≡ back_at cells t = c.packet_of.ensures ∙ ap packet_in answer in
     let room : length (back_cells c.packet_of.result) ≤ free =
     subst (λ p. length (back_cells p) ≤ free) (sym packet)
-    (back-room cells t free (λ late last. c.has_room.ensures.room found (subst (λ n. 22 < n) (sym c.taken.ensures) late) (ap (λ n. n % 16) c.taken.ensures ∙ last))) in
+    (back-room cells t free (λ late last. c.has_room.ensures.room found (subst (λ n. 22 < n) (sym c.taken.ensures) late)
+    (ap (λ n. n % 16) c.taken.ensures ∙ last))) in
     record {
       gathers = c.take-answer.ensures.gathers cells keeps.gathers;
       stands = c.take-answer.ensures.stands cells keeps.gathers keeps.stands;
       lines = c.take-answer.ensures.lines ∙ keeps.lines ∙ sym c.take-answer.ensures.own_lines;
       rings = keeps.rings ∙ sym c.take-answer.ensures.own_lines;
       rows = c.take-answer.ensures.rows;
-      sent = c.send_back.ensures.sent room ∙ ap₂ (λ l p. l ++ back_cells p) (c.has_room.ensures.passed ∙ keeps.sent) packet
+      sent = c.send_back.ensures.sent room
+          ∙ ap₂ (λ l p. l ++ back_cells p) (c.has_room.ensures.passed ∙ keeps.sent) packet
           ∙ sym (backs-more cells t c.take-answer.new.self.taken taken);
     }

@@ -19,7 +19,8 @@ loop-walk-smaller g c =
     let ticks = c.requires.ticks in
     let test = c.loop-walk-test.true in
     let open_ : s.rows < c.args.walk.now.script.config.ticks = omega (arith, test, taken, ticks) in
-    let after = c.capture_turn.ensures.counts ∙ ap (λ (x : Script). run (walk_plan x) s (round (walk_plan x))) inv.script in
+    let after = c.capture_turn.ensures.counts
+    ∙ ap (λ (x : Script). run (walk_plan x) s (round (walk_plan x))) inv.script in
     (round-turn c.args.walk.now.script s c.capture_turn.new.walk.counts c.requires.valid inv.walked open_ after).0
 
 pub loop-walk-preserved : goal.loop-walk-preserved
@@ -31,7 +32,8 @@ loop-walk-preserved g c =
     let ticks = c.requires.ticks in
     let test = c.loop-walk-test.true in
     let open_ : s.rows < script.config.ticks = omega (arith, test, taken, ticks) in
-    let after = c.capture_turn.ensures.counts ∙ ap (λ (x : Script). run (walk_plan x) s (round (walk_plan x))) inv.script in
+    let after = c.capture_turn.ensures.counts
+    ∙ ap (λ (x : Script). run (walk_plan x) s (round (walk_plan x))) inv.script in
     record {
       script = c.capture_turn.ensures.script ∙ inv.script;
       left = (round-turn script s c.capture_turn.new.walk.counts c.requires.valid inv.walked open_ after).1 ∙ inv.left;

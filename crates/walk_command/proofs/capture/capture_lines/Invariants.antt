@@ -9,7 +9,8 @@ use Rattle.walk_command.proofs.capture.capture_lines.Given as goal
 abbrev pub invariant-loop-line : goal.invariant-loop-line
 invariant-loop-line g l = record {
   script : l.walk.script ≡ l.fn.walk.script;
-  counts : l.walk.counts ≡ run_lines (walk_plan l.fn.walk.script) (begin (walk_plan l.fn.walk.script)) (take l.line-index l.fn.lines);
+  counts : l.walk.counts ≡ run_lines (walk_plan l.fn.walk.script) (begin (walk_plan l.fn.walk.script))
+      (take l.line-index l.fn.lines);
   taken : (start : Start) → HasTaken g.K.ByteSink.written g.K.ByteSink.faults l.fn.out start l.fn.walk
       → HasTaken g.K.ByteSink.written g.K.ByteSink.faults l.out start l.walk;
 }

@@ -12,12 +12,14 @@ use Rattle.walk_command.proofs.capture.capture_turns.Goals as goal
 pub loop-made-init : goal.loop-made-init
 loop-made-init g c = record {
   script = refl;
-  counts = sym (turns-none (walk_plan c.args.walk.now.script) c.args.walk.now.counts (events_of (walk_plan c.args.walk.now.script) c.args.turn));
+  counts = sym (turns-none (walk_plan c.args.walk.now.script) c.args.walk.now.counts
+      (events_of (walk_plan c.args.walk.now.script) c.args.turn));
   taken = λ start has. has;
 }
 
 pub capture_turn-requires : goal.capture_turn-requires
-capture_turn-requires g c = subst (λ (s : Script). IsTurn (walk_plan s) c.args.turn) (sym c.loop-made.invariant.script) c.requires
+capture_turn-requires g c = subst (λ (s : Script). IsTurn (walk_plan s) c.args.turn)
+    (sym c.loop-made.invariant.script) c.requires
 
 pub loop-made-preserved : goal.loop-made-preserved
 loop-made-preserved g c =
@@ -26,7 +28,8 @@ loop-made-preserved g c =
     let plan = walk_plan c.args.walk.now.script in
     record {
       script = c.capture_turn.ensures.script ∙ inv.script;
-      counts = c.capture_turn.ensures.counts ∙ ap (λ (s : Script). run (walk_plan s) c.loop-made.walk.counts (events_of (walk_plan s) turn)) inv.script
+      counts = c.capture_turn.ensures.counts
+          ∙ ap (λ (s : Script). run (walk_plan s) c.loop-made.walk.counts (events_of (walk_plan s) turn)) inv.script
           ∙ ap (λ (s : Counts). run plan s (events_of plan turn)) inv.counts
           ∙ sym (turns-last plan c.args.walk.now.counts c.loop-made._made (events_of plan turn));
       taken = λ start has. c.capture_turn.ensures.taken start (inv.taken start has);
@@ -38,4 +41,5 @@ returns-clause-counts g c =
     let plan = walk_plan c.args.walk.now.script in
     let low = c.loop-made-test.false in
     let all : c.loop-made._made ≡ c.args.count = omega (arith, low) in
-    inv.counts ∙ ap (λ n. run plan c.args.walk.now.counts (flat_map (λ (tries : List Event). tries) (replicate n (events_of plan c.args.turn)))) all
+    inv.counts ∙ ap (λ n. run plan c.args.walk.now.counts
+    (flat_map (λ (tries : List Event). tries) (replicate n (events_of plan c.args.turn)))) all

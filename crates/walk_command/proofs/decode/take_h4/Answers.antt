@@ -8,10 +8,12 @@ returns-in_default-clause-ok g c before start packets stands has =
 
 pub returns-in-Ok-clause-ok : goal.returns-in-Ok-clause-ok
 returns-in-Ok-clause-ok g c before start packets stands has =
-    one_more _ _ before c.args.h4 packets start _ has c.in-Some.place c.in-Some.found _ _ (c.in-Some.ensures.packets before stands)
+    one_more _ _ before c.args.h4 packets start _ has c.in-Some.place c.in-Some.found _ _
+    (c.in-Some.ensures.packets before stands)
     c.found_line-end.ensures.line c.in-Ok.ensures.ok
 
 pub returns-in-Err-clause-err : goal.returns-in-Err-clause-err
 returns-in-Err-clause-err g c before start packets stands has =
-    one_part _ _ before c.args.h4 packets start _ has c.in-Some.place c.in-Some.found _ _ (c.in-Some.ensures.packets before stands)
+    one_part _ _ before c.args.h4 packets start _ has c.in-Some.place c.in-Some.found _ _
+    (c.in-Some.ensures.packets before stands)
     c.found_line-end.ensures.line c.in-Err.ensures.err

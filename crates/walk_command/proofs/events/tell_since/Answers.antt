@@ -9,10 +9,12 @@ use Rattle.walk_command.proofs.TraceLaws.{lines-same, lines-next}
 use Rattle.walk_command.proofs.events.tell_since.Goals as goal
 
 pub is_step-requires-clause-least : goal.is_step-requires-clause-least
-is_step-requires-clause-least g c = let e = ap (λ (t : Totals). t.ticks) c.totals.ensures in let h = c.requires.least in omega (arith, e, h)
+is_step-requires-clause-least g c = let e = ap (λ (t : Totals). t.ticks) c.totals.ensures in let h = c.requires.least in
+    omega (arith, e, h)
 
 pub is_step-requires-clause-most : goal.is_step-requires-clause-most
-is_step-requires-clause-most g c = let e = ap (λ (t : Totals). t.ticks) c.totals.ensures in let h = c.requires.most in omega (arith, e, h)
+is_step-requires-clause-most g c = let e = ap (λ (t : Totals). t.ticks) c.totals.ensures in let h = c.requires.most in
+    omega (arith, e, h)
 
 pub tell_step-requires-clause-some : goal.tell_step-requires-clause-some
 tell_step-requires-clause-some g c =
@@ -23,7 +25,8 @@ tell_step-requires-clause-some g c =
 pub returns-then-is_step-clause-ok : goal.returns-then-is_step-clause-ok
 returns-then-is_step-clause-ok g c first lines =
     let walk = c.args.walk.now in
-    let P : List ℕ → Type 0 = λ text. Appends g.E.ByteSink.written g.E.ByteSink.faults first c.tell_step.new.notes text in
+    let P : List ℕ → Type 0 = λ text. Appends g.E.ByteSink.written g.E.ByteSink.faults first c.tell_step.new.notes text
+    in
     let step = ap steps_in (sym (ap (λ (t : Totals). t.ticks) c.totals.ensures)) ∙ c.if-is_step.ensures.yes in
     on_ok_weaker c.tell_step.result
     (λ more. subst P (sym (lines-next walk.script c.args.ticks walk.counts.ticks step))
@@ -33,11 +36,13 @@ returns-then-is_step-clause-ok g c first lines =
 pub returns-then-is_step-clause-err : goal.returns-then-is_step-clause-err
 returns-then-is_step-clause-err g c first lines =
     let walk = c.args.walk.now in
-    let P : List ℕ → Type 0 = λ text. AppendsPart g.E.ByteSink.written g.E.ByteSink.faults first c.tell_step.new.notes text in
+    let P : List ℕ → Type 0 = λ text. AppendsPart g.E.ByteSink.written g.E.ByteSink.faults first c.tell_step.new.notes
+    text in
     let step = ap steps_in (sym (ap (λ (t : Totals). t.ticks) c.totals.ensures)) ∙ c.if-is_step.ensures.yes in
     on_err_weaker c.tell_step.result
     (λ more. subst P (sym (lines-next walk.script c.args.ticks walk.counts.ticks step))
-    (AppendsPart-then g.E.ByteSink.written g.E.ByteSink.faults first c.args.notes.now c.tell_step.new.notes _ _ lines more))
+    (AppendsPart-then g.E.ByteSink.written g.E.ByteSink.faults first c.args.notes.now c.tell_step.new.notes _ _ lines
+    more))
     c.tell_step.ensures.err
 
 pub returns-else-is_step-clause-ok : goal.returns-else-is_step-clause-ok

@@ -12,10 +12,12 @@ pub loop-size-init : goal.loop-size-init
 loop-size-init g c = record { script = refl; left = refl; walked = c.requires.walked; told = λ start first told. told }
 
 pub trace_turn-over-requires-clause-lines : goal.trace_turn-over-requires-clause-lines
-trace_turn-over-requires-clause-lines g c = c.requires.lines ∙ ap (λ (s : Script). s.config.lines) (sym c.loop-size.invariant.script)
+trace_turn-over-requires-clause-lines g c = c.requires.lines
+    ∙ ap (λ (s : Script). s.config.lines) (sym c.loop-size.invariant.script)
 
 pub trace_turn-over-requires-clause-few : goal.trace_turn-over-requires-clause-few
-trace_turn-over-requires-clause-few g c = let lines = c.requires.lines in let most = c.requires.valid.network.lines.1 in omega (arith, lines, most)
+trace_turn-over-requires-clause-few g c = let lines = c.requires.lines in let most = c.requires.valid.network.lines.1 in
+    omega (arith, lines, most)
 
 pub loop-size-smaller : goal.loop-size-smaller
 loop-size-smaller g c =
@@ -25,7 +27,8 @@ loop-size-smaller g c =
     let ticks = c.requires.ticks in
     let test = c.loop-size-test.true in
     let open_ : s.rows < c.args.walk.now.script.config.ticks = omega (arith, test, taken, ticks) in
-    let after = c.trace_turn-over.ensures.counts ∙ ap (λ (x : Script). run (walk_plan x) s (round (walk_plan x))) inv.script in
+    let after = c.trace_turn-over.ensures.counts
+    ∙ ap (λ (x : Script). run (walk_plan x) s (round (walk_plan x))) inv.script in
     (round-turn c.args.walk.now.script s c.trace_turn-over.new.walk.counts c.requires.valid inv.walked open_ after).0
 
 pub loop-size-preserved : goal.loop-size-preserved
@@ -37,10 +40,12 @@ loop-size-preserved g c =
     let ticks = c.requires.ticks in
     let test = c.loop-size-test.true in
     let open_ : s.rows < script.config.ticks = omega (arith, test, taken, ticks) in
-    let after = c.trace_turn-over.ensures.counts ∙ ap (λ (x : Script). run (walk_plan x) s (round (walk_plan x))) inv.script in
+    let after = c.trace_turn-over.ensures.counts
+    ∙ ap (λ (x : Script). run (walk_plan x) s (round (walk_plan x))) inv.script in
     record {
       script = c.trace_turn-over.ensures.script ∙ inv.script;
-      left = (round-turn script s c.trace_turn-over.new.walk.counts c.requires.valid inv.walked open_ after).1 ∙ inv.left;
+      left = (round-turn script s c.trace_turn-over.new.walk.counts c.requires.valid inv.walked open_ after).1
+          ∙ inv.left;
       walked = turn-walked script s c.trace_turn-over.new.walk.counts (round (walk_plan script)) inv.walked after;
       told = λ start first told. c.trace_turn-over.ensures.told start first (inv.told start first told);
     }

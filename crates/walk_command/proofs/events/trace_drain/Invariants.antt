@@ -14,8 +14,10 @@ invariant-loop-size g l = record {
       ≡ drain (bound (walk_plan l.fn.walk.script)) (walk_plan l.fn.walk.script) l.fn.walk.counts;
   walked : IsWalked l.fn.walk.script l.walk.counts;
   told : (start : Start) (first : g.row.E.Denot) →
-      IsTold g.F.FrameOut.stands_for g.F.MayFail.has_failed g.E.ByteSink.written g.E.ByteSink.faults l.fn.over start first l.fn.out l.fn.notes l.fn.walk →
-      IsTold g.F.FrameOut.stands_for g.F.MayFail.has_failed g.E.ByteSink.written g.E.ByteSink.faults l.over start first l.out l.notes l.walk;
+      IsTold g.F.FrameOut.stands_for g.F.MayFail.has_failed g.E.ByteSink.written g.E.ByteSink.faults l.fn.over start
+      first l.fn.out l.fn.notes l.fn.walk →
+      IsTold g.F.FrameOut.stands_for g.F.MayFail.has_failed g.E.ByteSink.written g.E.ByteSink.faults l.over start first
+      l.out l.notes l.walk;
 }
 
 abbrev pub decreases-loop-size : goal.decreases-loop-size

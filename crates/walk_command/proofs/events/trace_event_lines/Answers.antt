@@ -14,31 +14,42 @@ use Rattle.walk_command.proofs.TraceLaws.{lines-start, lines-walked, some-lines}
 use Rattle.walk_command.proofs.events.trace_event_lines.Goals as goal
 
 pub trace_drain-requires-clause-walked : goal.trace_drain-requires-clause-walked
-trace_drain-requires-clause-walked g c = let script = c.args.walk.now.script in subst (IsWalked script) (sym c.requires.begun) (begins-walked script)
+trace_drain-requires-clause-walked g c = let script = c.args.walk.now.script in
+    subst (IsWalked script) (sym c.requires.begun) (begins-walked script)
 
 pub returns-then-is_empty-clause-counts : goal.returns-then-is_empty-clause-counts
 returns-then-is_empty-clause-counts g c =
     let script = c.args.walk.now.script in
     let plan = walk_plan script in
-    let none : length script.events ≡ 0 = ap length (sym c.requires.events) ∙ eqb-true (length c.args.lines.now) 0 (sym c.if-is_empty.ensures) in
-    c.trace_drain.ensures.counts ∙ ap (drain (bound plan) plan) c.requires.begun ∙ sym (lines-no plan script.events none)
+    let none : length script.events ≡ 0 = ap length (sym c.requires.events)
+    ∙ eqb-true (length c.args.lines.now) 0 (sym c.if-is_empty.ensures) in
+    c.trace_drain.ensures.counts ∙ ap (drain (bound plan) plan) c.requires.begun
+    ∙ sym (lines-no plan script.events none)
 
 pub loop-line-init : goal.loop-line-init
 loop-line-init g c =
     let plan = walk_plan c.args.walk.now.script in
-    record { script = refl; counts = c.requires.begun ∙ sym (lines-start plan (begin plan) c.args.lines.now); told = λ start first told. told }
+    record {
+      script = refl;
+      counts = c.requires.begun ∙ sym (lines-start plan (begin plan) c.args.lines.now);
+      told =
+          λ start first told. told;
+    }
 
 pub trace_event_line-over-requires-clause-walked : goal.trace_event_line-over-requires-clause-walked
 trace_event_line-over-requires-clause-walked g c =
     let inv = c.loop-line.invariant in
     let script = c.args.walk.now.script in
-    subst (λ (s : Script). IsWalked s c.loop-line.walk.counts) (sym inv.script) (subst (IsWalked script) (sym inv.counts) (lines-walked script (take c.loop-line.line-index c.args.lines.now)))
+    subst (λ (s : Script). IsWalked s c.loop-line.walk.counts) (sym inv.script)
+    (subst (IsWalked script) (sym inv.counts) (lines-walked script (take c.loop-line.line-index c.args.lines.now)))
 
 pub trace_event_line-over-requires-clause-lines : goal.trace_event_line-over-requires-clause-lines
-trace_event_line-over-requires-clause-lines g c = c.requires.lines ∙ ap (λ (s : Script). s.config.lines) (sym c.loop-line.invariant.script)
+trace_event_line-over-requires-clause-lines g c = c.requires.lines
+    ∙ ap (λ (s : Script). s.config.lines) (sym c.loop-line.invariant.script)
 
 pub trace_event_line-over-requires-clause-ticks : goal.trace_event_line-over-requires-clause-ticks
-trace_event_line-over-requires-clause-ticks g c = c.requires.ticks ∙ ap (λ (s : Script). s.config.ticks) (sym c.loop-line.invariant.script)
+trace_event_line-over-requires-clause-ticks g c = c.requires.ticks
+    ∙ ap (λ (s : Script). s.config.ticks) (sym c.loop-line.invariant.script)
 
 pub loop-line-preserved : goal.loop-line-preserved
 loop-line-preserved g c =
@@ -49,8 +60,10 @@ loop-line-preserved g c =
     let line : EventLine = get_or lines k (Client 0) in
     record {
       script = c.trace_event_line-over.ensures.script ∙ inv.script;
-      counts = c.trace_event_line-over.ensures.counts ∙ ap (λ (s : Script). run_line (walk_plan s) c.loop-line.walk.counts line) inv.script
-          ∙ ap (λ (s : Counts). run_line plan s line) inv.counts ∙ sym (lines-last plan (begin plan) lines k line (there lines k (Client 0) c.loop-line-test.true));
+      counts = c.trace_event_line-over.ensures.counts
+          ∙ ap (λ (s : Script). run_line (walk_plan s) c.loop-line.walk.counts line) inv.script
+          ∙ ap (λ (s : Counts). run_line plan s line) inv.counts
+          ∙ sym (lines-last plan (begin plan) lines k line (there lines k (Client 0) c.loop-line-test.true));
       told = λ start first told. c.trace_event_line-over.ensures.told start first (inv.told start first told);
     }
 
@@ -58,5 +71,6 @@ pub returns-clause-counts : goal.returns-clause-counts
 returns-clause-counts g c =
     let plan = walk_plan c.args.walk.now.script in
     let lines = c.args.lines.now in
-    c.loop-line.invariant.counts ∙ ap (run_lines plan (begin plan)) (take_all c.loop-line.line-index lines c.loop-line-test.false)
+    c.loop-line.invariant.counts ∙ ap (run_lines plan (begin plan))
+    (take_all c.loop-line.line-index lines c.loop-line-test.false)
     ∙ sym (lines-some plan lines (some-lines (length lines) c.if-is_empty.ensures)) ∙ ap (walked plan) c.requires.events

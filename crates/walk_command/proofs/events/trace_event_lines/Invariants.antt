@@ -9,8 +9,11 @@ use Rattle.walk_command.proofs.events.trace_event_lines.Given as goal
 abbrev pub invariant-loop-line : goal.invariant-loop-line
 invariant-loop-line g l = record {
   script : l.walk.script ≡ l.fn.walk.script;
-  counts : l.walk.counts ≡ run_lines (walk_plan l.fn.walk.script) (begin (walk_plan l.fn.walk.script)) (take l.line-index l.fn.lines);
+  counts : l.walk.counts ≡ run_lines (walk_plan l.fn.walk.script) (begin (walk_plan l.fn.walk.script))
+      (take l.line-index l.fn.lines);
   told : (start : Start) (first : g.row.E.Denot) →
-      IsTold g.F.FrameOut.stands_for g.F.MayFail.has_failed g.E.ByteSink.written g.E.ByteSink.faults false start first l.fn.out l.fn.notes l.fn.walk →
-      IsTold g.F.FrameOut.stands_for g.F.MayFail.has_failed g.E.ByteSink.written g.E.ByteSink.faults l.over start first l.out l.notes l.walk;
+      IsTold g.F.FrameOut.stands_for g.F.MayFail.has_failed g.E.ByteSink.written g.E.ByteSink.faults false start first
+      l.fn.out l.fn.notes l.fn.walk →
+      IsTold g.F.FrameOut.stands_for g.F.MayFail.has_failed g.E.ByteSink.written g.E.ByteSink.faults l.over start first
+      l.out l.notes l.walk;
 }

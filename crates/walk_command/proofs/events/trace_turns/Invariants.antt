@@ -14,6 +14,8 @@ invariant-loop-made g l = record {
   counts : l.walk.counts ≡ run (walk_plan l.fn.walk.script) l.fn.walk.counts
       (flat_map (λ (tries : List Event). tries) (replicate l._made (events_of (walk_plan l.fn.walk.script) l.fn.turn)));
   told : (start : Start) (first : g.row.E.Denot) →
-      IsTold g.F.FrameOut.stands_for g.F.MayFail.has_failed g.E.ByteSink.written g.E.ByteSink.faults l.fn.over start first l.fn.out l.fn.notes l.fn.walk →
-      IsTold g.F.FrameOut.stands_for g.F.MayFail.has_failed g.E.ByteSink.written g.E.ByteSink.faults l.over start first l.out l.notes l.walk;
+      IsTold g.F.FrameOut.stands_for g.F.MayFail.has_failed g.E.ByteSink.written g.E.ByteSink.faults l.fn.over start
+      first l.fn.out l.fn.notes l.fn.walk →
+      IsTold g.F.FrameOut.stands_for g.F.MayFail.has_failed g.E.ByteSink.written g.E.ByteSink.faults l.over start first
+      l.out l.notes l.walk;
 }

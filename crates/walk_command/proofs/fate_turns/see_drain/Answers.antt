@@ -42,7 +42,8 @@ loop-walk-preserved c =
     record {
       script = c.see_turn.ensures.script ∙ inv.script;
       left = (round-turn script s c.see_turn.new.walk.counts c.requires.valid walked open_ after).1 ∙ inv.left;
-      walked = walked-on c.loop-walk.walk.script c.see_turn.new.walk.script s c.see_turn.new.walk.counts (round (walk_plan c.loop-walk.walk.script)) inv.walked c.see_turn.ensures.script c.see_turn.ensures.counts;
+      walked = walked-on c.loop-walk.walk.script c.see_turn.new.walk.script s c.see_turn.new.walk.counts
+          (round (walk_plan c.loop-walk.walk.script)) inv.walked c.see_turn.ensures.script c.see_turn.ensures.counts;
       seen = c.in_ok-see_turn.ensures.seen;
     }
 

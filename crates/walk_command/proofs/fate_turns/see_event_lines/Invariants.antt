@@ -8,6 +8,7 @@ use Rattle.walk_command.proofs.fate_turns.see_event_lines.Given as goal
 abbrev pub invariant-loop-line : goal.invariant-loop-line
 invariant-loop-line l = record {
   script : l.walk.script ≡ l.fn.walk.script;
-  counts : l.walk.counts ≡ run_lines (walk_plan l.fn.walk.script) (begin (walk_plan l.fn.walk.script)) (take l.line-index l.fn.lines);
+  counts : l.walk.counts ≡ run_lines (walk_plan l.fn.walk.script) (begin (walk_plan l.fn.walk.script))
+      (take l.line-index l.fn.lines);
   seen : Sees l.walk.script l.walk.counts.ticks l.walk.counts.rows l.seen;
 }

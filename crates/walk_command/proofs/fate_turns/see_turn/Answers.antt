@@ -6,5 +6,6 @@ use Rattle.walk_command.proofs.fate_turns.see_turn.Goals as goal
 
 pub see_since-requires-clause-walked : goal.see_since-requires-clause-walked
 see_since-requires-clause-walked c =
-    walked-on c.args.walk.now.script c.silent_turn.new.walk.script c.args.walk.now.counts c.silent_turn.new.walk.counts (events_of (walk_plan c.args.walk.now.script) c.args.turn)
+    walked-on c.args.walk.now.script c.silent_turn.new.walk.script c.args.walk.now.counts c.silent_turn.new.walk.counts
+    (events_of (walk_plan c.args.walk.now.script) c.args.turn)
     c.requires.walked c.silent_turn.ensures.script c.silent_turn.ensures.counts

@@ -12,15 +12,18 @@ pub place_frames-requires-clause-walked : goal.place_frames-requires-clause-walk
 place_frames-requires-clause-walked c =
     let script = c.args.walk.now.script in
     subst (λ (s : Counts). IsWalked c.see_event_lines.new.walk.script s) (sym c.in_ok-see_event_lines.ensures.counts)
-    (subst (λ (x : Script). IsWalked x (counts_in script)) (sym c.see_event_lines.ensures.script) (counts-walked script))
+    (subst (λ (x : Script). IsWalked x (counts_in script)) (sym c.see_event_lines.ensures.script)
+    (counts-walked script))
 
 pub returns-clause-seen : goal.returns-clause-seen
 returns-clause-seen c =
     let script = c.args.walk.now.script in
     record {
       valid = subst IsValid (sym c.see_event_lines.ensures.script) c.requires.valid;
-      walked = subst (λ (s : Counts). IsWalked c.see_event_lines.new.walk.script s) (sym c.in_ok-see_event_lines.ensures.counts)
-          (subst (λ (x : Script). IsWalked x (counts_in script)) (sym c.see_event_lines.ensures.script) (counts-walked script));
+      walked = subst (λ (s : Counts). IsWalked c.see_event_lines.new.walk.script s)
+          (sym c.in_ok-see_event_lines.ensures.counts)
+          (subst (λ (x : Script). IsWalked x (counts_in script)) (sym c.see_event_lines.ensures.script)
+          (counts-walked script));
       rows = c.in_ok-see_event_lines.ensures.seen;
       places = c.in_ok-ruler.ensures;
     }

@@ -16,51 +16,70 @@ abbrev answer : Script → Answer
 answer script = writes (fates_text script (counts_in script))
 
 -- the walk's text is that of its script
-own-text : (script now : Script) (s : Counts) → now ≡ script → s ≡ counts_in script → fates_text now s ≡ fates_text script (counts_in script)
+own-text : (script now : Script) (s : Counts) → now ≡ script → s ≡ counts_in script →
+    fates_text now s ≡ fates_text script (counts_in script)
 own-text script now s same counts = ap (λ (x : Script). fates_text x s) same ∙ ap (fates_text script) counts
 
 -- ---- nothing was read, or no script
 pub returns-in-Err-clause-ends : goal.returns-in-Err-clause-ends
 returns-in-Err-clause-ends g c =
-    ends-stopped (lent g.S.ByteSource.left g.S.ByteSource.faults c.args.script.now c.read_walk.new.source) (lent g.K.ByteSink.written g.K.ByteSink.faults c.args.out.now c.args.out.now) (lent g.E.ByteSink.written g.E.ByteSink.faults c.args.notes.now c.stopped.new.notes)
-    fates_answer c.in-Err.stop c.stopped.result.status (c.in-Err.ensures.stopped answer) c.stopped.ensures.status refl c.stopped.ensures.told
+    ends-stopped (lent g.S.ByteSource.left g.S.ByteSource.faults c.args.script.now c.read_walk.new.source)
+    (lent g.K.ByteSink.written g.K.ByteSink.faults c.args.out.now c.args.out.now)
+    (lent g.E.ByteSink.written g.E.ByteSink.faults c.args.notes.now c.stopped.new.notes)
+    fates_answer c.in-Err.stop c.stopped.result.status (c.in-Err.ensures.stopped answer) c.stopped.ensures.status refl
+    c.stopped.ensures.told
 
 pub returns-in-Err-clause-handed : goal.returns-in-Err-clause-handed
 returns-in-Err-clause-handed g c run =
-    absurd (stops-not-run (lent g.S.ByteSource.left g.S.ByteSource.faults c.args.script.now c.read_walk.new.source) fates_answer c.in-Err.stop c.stopped.result.status (c.in-Err.ensures.stopped answer) c.stopped.ensures.status run)
+    absurd (stops-not-run (lent g.S.ByteSource.left g.S.ByteSource.faults c.args.script.now c.read_walk.new.source)
+    fates_answer c.in-Err.stop c.stopped.result.status (c.in-Err.ensures.stopped answer) c.stopped.ensures.status
+    run)
 
 -- ---- memory was short for what is seen
 pub returns-in-Err-see_walk-clause-ends : goal.returns-in-Err-see_walk-clause-ends
 returns-in-Err-see_walk-clause-ends g c =
-    ends-short (lent g.S.ByteSource.left g.S.ByteSource.faults c.args.script.now c.read_walk.new.source) (lent g.K.ByteSink.written g.K.ByteSink.faults c.args.out.now c.args.out.now)
+    ends-short (lent g.S.ByteSource.left g.S.ByteSource.faults c.args.script.now c.read_walk.new.source)
+    (lent g.K.ByteSink.written g.K.ByteSink.faults c.args.out.now c.args.out.now)
     (lent g.E.ByteSink.written g.E.ByteSink.faults c.args.notes.now c.stopped-in-Err-see_walk.new.notes)
     (reads fates_answer) (answer c.in-Ok.begun.walk.script) c.stopped-in-Err-see_walk.result.status
-    (meets-script (lent g.S.ByteSource.left g.S.ByteSource.faults c.args.script.now c.read_walk.new.source) answer c.in-Ok.begun.walk.script c.in-Ok.ensures.script)
+    (meets-script (lent g.S.ByteSource.left g.S.ByteSource.faults c.args.script.now c.read_walk.new.source) answer
+    c.in-Ok.begun.walk.script c.in-Ok.ensures.script)
     c.stopped-in-Err-see_walk.ensures.status refl c.stopped-in-Err-see_walk.ensures.told
 
 pub returns-in-Err-see_walk-clause-handed : goal.returns-in-Err-see_walk-clause-handed
 returns-in-Err-see_walk-clause-handed g c run =
-    absurd (stops-not-run (lent g.S.ByteSource.left g.S.ByteSource.faults c.args.script.now c.read_walk.new.source) fates_answer Memory c.stopped-in-Err-see_walk.result.status
+    absurd (stops-not-run (lent g.S.ByteSource.left g.S.ByteSource.faults c.args.script.now c.read_walk.new.source)
+    fates_answer Memory c.stopped-in-Err-see_walk.result.status
     c.in-Ok.ensures.script.read.quiet c.stopped-in-Err-see_walk.ensures.status run)
 
 -- ---- the walk
 pub returns-in-Ok-write_fates-clause-ends : goal.returns-in-Ok-write_fates-clause-ends
 returns-in-Ok-write_fates-clause-ends g c =
     let script : Script = c.in-Ok.begun.walk.script in
-    let P : List ℕ → Type 0 = λ text. Appends g.K.ByteSink.written g.K.ByteSink.faults c.args.out.now c.write_fates.new.out text in
-    let text = own-text script c.see_walk.new.walk.script c.see_walk.new.walk.counts c.see_walk.ensures.script c.in-Ok-see_walk.ensures.counts in
-    ends-done (lent g.S.ByteSource.left g.S.ByteSource.faults c.args.script.now c.read_walk.new.source) (lent g.K.ByteSink.written g.K.ByteSink.faults c.args.out.now c.write_fates.new.out) (lent g.E.ByteSink.written g.E.ByteSink.faults c.args.notes.now c.args.notes.now)
+    let P : List ℕ → Type 0 = λ text. Appends g.K.ByteSink.written g.K.ByteSink.faults c.args.out.now
+    c.write_fates.new.out text in
+    let text = own-text script c.see_walk.new.walk.script c.see_walk.new.walk.counts c.see_walk.ensures.script
+    c.in-Ok-see_walk.ensures.counts in
+    ends-done (lent g.S.ByteSource.left g.S.ByteSource.faults c.args.script.now c.read_walk.new.source)
+    (lent g.K.ByteSink.written g.K.ByteSink.faults c.args.out.now c.write_fates.new.out)
+    (lent g.E.ByteSink.written g.E.ByteSink.faults c.args.notes.now c.args.notes.now)
     (reads fates_answer) (answer script) c.done.result.status
-    (meets-script (lent g.S.ByteSource.left g.S.ByteSource.faults c.args.script.now c.read_walk.new.source) answer script c.in-Ok.ensures.script)
+    (meets-script (lent g.S.ByteSource.left g.S.ByteSource.faults c.args.script.now c.read_walk.new.source) answer
+    script c.in-Ok.ensures.script)
     c.done.ensures.status (subst P text c.in-Ok-write_fates.ensures.ok, refl)
 
 -- ---- a write has failed
 pub returns-clause-ends : goal.returns-clause-ends
 returns-clause-ends g c =
     let script : Script = c.in-Ok.begun.walk.script in
-    let P : List ℕ → Type 0 = λ text. AppendsPart g.K.ByteSink.written g.K.ByteSink.faults c.args.out.now c.write_fates.new.out text in
-    let text = own-text script c.see_walk.new.walk.script c.see_walk.new.walk.counts c.see_walk.ensures.script c.in-Ok-see_walk.ensures.counts in
-    ends-cut (lent g.S.ByteSource.left g.S.ByteSource.faults c.args.script.now c.read_walk.new.source) (lent g.K.ByteSink.written g.K.ByteSink.faults c.args.out.now c.write_fates.new.out) (lent g.E.ByteSink.written g.E.ByteSink.faults c.args.notes.now c.cut.new.notes)
+    let P : List ℕ → Type 0 = λ text. AppendsPart g.K.ByteSink.written g.K.ByteSink.faults c.args.out.now
+    c.write_fates.new.out text in
+    let text = own-text script c.see_walk.new.walk.script c.see_walk.new.walk.counts c.see_walk.ensures.script
+    c.in-Ok-see_walk.ensures.counts in
+    ends-cut (lent g.S.ByteSource.left g.S.ByteSource.faults c.args.script.now c.read_walk.new.source)
+    (lent g.K.ByteSink.written g.K.ByteSink.faults c.args.out.now c.write_fates.new.out)
+    (lent g.E.ByteSink.written g.E.ByteSink.faults c.args.notes.now c.cut.new.notes)
     (reads fates_answer) (answer script) c.args.notes.now c.cut.result.status
-    (meets-script (lent g.S.ByteSource.left g.S.ByteSource.faults c.args.script.now c.read_walk.new.source) answer script c.in-Ok.ensures.script)
+    (meets-script (lent g.S.ByteSource.left g.S.ByteSource.faults c.args.script.now c.read_walk.new.source) answer
+    script c.in-Ok.ensures.script)
     c.cut.ensures.status (subst P text c.in-Err-write_fates.ensures.err, refl) c.cut.ensures.told

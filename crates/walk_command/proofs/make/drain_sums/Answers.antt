@@ -12,15 +12,19 @@ returns-clause-octets c =
     let script = c.args.walk.now.script in
     let ticks = script.config.ticks in
     let so = subst (HasSummed c.drain.new.out.octets c.drain.new.out.total)
-    (ap (λ rows. delivered_since script rows ticks) (ap (λ (s : Counts). s.rows) c.requires.begun) ∙ since-begin script ticks)
+    (ap (λ rows. delivered_since script rows ticks) (ap (λ (s : Counts). s.rows) c.requires.begun)
+    ∙ since-begin script ticks)
     (c.drain.ensures.gives (record { octets = []; faults = 0; name = 0 }) [] summed-none) in
-    count-exact script ticks c.drain.new.out.octets c.drain.new.out.total c.requires.valid (omega arith) so ∙ ap (λ n. octet_count (delivered_of script n)) (sym c.drain.ensures.all)
+    count-exact script ticks c.drain.new.out.octets c.drain.new.out.total c.requires.valid (omega arith) so
+    ∙ ap (λ n. octet_count (delivered_of script n)) (sym c.drain.ensures.all)
 
 pub returns-clause-total : goal.returns-clause-total
 returns-clause-total c =
     let script = c.args.walk.now.script in
     let ticks = script.config.ticks in
     let so = subst (HasSummed c.drain.new.out.octets c.drain.new.out.total)
-    (ap (λ rows. delivered_since script rows ticks) (ap (λ (s : Counts). s.rows) c.requires.begun) ∙ since-begin script ticks)
+    (ap (λ rows. delivered_since script rows ticks) (ap (λ (s : Counts). s.rows) c.requires.begun)
+    ∙ since-begin script ticks)
     (c.drain.ensures.gives (record { octets = []; faults = 0; name = 0 }) [] summed-none) in
-    sum-exact script ticks c.drain.new.out.octets c.drain.new.out.total c.requires.valid (omega arith) so ∙ ap (λ n. octet_sum (delivered_of script n)) (sym c.drain.ensures.all)
+    sum-exact script ticks c.drain.new.out.octets c.drain.new.out.total c.requires.valid (omega arith) so
+    ∙ ap (λ n. octet_sum (delivered_of script n)) (sym c.drain.ensures.all)

@@ -13,22 +13,36 @@ use Rattle.walk_command.proofs.make.make.Goals as goal
 
 pub returns-in-Ok-write_made-clause-ends : goal.returns-in-Ok-write_made-clause-ends
 returns-in-Ok-write_made-clause-ends g c =
-    let P : List ℕ → Type 0 = λ text. Appends g.K.ByteSink.written g.K.ByteSink.faults c.args.out.now c.write_made.new.out text in
+    let P : List ℕ → Type 0 = λ text. Appends g.K.ByteSink.written g.K.ByteSink.faults c.args.out.now
+    c.write_made.new.out text in
     let script = c.in-Ok-new.ensures.script ∙ c.in-Ok.ensures.load in
-    let begun = c.in-Ok-new.ensures.counts ∙ ap (λ (s : Script). begin (walk_plan s)) (sym c.in-Ok-new.ensures.script) in
-    let lines = lines-are c.args.number c.args.lines c.args.ticks c.in-Ok-new.walk c.drain_sums-sums.new.walk script begun c.drain_sums-sums.ensures.script c.drain_sums-sums.ensures.counts
-    c.drain_sums-sums.result.octets c.drain_sums-sums.result.total c.totals.result c.totals.ensures c.drain_sums-sums.ensures.octets c.drain_sums-sums.ensures.total in
-    ends-done no_source (lent g.K.ByteSink.written g.K.ByteSink.faults c.args.out.now c.write_made.new.out) (lent g.E.ByteSink.written g.E.ByteSink.faults c.args.notes.now c.args.notes.now)
-    (makes (make_answer c.args.number c.args.lines c.args.ticks)) (writes (make_text c.args.number c.args.lines c.args.ticks)) c.done.result.status (refl, refl) c.done.ensures.status
+    let begun = c.in-Ok-new.ensures.counts
+    ∙ ap (λ (s : Script). begin (walk_plan s)) (sym c.in-Ok-new.ensures.script) in
+    let lines = lines-are c.args.number c.args.lines c.args.ticks c.in-Ok-new.walk c.drain_sums-sums.new.walk script
+    begun c.drain_sums-sums.ensures.script c.drain_sums-sums.ensures.counts
+    c.drain_sums-sums.result.octets c.drain_sums-sums.result.total c.totals.result c.totals.ensures
+    c.drain_sums-sums.ensures.octets c.drain_sums-sums.ensures.total in
+    ends-done no_source (lent g.K.ByteSink.written g.K.ByteSink.faults c.args.out.now c.write_made.new.out)
+    (lent g.E.ByteSink.written g.E.ByteSink.faults c.args.notes.now c.args.notes.now)
+    (makes (make_answer c.args.number c.args.lines c.args.ticks))
+    (writes (make_text c.args.number c.args.lines c.args.ticks)) c.done.result.status
+    (refl, refl) c.done.ensures.status
     (subst P lines c.in-Ok-write_made.ensures.ok, refl)
 
 pub returns-in-Err-clause-ends : goal.returns-in-Err-clause-ends
 returns-in-Err-clause-ends g c =
-    let P : List ℕ → Type 0 = λ text. AppendsPart g.K.ByteSink.written g.K.ByteSink.faults c.args.out.now c.write_made.new.out text in
+    let P : List ℕ → Type 0 = λ text. AppendsPart g.K.ByteSink.written g.K.ByteSink.faults c.args.out.now
+    c.write_made.new.out text in
     let script = c.in-Ok-new.ensures.script ∙ c.in-Ok.ensures.load in
-    let begun = c.in-Ok-new.ensures.counts ∙ ap (λ (s : Script). begin (walk_plan s)) (sym c.in-Ok-new.ensures.script) in
-    let lines = lines-are c.args.number c.args.lines c.args.ticks c.in-Ok-new.walk c.drain_sums-sums.new.walk script begun c.drain_sums-sums.ensures.script c.drain_sums-sums.ensures.counts
-    c.drain_sums-sums.result.octets c.drain_sums-sums.result.total c.totals.result c.totals.ensures c.drain_sums-sums.ensures.octets c.drain_sums-sums.ensures.total in
-    ends-cut no_source (lent g.K.ByteSink.written g.K.ByteSink.faults c.args.out.now c.write_made.new.out) (lent g.E.ByteSink.written g.E.ByteSink.faults c.args.notes.now c.cut.new.notes)
-    (makes (make_answer c.args.number c.args.lines c.args.ticks)) (writes (make_text c.args.number c.args.lines c.args.ticks)) c.args.notes.now c.cut.result.status (refl, refl) c.cut.ensures.status
+    let begun = c.in-Ok-new.ensures.counts
+    ∙ ap (λ (s : Script). begin (walk_plan s)) (sym c.in-Ok-new.ensures.script) in
+    let lines = lines-are c.args.number c.args.lines c.args.ticks c.in-Ok-new.walk c.drain_sums-sums.new.walk script
+    begun c.drain_sums-sums.ensures.script c.drain_sums-sums.ensures.counts
+    c.drain_sums-sums.result.octets c.drain_sums-sums.result.total c.totals.result c.totals.ensures
+    c.drain_sums-sums.ensures.octets c.drain_sums-sums.ensures.total in
+    ends-cut no_source (lent g.K.ByteSink.written g.K.ByteSink.faults c.args.out.now c.write_made.new.out)
+    (lent g.E.ByteSink.written g.E.ByteSink.faults c.args.notes.now c.cut.new.notes)
+    (makes (make_answer c.args.number c.args.lines c.args.ticks))
+    (writes (make_text c.args.number c.args.lines c.args.ticks)) c.args.notes.now c.cut.result.status
+    (refl, refl) c.cut.ensures.status
     (subst P lines c.in-Err.ensures.err, refl) c.cut.ensures.told

@@ -8,5 +8,6 @@ use Rattle.walk_command.proofs.walk.write_walk.Goals as goal
 pub returns-clause-err : goal.returns-clause-err
 returns-clause-err g c =
     on_err_weaker c.write_trace.result
-    (stops-out g.K.ByteSink.written g.K.ByteSink.faults c.args.out.now c.write_trace.new.out (walk_text c.args.walk.now.script) _ _ _ (trace_text c.args.walk.now.script))
+    (stops-out g.K.ByteSink.written g.K.ByteSink.faults c.args.out.now c.write_trace.new.out
+    (walk_text c.args.walk.now.script) _ _ _ (trace_text c.args.walk.now.script))
     c.write_trace.ensures.err

@@ -84,5 +84,6 @@ returns g c = λ start has.
     let count = accepted-all script s c.loop-frame.cursor c.loop-frame.accepted is c.in_default.ensures.none in
     subst (HasGfp g.K.ByteSink.written g.K.ByteSink.faults c.loop-frame.out start)
     (ap (λ n. carried_among rows (take n (session_extents script))) count
-    ∙ carried-all (session_pieces script) rows (length (landed_accepted script s)) (none-behind script s is.at.valid is.at.walked))
+    ∙ carried-all (session_pieces script) rows (length (landed_accepted script s))
+    (none-behind script s is.at.valid is.at.walked))
     (c.loop-frame.invariant.1 start has)

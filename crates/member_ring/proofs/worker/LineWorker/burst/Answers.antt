@@ -40,17 +40,20 @@ returns-then-eq-clause-alarms g c = λ open_ small.
     let noted = noted-then _ _ _ c.carry-first.ensures.noted c.carry_on.ensures.noted in
     let before = raised_by c.args.self.now in
     let few = sent-few c.carry_on.new.self in
-    sym (noted.alarms (omega (arith, small, few)) before (ap (λ l. before ++ l) c.clear.ensures.alarms ∙ append-nil before))
+    sym (noted.alarms (omega (arith, small, few)) before
+    (ap (λ l. before ++ l) c.clear.ensures.alarms ∙ append-nil before))
 
 pub returns-else-eq-clause-alarms : goal.returns-else-eq-clause-alarms
 returns-else-eq-clause-alarms g c = λ open_ small.
     let before = raised_by c.args.self.now in
     let few = sent-few c.carry-first.new.self in
-    sym (c.carry-first.ensures.noted.alarms (omega (arith, small, few)) before (ap (λ l. before ++ l) c.clear.ensures.alarms ∙ append-nil before))
+    sym (c.carry-first.ensures.noted.alarms (omega (arith, small, few)) before
+    (ap (λ l. before ++ l) c.clear.ensures.alarms ∙ append-nil before))
 
 pub returns-else-eq-clause-still : goal.returns-else-eq-clause-still
 returns-else-eq-clause-still g c = λ done.
     let old = c.args.self.now in
     let given : IsTrue c.ended.result ↔ Contains (out_passed old.producer) End =
-    subst (λ cells. IsTrue c.ended.result ↔ Contains cells End) (sym old.sent) (c.ended.ensures.given (calls_on old.core (in_passed old.consumer)) old.stands) in
+    subst (λ cells. IsTrue c.ended.result ↔ Contains cells End) (sym old.sent)
+    (c.ended.ensures.given (calls_on old.core (in_passed old.consumer)) old.stands) in
     absurd (let ended = given.1 (c.carry-first.ensures.done.0 done) in let open_ = c.if-ended.false in cc)

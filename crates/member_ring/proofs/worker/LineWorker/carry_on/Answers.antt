@@ -27,7 +27,9 @@ loop-preserved c =
     }
 
 pub returns-then-ne-clause-later : goal.returns-then-ne-clause-later
-returns-then-ne-clause-later c = later-then c.args.self.now c.loop.self c.carry.new.self c.loop.invariant.later c.carry.ensures.later
+returns-then-ne-clause-later c =
+    later-then c.args.self.now c.loop.self c.carry.new.self c.loop.invariant.later c.carry.ensures.later
 
 pub returns-then-ne-clause-noted : goal.returns-then-ne-clause-noted
-returns-then-ne-clause-noted c = noted-then c.args.self.now c.loop.self c.carry.new.self c.loop.invariant.noted c.carry.ensures.noted
+returns-then-ne-clause-noted c =
+    noted-then c.args.self.now c.loop.self c.carry.new.self c.loop.invariant.noted c.carry.ensures.noted

@@ -20,18 +20,24 @@ invariant_of-self-2 c =
     let place = c.flush_to-carry.new.out in
     let more = carry_cells c.flush_to-carry.result place in
     let before = out_passed old.producer in
-    let out : out_passed c.send.new.producer ≡ before ++ more = c.send.ensures.sent ∙ ap (λ l. l ++ more) c.ready.ensures.passed in
+    let out : out_passed c.send.new.producer ≡ before ++ more = c.send.ensures.sent
+    ∙ ap (λ l. l ++ more) c.ready.ensures.passed in
     let next : and_flush calls ≡ calls_on c.flush_to-carry.new.self (in_passed old.consumer) =
     calls-flushed old.core c.flush_to-carry.new.self (in_passed old.consumer) stands in
     record {
       stands = subst (Stands c.flush_to-carry.new.self) next stands;
-      sent = c.send.ensures.sent ∙ ap (λ l. l ++ carry_cells c.flush_to-carry.result c.flush_to-carry.new.out) (c.ready.ensures.passed ∙ old.sent)
+      sent = c.send.ensures.sent ∙ ap (λ l. l ++ carry_cells c.flush_to-carry.result c.flush_to-carry.new.out)
+          (c.ready.ensures.passed ∙ old.sent)
           ∙ sym (c.flush_to-carry.ensures.cells calls old.stands) ∙ ap path_cells next;
-      order = λ some. let counts = c.flush_to-carry.ensures.counts in omega (arith, c.requires.pushed, counts.pushed, counts.total);
-      flushes = let counts = c.flush_to-carry.ensures.counts in omega (arith, c.requires.runs, counts.flushed, counts.delay);
+      order = λ some. let counts = c.flush_to-carry.ensures.counts in
+          omega (arith, c.requires.pushed, counts.pushed, counts.total);
+      flushes = let counts = c.flush_to-carry.ensures.counts in
+          omega (arith, c.requires.runs, counts.flushed, counts.delay);
       received = let counts = c.flush_to-carry.ensures.counts in omega (arith, old.received, counts.total);
-      failed = c.note.ensures.failed place ∙ ap (λ b. failed_after b more) old.failed ∙ sym (failed-more false before more) ∙ ap (failed_after false) (sym out);
-      next = place-more old.raised.place c.note.new.self.place before more old.next (c.note.ensures.place place) ∙ ap (λ l. min (length l) 4294967295) (sym out);
+      failed = c.note.ensures.failed place ∙ ap (λ b. failed_after b more) old.failed
+          ∙ sym (failed-more false before more) ∙ ap (failed_after false) (sym out);
+      next = place-more old.raised.place c.note.new.self.place before more old.next (c.note.ensures.place place)
+          ∙ ap (λ l. min (length l) 4294967295) (sym out);
     }
 
 pub returns-clause-later : goal.returns-clause-later
@@ -56,4 +62,5 @@ returns-clause-noted c =
     let old = c.args.self.now in
     let place = c.flush_to-carry.new.out in
     let more = carry_cells c.flush_to-carry.result place in
-    noted-sent old _ more refl (c.send.ensures.sent ∙ ap (λ l. l ++ more) c.ready.ensures.passed) (c.note.ensures.alarms place)
+    noted-sent old _ more refl (c.send.ensures.sent ∙ ap (λ l. l ++ more) c.ready.ensures.passed)
+    (c.note.ensures.alarms place)

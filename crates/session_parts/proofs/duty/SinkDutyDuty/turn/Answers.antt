@@ -6,7 +6,8 @@ use Rattle.session_parts.proofs.duty.SinkDutyDuty.turn.Goals as goal
 pub returns-in-Moved-clause-stands : goal.returns-in-Moved-clause-stands
 returns-in-Moved-clause-stands g c = λ begun run. (
   run.0,
-  run-then g.K.ByteSink.written g.K.ByteSink.faults begun c.args.self.now.sink c.burst.new.self c.args.self.now.out.now c.burst.new.out
+  run-then g.K.ByteSink.written g.K.ByteSink.faults begun c.args.self.now.sink c.burst.new.self c.args.self.now.out.now
+      c.burst.new.out
       (c.burst.ensures.stands run.1.stands) c.burst.ensures.later (c.burst.ensures.written run.1.stands) run.1,
   log-then begun.log c.args.self.now.log c.turn_log.new.log run.2 c.turn_log.ensures,
 )
@@ -14,7 +15,8 @@ returns-in-Moved-clause-stands g c = λ begun run. (
 pub returns-in-Idle-clause-stands : goal.returns-in-Idle-clause-stands
 returns-in-Idle-clause-stands g c = λ begun run. (
   run.0,
-  run-then g.K.ByteSink.written g.K.ByteSink.faults begun c.args.self.now.sink c.burst.new.self c.args.self.now.out.now c.burst.new.out
+  run-then g.K.ByteSink.written g.K.ByteSink.faults begun c.args.self.now.sink c.burst.new.self c.args.self.now.out.now
+      c.burst.new.out
       (c.burst.ensures.stands run.1.stands) c.burst.ensures.later (c.burst.ensures.written run.1.stands) run.1,
   log-then begun.log c.args.self.now.log c.turn_log.new.log run.2 c.turn_log.ensures,
 )
@@ -22,7 +24,8 @@ returns-in-Idle-clause-stands g c = λ begun run. (
 pub returns-in-Done-clause-stands : goal.returns-in-Done-clause-stands
 returns-in-Done-clause-stands g c = λ begun run. (
   run.0,
-  run-then g.K.ByteSink.written g.K.ByteSink.faults begun c.args.self.now.sink c.burst.new.self c.args.self.now.out.now c.burst.new.out
+  run-then g.K.ByteSink.written g.K.ByteSink.faults begun c.args.self.now.sink c.burst.new.self c.args.self.now.out.now
+      c.burst.new.out
       (c.burst.ensures.stands run.1.stands) c.burst.ensures.later (c.burst.ensures.written run.1.stands) run.1,
   log-then begun.log c.args.self.now.log c.turn_log.new.log run.2 c.turn_log.ensures,
 )

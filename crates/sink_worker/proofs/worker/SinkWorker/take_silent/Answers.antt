@@ -12,11 +12,15 @@ pub returns-clause-stands : goal.returns-clause-stands
 returns-clause-stands c stands =
     let old = c.args.self.now in
     let was = parts_of old in
-    let now = parts c.take_rows-first.new.rows c.take_rows-first.new.core c.take_rows-first.new.rx.items c.take_rows-first.new.back in
+    let now = parts c.take_rows-first.new.rows c.take_rows-first.new.core c.take_rows-first.new.rx.items
+    c.take_rows-first.new.back in
     let counted = c.take_rows-first.ensures.gives stands.keeps (record { octets = []; faults = 0; name = 0 }) [] refl in
     record {
       keeps = c.take_rows-first.ensures.keeps stands.keeps;
-      counted = counts-then (given_frames was.core.size (received was.rx) was.core.taken) (added_frames now.core.size (received now.rx) was.core.taken now.core.taken)
-          (given_frames now.core.size (received now.rx) now.core.taken) old.got c.take_rows-first.new.out.count c.saturating_add-self.result
-          (given-then was now stands.keeps c.take_rows-first.ensures.later) stands.counted counted c.saturating_add-self.ensures;
+      counted = counts-then (given_frames was.core.size (received was.rx) was.core.taken)
+          (added_frames now.core.size (received now.rx) was.core.taken now.core.taken)
+          (given_frames now.core.size (received now.rx) now.core.taken) old.got c.take_rows-first.new.out.count
+          c.saturating_add-self.result
+          (given-then was now stands.keeps c.take_rows-first.ensures.later) stands.counted counted
+          c.saturating_add-self.ensures;
     }

@@ -1,5 +1,6 @@
 -- The post has room for the alarms of one more burst.
-use Rattle.std.proofs.Common.{◌≡◌, ◌≢◌, ◌≤◌, ◌<◌, ◌++◌, length, refl, sym, ◌∙◌, ap, ap₂, subst, arith, rules, length-append}
+use Rattle.std.proofs.Common.{◌≡◌, ◌≢◌, ◌≤◌, ◌<◌, ◌++◌, length, refl, sym, ◌∙◌, ap, ap₂, subst, arith, rules}
+use Rattle.std.proofs.Common.{length-append}
 use Rattle.session_model.specs.Damage.{carried}
 use Rattle.session_model.specs.Path.{cells}
 use Rattle.member_ring.specs.Ends.{in_passed, out_passed}
@@ -19,8 +20,11 @@ post_all-requires g c =
     let told = old.told own c.in-Some.is in
     let open_ : c.burst-burst.result ≢ Done = search rules in
     let small : total_of new < 4294967296 = let few = old.small own c.in-Some.is in omega (arith, few, same.total) in
-    let whole : posted_by own ++ c.alarms.result.now ≡ raised_by new = ap₂ (λ a b. a ++ b) told c.alarms.ensures.last ∙ sym (e.alarms open_ small) in
-    let line : raised_by new ≡ alarms_of_line (number_of old.worker) (cells (carried (windows_of old.worker)) (delay_of old.worker) (total_of old.worker) (in_passed new.consumer) (carries_of new)) =
+    let whole : posted_by own ++ c.alarms.result.now ≡ raised_by new = ap₂ (λ a b. a ++ b) told c.alarms.ensures.last
+    ∙ sym (e.alarms open_ small) in
+    let line : raised_by new ≡ alarms_of_line (number_of old.worker)
+    (cells (carried (windows_of old.worker)) (delay_of old.worker) (total_of old.worker)
+    (in_passed new.consumer) (carries_of new)) =
     ap (alarms_of_line (number_of new)) e.sent ∙ rw (same.number, same.delay, same.windows, same.total) refl in
     let few = old.few own c.in-Some.is (in_passed new.consumer) (carries_of new) in
     let size = length-append (posted_by own) c.alarms.result.now in

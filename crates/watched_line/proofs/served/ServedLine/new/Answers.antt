@@ -12,6 +12,7 @@ invariant_of-result c =
       small = λ own is. (c.requires own is).small;
       few = λ own is containers i.
           let may = c.requires own is in
-          let some = are_few (number_of worker) (delay_of worker) (total_of worker) i (windows_of worker) containers may.windows in
+          let some = are_few (number_of worker) (delay_of worker) (total_of worker) i
+          (windows_of worker) containers may.windows in
           omega (arith, some, may.most);
     }

@@ -11,8 +11,10 @@ pub take_all_back-back-requires : goal.take_all_back-back-requires
 take_all_back-back-requires g c =
     let shares = c.captures.shares in
     let held = c.attend-duty.result.1 in
-    let are : AreHeldOf shares.items held.items = c.attend-duty.ensures.held shares.items c.start_shares-held.ensures.held in
-    let long = zip-length (λ (share : Vec ServedLine) (one : Held). IsHeldOf share.items one) shares.items held.items are in
+    let are : AreHeldOf shares.items held.items =
+    c.attend-duty.ensures.held shares.items c.start_shares-held.ensures.held in
+    let long = zip-length (λ (share : Vec ServedLine) (one : Held). IsHeldOf share.items one) shares.items held.items
+    are in
     record {
       room = (c.requires.back.0, omega (arith, long, c.requires.back.1, held.ok.0, shares.ok.0));
       flags = omega (arith, long, c.requires.flags, held.ok.0, shares.ok.0);
