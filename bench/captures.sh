@@ -2,8 +2,9 @@
 # Looks at captures with the tools of Wireshark, which check them by themselves. Of each example script that is walked, tshark takes the
 # capture of its frames apart, and has to find as many frames as come out, with times that rise, and each FCS good where the script has a
 # good one. Of that of its GFP frames it has to find those that fates doesn't tell to wait, with their rows, each core HEC and type HEC
-# good, and each FCS that the script has. Captures that text2pcap and editcap wrote are read by frames, in each form that they write, and in the other order of
-# octets. Nothing is installed; what is missing is said. The status is 0 where all is well.
+# good, and each FCS that the script has. A GFP frame with a payload FCS by this repository's definition has to be right to it, and one with another
+# FCS wrong. Captures that text2pcap and editcap wrote are read by frames, in each form that they write, and in the other order of octets. Nothing
+# is installed; what is missing is said. The status is 0 where all is well.
 cd "$(dirname "$0")/.." || exit 1
 program=$PWD/crates/vcat_walk/out/vcat_walk
 [ -x "$program" ] || { echo "captures: $program is missing: run rt ci first" >&2; exit 1; }
@@ -66,6 +67,31 @@ for script in examples/*.vcat; do
 done
 echo "capture: $scripts scripts, $frames frames, $good with a good FCS"
 echo "gfp: the same scripts, $sent frames, $right with a good FCS"
+
+# ---- payload FCS
+# A GFP frame of 64 octets with a payload FCS, as `fcs` of gfp_fcs has it by its definition, is right to tshark, and one with another FCS is wrong.
+with_fcs() {
+    perl -e '
+        my ($turned) = @ARGV;
+        sub check {
+            my ($octets, $size, $generator, $crc) = @_; my $all = 2 ** $size - 1;
+            for my $bit (split //, unpack("B*", $octets)) {
+                my $top = ($crc >> ($size - 1)) & 1; $crc = ($crc << 1) & $all; $crc ^= $generator if $top ^ $bit;
+            }
+            return $crc;
+        }
+        my $frame = pack("H*", "02000000000202000000000188b5") . "\x07" x 50;
+        my $fcs = ~check($frame, 32, 0x04c11db7, 0xffffffff) & 0xffffffff;
+        my $pli = pack("n", length($frame) + 8);
+        my $gfp = $pli . pack("n", check($pli, 16, 0x1021, 0)) . pack("H*", "10011352") . $frame . pack("N", $fcs ^ $turned);
+        print pack("VvvV4", 0xa1b2c3d4, 2, 4, 0, 0, 65535, 171), pack("V4", 0, 0, length $gfp, length $gfp), $gfp' "$1"
+}
+for turned in 0 1; do
+    with_fcs "$turned" > "$work/fcs.pcap"
+    found=$(tshark -r "$work/fcs.pcap" -T fields -e gfp.chec.status -e gfp.thec.status -e gfp.fcs_good 2> "$work/notes" | sed 's/Good/1/g; s/True/1/; s/False/0/' | tr '\t' ' ')
+    [ "$found" = "1 1 $((1 - turned))" ] || complain "a payload FCS is to tshark: $found"
+done
+echo "payload FCS: 1 frame that is right, 1 that is wrong"
 
 # ---- frames
 # Three Ethernet frames without FCS, the second one 250 microseconds after the first, and the third a second after that.
