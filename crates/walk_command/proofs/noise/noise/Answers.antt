@@ -28,7 +28,7 @@ returns-in-Err-Line-clause-ends g c =
     (refused-line (lent g.S.ByteSource.left g.S.ByteSource.faults c.args.script.now c.read_input.new.source)
     noise_answer c.in-Ok.text.items c.faulty.result Line
     (line_text c.in-Err-Line.number (kind_of c.in-Err-Line.fault) (help_of c.in-Err-Line.fault)) c.in-Ok.ensures.read
-    c.faulty.ensures.why c.faulty.ensures.note
+    c.faulty.ensures.why (rw c.in-Err-Line.field-0-is at c.faulty.ensures.note)
     (ap noise_answer (sym c.as_slice.ensures.value)
     ∙ ap got_through (rw c.in-Err-Line.field-0-is at c.in-Err-Line.ensures.fault)))
     c.stopped-in-Err-Line.ensures.status refl c.stopped-in-Err-Line.ensures.told
