@@ -9,6 +9,7 @@ mod door;
 mod group;
 #[cfg(test)]
 mod noise;
+#[cfg(test)]
 mod pointers;
 #[cfg(test)]
 mod rows;
