@@ -4,6 +4,7 @@ ghost use Rattle.std.specs.Prelude.{◌≡◌, ◌≢◌, ◌↔◌, ℕ, ◌+�
 ghost use Rattle.hec16.specs.Hec.{hec_of};
 ghost use Rattle.session_model.specs.TypeHeader.{type_header, type_field, type_check, field_fault, type_fault};
 ghost use Rattle.fcs_model.specs.Fcs.{fcs_header, fcs_field_fault, fcs_type_fault};
+ghost use Rattle.linear_model.specs.Linear.{linear_header, linear_field_fault, linear_type_fault};
 
 use hec16::hec;
 use session_model::TypeFault;
@@ -34,7 +35,7 @@ pub fn read_type(octets: &[u8; 4]) -> Result<(), TypeFault>
     if said != found {
         return Err(TypeFault::Check { said, found });
     }
-    match fault_of_field(field, 0) {
+    match fault_of_field(field, 0, 0) {
         None => Ok(()),
         Some(fault) => Err(fault),
     }
@@ -66,7 +67,39 @@ pub fn read_type_fcs(octets: &[u8; 4]) -> Result<(), TypeFault>
     if said != found {
         return Err(TypeFault::Check { said, found });
     }
-    match fault_of_field(field, 1) {
+    match fault_of_field(field, 1, 0) {
+        None => Ok(()),
+        Some(fault) => Err(fault),
+    }
+}
+
+/// The type header of an Ethernet frame with a linear extension header, as it is before scrambling.
+#[inline]
+pub fn type_bytes_linear() -> [u8; 4]
+    ensures { result ≡ linear_header }
+{
+    [0x01, 0x01, 0x23, 0x10]
+}
+
+/// Whether these octets are the type header of an Ethernet frame with a linear extension header, and what is wrong with
+/// them where they are not: the check (tHEC), or else the first field that differs. `Extension` says that EXI isn't 1.
+#[inline]
+pub fn read_type_linear(octets: &[u8; 4]) -> Result<(), TypeFault>
+    ensures value { MatchOption (linear_type_fault octets.now) (result ≡ Ok tt)
+        (λ fault. result ≡ Err fault) }
+    ensures check { (said found : ℕ) → (result ≡ Err (TypeFault.Check said found)) ↔
+        ((said ≡ type_check octets.now) × (found ≡ hec_of (type_field octets.now))
+        × (said ≢ found)) }
+    ensures ok { IsOk result ↔ (octets.now ≡ linear_header) }
+{
+    let [a, b, c, d] = *octets;
+    let field = word(a, b);
+    let said = word(c, d);
+    let found = hec(field);
+    if said != found {
+        return Err(TypeFault::Check { said, found });
+    }
+    match fault_of_field(field, 0, 1) {
         None => Ok(()),
         Some(fault) => Err(fault),
     }
@@ -74,17 +107,19 @@ pub fn read_type_fcs(octets: &[u8; 4]) -> Result<(), TypeFault>
 
 // The word that two octets are.
 #[inline]
-fn word(upper: u8, lower: u8) -> u16
+pub(crate) fn word(upper: u8, lower: u8) -> u16
     ensures { result ≡ 256 * upper + lower }
 {
     u16::from_be_bytes([upper, lower])
 }
 
-// The first field of a type field (PTI, PFI, EXI, UPI) that is not that of an Ethernet frame with this PFI.
+// The first field of a type field (PTI, PFI, EXI, UPI) that is not that of an Ethernet frame with this PFI and
+// this EXI.
 #[inline]
-fn fault_of_field(field: u16, pfi: u16) -> Option<TypeFault>
-    ensures plain { pfi ≡ 0 → result ≡ field_fault field }
-    ensures checked { pfi ≡ 1 → result ≡ fcs_field_fault field }
+fn fault_of_field(field: u16, pfi: u16, extension: u8) -> Option<TypeFault>
+    ensures plain { pfi ≡ 0 → extension ≡ 0 → result ≡ field_fault field }
+    ensures checked { pfi ≡ 1 → extension ≡ 0 → result ≡ fcs_field_fault field }
+    ensures linear { pfi ≡ 0 → extension ≡ 1 → result ≡ linear_field_fault field }
 {
     let pti = (field >> 13) as u8;
     let exi = ((field >> 8) % 16) as u8;
@@ -93,7 +128,7 @@ fn fault_of_field(field: u16, pfi: u16) -> Option<TypeFault>
         Some(TypeFault::NotClient { pti })
     } else if (field >> 12) % 2 != pfi {
         Some(TypeFault::PayloadFcs)
-    } else if exi != 0 {
+    } else if exi != extension {
         Some(TypeFault::Extension { exi })
     } else if upi != 1 {
         Some(TypeFault::NotEthernet { upi })
@@ -154,6 +189,27 @@ mod tests {
         ];
         for (octets, fault) in faults {
             assert_eq!(rt; read_type_fcs(&octets), Err(fault));
+        }
+    }
+
+    #[test]
+    fn type_headers_with_extension(rt: HostRuntime) {
+        assert_eq!(rt; read_type_linear(&type_bytes_linear()), Ok(()));
+        let faults = [
+            ([0x21, 0x01, 0x25, 0xf6], TypeFault::NotClient { pti: 1 }),
+            ([0x11, 0x01, 0x20, 0x63], TypeFault::PayloadFcs),
+            ([0x00, 0x01, 0x10, 0x21], TypeFault::Extension { exi: 0 }),
+            ([0x01, 0x02, 0x13, 0x73], TypeFault::NotEthernet { upi: 2 }),
+            (
+                [0x01, 0x01, 0x23, 0x11],
+                TypeFault::Check {
+                    said: 0x2311,
+                    found: 0x2310,
+                },
+            ),
+        ];
+        for (octets, fault) in faults {
+            assert_eq!(rt; read_type_linear(&octets), Err(fault));
         }
     }
 }

@@ -21,14 +21,14 @@ pub returns-in-None-clause-value : goal.returns-in-None-clause-value
 returns-in-None-clause-value c =
     rw (fcs_type_fault-field c.args.octets.now c.word-field.result c.word-said.result c.hec-found.result
     c.word-field.ensures c.word-said.ensures c.hec-found.ensures.value c.if-said-found.false
-    ∙ sym (c.fault_of_field.ensures.checked refl) ∙ c.in-None.is) refl
+    ∙ sym (c.fault_of_field.ensures.checked refl refl) ∙ c.in-None.is) refl
 
 pub returns-in-None-clause-ok : goal.returns-in-None-clause-ok
 returns-in-None-clause-ok c = (
   λ yes. type_header_only c.args.octets.now c.word-field.result c.word-said.result c.hec-found.result c.told-octets
       c.fits-octets
       c.word-field.ensures c.word-said.ensures c.hec-found.ensures.value c.if-said-found.false
-      (sym (c.fault_of_field.ensures.checked refl) ∙ c.in-None.is),
+      (sym (c.fault_of_field.ensures.checked refl refl) ∙ c.in-None.is),
   λ h. refl,
 )
 
@@ -36,4 +36,4 @@ pub returns-in-Some-clause-value : goal.returns-in-Some-clause-value
 returns-in-Some-clause-value c =
     rw (fcs_type_fault-field c.args.octets.now c.word-field.result c.word-said.result c.hec-found.result
     c.word-field.ensures c.word-said.ensures c.hec-found.ensures.value c.if-said-found.false
-    ∙ sym (c.fault_of_field.ensures.checked refl) ∙ c.in-Some.is) refl
+    ∙ sym (c.fault_of_field.ensures.checked refl refl) ∙ c.in-Some.is) refl
