@@ -1,6 +1,6 @@
 -- What the octets of an extension header say.
-use Rattle.std.proofs.Common.{◌≡◌, ◌≢◌, ℕ, Bool, true, false, List, Some, None, refl, sym, ◌∙◌, ap, ap₂, eq-eqb}
-use Rattle.std.specs.Prelude.{if◌then◌else◌, ◌==◌}
+use Rattle.std.proofs.Common.{◌≡◌, ◌≢◌, ℕ, List, Some, None, sym, ◌∙◌, ap, ap₂, eq-eqb}
+use Rattle.std.specs.Prelude.{if◌then◌else◌}
 use Rattle.std.proofs.lemmas.Bool.{ne_eqb}
 use Rattle.hec16.specs.Hec.{hec_of}
 use Rattle.linear_model.specs.declared.CidFault.{CidFault}

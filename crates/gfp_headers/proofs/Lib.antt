@@ -6,6 +6,4 @@ pub use Rattle.session_model.proofs.AreaLaws
 pub use Rattle.session_model.proofs.StreamLaws
 pub use Rattle.session_model.proofs.OctetsOfHeader
 pub mod TypeLaws
-pub mod FcsTypeLaws
-pub mod LinearTypeLaws
 pub mod CidLaws

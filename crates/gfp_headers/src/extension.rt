@@ -45,6 +45,12 @@ mod tests {
         assert_eq!(rt; extension_bytes(1), [1, 0, 0x12, 0x31]);
         assert_eq!(rt; read_cid(&[1, 0, 0x12, 0x31]), Ok(1));
         assert_eq!(rt; read_cid(&[0, 1, 0x10, 0x21]), Ok(0));
-        assert_eq!(rt; read_cid(&[1, 0, 0x12, 0x30]), Err(CidFault { said: 0x1230, found: 0x1231 }));
+        assert_eq!(rt;
+            read_cid(&[1, 0, 0x12, 0x30]),
+            Err(CidFault {
+                said: 0x1230,
+                found: 0x1231
+            })
+        );
     }
 }

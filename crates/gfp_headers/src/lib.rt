@@ -13,5 +13,6 @@ pub use extension::{extension_bytes, read_cid};
 pub use header::{core_bytes, read_core};
 pub use linear_model::CidFault;
 pub use session_model::TypeFault;
-pub use type_header::{read_type, read_type_fcs, read_type_linear};
-pub use type_header::{type_bytes, type_bytes_fcs, type_bytes_linear};
+pub use type_header::{
+    read_type, read_type_fcs, read_type_linear, type_bytes, type_bytes_fcs, type_bytes_linear,
+};

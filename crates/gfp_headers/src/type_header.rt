@@ -1,10 +1,11 @@
 //! The type header, of which all fields but those of an Ethernet frame are faults.
 
-ghost use Rattle.std.specs.Prelude.{◌≡◌, ◌≢◌, ◌↔◌, ℕ, ◌+◌, ◌*◌, MatchOption, IsOk};
+ghost use Rattle.std.specs.Prelude.{◌≡◌, ◌≢◌, ◌↔◌, ◌≤◌, ℕ, ◌+◌, ◌*◌, MatchOption, IsOk};
 ghost use Rattle.hec16.specs.Hec.{hec_of};
-ghost use Rattle.session_model.specs.TypeHeader.{type_header, type_field, type_check, field_fault, type_fault};
-ghost use Rattle.fcs_model.specs.Fcs.{fcs_header, fcs_field_fault, fcs_type_fault};
-ghost use Rattle.linear_model.specs.Linear.{linear_header, linear_field_fault, linear_type_fault};
+ghost use Rattle.session_model.specs.TypeHeader.{type_header, type_field, type_check, type_fault};
+ghost use Rattle.fcs_model.specs.Fcs.{fcs_header, fcs_type_fault};
+ghost use Rattle.linear_model.specs.Linear.{linear_header, linear_type_fault};
+ghost use Rattle.gfp_headers.specs.TypeField.{header_with, field_fault_with, type_fault_with};
 
 use hec16::hec;
 use session_model::TypeFault;
@@ -28,17 +29,7 @@ pub fn read_type(octets: &[u8; 4]) -> Result<(), TypeFault>
         × (said ≢ found)) }
     ensures ok { IsOk result ↔ (octets.now ≡ type_header) }
 {
-    let [a, b, c, d] = *octets;
-    let field = word(a, b);
-    let said = word(c, d);
-    let found = hec(field);
-    if said != found {
-        return Err(TypeFault::Check { said, found });
-    }
-    match fault_of_field(field, 0, 0) {
-        None => Ok(()),
-        Some(fault) => Err(fault),
-    }
+    read_with(octets, 0, 0)
 }
 
 /// The type header of an Ethernet frame with an FCS behind it, as it is before scrambling.
@@ -60,17 +51,7 @@ pub fn read_type_fcs(octets: &[u8; 4]) -> Result<(), TypeFault>
         × (said ≢ found)) }
     ensures ok { IsOk result ↔ (octets.now ≡ fcs_header) }
 {
-    let [a, b, c, d] = *octets;
-    let field = word(a, b);
-    let said = word(c, d);
-    let found = hec(field);
-    if said != found {
-        return Err(TypeFault::Check { said, found });
-    }
-    match fault_of_field(field, 1, 0) {
-        None => Ok(()),
-        Some(fault) => Err(fault),
-    }
+    read_with(octets, 1, 0)
 }
 
 /// The type header of an Ethernet frame with a linear extension header, as it is before scrambling.
@@ -92,6 +73,22 @@ pub fn read_type_linear(octets: &[u8; 4]) -> Result<(), TypeFault>
         × (said ≢ found)) }
     ensures ok { IsOk result ↔ (octets.now ≡ linear_header) }
 {
+    read_with(octets, 0, 1)
+}
+
+// Whether these octets are the type header of an Ethernet frame with this PFI and this EXI, and what is wrong with them
+// where they are not.
+#[inline]
+fn read_with(octets: &[u8; 4], pfi: u16, extension: u8) -> Result<(), TypeFault>
+    requires pfi { pfi ≤ 1 }
+    requires extension { extension ≤ 15 }
+    ensures value { MatchOption (type_fault_with pfi extension octets.now) (result ≡ Ok tt)
+        (λ fault. result ≡ Err fault) }
+    ensures check { (said found : ℕ) → (result ≡ Err (TypeFault.Check said found)) ↔
+        ((said ≡ type_check octets.now) × (found ≡ hec_of (type_field octets.now))
+        × (said ≢ found)) }
+    ensures ok { IsOk result ↔ (octets.now ≡ header_with pfi extension) }
+{
     let [a, b, c, d] = *octets;
     let field = word(a, b);
     let said = word(c, d);
@@ -99,7 +96,7 @@ pub fn read_type_linear(octets: &[u8; 4]) -> Result<(), TypeFault>
     if said != found {
         return Err(TypeFault::Check { said, found });
     }
-    match fault_of_field(field, 0, 1) {
+    match fault_of_field(field, pfi, extension) {
         None => Ok(()),
         Some(fault) => Err(fault),
     }
@@ -117,9 +114,7 @@ pub(crate) fn word(upper: u8, lower: u8) -> u16
 // this EXI.
 #[inline]
 fn fault_of_field(field: u16, pfi: u16, extension: u8) -> Option<TypeFault>
-    ensures plain { pfi ≡ 0 → extension ≡ 0 → result ≡ field_fault field }
-    ensures checked { pfi ≡ 1 → extension ≡ 0 → result ≡ fcs_field_fault field }
-    ensures linear { pfi ≡ 0 → extension ≡ 1 → result ≡ linear_field_fault field }
+    ensures { result ≡ field_fault_with pfi extension field }
 {
     let pti = (field >> 13) as u8;
     let exi = ((field >> 8) % 16) as u8;

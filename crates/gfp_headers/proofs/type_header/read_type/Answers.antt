@@ -1,38 +1,10 @@
--- The two words are those that the octets say.
-use Rattle.std.proofs.Common.{refl, sym, ◌∙◌}
-use Rattle.gfp_headers.proofs.TypeLaws.{type_fault-check, type_fault-field, type_header_only, type_header_checked}
+-- A type header with these two fields.
+use Rattle.std.proofs.Common.{sym}
+use Rattle.gfp_headers.proofs.TypeLaws.{header-plain, type_fault-plain}
 use Rattle.gfp_headers.proofs.type_header.read_type.Goals as goal
 
-pub returns-then-said-found-clause-value : goal.returns-then-said-found-clause-value
-returns-then-said-found-clause-value c =
-    rw (type_fault-check c.args.octets.now c.word-field.result c.word-said.result c.hec-found.result
-    c.word-field.ensures c.word-said.ensures c.hec-found.ensures.value c.if-said-found.true) refl
+pub returns-clause-value : goal.returns-clause-value
+returns-clause-value c = rw (type_fault-plain c.args.octets.now) c.read_with.ensures.value
 
-pub returns-then-said-found-clause-ok : goal.returns-then-said-found-clause-ok
-returns-then-said-found-clause-ok c = (
-  λ no. absurd cc,
-  λ h. absurd (c.if-said-found.true
-      (type_header_checked c.args.octets.now c.word-field.result c.word-said.result c.hec-found.result
-      c.word-field.ensures c.word-said.ensures c.hec-found.ensures.value h)),
-)
-
-pub returns-in-None-clause-value : goal.returns-in-None-clause-value
-returns-in-None-clause-value c =
-    rw (type_fault-field c.args.octets.now c.word-field.result c.word-said.result c.hec-found.result
-    c.word-field.ensures c.word-said.ensures c.hec-found.ensures.value c.if-said-found.false
-    ∙ sym (c.fault_of_field.ensures.plain refl refl) ∙ c.in-None.is) refl
-
-pub returns-in-None-clause-ok : goal.returns-in-None-clause-ok
-returns-in-None-clause-ok c = (
-  λ yes. type_header_only c.args.octets.now c.word-field.result c.word-said.result c.hec-found.result c.told-octets
-      c.fits-octets
-      c.word-field.ensures c.word-said.ensures c.hec-found.ensures.value c.if-said-found.false
-      (sym (c.fault_of_field.ensures.plain refl refl) ∙ c.in-None.is),
-  λ h. refl,
-)
-
-pub returns-in-Some-clause-value : goal.returns-in-Some-clause-value
-returns-in-Some-clause-value c =
-    rw (type_fault-field c.args.octets.now c.word-field.result c.word-said.result c.hec-found.result
-    c.word-field.ensures c.word-said.ensures c.hec-found.ensures.value c.if-said-found.false
-    ∙ sym (c.fault_of_field.ensures.plain refl refl) ∙ c.in-Some.is) refl
+pub returns-clause-ok : goal.returns-clause-ok
+returns-clause-ok c = (rw (sym header-plain) c.read_with.ensures.ok)
