@@ -35,7 +35,6 @@ AreApart from [] = Unit {0}
 AreApart from (window ∷ windows) = (from ≤ window.0) × (window.0 < window.1) × AreApart window.1 windows
 
 pub record HasLosses (lost : List (ℕ × ℕ)) : Type 0 where
-  pub few : length lost ≤ 256
   pub apart : AreApart 0 lost
   pub ends : All (λ (window : ℕ × ℕ). window.1 ≤ 62500) lost
 
@@ -85,9 +84,10 @@ IsEvent lines (Take n) = IsCount n
 IsEvent lines (Round n) = IsCount n
 IsEvent lines Drain = Unit {0}
 
--- ---- the script
+-- ---- the script. That it has few return windows is a limit of its text: a session may have more
 pub record IsValid (script : Script) : Type 0 where
   pub network : IsNetwork script.config
   pub items : AreItems script.config.ticks script.items
   pub few : length script.items ≤ longest_input
+  pub few_lost : length script.config.lost ≤ 256
   pub events : All (IsEvent script.config.lines) script.events
