@@ -84,10 +84,13 @@ IsEvent lines (Take n) = IsCount n
 IsEvent lines (Round n) = IsCount n
 IsEvent lines Drain = Unit {0}
 
--- ---- the script. That it has few return windows is a limit of its text: a session may have more
+-- ---- the script
 pub record IsValid (script : Script) : Type 0 where
   pub network : IsNetwork script.config
   pub items : AreItems script.config.ticks script.items
   pub few : length script.items ≤ longest_input
-  pub few_lost : length script.config.lost ≤ 256
   pub events : All (IsEvent script.config.lines) script.events
+
+-- how many return windows the text of a script has at most: a session may have any number of them
+abbrev pub HasFewLosses : Script → Type 0
+HasFewLosses script = length script.config.lost ≤ 256
