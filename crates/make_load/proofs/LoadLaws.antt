@@ -198,7 +198,7 @@ no_windows ticks = record { few = omega arith; apart = tt; ends = All-none _; sl
 
 no_losses : HasLosses []
 unfolding AreApart
-no_losses = record { few = omega arith; apart = tt; ends = All-none _ }
+no_losses = record { apart = tt; ends = All-none _ }
 
 low : (ns : List ℕ) → All (λ n. n < 41) ns → All (λ n. n ≤ 40) ns
 low ns are i d within = let less = are i d within in omega (arith, less)

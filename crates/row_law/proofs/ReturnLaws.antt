@@ -20,7 +20,8 @@ use Rattle.session_model.specs.declared.table.Standing.TheVariants.{Add as addin
 use Rattle.session_model.specs.declared.table.Member.{Member}
 use Rattle.session_model.specs.Table.{Told, is_normal}
 use Rattle.session_model.specs.Source.{table_of}
-use Rattle.session_model.specs.Forward.{ctrl_by, forward_packet}
+use Rattle.session_model.specs.Forward.{ctrl_by}
+use Rattle.session_model.specs.Telling.{telling_at, sent_packet}
 use Rattle.session_model.specs.Back.{said_before, said, status_by, status, return_packet}
 use Rattle.session_model.specs.ReturnPacket.{Row, leader, ack_by, ack_of, is_member, says_at, status_of, mst_of}
 use Rattle.session_model.specs.ReturnPacket.{return_of}
@@ -77,31 +78,31 @@ abbrev pub readable_by : (ℕ → Bool) → Option Member → Bool
 readable_by readable None = false
 readable_by readable (Some member) = readable member.line
 
-status-order : (order : List Member) (lines sq : ℕ) (chg : Bool) (k act i : ℕ) (readable : ℕ → Bool) →
+status-order : (order : List Member) (lines sq : ℕ) (told : Told) (chg : Bool) (k act i : ℕ) (readable : ℕ → Bool) →
     ((l : ℕ) → times (lines_of order) l ≤ 1) → IsBelow lines (times (lines_of order)) →
-    list_any (has is_member (sq + i)) (all_read (read_of order sq chg k act readable) 0 lines) ≡ readable_by readable
-    (slice_get order i)
-status-order [] lines sq chg k act i readable once below =
-    list_any-none (has is_member (sq + i)) (read_of [] sq chg k act readable) 0 lines
-    (λ l low. carries_if is_member (readable l) (packet [] sq chg k act l) (sq + i)
-    (carries-absent is_member refl [] sq chg k act l (sq + i) refl))
-status-order (member ∷ order) lines sq chg k act zero readable once below =
-    let read = read_of (member ∷ order) sq chg k act readable in
+    list_any (has is_member (sq + i)) (all_read (read_of order sq told chg k act readable) 0 lines)
+    ≡ readable_by readable (slice_get order i)
+status-order [] lines sq told chg k act i readable once below =
+    list_any-none (has is_member (sq + i)) (read_of [] sq told chg k act readable) 0 lines
+    (λ l low. carries_if is_member (readable l) (packet [] sq told chg k act l) (sq + i)
+    (carries-absent is_member refl [] sq told chg k act l (sq + i) refl))
+status-order (member ∷ order) lines sq told chg k act zero readable once below =
+    let read = read_of (member ∷ order) sq told chg k act readable in
     let low = inside lines member order below in
     let e : sq + 0 ≡ sq = omega arith in
     ap (λ s. list_any (has is_member s) (all_read read 0 lines)) e
     ∙ list_any-one (has is_member sq) read member.line
-    (λ l other. head-other is_member refl member order sq chg k act l (readable l) other) 0 lines (omega arith)
+    (λ l other. head-other is_member refl member order sq told chg k act l (readable l) other) 0 lines (omega arith)
     (omega arith)
-    ∙ head-self is_member refl member order sq chg k act (readable member.line)
+    ∙ head-self is_member refl member order sq told chg k act (readable member.line)
     ∙ ap (λ b. b && readable member.line) (ctrl_said member.standing (list_any is_normal order))
-status-order (member ∷ order) lines sq chg k act (suc i) readable once below =
+status-order (member ∷ order) lines sq told chg k act (suc i) readable once below =
     let e : sq + suc i ≡ sq + 1 + i = omega arith in
-    list_any-same (has is_member (sq + suc i)) (read_of (member ∷ order) sq chg k act readable)
-    (read_of order (sq + 1) chg k act readable) 0 lines
-    (λ l. head-rest is_member refl member order sq chg k act l (sq + suc i) (readable l) (omega arith) (once l))
-    ∙ ap (λ s. list_any (has is_member s) (all_read (read_of order (sq + 1) chg k act readable) 0 lines)) e
-    ∙ status-order order lines (sq + 1) chg k act i readable (λ l. let most = once l in omega arith)
+    list_any-same (has is_member (sq + suc i)) (read_of (member ∷ order) sq told chg k act readable)
+    (read_of order (sq + 1) told chg k act readable) 0 lines
+    (λ l. head-rest is_member refl member order sq told chg k act l (sq + suc i) (readable l) (omega arith) (once l))
+    ∙ ap (λ s. list_any (has is_member s) (all_read (read_of order (sq + 1) told chg k act readable) 0 lines)) e
+    ∙ status-order order lines (sq + 1) told chg k act i readable (λ l. let most = once l in omega arith)
     (λ l high. let none = below l high in omega arith)
 
 says-has : (sq : ℕ) (found : Option Packet) → says_at sq found ≡ has is_member sq found
@@ -119,8 +120,9 @@ status-said scenario returns k sq =
     let e : sq ≡ 0 + sq = omega arith in
     status-has (packets_of scenario returns k) sq
     ∙ ap (λ s. list_any (has is_member s) (packets_of scenario returns k)) e
-    ∙ status-order table.order (length scenario.windows) 0 (table.count % 2 == 1) k (length (carrying table.order)) sq
-    (λ line. is_read scenario line k) (once-after scenario returns k) (below-after scenario returns k)
+    ∙ status-order table.order (length scenario.windows) 0 (telling_at scenario k) (table.count % 2 == 1) k
+    (length (carrying table.order)) sq (λ line. is_read scenario line k)
+    (once-after scenario returns k) (below-after scenario returns k)
     ∙ elim (slice_get table.order sq)
     as (λ found. readable_by (λ line. is_read scenario line k) found ≡ status_by scenario k found)
     [ None ↦ refl | Some member ↦ refl ]
@@ -152,8 +154,8 @@ ack-said scenario returns (suc k) =
     ∙ ap ack_of (map-range_with_len_more (packets_of scenario returns) 0 k k (omega arith))
     ∙ fold_push (λ ack row. ack_by ack (leader row)) false (map (packets_of scenario returns) (range_with_len 0 k))
     (packets_of scenario returns k)
-    ∙ leader-chg (λ line. forward_packet table line k) chg before (λ line. refl) (λ line. is_read scenario line k) 0
-    (length scenario.windows)
+    ∙ leader-chg (λ line. sent_packet scenario returns line k) chg before (λ line. refl)
+    (λ line. is_read scenario line k) 0 (length scenario.windows)
     ∙ ap (λ heard. if heard then chg else before) (heard-any scenario k)
     ∙ elim (is_heard scenario k) as (λ b. (if b then chg else before) ≡
     ((if b then table.count else said_before scenario returns k) % 2 == 1)) [

@@ -15,6 +15,7 @@ use Rattle.session_model.specs.Scenario.{Scenario}
 use Rattle.session_model.specs.Source.{planned_of, after, table_of}
 use Rattle.session_model.specs.GroupBit.{group_bit}
 use Rattle.session_model.specs.Forward.{LineFields, ctrl_by, place_in}
+use Rattle.session_model.specs.Telling.{mst_by}
 use Rattle.session_model.specs.Rows.{is_carrying, has, lines_at, active_from, active_of}
 use Rattle.session_model.specs.SessionRows.{packet_if, packets_from}
 use Rattle.session_law.specs.Feedback.{lines_of}
@@ -24,10 +25,10 @@ use Rattle.session_law.proofs.PlanLaws.{one, times, IsBelow, one-self, IsPlan-on
 abbrev pub place_of : Ctrl → ℕ → LineFields
 place_of ctrl sq = record { ctrl = ctrl; sq = sq }
 
-abbrev pub with_place : Bool → ℕ → ℕ → LineFields → Packet
-with_place chg k act place = record {
-  mst = 0;
-  rs_ack = false;
+abbrev pub with_place : Told → Bool → ℕ → ℕ → LineFields → Packet
+with_place told chg k act place = record {
+  mst = mst_by told.oks;
+  rs_ack = told.rs_ack == 1;
   chg = chg;
   sq = place.sq;
   mfi2 = (k + 1) % 256;
@@ -37,8 +38,8 @@ with_place chg k act place = record {
 }
 
 -- the packet of a line, where the order is the rest from an SQ on
-abbrev pub packet : List Member → ℕ → Bool → ℕ → ℕ → ℕ → Packet
-packet order sq chg k act line = with_place chg k act (place_in order sq line)
+abbrev pub packet : List Member → ℕ → Told → Bool → ℕ → ℕ → ℕ → Packet
+packet order sq told chg k act line = with_place told chg k act (place_in order sq line)
 
 -- the lines that carry payload, of an order
 abbrev pub carrying : List Member → List ℕ
@@ -119,33 +120,34 @@ other_sq false a b other = refl
 other_sq true a b other = ne_eqb a b other
 
 -- no SQ before the first of an order
-carries-low : (counts : Ctrl → Bool) (quiet : counts Idle ≡ false) (order : List Member) (sq : ℕ) (chg : Bool)
-    (k act line s : ℕ) → s < sq → has counts s (Some (packet order sq chg k act line)) ≡ false
+carries-low : (counts : Ctrl → Bool) (quiet : counts Idle ≡ false) (order : List Member) (sq : ℕ) (told : Told)
+    (chg : Bool) (k act line s : ℕ) → s < sq → has counts s (Some (packet order sq told chg k act line)) ≡ false
 unfolding place_in
-carries-low counts quiet [] sq chg k act line s low = rw quiet refl
-carries-low counts quiet (member ∷ order) sq chg k act line s low =
+carries-low counts quiet [] sq told chg k act line s low = rw quiet refl
+carries-low counts quiet (member ∷ order) sq told chg k act line s low =
     let code = ctrl_by member.standing (list_any is_normal order) in
     elim (member.line == line) as (λ b. has counts s
-    (Some (with_place chg k act (if b then place_of code sq else place_in order (sq + 1) line))) ≡ false) [
+    (Some (with_place told chg k act (if b then place_of code sq else place_in order (sq + 1) line))) ≡ false) [
       | true ↦ other_sq (counts code) sq s (λ e. omega arith)
-      | false ↦ carries-low counts quiet order (sq + 1) chg k act line s (omega arith)
+      | false ↦ carries-low counts quiet order (sq + 1) told chg k act line s (omega arith)
     ]
 
 -- a line that isn't in the order carries nothing
-pub carries-absent : (counts : Ctrl → Bool) (quiet : counts Idle ≡ false) (order : List Member) (sq : ℕ) (chg : Bool)
-    (k act line s : ℕ) → times (lines_of order) line ≡ 0 → has counts s (Some (packet order sq chg k act line)) ≡ false
+pub carries-absent : (counts : Ctrl → Bool) (quiet : counts Idle ≡ false) (order : List Member) (sq : ℕ) (told : Told)
+    (chg : Bool) (k act line s : ℕ) → times (lines_of order) line ≡ 0 →
+    has counts s (Some (packet order sq told chg k act line)) ≡ false
 unfolding place_in
-carries-absent counts quiet [] sq chg k act line s absent = rw quiet refl
-carries-absent counts quiet (member ∷ order) sq chg k act line s absent =
+carries-absent counts quiet [] sq told chg k act line s absent = rw quiet refl
+carries-absent counts quiet (member ∷ order) sq told chg k act line s absent =
     let code = ctrl_by member.standing (list_any is_normal order) in
     elim (member.line == line) as (λ b. (member.line == line) ≡ b →
-    has counts s (Some (with_place chg k act (if b then place_of code sq else place_in order (sq + 1) line)))
+    has counts s (Some (with_place told chg k act (if b then place_of code sq else place_in order (sq + 1) line)))
     ≡ false) [
       | true ↦ λ e.
           let same = eqb-true member.line line e in
           let here : one member.line line ≡ 1 = ap (λ l. one member.line l) (sym same) ∙ one-self member.line in
           absurd (omega arith)
-      | false ↦ λ e. carries-absent counts quiet order (sq + 1) chg k act line s (omega arith)
+      | false ↦ λ e. carries-absent counts quiet order (sq + 1) told chg k act line s (omega arith)
     ] refl
 
 ctrl_carries : (standing : Standing) (more : Bool) → is_carrying (ctrl_by standing more) ≡ is_norm standing
@@ -156,44 +158,46 @@ ctrl_carries unused more = refl
 
 -- ---- the first of an order, and the rest
 pub head-self : (counts : Ctrl → Bool) (quiet : counts Idle ≡ false) (member : Member) (order : List Member) (sq : ℕ)
-    (chg : Bool) (k act : ℕ) (read : Bool) →
-    has counts sq (packet_if read (packet (member ∷ order) sq chg k act member.line)) ≡
+    (told : Told) (chg : Bool) (k act : ℕ) (read : Bool) →
+    has counts sq (packet_if read (packet (member ∷ order) sq told chg k act member.line)) ≡
     (counts (ctrl_by member.standing (list_any is_normal order)) && read)
 unfolding place_in
-head-self counts quiet member order sq chg k act true =
+head-self counts quiet member order sq told chg k act true =
     let code = ctrl_by member.standing (list_any is_normal order) in
     let e = eq-eqb member.line member.line refl in
     let f = eq-eqb sq sq refl in
     rw e (rw f refl)
-head-self counts quiet member order sq chg k act false =
+head-self counts quiet member order sq told chg k act false =
     and_false (counts (ctrl_by member.standing (list_any is_normal order)))
 
 pub head-other : (counts : Ctrl → Bool) (quiet : counts Idle ≡ false) (member : Member) (order : List Member) (sq : ℕ)
-    (chg : Bool) (k act line : ℕ) (read : Bool) → (member.line ≡ line → ⊥) →
-    has counts sq (packet_if read (packet (member ∷ order) sq chg k act line)) ≡ false
+    (told : Told) (chg : Bool) (k act line : ℕ) (read : Bool) → (member.line ≡ line → ⊥) →
+    has counts sq (packet_if read (packet (member ∷ order) sq told chg k act line)) ≡ false
 unfolding place_in
-head-other counts quiet member order sq chg k act line read other =
+head-other counts quiet member order sq told chg k act line read other =
     let e = ne_eqb member.line line other in
-    rw e (carries_if counts read (packet order (sq + 1) chg k act line) sq
-    (carries-low counts quiet order (sq + 1) chg k act line sq (omega arith)))
+    rw e (carries_if counts read (packet order (sq + 1) told chg k act line) sq
+    (carries-low counts quiet order (sq + 1) told chg k act line sq (omega arith)))
 
 pub head-rest : (counts : Ctrl → Bool) (quiet : counts Idle ≡ false) (member : Member) (order : List Member) (sq : ℕ)
-    (chg : Bool) (k act line s : ℕ) (read : Bool) → sq + 1 ≤ s → times (lines_of (member ∷ order)) line ≤ 1 →
-    has counts s (packet_if read (packet (member ∷ order) sq chg k act line)) ≡ has counts s
-    (packet_if read (packet order (sq + 1) chg k act line))
+    (told : Told) (chg : Bool) (k act line s : ℕ) (read : Bool) → sq + 1 ≤ s →
+    times (lines_of (member ∷ order)) line ≤ 1 →
+    has counts s (packet_if read (packet (member ∷ order) sq told chg k act line)) ≡ has counts s
+    (packet_if read (packet order (sq + 1) told chg k act line))
 unfolding place_in
-head-rest counts quiet member order sq chg k act line s read low once =
+head-rest counts quiet member order sq told chg k act line s read low once =
     let code = ctrl_by member.standing (list_any is_normal order) in
     elim (member.line == line) as (λ b. (member.line == line) ≡ b →
-    has counts s (packet_if read (with_place chg k act (if b then place_of code sq else place_in order (sq + 1) line)))
-    ≡ has counts s (packet_if read (packet order (sq + 1) chg k act line))) [
+    has counts s (packet_if read
+    (with_place told chg k act (if b then place_of code sq else place_in order (sq + 1) line)))
+    ≡ has counts s (packet_if read (packet order (sq + 1) told chg k act line))) [
       | true ↦ λ e.
           let same = eqb-true member.line line e in
           let here : one member.line line ≡ 1 = ap (λ l. one member.line l) (sym same) ∙ one-self member.line in
-          carries_if counts read (with_place chg k act (place_of code sq)) s
+          carries_if counts read (with_place told chg k act (place_of code sq)) s
           (other_sq (counts code) sq s (λ f. omega arith))
-          ∙ sym (carries_if counts read (packet order (sq + 1) chg k act line) s
-          (carries-absent counts quiet order (sq + 1) chg k act line s (omega arith)))
+          ∙ sym (carries_if counts read (packet order (sq + 1) told chg k act line) s
+          (carries-absent counts quiet order (sq + 1) told chg k act line s (omega arith)))
       | false ↦ λ e. refl
     ] refl
 
@@ -206,28 +210,29 @@ inside lines member order below =
     ]
 
 -- the packet of a line, where it can be read
-abbrev pub read_of : List Member → ℕ → Bool → ℕ → ℕ → (ℕ → Bool) → ℕ → Option Packet
-read_of order sq chg k act readable line = packet_if (readable line) (packet order sq chg k act line)
+abbrev pub read_of : List Member → ℕ → Told → Bool → ℕ → ℕ → (ℕ → Bool) → ℕ → Option Packet
+read_of order sq told chg k act readable line = packet_if (readable line) (packet order sq told chg k act line)
 
-first-lines : (member : Member) (order : List Member) (lines sq : ℕ) (chg : Bool) (k act : ℕ) (readable : ℕ → Bool) →
+first-lines : (member : Member) (order : List Member) (lines sq : ℕ) (told : Told) (chg : Bool) (k act : ℕ)
+    (readable : ℕ → Bool) →
     member.line < lines →
-    lines_at sq 0 (all_read (read_of (member ∷ order) sq chg k act readable) 0 lines) ≡
+    lines_at sq 0 (all_read (read_of (member ∷ order) sq told chg k act readable) 0 lines) ≡
     (if is_norm member.standing && readable member.line then member.line ∷ [] else [])
-first-lines member order lines sq chg k act readable low =
-    let read = read_of (member ∷ order) sq chg k act readable in
-    let self = head-self is_carrying refl member order sq chg k act (readable member.line)
+first-lines member order lines sq told chg k act readable low =
+    let read = read_of (member ∷ order) sq told chg k act readable in
+    let self = head-self is_carrying refl member order sq told chg k act (readable member.line)
     ∙ ap (λ b. b && readable member.line) (ctrl_carries member.standing (list_any is_normal order)) in
     elim (is_norm member.standing && readable member.line)
     as (λ b. (is_norm member.standing && readable member.line) ≡ b →
     lines_at sq 0 (all_read read 0 lines) ≡ (if b then member.line ∷ [] else [])) [
       | true ↦ λ e. lines_at-one read sq member.line (self ∙ e)
-          (λ l other. head-other is_carrying refl member order sq chg k act l (readable l) other) 0 lines (omega arith)
-          (omega arith)
+          (λ l other. head-other is_carrying refl member order sq told chg k act l (readable l) other) 0 lines
+          (omega arith) (omega arith)
       | false ↦ λ e.
           lines_at-none read sq 0 lines (λ l low.
           elim (member.line == l) as (λ b. (member.line == l) ≡ b → has is_carrying sq (read l) ≡ false) [
             | true ↦ λ f. ap (λ x. has is_carrying sq (read x)) (sym (eqb-true member.line l f)) ∙ self ∙ e
-            | false ↦ λ f. head-other is_carrying refl member order sq chg k act l (readable l)
+            | false ↦ λ f. head-other is_carrying refl member order sq told chg k act l (readable l)
                 (eqb-false member.line l f)
           ] refl)
     ] refl
@@ -247,25 +252,27 @@ first-carrying member order readable =
     ]
 
 -- the lines that the sink takes as carrying payload are those that do and can be read, in the order of SQ
-pub active_from-order : (order : List Member) (lines sq : ℕ) (chg : Bool) (k act count : ℕ) (readable : ℕ → Bool) →
+pub active_from-order : (order : List Member) (lines sq : ℕ) (told : Told) (chg : Bool) (k act count : ℕ)
+    (readable : ℕ → Bool) →
     length order ≤ count → ((l : ℕ) → times (lines_of order) l ≤ 1) →
     IsBelow lines (times (lines_of order)) →
-    active_from sq count (all_read (read_of order sq chg k act readable) 0 lines) ≡ filter readable (carrying order)
-active_from-order [] lines sq chg k act count readable fits once below =
-    active_from-none (read_of [] sq chg k act readable) lines sq count
-    (λ s l. carries_if is_carrying (readable l) (packet [] sq chg k act l) s
-    (carries-absent is_carrying refl [] sq chg k act l s refl))
-active_from-order (member ∷ order) lines sq chg k act zero readable fits once below = absurd (omega arith)
-active_from-order (member ∷ order) lines sq chg k act (suc count) readable fits once below =
-    active_from-next (read_of (member ∷ order) sq chg k act readable) lines sq count
+    active_from sq count (all_read (read_of order sq told chg k act readable) 0 lines)
+    ≡ filter readable (carrying order)
+active_from-order [] lines sq told chg k act count readable fits once below =
+    active_from-none (read_of [] sq told chg k act readable) lines sq count
+    (λ s l. carries_if is_carrying (readable l) (packet [] sq told chg k act l) s
+    (carries-absent is_carrying refl [] sq told chg k act l s refl))
+active_from-order (member ∷ order) lines sq told chg k act zero readable fits once below = absurd (omega arith)
+active_from-order (member ∷ order) lines sq told chg k act (suc count) readable fits once below =
+    active_from-next (read_of (member ∷ order) sq told chg k act readable) lines sq count
     ∙ ap (λ front. front ++ active_from (sq + 1) count
-    (all_read (read_of (member ∷ order) sq chg k act readable) 0 lines))
-    (first-lines member order lines sq chg k act readable (inside lines member order below))
+    (all_read (read_of (member ∷ order) sq told chg k act readable) 0 lines))
+    (first-lines member order lines sq told chg k act readable (inside lines member order below))
     ∙ ap (λ rest. (if is_norm member.standing && readable member.line then member.line ∷ [] else []) ++ rest)
-    (active_from-same (read_of (member ∷ order) sq chg k act readable) (read_of order (sq + 1) chg k act readable) lines
-    (sq + 1) count
-    (λ s l low. head-rest is_carrying refl member order sq chg k act l s (readable l) low (once l))
-    ∙ active_from-order order lines (sq + 1) chg k act count readable (omega arith)
+    (active_from-same (read_of (member ∷ order) sq told chg k act readable)
+    (read_of order (sq + 1) told chg k act readable) lines (sq + 1) count
+    (λ s l low. head-rest is_carrying refl member order sq told chg k act l s (readable l) low (once l))
+    ∙ active_from-order order lines (sq + 1) told chg k act count readable (omega arith)
     (λ l. let most = once l in omega arith) (λ l high. let none = below l high in omega arith))
     ∙ first-carrying member order readable
 
@@ -326,14 +333,14 @@ pub below-after : (scenario : Scenario) (returns : List (Option Told)) (k : ℕ)
     IsBelow (length scenario.windows) (times (lines_of (table_of scenario returns k).order))
 below-after scenario returns k = (Fits-after scenario returns (suc k)).0.0
 
-pub active_of-filter : (scenario : Scenario) (returns : List (Option Told)) (k : ℕ) (readable : ℕ → Bool) →
-    length scenario.windows ≤ 128 →
-    active_of (packets_from (length scenario.windows) (table_of scenario returns k) k readable) ≡ filter readable
+pub active_of-filter : (scenario : Scenario) (returns : List (Option Told)) (k : ℕ) (told : Told)
+    (readable : ℕ → Bool) → length scenario.windows ≤ 128 →
+    active_of (packets_from (length scenario.windows) told (table_of scenario returns k) k readable) ≡ filter readable
     (carrying (table_of scenario returns k).order)
-active_of-filter scenario returns k readable limit =
+active_of-filter scenario returns k told readable limit =
     let table = table_of scenario returns k in
     let size = order-length scenario returns (suc k) in
-    active_from-order table.order (length scenario.windows) 0 (table.count % 2 == 1) k
+    active_from-order table.order (length scenario.windows) 0 told (table.count % 2 == 1) k
     (length (carrying table.order)) 256 readable (omega arith)
     (once-after scenario returns k) (below-after scenario returns k)
 
@@ -344,11 +351,11 @@ filter-all r (x ∷ xs) e =
     let here = parts.0 in
     rw here (ap (λ rest. x ∷ rest) (filter-all r xs parts.1))
 
-pub active_of-all : (scenario : Scenario) (returns : List (Option Told)) (k : ℕ) (readable : ℕ → Bool) →
+pub active_of-all : (scenario : Scenario) (returns : List (Option Told)) (k : ℕ) (told : Told) (readable : ℕ → Bool) →
     length scenario.windows ≤ 128 →
     list_all readable (carrying (table_of scenario returns k).order) ≡ true →
-    active_of (packets_from (length scenario.windows) (table_of scenario returns k) k readable) ≡ carrying
+    active_of (packets_from (length scenario.windows) told (table_of scenario returns k) k readable) ≡ carrying
     (table_of scenario returns k).order
-active_of-all scenario returns k readable limit read =
-    active_of-filter scenario returns k readable limit
+active_of-all scenario returns k told readable limit read =
+    active_of-filter scenario returns k told readable limit
     ∙ filter-all readable (carrying (table_of scenario returns k).order) read

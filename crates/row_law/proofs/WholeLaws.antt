@@ -13,7 +13,7 @@ use Rattle.session_model.specs.Scenario.{Scenario, carried_by, is_read, is_heard
 use Rattle.session_model.specs.declared.table.Member.{Member}
 use Rattle.session_model.specs.Table.{Told, is_norm, is_normal, active}
 use Rattle.session_model.specs.Source.{table_of}
-use Rattle.session_model.specs.Forward.{forward_packet}
+use Rattle.session_model.specs.Telling.{telling_at, sent_packet}
 use Rattle.session_model.specs.ReturnPacket.{leader}
 use Rattle.session_model.specs.Rows.{active_of, container_on, with_first, containers_at, carried_row, row_by, row_under}
 use Rattle.session_model.specs.Rows.{row_at}
@@ -138,10 +138,10 @@ row-under scenario returns sent cells k t limit told =
     let good = λ (line : ℕ). is_good (carried_by scenario line) t in
     let lines = length scenario.windows in
     let give = λ (found : List ℕ). carried_row (map sent found) scenario.size in
-    let found = active_of-filter scenario returns k readable limit in
+    let found = active_of-filter scenario returns k (telling_at scenario k) readable limit in
     let below = AreBelow-filter lines readable act
     (AreBelow-carrying lines table.order (below-after scenario returns k)) in
-    row_by-leader (λ line. forward_packet table line k) (length act) (λ line. refl) readable
+    row_by-leader (λ line. sent_packet scenario returns line k) (length act) (λ line. refl) readable
     (active_of (packets_of scenario returns k)) scenario.size cells t 0 lines
     ∙ ap (λ line. row_if (list_any readable (range_with_len 0 lines)) (length act) line scenario.size cells t) found
     ∙ ap (λ heard. row_if heard (length act) (filter readable act) scenario.size cells t) (heard-any scenario k)

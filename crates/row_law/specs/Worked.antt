@@ -5,6 +5,7 @@ use Rattle.vc_cell.specs.declared.Ctrl.{Ctrl}
 use Rattle.session_model.specs.declared.table.Standing.TheVariants.{Add as adding, Norm as normal, Dnu as unused}
 use Rattle.session_model.specs.Table.{member_of, Table, none_kept}
 use Rattle.session_model.specs.Forward.{forward_packet}
+use Rattle.session_model.specs.Telling.{untold}
 use Rattle.session_model.specs.Rows.{active_of}
 use Rattle.session_model.specs.SessionRows.{packets_from}
 
@@ -23,7 +24,7 @@ sent = map (λ line. ((forward_packet five line 0).ctrl, (forward_packet five li
 
 -- the lines that carry payload by the packets that are read
 abbrev pub active_read : (ℕ → Bool) → List ℕ
-active_read readable = active_of (packets_from 5 five 0 readable)
+active_read readable = active_of (packets_from 5 untold five 0 readable)
 
 abbrev pub all_but : ℕ → ℕ → Bool
 all_but other line = not (line == other)

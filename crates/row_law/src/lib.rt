@@ -29,9 +29,9 @@ ghost use Rattle.row_law.specs.Worked.{sent, active_read, all_but};
 /// dealt.
 pub fn row_law()
     ensures active { (scenario : Scenario) (returns : List (Option Told)) (k : ℕ)
-        (readable : ℕ → Bool) → length scenario.windows ≤ 128 →
+        (told : Told) (readable : ℕ → Bool) → length scenario.windows ≤ 128 →
         list_all readable (active (table_of scenario returns k)) ≡ true →
-        active_of (packets_from (length scenario.windows) (table_of scenario returns k) k readable)
+        active_of (packets_from (length scenario.windows) told (table_of scenario returns k) k readable)
         ≡ active (table_of scenario returns k) }
     ensures whole { (scenario : Scenario) (returns : List (Option Told)) (sent : ℕ → Container)
         (cells : List (List Cell)) (t : ℕ) →

@@ -29,7 +29,7 @@ no_items ticks = record { each = All-none _; frames = rising-none; commands = ri
 
 no_losses : HasLosses []
 unfolding AreApart
-no_losses = record { few = omega arith; apart = tt; ends = All-none _ }
+no_losses = record { apart = tt; ends = All-none _ }
 
 -- before the first line
 pub IsDraft-first : IsDraft at_first
@@ -47,6 +47,7 @@ IsDraft-first = record {
     none = λ at. All-none _;
     windows = All-none _;
     lost = no_losses;
+    few_lost = omega arith;
   };
   no_items = λ at. refl;
   items = no_items 0;
@@ -85,12 +86,12 @@ config_fail d m window has at next =
           (one_window d m window
           (All-get_or (AreFailures d.config.ticks) d.config.windows m [] within has.windows) next) has.windows;
       lost = has.lost;
+      few_lost = has.few_lost;
     }
 
 one_loss : (d : Draft) (first end : ℕ) → HasLosses d.config.lost → IsNextLost d first end
     → HasLosses (d.config.lost ++ (first, end) ∷ [])
 one_loss d first end has next = record {
-  few = (let room = next.room in omega (arith, room, length-append d.config.lost ((first, end) ∷ [])));
   apart = apart-one d.config.lost (first, end) has.apart next.order next.some;
   ends = All-one (λ (w : ℕ × ℕ). w.1 ≤ 62500) d.config.lost (first, end) has.ends next.ends;
 }
@@ -109,6 +110,7 @@ config_lost d first end has at next = record {
   none = λ low. absurd (omega (arith, at, low));
   windows = has.windows;
   lost = one_loss d first end has.lost next;
+  few_lost = (let room = next.room in omega (arith, room, length-append d.config.lost ((first, end) ∷ [])));
 }
 
 -- the configuration stands after its last line
@@ -125,6 +127,7 @@ config_later next now config whole still has = record {
   none = λ low. absurd (omega (arith, still, low));
   windows = has.windows;
   lost = has.lost;
+  few_lost = has.few_lost;
 }
 
 -- ---- items
@@ -230,6 +233,7 @@ container_config d n has fits = record {
   none = λ at. has.none (omega (arith, fits.0));
   windows = has.windows;
   lost = has.lost;
+  few_lost = has.few_lost;
 }
 
 lines_config : (d : Draft) (n : ℕ) → HasConfig d.next d.config → Fits d (says.Lines n) →
@@ -246,6 +250,7 @@ lines_config d n has fits = record {
   none = λ at. All-replicate (λ (windows : List Window). windows ≡ []) n [] refl;
   windows = All-replicate (AreFailures d.config.ticks) n [] (no_windows d.config.ticks);
   lost = has.lost;
+  few_lost = has.few_lost;
 }
 
 delays_config : (d : Draft) (ns : List ℕ) → HasConfig d.next d.config → Fits d (says.Delays ns) →
@@ -262,6 +267,7 @@ delays_config d ns has fits = record {
   none = λ at. has.none (omega (arith, fits.0));
   windows = has.windows;
   lost = has.lost;
+  few_lost = has.few_lost;
 }
 
 ring_config : (d : Draft) (n : ℕ) → HasConfig d.next d.config → Fits d (says.Ring n) →
@@ -278,6 +284,7 @@ ring_config d n has fits = record {
   none = λ at. has.none (omega (arith, fits.0));
   windows = has.windows;
   lost = has.lost;
+  few_lost = has.few_lost;
 }
 
 lag_config : (d : Draft) (n : ℕ) → HasConfig d.next d.config → Fits d (says.Lag n) →
@@ -294,6 +301,7 @@ lag_config d n has fits = record {
   none = λ at. has.none (omega (arith, fits.0));
   windows = has.windows;
   lost = has.lost;
+  few_lost = has.few_lost;
 }
 
 ticks_config : (d : Draft) (n : ℕ) → HasConfig d.next d.config → Fits d (says.Ticks n) →
@@ -310,6 +318,7 @@ ticks_config d n has fits = record {
   none = λ at. absurd (omega (arith, at));
   windows = bare n d.config.windows (has.none (omega (arith, fits.0)));
   lost = has.lost;
+  few_lost = has.few_lost;
 }
 
 -- another configuration stands for this one as long as no item has come

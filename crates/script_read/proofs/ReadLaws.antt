@@ -3,7 +3,7 @@ use Rattle.std.proofs.Common.{◌≡◌, ℕ, ◌+◌, ◌≤◌, List, [], ◌�
 use Rattle.std.specs.Prelude.{Ok}
 use Rattle.std.specs.Str.Lines.{lines}
 use Rattle.session_model.specs.declared.script.Script.{Script}
-use Rattle.session_model.specs.Valid.{IsValid}
+use Rattle.session_model.specs.Valid.{IsValid, HasFewLosses}
 use Rattle.script_read.specs.declared.draft.Draft.{Draft}
 use Rattle.text_lines.specs.Words.{words}
 use Rattle.text_lines.specs.FirstFault.{AreSound}
@@ -42,3 +42,9 @@ valid_text text script short said =
     let few = read.few in
     subst IsValid (sym is.is) (IsValid-draft is.now read.draft is.whole
     (let less = lines_few text in omega (arith, few, less, short)) is.passes)
+
+pub few_lost_text : (text : List ℕ) (script : Script) → script_of text ≡ Ok script → HasFewLosses script
+few_lost_text text script said =
+    let is = (said_script text script).0 said in
+    let read = sound_draft (lines text) at_first is.now IsDraft-first is.sound in
+    subst HasFewLosses (sym is.is) read.draft.config.few_lost

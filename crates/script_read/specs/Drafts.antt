@@ -83,6 +83,7 @@ pub record HasConfig (next : ℕ) (config : Config) : Type 0 where
   pub none : next ≤ 5 → All (λ windows. windows ≡ []) config.windows
   pub windows : All (AreFailures config.ticks) config.windows
   pub lost : HasLosses config.lost
+  pub few_lost : length config.lost ≤ 256
 
 pub record IsDraft (d : Draft) : Type 0 where
   pub config : HasConfig d.next d.config

@@ -2,7 +2,7 @@
 ghost use Rattle.std.specs.Prelude.{◌≡◌, ◌↔◌, ◌≤◌, ℕ, List, length, Ok, Err};
 ghost use Rattle.std.specs.Str.Lines.{lines};
 ghost use Rattle.session_model.specs.declared.script.Script.{Script};
-ghost use Rattle.session_model.specs.Valid.{IsValid};
+ghost use Rattle.session_model.specs.Valid.{IsValid, HasFewLosses};
 ghost use Rattle.text_lines.specs.FirstFault.{IsFirstFault};
 ghost use Rattle.script_read.specs.declared.fault.LineFault.{LineFault};
 ghost use Rattle.script_read.specs.declared.fault.ScriptFault.TheVariants.{Line};
@@ -22,8 +22,10 @@ pub fn fault_law()
 {}
 
 /// A text of at most 67,108,864 octets that is a script says one that can be walked: its numbers are in their
-/// ranges, its windows and items in order, and its rings and lag fit.
+/// ranges, its windows and items in order, and its rings and lag fit. It has at most 256 return windows.
 pub fn valid_law()
-    ensures { (text : List ℕ) (script : Script) → length text ≤ longest_input →
+    ensures valid { (text : List ℕ) (script : Script) → length text ≤ longest_input →
         script_of text ≡ Ok script → IsValid script }
+    ensures few_lost { (text : List ℕ) (script : Script) → script_of text ≡ Ok script →
+        HasFewLosses script }
 {}

@@ -3,7 +3,7 @@ ghost use Rattle.std.specs.Prelude.{◌≡◌, ◌⊎◌, ◌≤◌, length, IfO
 ghost use Rattle.text_lines.specs.Language.{said_by};
 ghost use Rattle.script_read.specs.Script.{script_of, script_in, script_lines};
 ghost use Rattle.script_read.specs.Drafts.{IsDraft, fault_at};
-ghost use Rattle.session_model.specs.Valid.{IsValid};
+ghost use Rattle.session_model.specs.Valid.{IsValid, HasFewLosses};
 ghost use Rattle.session_model.specs.Limits.{longest_input};
 
 use crate::draft::Draft;
@@ -71,11 +71,13 @@ fn finished(draft: Draft) -> Script
 
 /// The script of a text of at most 67,108,864 octets. Else its first fault: that of the first faulty line,
 /// counted from 1; or, where no line has one, the first that fails of the tests of slips, spread and lag.
-/// Want of memory may come in place of any answer. What a script that is given meets is `IsValid`.
+/// Want of memory may come in place of any answer. What a script that is given meets is `IsValid`,
+/// and it has at most 256 return windows.
 pub fn read_script(alloc: Global, text: &[u8]) -> Result<Script, ScriptFault>
     requires { length text.now ≤ longest_input }
     ensures script { IfOk result (λ script. script_of text.now ≡ Ok script) }
     ensures valid { IfOk result IsValid }
+    ensures few_lost { IfOk result HasFewLosses }
     ensures fault { IfErr result (λ fault.
         (fault ≡ ScriptFault.Memory) ⊎ (script_of text.now ≡ Err fault)) }
 {

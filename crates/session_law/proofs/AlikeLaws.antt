@@ -1,5 +1,5 @@
--- What a session's tables, stream and containers depend on: what lands before each step and each frame, and the return
--- cells.
+-- What a session's tables, stream and containers depend on: what lands before each step and each frame, the return
+-- cells, and what the packets tell.
 use Rattle.std.proofs.Common.{◌≡◌, ◌≤◌, ◌<◌, ℕ, zero, suc, ◌+◌, ◌-◌, ◌*◌, ◌/◌, ◌%◌, nat_lt, true, false, if◌then◌else◌}
 use Rattle.std.proofs.Common.{List, [], ◌∷◌, map, fold, length, take, drop, slice_index, replicate, Option, refl, ◌∙◌}
 use Rattle.std.proofs.Common.{ap, arith}
@@ -12,6 +12,7 @@ use Rattle.session_model.specs.Piece.{stream_of}
 use Rattle.session_model.specs.Table.{Told, active}
 use Rattle.session_model.specs.Source.{asked_all, decide, cell_at, after, table_of}
 use Rattle.session_model.specs.Forward.{forward_packet}
+use Rattle.session_model.specs.Telling.{telling, telling_at, sent_packet}
 use Rattle.session_model.specs.Client.{Stream, offered, width, stream_before, place_of}
 use Rattle.session_model.specs.Payload.{payload_of}
 use Rattle.session_model.specs.Sent.{active_at, payload_on, nibble_at, container_of, frame_of}
@@ -19,7 +20,8 @@ use Rattle.session_model.specs.Journal.{replayed}
 use Rattle.session_law.proofs.JournalLaws.{after-replayed, stream-replayed}
 use Rattle.session_law.proofs.ClientLaws.{SameTables, width-same, place_of-same, stream_before-same}
 
--- up to t ticks the same commands and frames land in two sessions, and the same return cells are taken
+-- up to t ticks the same commands and frames land in two sessions, the same return cells are taken, and the packets
+-- tell the same
 pub record Alike (one : Scenario) (a : List (Option Told)) (other : Scenario) (b : List (Option Told))
     (t : ℕ) : Type 0 where
   pub lines : length one.windows ≡ length other.windows
@@ -28,6 +30,7 @@ pub record Alike (one : Scenario) (a : List (Option Told)) (other : Scenario) (b
   pub orders : (j : ℕ) → j < steps_in t → orders_at one j ≡ orders_at other j
   pub cells : (j : ℕ) → j < steps_in t → cell_at one a j ≡ cell_at other b j
   pub offers : (u : ℕ) → u < t → frames_at one u ≡ frames_at other u
+  pub tells : (k : ℕ) → k < steps_in t → telling_at one k ≡ telling_at other k
 
 pub Alike-sooner : (one : Scenario) (a : List (Option Told)) (other : Scenario) (b : List (Option Told)) (i t : ℕ) →
     i ≤ t → Alike one a other b t → Alike one a other b i
@@ -38,6 +41,7 @@ Alike-sooner one a other b i t sooner alike = record {
   orders = λ j low. alike.orders j (omega arith);
   cells = λ j low. alike.cells j (omega arith);
   offers = λ u low. alike.offers u (omega arith);
+  tells = λ k low. alike.tells k (omega arith);
 }
 
 pub alike-after : (one : Scenario) (a : List (Option Told)) (other : Scenario) (b : List (Option Told)) (t j : ℕ) →
@@ -76,12 +80,14 @@ alike-stream one a other b t alike =
     (λ u low. ap (fold offered (stream_before other b u)) (alike.offers u low))
 
 -- ---- the containers of a frame
--- two sessions have the same tables up to the last one that says anything of frame t, and the same stream after it
+-- two sessions have the same tables up to the last one that says anything of frame t, the same stream after it, and
+-- their packets tell the same
 pub record SameFrame (one : Scenario) (a : List (Option Told)) (other : Scenario) (b : List (Option Told))
     (t : ℕ) : Type 0 where
   pub lines : length one.windows ≡ length other.windows
   pub tables : SameTables one a other b (steps_in (suc t))
   pub stream : stream_before one a (suc t) ≡ stream_before other b (suc t)
+  pub tells : (k : ℕ) → k < steps_in (suc t) → telling_at one k ≡ telling_at other k
 
 active-same : (one : Scenario) (a : List (Option Told)) (other : Scenario) (b : List (Option Told)) (t : ℕ) →
     SameFrame one a other b t → active_at one a t ≡ active_at other b t
@@ -100,13 +106,15 @@ nibble-same : (one : Scenario) (a : List (Option Told)) (other : Scenario) (b : 
 nibble-same one a other b line t same =
     let k = (t - 8) / 16 in
     elim (nat_lt t 8) as (λ c. nat_lt t 8 ≡ c →
-    (if c then 0 else slice_index (packet_nibbles (forward_packet (table_of one a k) line k)) ((t - 8) % 16))
-    ≡ (if c then 0 else slice_index (packet_nibbles (forward_packet (table_of other b k) line k)) ((t - 8) % 16))) [
+    (if c then 0 else slice_index (packet_nibbles (sent_packet one a line k)) ((t - 8) % 16))
+    ≡ (if c then 0 else slice_index (packet_nibbles (sent_packet other b line k)) ((t - 8) % 16))) [
       | true ↦ λ e. refl
       | false ↦ λ e.
           let high = ltb-false t 8 e in
-          ap (λ source. slice_index (packet_nibbles (forward_packet source.table line k)) ((t - 8) % 16))
-          (same.tables.tables (suc k) (omega arith))
+          ap (λ source. slice_index (packet_nibbles (telling (telling_at one k) (forward_packet source.table line k)))
+          ((t - 8) % 16)) (same.tables.tables (suc k) (omega arith))
+          ∙ ap (λ told. slice_index (packet_nibbles (telling told (forward_packet (table_of other b k) line k)))
+          ((t - 8) % 16)) (same.tells k (omega arith))
     ] refl
 
 fewer-tables : (one : Scenario) (a : List (Option Told)) (other : Scenario) (b : List (Option Told)) (i n : ℕ) → i ≤ n →
@@ -162,6 +170,7 @@ alike-frame one a other b t alike =
       lines = alike.lines;
       tables = record { size = alike.size; tables = λ j low. alike-after one a other b (suc t) j alike low };
       stream = alike-stream one a other b (suc t) alike;
+      tells = λ k low. alike.tells k low;
     })
 
 -- the session of what was accepted alone has the same containers
@@ -172,4 +181,5 @@ replayed-frame scenario cells t u low =
       lines = refl;
       tables = record { size = refl; tables = λ j near. after-replayed scenario cells t j (omega arith) };
       stream = stream-replayed scenario cells t (suc u) (omega arith);
+      tells = λ k near. refl;
     })

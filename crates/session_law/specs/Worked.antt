@@ -27,6 +27,7 @@ scenario_for lag ticks windows orders = record {
   lost = [];
   orders = orders;
   offers = [];
+  tells = [];
 }
 
 -- what a packet shows: its number, the lines by SQ, the line in REMOVE, and CHG

@@ -52,7 +52,8 @@ place_in (member ∷ order) sq line =
     if member.line == line then record { ctrl = ctrl_by member.standing (list_any is_normal order); sq = sq }
     else place_in order (sq + 1) line
 
--- packet k of a line. MFI2 is that of the multiframe in which it ends; CHG, ACT and GID are the same for all lines
+-- packet k of a line, where it tells the other way nothing: MST and RS-Ack are 0. MFI2 is that of the multiframe in
+-- which it ends; CHG, ACT and GID are the same for all lines
 abbrev pub forward_packet : Table → ℕ → ℕ → Packet
 forward_packet table line k = record {
   mst = 0;

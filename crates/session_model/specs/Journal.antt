@@ -36,7 +36,7 @@ offers_before scenario cells (suc t) =
 abbrev pub frames_before : Scenario → List (Option Told) → ℕ → List (List ℕ)
 frames_before scenario cells t = map (λ offer. offer.frame) (offers_before scenario cells t)
 
--- the session of other orders and offers
+-- the session of other orders and offers, whose packets tell the same
 abbrev pub with_items : Scenario → List DueCommand → List DueFrame → Scenario
 with_items scenario orders offers = record {
   lag = scenario.lag;
@@ -46,6 +46,7 @@ with_items scenario orders offers = record {
   lost = scenario.lost;
   orders = orders;
   offers = offers;
+  tells = scenario.tells;
 }
 
 -- the session of what is accepted in t ticks alone

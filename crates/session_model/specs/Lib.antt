@@ -18,6 +18,7 @@ pub mod GroupBit
 pub mod Source
 pub mod Course
 pub mod Forward
+pub mod Telling
 pub mod ReturnPacket
 pub mod Back
 pub mod Client

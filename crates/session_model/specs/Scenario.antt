@@ -12,6 +12,7 @@ use Rattle.session_model.specs.declared.script.Item.{Item}
 use Rattle.session_model.specs.declared.script.ItemKind.{ItemKind}
 use Rattle.session_model.specs.declared.script.ItemKind.TheVariants.{Frame, Add, Remove}
 use Rattle.session_model.specs.Damage.{carried, is_readable}
+use Rattle.session_model.specs.Table.{Told}
 
 -- a command, and how many ticks are made when it lands
 pub record DueCommand : Type 0 where
@@ -25,7 +26,8 @@ pub record DueFrame : Type 0 where
 
 -- the lag in packets; how many ticks there are; the payload octets of a container; the failures of each line; the
 -- return packets
--- that are lost; the commands and the frames in their order
+-- that are lost; the commands and the frames in their order; what the control packets tell the other way of a pair,
+-- packet by packet from the first one on
 pub record Scenario : Type 0 where
   pub lag : ℕ
   pub ticks : ℕ
@@ -34,8 +36,9 @@ pub record Scenario : Type 0 where
   pub lost : List (ℕ × ℕ)
   pub orders : List DueCommand
   pub offers : List DueFrame
+  pub tells : List Told
 
--- ---- the scenario of a script
+-- ---- the scenario of a script, which has no other way: its packets have nothing to tell
 abbrev pub order_of : ℕ → ItemKind → List DueCommand
 order_of due (Frame octets) = []
 order_of due (Add line) = record { due = due; command = add line } ∷ []
@@ -61,6 +64,7 @@ scenario_of script = record {
   lost = script.config.lost;
   orders = orders_of script.items;
   offers = offers_of script.items;
+  tells = [];
 }
 
 -- ---- what is damaged

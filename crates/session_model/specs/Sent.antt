@@ -9,7 +9,7 @@ use Rattle.session_model.specs.Packet.{packet_nibbles}
 use Rattle.session_model.specs.Scenario.{Scenario}
 use Rattle.session_model.specs.Table.{Told, active}
 use Rattle.session_model.specs.Source.{table_of}
-use Rattle.session_model.specs.Forward.{forward_packet}
+use Rattle.session_model.specs.Telling.{sent_packet}
 use Rattle.session_model.specs.Payload.{payload_of}
 use Rattle.session_model.specs.Interleave.{part_of}
 use Rattle.session_model.specs.Limits.{vc4_size}
@@ -34,8 +34,7 @@ payload_on lines line size row = payload_by (rank_of lines line) (length lines) 
 
 -- the nibble that a line carries of its packets: packet k is sent in frames 16 k + 8 to 16 k + 23
 abbrev pub nibble_in : Scenario → List (Option Told) → ℕ → ℕ → ℕ → ℕ
-nibble_in scenario cells line k place =
-    slice_index (packet_nibbles (forward_packet (table_of scenario cells k) line k)) place
+nibble_in scenario cells line k place = slice_index (packet_nibbles (sent_packet scenario cells line k)) place
 
 abbrev pub nibble_at : Scenario → List (Option Told) → ℕ → ℕ → ℕ
 nibble_at scenario cells line t = if nat_lt t 8 then 0 else nibble_in scenario cells line ((t - 8) / 16) ((t - 8) % 16)

@@ -10,20 +10,22 @@ use Rattle.session_model.specs.Scenario.{Scenario, carried_by, is_read, is_heard
 use Rattle.session_model.specs.Table.{Table, Told, active}
 use Rattle.session_model.specs.Source.{table_of}
 use Rattle.session_model.specs.Forward.{forward_packet}
+use Rattle.session_model.specs.Telling.{telling, telling_at}
 use Rattle.session_model.specs.ReturnPacket.{Row}
 
--- packet k of a number of lines, by line, of those that can be read
+-- packet k of a number of lines, by line, of those that can be read: each tells the same
 abbrev pub packet_if : Bool → Packet → Option Packet
 packet_if read packet = if read then Some packet else None
 
-abbrev pub packets_from : ℕ → Table → ℕ → (ℕ → Bool) → Row
-packets_from lines table k readable =
-    map (λ line. packet_if (readable line) (forward_packet table line k)) (range_with_len 0 lines)
+abbrev pub packets_from : ℕ → Told → Table → ℕ → (ℕ → Bool) → Row
+packets_from lines told table k readable =
+    map (λ line. packet_if (readable line) (telling told (forward_packet table line k))) (range_with_len 0 lines)
 
 -- those of a session
 abbrev pub packets_of : Scenario → List (Option Told) → ℕ → Row
 packets_of scenario cells k =
-    packets_from (length scenario.windows) (table_of scenario cells k) k (λ line. is_read scenario line k)
+    packets_from (length scenario.windows) (telling_at scenario k) (table_of scenario cells k) k
+    (λ line. is_read scenario line k)
 
 -- a row t is whole under packet k: some line has a packet k that can be read, and each line that carries payload has,
 -- and its

@@ -35,7 +35,6 @@ AreApart from [] = Unit {0}
 AreApart from (window ∷ windows) = (from ≤ window.0) × (window.0 < window.1) × AreApart window.1 windows
 
 pub record HasLosses (lost : List (ℕ × ℕ)) : Type 0 where
-  pub few : length lost ≤ 256
   pub apart : AreApart 0 lost
   pub ends : All (λ (window : ℕ × ℕ). window.1 ≤ 62500) lost
 
@@ -91,3 +90,7 @@ pub record IsValid (script : Script) : Type 0 where
   pub items : AreItems script.config.ticks script.items
   pub few : length script.items ≤ longest_input
   pub events : All (IsEvent script.config.lines) script.events
+
+-- how many return windows the text of a script has at most: a session may have any number of them
+abbrev pub HasFewLosses : Script → Type 0
+HasFewLosses script = length script.config.lost ≤ 256

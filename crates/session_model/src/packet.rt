@@ -10,9 +10,11 @@ use vc_cell::Ctrl;
 #[derive(Clone, Copy, Debug, PartialEq, Eq)]
 pub struct Packet {
     /// The statuses of eight members: a bit is 0 for OK and 1 for FAIL, and the most significant one is for
-    /// the least of their sequence numbers. 0 in a forward packet.
+    /// the least of their sequence numbers. 0 in a forward packet that has nothing to tell the other way of a
+    /// pair.
     pub mst: u8,
-    /// The acknowledgement (RS-Ack): the change bit that the sink last read. False in a forward packet.
+    /// The acknowledgement (RS-Ack): the change bit that the sink last read. False in a forward packet
+    /// that has nothing to tell.
     pub rs_ack: bool,
     /// The change bit (CHG): the number of changes of the group, modulo 2. False in a return packet.
     pub chg: bool,

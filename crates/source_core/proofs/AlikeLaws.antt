@@ -1,9 +1,11 @@
 -- What a terminal holds of two sessions that are alike so far.
-use Rattle.std.proofs.Common.{◌≡◌, ◌≤◌, ℕ, zero, suc, ◌-◌, List, Option, refl, ap, arith}
+use Rattle.std.proofs.Common.{◌≡◌, ◌≤◌, ℕ, zero, suc, ◌-◌, List, Option, refl, ◌∙◌, ap, arith}
 use Rattle.session_model.specs.Scenario.{Scenario, steps_in}
 use Rattle.session_model.specs.Packet.{packet_nibbles}
 use Rattle.session_model.specs.Table.{Told, active}
+use Rattle.session_model.specs.Source.{table_of}
 use Rattle.session_model.specs.Forward.{forward_packet}
+use Rattle.session_model.specs.Telling.{telling, telling_at}
 use Rattle.session_law.proofs.AlikeLaws.{Alike, alike-after}
 use Rattle.source_core.specs.Given.{nibbles_after, active_now}
 
@@ -16,7 +18,10 @@ nibbles-by : (one : Scenario) (a : List (Option Told)) (other : Scenario) (b : L
     Alike one a other b t → j ≤ steps_in t → nibbles_after one a line j ≡ nibbles_after other b line j
 nibbles-by one a other b t line zero alike low = refl
 nibbles-by one a other b t line (suc k) alike low =
-    ap (λ source. packet_nibbles (forward_packet source.table line k)) (alike-after one a other b t (suc k) alike low)
+    ap (λ source. packet_nibbles (telling (telling_at one k) (forward_packet source.table line k)))
+    (alike-after one a other b t (suc k) alike low)
+    ∙ ap (λ told. packet_nibbles (telling told (forward_packet (table_of other b k) line k)))
+    (alike.tells k (omega arith))
 
 pub alike-nibbles : (one : Scenario) (a : List (Option Told)) (other : Scenario) (b : List (Option Told)) (t line : ℕ) →
     Alike one a other b t →

@@ -7,6 +7,7 @@ use Rattle.std.proofs.Math.Nat.{mul-le-mul_left}
 use Rattle.vc_cell.specs.declared.BackCell.{BackCell}
 use Rattle.session_model.specs.declared.table.Command.{Command}
 use Rattle.session_model.specs.Scenario.{steps_in}
+use Rattle.session_model.specs.Table.{Told}
 use Rattle.session_model.specs.Told.{told_in}
 use Rattle.session_model.specs.Course.{Course, asks, called, said_by}
 use Rattle.session_law.proofs.PlanLaws.{Fits, Fits-asked, Fits-decide}
@@ -18,12 +19,12 @@ use Rattle.source_core.proofs.MemberLaws.{active-members}
 
 -- a command
 pub IsTerminal-asked : (lag size ticks : ℕ) (queue : Held) (sender : Sender) (table next : Course) (active : List ℕ)
-    (nibbles : List (List ℕ)) (octets : ℕ) (command : Command) →
+    (nibbles : List (List ℕ)) (told : Told) (octets : ℕ) (command : Command) →
     next ≡ called table (asks command) →
-    IsTerminal (terminal_of lag size ticks queue sender table active nibbles) octets →
-    IsTerminal (terminal_of lag size ticks queue sender next active nibbles) octets
-IsTerminal-asked lag size ticks queue sender table next active nibbles octets command is fields =
-    subst (λ course. IsTerminal (terminal_of lag size ticks queue sender course active nibbles) octets) (sym is)
+    IsTerminal (terminal_of lag size ticks queue sender table active nibbles told) octets →
+    IsTerminal (terminal_of lag size ticks queue sender next active nibbles told) octets
+IsTerminal-asked lag size ticks queue sender table next active nibbles told octets command is fields =
+    subst (λ course. IsTerminal (terminal_of lag size ticks queue sender course active nibbles told) octets) (sym is)
     (record {
       lines = fields.lines;
       size = fields.size;
@@ -57,22 +58,22 @@ pub active_by-members : (b : Bool) (table : Course) (active : List ℕ) → Fits
 active_by-members true table active fits members = active-members table.lines table.source fits
 active_by-members false table active fits members = members
 
-pub nibbles_by-length : (b : Bool) (table : Course) (nibbles : List (List ℕ)) →
-    length (nibbles_by b table nibbles) ≡ length nibbles
-nibbles_by-length true table nibbles = length-map-range_with_len _ 0 (length nibbles)
-nibbles_by-length false table nibbles = refl
+pub nibbles_by-length : (b : Bool) (table : Course) (told : Told) (nibbles : List (List ℕ)) →
+    length (nibbles_by b table told nibbles) ≡ length nibbles
+nibbles_by-length true table told nibbles = length-map-range_with_len _ 0 (length nibbles)
+nibbles_by-length false table told nibbles = refl
 
 pub IsTerminal-ticked : (lag size ticks : ℕ) (queue later : Held) (sender further : Sender) (table next : Course)
-    (active members : List ℕ) (nibbles said : List (List ℕ)) (octets : ℕ) (back : Option BackCell) →
+    (active members : List ℕ) (nibbles said : List (List ℕ)) (told left : Told) (octets : ℕ) (back : Option BackCell) →
     next ≡ table_by (is_step ticks) back table → members ≡ active_by (is_step ticks) table active →
-    said ≡ nibbles_by (is_step ticks) next nibbles → AreNibbles said →
-    IsTerminal (terminal_of lag size ticks queue sender table active nibbles) octets →
-    IsTerminal (terminal_of lag size (ticks + 1) later further next members said) octets
-IsTerminal-ticked lag size ticks queue later sender further table next active members nibbles said octets back is_next
-    is_members is_said below fields =
+    said ≡ nibbles_by (is_step ticks) next told nibbles → AreNibbles said →
+    IsTerminal (terminal_of lag size ticks queue sender table active nibbles told) octets →
+    IsTerminal (terminal_of lag size (ticks + 1) later further next members said left) octets
+IsTerminal-ticked lag size ticks queue later sender further table next active members nibbles said told left octets back
+    is_next is_members is_said below fields =
     let b = is_step ticks in
     let lines = ap (λ (course : Course). course.lines) is_next ∙ table_by-lines b back table in
-    let many = ap length is_said ∙ nibbles_by-length b next nibbles in
+    let many = ap length is_said ∙ nibbles_by-length b next told nibbles in
     let few = fields.lines in
     let had = fields.nibbles in
     record {
@@ -92,11 +93,11 @@ IsTerminal-ticked lag size ticks queue later sender further table next active me
 
 -- the lines that carry payload after a decision step
 pub next-members : (lag size ticks : ℕ) (queue : Held) (sender : Sender) (table : Course) (active members : List ℕ)
-    (nibbles : List (List ℕ)) (octets : ℕ) →
+    (nibbles : List (List ℕ)) (told : Told) (octets : ℕ) →
     members ≡ active_by (is_step ticks) table active →
-    IsTerminal (terminal_of lag size ticks queue sender table active nibbles) octets →
+    IsTerminal (terminal_of lag size ticks queue sender table active nibbles told) octets →
     AreMembers table.lines members
-next-members lag size ticks queue sender table active members nibbles octets is fields =
+next-members lag size ticks queue sender table active members nibbles told octets is fields =
     subst (AreMembers table.lines) (sym is) (active_by-members (is_step ticks) table active fields.fits fields.active)
 
 -- the octets of a frame fit the room

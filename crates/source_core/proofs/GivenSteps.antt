@@ -1,4 +1,4 @@
--- What a frame, a command and a return cell make of a terminal's scenario.
+-- What a frame, a command and a return packet that is passed on make of a terminal's scenario.
 use Rattle.std.proofs.Common.{◌≡◌, ◌≤◌, ◌<◌, ℕ, zero, suc, ◌+◌, ◌-◌, ◌*◌, ◌&&◌, nat_le, nat_lt, true, false, Bool}
 use Rattle.std.proofs.Common.{if◌then◌else◌, List, [], ◌∷◌, ◌++◌, map, filter, fold, length, All, Option, refl, sym}
 use Rattle.std.proofs.Common.{◌∙◌, ap, subst, arith}
@@ -17,9 +17,11 @@ use Rattle.session_model.specs.Client.{Stream, offered, stream_before, place_of}
 use Rattle.gfp_fill.specs.Queue.{Held}
 use Rattle.gfp_fill.specs.Stream.{Sender, Stands as HasWritten}
 use Rattle.source_core.specs.Step.{terminal_of}
-use Rattle.source_core.specs.Given.{with_frame, with_command, stream_now, source_now, nibbles_after, Stands}
+use Rattle.source_core.specs.Given.{with_frame, with_command, with_told, stream_now, source_now, nibbles_after}
+use Rattle.source_core.specs.Given.{Stands}
 use Rattle.session_law.proofs.AlikeLaws.{Alike, alike-after, alike-place, alike-stream, map-same}
 use Rattle.source_core.proofs.AlikeLaws.{alike-active, alike-nibbles}
+use Rattle.source_core.proofs.TellLaws.{next-length, next-here, next-before}
 
 -- ---- what lands when
 comes-later : (due u t : ℕ) → u < t → t ≤ due → (nat_le due u && nat_le u due) ≡ false
@@ -72,6 +74,7 @@ with_frame-alike scenario cells t frame = record {
   orders = λ j low. refl;
   cells = λ j low. refl;
   offers = λ u low. frames-before scenario t u frame low;
+  tells = λ k low. refl;
 }
 
 stream-with : (scenario : Scenario) (cells : List (Option Told)) (t : ℕ) (frame : List ℕ) →
@@ -88,12 +91,12 @@ All-one P x p zero d low = p
 All-one P x p (suc k) d low = absurd (omega arith)
 
 pub Stands-with_frame : (lag size ticks : ℕ) (queue after : Held) (sender : Sender) (table : Course) (active : List ℕ)
-    (nibbles : List (List ℕ)) (scenario : Scenario) (cells : List (Option Told)) (frame : List ℕ) →
+    (nibbles : List (List ℕ)) (told : Told) (scenario : Scenario) (cells : List (Option Told)) (frame : List ℕ) →
     ((stream : Stream) (place : ℕ) → HasWritten sender queue stream place →
     HasWritten sender after (offered stream frame) place) →
-    Stands (terminal_of lag size ticks queue sender table active nibbles) scenario cells →
-    Stands (terminal_of lag size ticks after sender table active nibbles) (with_frame scenario ticks frame) cells
-Stands-with_frame lag size ticks queue next sender table active nibbles scenario cells frame pushes stands =
+    Stands (terminal_of lag size ticks queue sender table active nibbles told) scenario cells →
+    Stands (terminal_of lag size ticks after sender table active nibbles told) (with_frame scenario ticks frame) cells
+Stands-with_frame lag size ticks queue next sender table active nibbles told scenario cells frame pushes stands =
     let more = with_frame scenario ticks frame in
     let alike = with_frame-alike scenario cells ticks frame in
     record {
@@ -121,6 +124,8 @@ Stands-with_frame lag size ticks queue next sender table active nibbles scenario
           (λ line. nibbles_after more cells line (steps_in ticks))
           (λ line. sym (alike-nibbles more cells scenario cells ticks line alike))
           (range_with_len 0 (length scenario.windows));
+      tells = stands.tells;
+      telling = stands.telling;
     }
 
 -- ---- a command
@@ -156,6 +161,7 @@ with_command-alike scenario cells t command = record {
   orders = λ j low. orders-before scenario t j command low;
   cells = λ j low. refl;
   offers = λ u low. refl;
+  tells = λ k low. refl;
 }
 
 source-with : (scenario : Scenario) (cells : List (Option Told)) (t : ℕ) (command : Command) →
@@ -170,11 +176,12 @@ source-with scenario cells t command =
     ∙ fold-append (asked lines) (after scenario cells (steps_in t)) (orders_at scenario (steps_in t)) (command ∷ [])
 
 pub Stands-with_command : (lag size ticks : ℕ) (queue : Held) (sender : Sender) (table next : Course) (active : List ℕ)
-    (nibbles : List (List ℕ)) (scenario : Scenario) (cells : List (Option Told)) (command : Command) →
+    (nibbles : List (List ℕ)) (told : Told) (scenario : Scenario) (cells : List (Option Told)) (command : Command) →
     next ≡ called table (asks command) →
-    Stands (terminal_of lag size ticks queue sender table active nibbles) scenario cells →
-    Stands (terminal_of lag size ticks queue sender next active nibbles) (with_command scenario ticks command) cells
-Stands-with_command lag size ticks queue sender table next active nibbles scenario cells command is stands =
+    Stands (terminal_of lag size ticks queue sender table active nibbles told) scenario cells →
+    Stands (terminal_of lag size ticks queue sender next active nibbles told)
+    (with_command scenario ticks command) cells
+Stands-with_command lag size ticks queue sender table next active nibbles told scenario cells command is stands =
     let more = with_command scenario ticks command in
     let alike = with_command-alike scenario cells ticks command in
     record {
@@ -202,4 +209,55 @@ Stands-with_command lag size ticks queue sender table next active nibbles scenar
           (λ line. nibbles_after more cells line (steps_in ticks))
           (λ line. sym (alike-nibbles more cells scenario cells ticks line alike))
           (range_with_len 0 (length scenario.windows));
+      tells = stands.tells;
+      telling = stands.telling;
+    }
+
+-- ---- what the packets of the next decision step tell
+with_told-alike : (scenario : Scenario) (cells : List (Option Told)) (t : ℕ) (said : Told) →
+    Alike (with_told scenario (steps_in t) said) cells scenario cells t
+with_told-alike scenario cells t said = record {
+  lines = refl;
+  lag = refl;
+  size = refl;
+  orders = λ j low. refl;
+  cells = λ j low. refl;
+  offers = λ u low. refl;
+  tells = λ k low. next-before (steps_in t) k said scenario.tells low;
+}
+
+pub Stands-with_told : (lag size ticks : ℕ) (queue : Held) (sender : Sender) (table : Course) (active : List ℕ)
+    (nibbles : List (List ℕ)) (told said : Told) (scenario : Scenario) (cells : List (Option Told)) →
+    Stands (terminal_of lag size ticks queue sender table active nibbles told) scenario cells →
+    Stands (terminal_of lag size ticks queue sender table active nibbles said)
+    (with_told scenario (steps_in ticks) said) cells
+Stands-with_told lag size ticks queue sender table active nibbles told said scenario cells stands =
+    let more = with_told scenario (steps_in ticks) said in
+    let alike = with_told-alike scenario cells ticks said in
+    let size_of = next-length (steps_in ticks) said scenario.tells in
+    record {
+      lines = stands.lines;
+      lag = stands.lag;
+      size = stands.size;
+      offers = stands.offers;
+      orders = stands.orders;
+      told = stands.told;
+      table = stands.table ∙ sym (ap (λ source. record {
+        lines = length scenario.windows;
+        source = asked_all (length scenario.windows) (orders_at scenario (steps_in ticks)) source;
+        taken = steps_in ticks - scenario.lag;
+        steps = steps_in ticks;
+      }) (alike-after more cells scenario cells ticks (steps_in ticks) alike (omega arith)));
+      stream = subst (λ s. HasWritten sender queue s (place_of more cells ticks))
+          (sym (ap (λ stream. fold offered stream (frames_at scenario ticks))
+          (alike-stream more cells scenario cells ticks alike)))
+          (subst (λ place. HasWritten sender queue (stream_now scenario cells ticks) place)
+          (sym (alike-place more cells scenario cells ticks alike)) stands.stream);
+      active = stands.active ∙ sym (alike-active more cells scenario cells ticks alike);
+      nibbles = stands.nibbles ∙ map-same (λ line. nibbles_after scenario cells line (steps_in ticks))
+          (λ line. nibbles_after more cells line (steps_in ticks))
+          (λ line. sym (alike-nibbles more cells scenario cells ticks line alike))
+          (range_with_len 0 (length scenario.windows));
+      tells = omega arith;
+      telling = sym (next-here (steps_in ticks) said scenario.tells);
     }

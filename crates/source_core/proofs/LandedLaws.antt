@@ -58,6 +58,7 @@ alike-landed one other a b t comes agree = record {
   offers = λ u low. ap (map (λ (offer : DueFrame). offer.frame))
       (same-parts (comes_at u) (λ (offer : DueFrame). has_come t offer.due) one.offers other.offers
       (λ offer here. comes-within offer.due u t low here) comes.offers);
+  tells = comes.tells;
 }
 
 -- ---- the first items of a session, where none of the others is due yet
@@ -83,4 +84,5 @@ first-alike scenario n m t orders offers = record {
       (λ k d low. not-come t (slice_index_or (drop m scenario.offers) k d).due (offers k d low));
   orders = prefix-alike (λ (order : DueCommand). has_come t order.due) n scenario.orders
       (λ k d low. not-come t (slice_index_or (drop n scenario.orders) k d).due (orders k d low));
+  tells = λ k low. refl;
 }

@@ -1,6 +1,7 @@
 pub mod MemberLaws
 pub mod FrameLaws
 pub mod AlikeLaws
+pub mod TellLaws
 pub mod GivenSteps
 pub mod FieldSteps
 pub mod TickSteps

@@ -1,12 +1,13 @@
 -- A terminal to which nothing was given.
 use Rattle.std.proofs.Common.{◌≡◌, ◌≤◌, ◌<◌, ℕ, ◌-◌, ◌*◌, List, [], map, filter, fold, length, replicate, All, refl}
-use Rattle.std.proofs.Common.{sym, ◌∙◌, ap, subst, arith}
+use Rattle.std.proofs.Common.{slice_index_or, sym, ◌∙◌, ap, subst, arith}
 use Rattle.std.proofs.lemmas.List.{length-replicate, get_or-replicate}
 use Rattle.std.proofs.lemmas.List.Elements.{All-replicate}
 use Rattle.std.proofs.lemmas.List.FromFn.{fill_by_all}
 use Rattle.session_model.specs.Scenario.{Scenario, DueCommand, DueFrame, orders_at, frames_at, lands_at, comes_at}
 use Rattle.session_model.specs.Scenario.{steps_in}
-use Rattle.session_model.specs.Table.{active}
+use Rattle.session_model.specs.Table.{Told, active}
+use Rattle.session_model.specs.Telling.{untold}
 use Rattle.session_model.specs.Source.{opening, asked_all, after}
 use Rattle.session_model.specs.Course.{Course, begun}
 use Rattle.session_model.specs.Client.{offered, stream_before, place_of}
@@ -31,15 +32,15 @@ zeros-below lines =
     (All-replicate (λ nibble. nibble < 16) 16 0 (omega arith))
 
 pub IsTerminal-new : (lag size lines : ℕ) (queue : Held) (sender : Sender) (table : Course) (active : List ℕ)
-    (nibbles : List (List ℕ)) (octets : ℕ) →
+    (nibbles : List (List ℕ)) (told : Told) (octets : ℕ) →
     lines ≤ 128 → size ≤ 2340 → table ≡ begun lines → active ≡ [] → nibbles ≡ replicate lines (replicate 16 0) →
     octets ≡ size * lines →
-    IsTerminal (terminal_of lag size 0 queue sender table active nibbles) octets
-IsTerminal-new lag size lines queue sender table active nibbles octets few small is_table none zeros room =
-    subst (λ table. IsTerminal (terminal_of lag size 0 queue sender table active nibbles) octets) (sym is_table)
-    (subst (λ active. IsTerminal (terminal_of lag size 0 queue sender (begun lines) active nibbles) octets) (sym none)
-    (subst (λ nibbles. IsTerminal (terminal_of lag size 0 queue sender (begun lines) [] nibbles) octets) (sym zeros)
-    (record {
+    IsTerminal (terminal_of lag size 0 queue sender table active nibbles told) octets
+IsTerminal-new lag size lines queue sender table active nibbles told octets few small is_table none zeros room =
+    subst (λ table. IsTerminal (terminal_of lag size 0 queue sender table active nibbles told) octets) (sym is_table)
+    (subst (λ active. IsTerminal (terminal_of lag size 0 queue sender (begun lines) active nibbles told) octets)
+    (sym none) (subst (λ nibbles. IsTerminal (terminal_of lag size 0 queue sender (begun lines) [] nibbles told) octets)
+    (sym zeros) (record {
       lines = few;
       size = small;
       room = room;
@@ -97,11 +98,12 @@ nibbles-new scenario lines are_lines =
     (λ line low. get_or-replicate lines line (replicate 16 0) [] (omega arith))
 
 pub Stands-new : (lag size lines : ℕ) (queue : Held) (sender : Sender) (table : Course) (active : List ℕ)
-    (nibbles : List (List ℕ)) (scenario : Scenario) →
+    (nibbles : List (List ℕ)) (told : Told) (scenario : Scenario) →
     queue ≡ unbegun [] → HasWritten sender (unbegun []) (unsent []) 0 → table ≡ begun lines → active ≡ [] →
-    nibbles ≡ replicate lines (replicate 16 0) →
-    IsFresh scenario lines lag size → Stands (terminal_of lag size 0 queue sender table active nibbles) scenario []
-Stands-new lag size lines queue sender table active nibbles scenario is_queue written is_table none zeros fresh =
+    nibbles ≡ replicate lines (replicate 16 0) → told ≡ untold →
+    IsFresh scenario lines lag size → Stands (terminal_of lag size 0 queue sender table active nibbles told) scenario []
+Stands-new lag size lines queue sender table active nibbles told scenario is_queue written is_table none zeros silent
+    fresh =
     record {
       lines = ap (λ (course : Course). course.lines) is_table ∙ sym fresh.of_lines;
       lag = sym fresh.of_lag;
@@ -119,4 +121,6 @@ Stands-new lag size lines queue sender table active nibbles scenario is_queue wr
           (subst (HasWritten sender (unbegun []) (unsent [])) (sym (place-new scenario)) written));
       active = none ∙ sym (active-new scenario);
       nibbles = zeros ∙ nibbles-new scenario lines fresh.of_lines;
+      tells = let none_told = ap length fresh.no_tells in omega arith;
+      telling = silent ∙ ap (λ tells. slice_index_or tells (steps_in 0) untold) (sym fresh.no_tells);
     }

@@ -7,7 +7,7 @@ use Rattle.std.specs.Option.{is_some}
 use Rattle.std.specs.List.{range_with_len}
 use Rattle.std.proofs.lemmas.Bool.{cases_lt, eqb-true, eqb-false, eq-eqb, leb-true, le-leb, lt-ltb, ltb-true, ltb-false}
 use Rattle.std.proofs.lemmas.Bool.Decides.{nat_tests}
-use Rattle.std.proofs.lemmas.List.{get_or_at, get_or-replicate, length-append}
+use Rattle.std.proofs.lemmas.List.{get_or_at, get_or_past, get_or-replicate, length-append}
 use Rattle.std.proofs.lemmas.List.Elements.{All-head, All-tail}
 use Rattle.std.proofs.lemmas.List.FromFn.{length-map-range_with_len, get_or-map-range_with_len, fill_by_all}
 use Rattle.vc_cell.specs.declared.BackCell.{BackCell}
@@ -21,6 +21,7 @@ use Rattle.session_model.specs.Told.{told_in}
 use Rattle.session_model.specs.Source.{Source, asked_all, decide, cell_at, after, source_at, table_of}
 use Rattle.session_model.specs.Course.{Course, called, decides, said_by, count_of}
 use Rattle.session_model.specs.Forward.{forward_packet}
+use Rattle.session_model.specs.Telling.{untold, telling_at, telling}
 use Rattle.session_model.specs.Client.{Stream, offered, reached, width, stream_before, place_of}
 use Rattle.session_model.specs.Payload.{payload_of}
 use Rattle.session_model.specs.Sent.{active_at, payload_on, nibble_in, nibble_at, container_of, frame_of}
@@ -30,7 +31,7 @@ use Rattle.gfp_fill.specs.Queue.{Held}
 use Rattle.gfp_fill.specs.Stream.{Sender, Stands as HasWritten}
 use Rattle.source_core.specs.Terminal.{needed_at}
 use Rattle.source_core.specs.Frame.{container_by, containers_by}
-use Rattle.source_core.specs.Step.{is_step, table_by, active_by, nibbles_of, nibbles_by, terminal_of}
+use Rattle.source_core.specs.Step.{is_step, table_by, active_by, nibbles_of, nibbles_by, left_by, terminal_of}
 use Rattle.source_core.specs.Given.{with_cell, stream_now, course_now, nibbles_after, nibbles_now, active_now, Stands}
 use Rattle.session_law.proofs.AlikeLaws.{Alike, alike-after, alike-place, alike-stream, map-same}
 
@@ -78,6 +79,7 @@ tick-alike scenario cells back t told = record {
   orders = λ j low. refl;
   cells = λ j low. with_cell-agree scenario cells back (steps_in t) told j low;
   offers = λ u low. refl;
+  tells = λ k low. refl;
 }
 
 -- the step takes the cell that the tick was given
@@ -268,33 +270,47 @@ width-at scenario cells t =
     ]
 
 -- ---- the nibbles
-pub nibbles-ticked : (scenario : Scenario) (cells : List (Option Told)) (back : Option BackCell) (t : ℕ) →
-    IsDue scenario.lag t back → (b : Bool) → is_step t ≡ b →
-    nibbles_by b (course_now scenario (with_cell cells back) (t + 1)) (nibbles_now scenario cells t)
+pub nibbles-ticked : (scenario : Scenario) (cells : List (Option Told)) (back : Option BackCell) (t : ℕ) (told : Told) →
+    IsDue scenario.lag t back → told ≡ telling_at scenario (steps_in t) → (b : Bool) → is_step t ≡ b →
+    nibbles_by b (course_now scenario (with_cell cells back) (t + 1)) told (nibbles_now scenario cells t)
     ≡ nibbles_now scenario (with_cell cells back) (t + 1)
-nibbles-ticked scenario cells back t due true e =
+nibbles-ticked scenario cells back t told due tells true e =
     let at = eqb-true (t % 16) 8 e in
     let more = with_cell cells back in
     let lines = length scenario.windows in
     let next : steps_in (t + 1) ≡ suc (steps_in t) = omega arith in
-    ap (λ n. nibbles_of (course_after scenario more (steps_in (t + 1))) n)
+    let said = telling_at scenario (steps_in t) in
+    ap (λ n. nibbles_of (course_after scenario more (steps_in (t + 1))) told n)
     (length-map-range_with_len (λ line. nibbles_after scenario cells line (steps_in t)) 0 lines)
-    ∙ ap (λ n. nibbles_of (course_after scenario more n) lines) next
+    ∙ ap (λ n. nibbles_of (course_after scenario more n) told lines) next
+    ∙ ap (λ told. nibbles_of (course_after scenario more (suc (steps_in t))) told lines) tells
     ∙ map-same (λ line. packet_nibbles
-    (forward_packet (source_at scenario more (suc (steps_in t))).table line (suc (steps_in t) - 1)))
+    (telling said (forward_packet (source_at scenario more (suc (steps_in t))).table line (suc (steps_in t) - 1))))
     (λ line. nibbles_after scenario more line (suc (steps_in t)))
-    (λ line. ap (λ table. packet_nibbles (forward_packet table line (suc (steps_in t) - 1)))
+    (λ line. ap (λ table. packet_nibbles (telling said (forward_packet table line (suc (steps_in t) - 1))))
     (asked_all-table lines (orders_at scenario (suc (steps_in t))) (after scenario more (suc (steps_in t))))
-    ∙ (let k : suc (steps_in t) - 1 ≡ steps_in t =
-    omega arith in ap (λ n. packet_nibbles (forward_packet (table_of scenario more (steps_in t)) line n)) k))
+    ∙ (let k : suc (steps_in t) - 1 ≡ steps_in t = omega arith in
+    ap (λ n. packet_nibbles (telling said (forward_packet (table_of scenario more (steps_in t)) line n))) k))
     (range_with_len 0 lines)
     ∙ ap (λ n. map (λ line. nibbles_after scenario more line n) (range_with_len 0 lines)) (sym next)
-nibbles-ticked scenario cells back t due false e =
+nibbles-ticked scenario cells back t told due tells false e =
     let other = eqb-false (t % 16) 8 e in
     let same : steps_in t ≡ steps_in (t + 1) = omega arith in
     ap (λ n. map (λ line. nibbles_after scenario cells line n) (range_with_len 0 (length scenario.windows))) same
     ∙ ap (λ cells. map (λ line. nibbles_after scenario cells line (steps_in (t + 1)))
     (range_with_len 0 (length scenario.windows))) (sym (no-cell scenario cells back t e due))
+
+-- ---- what is left to tell
+pub left-ticked : (scenario : Scenario) (t : ℕ) (told : Told) → length scenario.tells ≤ steps_in t + 1 →
+    told ≡ telling_at scenario (steps_in t) → (b : Bool) → is_step t ≡ b →
+    left_by b told ≡ telling_at scenario (steps_in (t + 1))
+left-ticked scenario t told few tells true e =
+    let at = eqb-true (t % 16) 8 e in
+    sym (get_or_past scenario.tells (steps_in (t + 1)) untold (omega arith))
+left-ticked scenario t told few tells false e =
+    let other = eqb-false (t % 16) 8 e in
+    let same : steps_in t ≡ steps_in (t + 1) = omega arith in
+    tells ∙ ap (telling_at scenario) same
 
 -- ---- the stream
 place-next : (scenario : Scenario) (cells : List (Option Told)) (t : ℕ) →
@@ -344,19 +360,21 @@ stream-now scenario cells t offers =
 
 -- ---- the fields after a tick
 pub record NextFields (scenario : Scenario) (more : List (Option Told)) (t : ℕ) (table : Course) (members : List ℕ)
-    (nibbles : List (List ℕ)) : Type 0 where
+    (nibbles : List (List ℕ)) (left : Told) : Type 0 where
   pub table_is : table ≡ course_now scenario more (t + 1)
   pub members_are : members ≡ active_now scenario more (t + 1)
   pub nibbles_are : nibbles ≡ nibbles_now scenario more (t + 1)
+  pub left_is : left ≡ telling_at scenario (steps_in (t + 1))
 
 pub next-fields : (lag size t : ℕ) (queue : Held) (sender : Sender) (table next : Course) (active members : List ℕ)
-    (nibbles said : List (List ℕ)) (back : Option BackCell) (scenario : Scenario) (cells : List (Option Told)) →
+    (nibbles said : List (List ℕ)) (told left : Told) (back : Option BackCell) (scenario : Scenario)
+    (cells : List (Option Told)) →
     next ≡ table_by (is_step t) back table → members ≡ active_by (is_step t) table active →
-    said ≡ nibbles_by (is_step t) next nibbles → IsDue lag t back →
-    Stands (terminal_of lag size t queue sender table active nibbles) scenario cells →
-    NextFields scenario (with_cell cells back) t next members said
-next-fields lag size t queue sender table next active members nibbles said back scenario cells is_next are_members
-    are_said due stands =
+    said ≡ nibbles_by (is_step t) next told nibbles → left ≡ left_by (is_step t) told → IsDue lag t back →
+    Stands (terminal_of lag size t queue sender table active nibbles told) scenario cells →
+    NextFields scenario (with_cell cells back) t next members said left
+next-fields lag size t queue sender table next active members nibbles said told left back scenario cells is_next
+    are_members are_said is_left due stands =
     let b = is_step t in
     let fits = subst (λ n. IsDue n t back) stands.lag due in
     let table_is = is_next ∙ ap (table_by b back) stands.table
@@ -366,9 +384,10 @@ next-fields lag size t queue sender table next active members nibbles said back 
       members_are = are_members ∙ ap (λ course. active_by b course active) stands.table
           ∙ ap (active_by b (course_now scenario cells t)) stands.active
           ∙ active-ticked scenario cells back t stands.told fits b refl;
-      nibbles_are = are_said ∙ ap (λ course. nibbles_by b course nibbles) table_is
-          ∙ ap (nibbles_by b (course_now scenario (with_cell cells back) (t + 1))) stands.nibbles
-          ∙ nibbles-ticked scenario cells back t fits b refl;
+      nibbles_are = are_said ∙ ap (λ course. nibbles_by b course told nibbles) table_is
+          ∙ ap (nibbles_by b (course_now scenario (with_cell cells back) (t + 1)) told) stands.nibbles
+          ∙ nibbles-ticked scenario cells back t told fits stands.telling b refl;
+      left_is = is_left ∙ left-ticked scenario t told stands.tells stands.telling b refl;
     }
 
 -- the stream is written up to the place at which the next frame begins
@@ -398,15 +417,15 @@ later-orders : (t : ℕ) (scenario : Scenario) → All (λ (order : DueCommand).
 later-orders t scenario due k d low = let now = due k d low in omega arith
 
 pub Stands-ticked : (lag size t : ℕ) (queue later : Held) (sender further : Sender) (table next : Course)
-    (active members : List ℕ) (nibbles said : List (List ℕ)) (back : Option BackCell) (scenario : Scenario)
-    (cells : List (Option Told)) →
-    NextFields scenario (with_cell cells back) t next members said → IsDue lag t back →
+    (active members : List ℕ) (nibbles said : List (List ℕ)) (told left : Told) (back : Option BackCell)
+    (scenario : Scenario) (cells : List (Option Told)) →
+    NextFields scenario (with_cell cells back) t next members said left → IsDue lag t back →
     ((stream : Stream) (place : ℕ) → HasWritten sender queue stream place →
     HasWritten further later (reached (place + size * length members) stream) (place + size * length members)) →
-    Stands (terminal_of lag size t queue sender table active nibbles) scenario cells →
-    Stands (terminal_of lag size (t + 1) later further next members said) scenario (with_cell cells back)
-Stands-ticked lag size t queue later sender further table next active members nibbles said back scenario cells fields
-    due writes stands = record {
+    Stands (terminal_of lag size t queue sender table active nibbles told) scenario cells →
+    Stands (terminal_of lag size (t + 1) later further next members said left) scenario (with_cell cells back)
+Stands-ticked lag size t queue later sender further table next active members nibbles said told left back scenario
+    cells fields due writes stands = record {
       lines = ap (λ (course : Course). course.lines) fields.table_is;
       lag = stands.lag;
       size = stands.size;
@@ -420,6 +439,8 @@ Stands-ticked lag size t queue later sender further table next active members ni
           (writes (stream_now scenario cells t) (place_of scenario cells t) stands.stream);
       active = fields.members_are;
       nibbles = fields.nibbles_are;
+      tells = let few = stands.tells in omega arith;
+      telling = fields.left_is;
     }
 
 -- ---- the octets of the frame, and its containers
@@ -464,12 +485,12 @@ nibble-by scenario cells line t (suc k) is =
       not-below : (t : ℕ) → 8 ≤ t → nat_lt t 8 ≡ false
       not-below t high = grind (arith, nat_tests, high)
 
-pub frame-ticked : (size t : ℕ) (table : Course) (members : List ℕ) (nibbles : List (List ℕ)) (row : List ℕ) (lines : ℕ)
-    (scenario : Scenario) (more : List (Option Told)) →
-    NextFields scenario more t table members nibbles → size ≡ scenario.size → row ≡ payload_of scenario more t →
+pub frame-ticked : (size t : ℕ) (table : Course) (members : List ℕ) (nibbles : List (List ℕ)) (left : Told)
+    (row : List ℕ) (lines : ℕ) (scenario : Scenario) (more : List (Option Told)) →
+    NextFields scenario more t table members nibbles left → size ≡ scenario.size → row ≡ payload_of scenario more t →
     lines ≡ length scenario.windows →
     containers_by lines t nibbles members size row ≡ frame_of scenario more t
-frame-ticked size t table members nibbles row lines scenario more fields is_size is_row are_lines =
+frame-ticked size t table members nibbles left row lines scenario more fields is_size is_row are_lines =
     let all = length scenario.windows in
     ap (λ n. containers_by n t nibbles members size row) are_lines
     ∙ ap (λ nibbles. containers_by all t nibbles members size row) fields.nibbles_are

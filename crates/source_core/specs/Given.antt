@@ -1,6 +1,6 @@
 -- A source terminal over any list of calls: the scenario that it was given so far, and what stands of it.
-use Rattle.std.specs.Prelude.{◌≡◌, ◌≤◌, ℕ, zero, suc, ◌-◌, nat_lt, Bool, List, [], ◌∷◌, ◌++◌, map, filter, fold, take}
-use Rattle.std.specs.Prelude.{length, replicate, All, Option, Some, None}
+use Rattle.std.specs.Prelude.{◌≡◌, ◌≤◌, ◌<◌, ℕ, zero, suc, ◌+◌, ◌-◌, nat_lt, Bool, List, [], ◌∷◌, ◌++◌, map, filter}
+use Rattle.std.specs.Prelude.{fold, take, length, replicate, All, Option, Some, None}
 use Rattle.std.specs.List.{range_with_len}
 use Rattle.vc_cell.specs.declared.BackCell.{BackCell}
 use Rattle.session_model.specs.declared.table.Command.{Command}
@@ -9,9 +9,9 @@ use Rattle.session_model.specs.Journal.{with_items}
 use Rattle.session_model.specs.Packet.{packet_nibbles}
 use Rattle.session_model.specs.Table.{Told, active}
 use Rattle.session_model.specs.Told.{told_in}
-use Rattle.session_model.specs.Source.{Source, after, source_at, table_of}
+use Rattle.session_model.specs.Source.{Source, after, source_at}
 use Rattle.session_model.specs.Course.{Course}
-use Rattle.session_model.specs.Forward.{forward_packet}
+use Rattle.session_model.specs.Telling.{untold, telling_at, sent_packet}
 use Rattle.session_model.specs.Client.{Stream, offered, stream_before, place_of}
 use Rattle.gfp_fill.specs.Stream.{Stands as HasWritten}
 use Rattle.source_core.specs.Terminal.{Terminal}
@@ -32,13 +32,24 @@ abbrev pub with_cell : List (Option Told) → Option BackCell → List (Option T
 with_cell cells None = cells
 with_cell cells (Some cell) = cells ++ told_in cell ∷ []
 
--- no frame and no command came yet
+-- of what is told the first n things, and then this one: where they are fewer, there was nothing to tell in between
+unfoldable pub told_next : ℕ → Told → List Told → List Told
+told_next zero told tells = told ∷ []
+told_next (suc n) told [] = untold ∷ told_next n told []
+told_next (suc n) told (first ∷ tells) = first ∷ told_next n told tells
+
+-- what packet n tells, where the packets before it tell what they did
+abbrev pub with_told : Scenario → ℕ → Told → Scenario
+with_told scenario n told = record scenario { tells = told_next n told scenario.tells }
+
+-- no frame and no command came yet, and there was nothing to tell
 pub record IsFresh (scenario : Scenario) (lines lag size : ℕ) : Type 0 where
   pub of_lines : length scenario.windows ≡ lines
   pub of_lag : scenario.lag ≡ lag
   pub of_size : scenario.size ≡ size
   pub no_offers : scenario.offers ≡ []
   pub no_orders : scenario.orders ≡ []
+  pub no_tells : scenario.tells ≡ []
 
 -- ---- what stands between two frames
 -- the stream after the frames that came since the last frame was made
@@ -60,7 +71,7 @@ course_now scenario cells ticks = record {
 -- the nibbles of a line's packet after a number of decision steps: zeros before the first one
 abbrev pub nibbles_after : Scenario → List (Option Told) → ℕ → ℕ → List ℕ
 nibbles_after scenario cells line zero = replicate 16 0
-nibbles_after scenario cells line (suc k) = packet_nibbles (forward_packet (table_of scenario cells k) line k)
+nibbles_after scenario cells line (suc k) = packet_nibbles (sent_packet scenario cells line k)
 
 -- those of all lines
 abbrev pub nibbles_now : Scenario → List (Option Told) → ℕ → List (List ℕ)
@@ -71,8 +82,8 @@ nibbles_now scenario cells ticks =
 abbrev pub active_now : Scenario → List (Option Told) → ℕ → List ℕ
 active_now scenario cells ticks = active (after scenario cells (steps_in ticks - 1)).table
 
--- a terminal was given the frames and the commands of this scenario, each after as many ticks as it is due, and these
--- return cells
+-- a terminal was given the frames and the commands of this scenario, each after as many ticks as it is due, what its
+-- packets tell, up to those of the next decision step, and these return cells
 pub record Stands (core : Terminal) (scenario : Scenario) (cells : List (Option Told)) : Type 0 where
   pub lines : core.lines ≡ length scenario.windows
   pub lag : core.lag ≡ scenario.lag
@@ -85,6 +96,8 @@ pub record Stands (core : Terminal) (scenario : Scenario) (cells : List (Option 
       (place_of scenario cells core.ticks)
   pub active : core.active ≡ active_now scenario cells core.ticks
   pub nibbles : core.nibbles ≡ nibbles_now scenario cells core.ticks
+  pub tells : length scenario.tells ≤ steps_in core.ticks + 1
+  pub telling : core.told ≡ telling_at scenario (steps_in core.ticks)
 
 -- ---- what a longer scenario leaves as it was
 -- what is due lands before t ticks are made
@@ -95,7 +108,7 @@ has_come t due = nat_lt due t
 abbrev pub first_items : Scenario → ℕ → ℕ → Scenario
 first_items scenario n m = with_items scenario (take n scenario.orders) (take m scenario.offers)
 
--- up to t ticks the same frames and commands come, in the same session
+-- up to t ticks the same frames and commands come, in the same session, and the packets tell the same
 pub record ComesAlike (one other : Scenario) (t : ℕ) : Type 0 where
   pub lines : length one.windows ≡ length other.windows
   pub lag : one.lag ≡ other.lag
@@ -104,3 +117,4 @@ pub record ComesAlike (one other : Scenario) (t : ℕ) : Type 0 where
       (λ (offer : DueFrame). has_come t offer.due) other.offers
   pub orders : filter (λ (order : DueCommand). has_come t order.due) one.orders ≡ filter
       (λ (order : DueCommand). has_come t order.due) other.orders
+  pub tells : (k : ℕ) → k < steps_in t → telling_at one k ≡ telling_at other k

@@ -1,5 +1,6 @@
 -- The fields that the frames of a terminal are made of.
 use Rattle.std.specs.Prelude.{◌≡◌, ℕ, length}
+use Rattle.session_model.specs.Telling.{passed_on}
 use Rattle.source_core.specs.declared.maker.Maker.{Maker}
 use Rattle.source_core.specs.Terminal.{Terminal}
 use Rattle.source_core.specs.Step.{terminal_of, IsTerminal}
@@ -7,7 +8,7 @@ use Rattle.source_core.specs.Step.{terminal_of, IsTerminal}
 -- the terminal that they are
 abbrev pub terminal_in : Maker → Terminal
 terminal_in maker = terminal_of maker.lag maker.size maker.ticks maker.queue maker.filler maker.table maker.active.items
-    maker.nibbles.items
+    maker.nibbles.items (passed_on maker.told)
 
 -- what is true of them
 abbrev pub IsMaker : Maker → Type 0

@@ -4,11 +4,12 @@ use Rattle.std.specs.Prelude.{option_map}
 use Rattle.std.specs.List.{range_with_len}
 use Rattle.vc_cell.specs.declared.BackCell.{BackCell}
 use Rattle.session_model.specs.Packet.{packet_nibbles}
-use Rattle.session_model.specs.Table.{active}
+use Rattle.session_model.specs.Table.{Told, active}
 use Rattle.session_model.specs.Told.{told_in}
 use Rattle.session_model.specs.Scenario.{steps_in}
 use Rattle.session_model.specs.Course.{Course, called, decides}
 use Rattle.session_model.specs.Forward.{forward_packet}
+use Rattle.session_model.specs.Telling.{untold, telling}
 use Rattle.session_law.proofs.PlanLaws.{Fits}
 use Rattle.gfp_fill.specs.Queue.{Held}
 use Rattle.gfp_fill.specs.Stream.{Sender}
@@ -30,14 +31,20 @@ abbrev pub active_by : Bool → Course → List ℕ → List ℕ
 active_by true table lines = active table.source.table
 active_by false table lines = lines
 
--- the nibbles of the packets of a number of lines are those of the table after it
-abbrev pub nibbles_of : Course → ℕ → List (List ℕ)
-nibbles_of table lines = map (λ line. packet_nibbles (forward_packet table.source.table line (table.steps - 1)))
+-- the nibbles of the packets of a number of lines are those of the table after it, and tell what there is to tell
+abbrev pub nibbles_of : Course → Told → ℕ → List (List ℕ)
+nibbles_of table told lines =
+    map (λ line. packet_nibbles (telling told (forward_packet table.source.table line (table.steps - 1))))
     (range_with_len 0 lines)
 
-abbrev pub nibbles_by : Bool → Course → List (List ℕ) → List (List ℕ)
-nibbles_by true table nibbles = nibbles_of table (length nibbles)
-nibbles_by false table nibbles = nibbles
+abbrev pub nibbles_by : Bool → Course → Told → List (List ℕ) → List (List ℕ)
+nibbles_by true table told nibbles = nibbles_of table told (length nibbles)
+nibbles_by false table told nibbles = nibbles
+
+-- what is left to tell: its packets have told what there was
+abbrev pub left_by : Bool → Told → Told
+left_by true told = untold
+left_by false told = told
 
 -- each number of some lists has four bits
 abbrev pub AreNibbles : List (List ℕ) → Type 0
@@ -51,8 +58,8 @@ pub record AreMembers (lines : ℕ) (active : List ℕ) : Type 0 where
   pub most : length active ≤ lines
 
 -- what the fields of a terminal hold
-abbrev pub terminal_of : ℕ → ℕ → ℕ → Held → Sender → Course → List ℕ → List (List ℕ) → Terminal
-terminal_of lag size ticks queue sender table active nibbles = record {
+abbrev pub terminal_of : ℕ → ℕ → ℕ → Held → Sender → Course → List ℕ → List (List ℕ) → Told → Terminal
+terminal_of lag size ticks queue sender table active nibbles told = record {
   lines = table.lines;
   lag = lag;
   size = size;
@@ -62,6 +69,7 @@ terminal_of lag size ticks queue sender table active nibbles = record {
   table = table;
   active = active;
   nibbles = nibbles;
+  told = told;
 }
 
 -- what is true of the fields

@@ -1,5 +1,6 @@
 -- What a source terminal holds.
 use Rattle.std.specs.Prelude.{◌≡◌, ℕ, ◌-◌, ◌/◌, ◌%◌, ◌==◌, ◌&&◌, nat_le, if◌then◌else◌, List, Option, Some, None}
+use Rattle.session_model.specs.Table.{Told}
 use Rattle.session_model.specs.Course.{Course}
 use Rattle.gfp_fill.specs.Queue.{Held}
 use Rattle.gfp_fill.specs.Stream.{Sender}
@@ -8,7 +9,7 @@ use Rattle.gfp_fill.specs.Stream.{Sender}
 -- client's frames
 -- that aren't sent, and the stream that is made of them; the table; the lines that carry payload, and the nibbles of
 -- each line's packet, as they
--- were in the frame that was made last
+-- were in the frame that was made last; what the packets of the next decision step tell
 pub record Terminal : Type 0 where
   pub lines : ℕ
   pub lag : ℕ
@@ -19,6 +20,7 @@ pub record Terminal : Type 0 where
   pub table : Course
   pub active : List ℕ
   pub nibbles : List (List ℕ)
+  pub told : Told
 
 -- the return cell that the tick of frame t needs: decision step j is made in that of frame 16 j + 8, and takes return
 -- cell j - lag

@@ -11,6 +11,7 @@ mod terminal;
 
 pub use gfp_fill::AcceptFault;
 pub use laws::{accepted_law, landed_law, membership_law, needed_law};
+pub use lcas_packet::Packet;
 pub use lcas_source::CommandFault;
 pub use session_model::Command;
 pub use terminal::SourceCore;

@@ -14,6 +14,7 @@ use crate::frame::{begin_all, fill_all};
 use crate::step::{NIBBLES, no_packets, take_step};
 use arrayvec::ArrayVec;
 use gfp_fill::{Filler, FrameQueue};
+use lcas_packet::Packet;
 use lcas_source::SourceTable;
 use std::alloc::{AllocError, Global};
 use vc_cell::{BackCell, HeldContainer};
@@ -37,6 +38,8 @@ pub(crate) struct Maker {
     pub(crate) active: ArrayVec<u8, 128>,
     /// The nibbles of the packet of each line.
     pub(crate) nibbles: Vec<[u8; NIBBLES]>,
+    /// The return packet that the packets of the next decision step pass on.
+    pub(crate) told: Option<Packet>,
     /// The payload of one frame, over all lines.
     pub(crate) row: Vec<u8>,
 }
@@ -63,6 +66,7 @@ impl Maker {
             ticks: 0,
             active: ArrayVec::new(),
             nibbles: no_packets(alloc, lines)?,
+            told: None,
             row: vec![in alloc; 0u8; usize::from(size) * usize::from(lines)]?,
         })
     }
@@ -86,6 +90,7 @@ impl Maker {
         take_step(
             self.ticks,
             back,
+            &mut self.told,
             &mut self.table,
             &mut self.active,
             &mut self.nibbles,

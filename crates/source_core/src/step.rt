@@ -2,7 +2,8 @@
 
 ghost use Rattle.std.specs.Prelude.{◌≡◌, ℕ, ◌<◌, ◌≤◌, All, IfOk, length, replicate};
 ghost use Rattle.session_model.specs.Packet.{packet_nibbles};
-ghost use Rattle.source_core.specs.Step.{is_step, table_by, active_by, nibbles_of, nibbles_by, AreNibbles};
+ghost use Rattle.session_model.specs.Telling.{telling, passed_on};
+ghost use Rattle.source_core.specs.Step.{is_step, table_by, active_by, nibbles_of, nibbles_by, left_by, AreNibbles};
 
 use arrayvec::ArrayVec;
 use lcas_packet::Packet;
@@ -14,10 +15,12 @@ use vc_cell::BackCell;
 pub(crate) const NIBBLES: usize = 16;
 
 /// Makes the decision step of a frame, where one is made. From this frame on the lines send the packets of
-/// the table after the step, and those carry payload that the table before it says.
+/// the table after the step, which tell what the return packet tells that is there, and those carry payload
+/// that the table before it says.
 pub(crate) fn take_step(
     ticks: u32,
     back: Option<BackCell>,
+    told: &mut Option<Packet>,
     table: &mut SourceTable,
     active: &mut ArrayVec<u8, 128>,
     nibbles: &mut [[u8; NIBBLES]],
@@ -27,25 +30,42 @@ pub(crate) fn take_step(
     requires below { AreNibbles nibbles.old }
     ensures table { table.new ≡ table_by (is_step ticks) back table.old }
     ensures active { active.new.items ≡ active_by (is_step ticks) table.old active.old.items }
-    ensures nibbles { nibbles.new ≡ nibbles_by (is_step ticks) table.new nibbles.old }
+    ensures nibbles { nibbles.new
+        ≡ nibbles_by (is_step ticks) table.new (passed_on told.old) nibbles.old }
     ensures below { AreNibbles nibbles.new }
+    ensures told { passed_on told.new ≡ left_by (is_step ticks) (passed_on told.old) }
 {
     if ticks % 16 == 8 {
         *active = table.active();
         table.decide(back);
-        say_all(table, nibbles);
+        say_all(table, told.take(), nibbles);
     }
 }
 
 /// The nibbles of the packets of all lines since the last decision step.
-fn say_all(table: &SourceTable, nibbles: &mut [[u8; NIBBLES]])
+fn say_all(table: &SourceTable, told: Option<Packet>, nibbles: &mut [[u8; NIBBLES]])
     requires steps { 0 < table.now.steps }
     requires lines { length nibbles.old ≤ 128 }
-    ensures nibbles { nibbles.new ≡ nibbles_of table.now (length nibbles.old) }
+    ensures nibbles { nibbles.new ≡ nibbles_of table.now (passed_on told) (length nibbles.old) }
     ensures below { AreNibbles nibbles.new }
 {
     for line in 0..nibbles.len() {
-        nibbles[line] = said(table.packet(line as u8));
+        nibbles[line] = said(with_told(table.packet(line as u8), told));
+    }
+}
+
+/// The packet with the member status and the RS-Ack of a return packet, or with none.
+fn with_told(packet: Packet, told: Option<Packet>) -> Packet
+    ensures { result ≡ telling (passed_on told) packet }
+{
+    let (mst, rs_ack) = match told {
+        Some(told) => (told.mst, told.rs_ack),
+        None => (0, false),
+    };
+    Packet {
+        mst,
+        rs_ack,
+        ..packet
     }
 }
 

@@ -4,18 +4,20 @@ ghost use Rattle.std.specs.Prelude.{◌≡◌, ℕ, ◌+◌, ◌*◌, ◌<◌, �
 ghost use Rattle.session_model.specs.declared.table.Command.TheVariants.{Add as add, Remove as remove};
 ghost use Rattle.session_model.specs.Scenario.{Scenario, steps_in};
 ghost use Rattle.session_model.specs.Table.{Told};
+ghost use Rattle.session_model.specs.Told.{told_by};
 ghost use Rattle.session_model.specs.Source.{refusal};
 ghost use Rattle.session_model.specs.Client.{refusal_while};
 ghost use Rattle.session_model.specs.Accepted.{refusal_in};
 ghost use Rattle.session_model.specs.Sent.{frame_of};
 ghost use Rattle.vc_cell.specs.Held.{held};
 ghost use Rattle.source_core.specs.Terminal.{needed, SameKind};
-ghost use Rattle.source_core.specs.Given.{with_frame, with_command, with_cell, IsFresh, Stands};
+ghost use Rattle.source_core.specs.Given.{with_frame, with_command, with_cell, with_told, IsFresh, Stands};
 ghost use Rattle.session_model.specs.Limits.{vc4_size};
 
 use crate::frame::{boxes, copy_out};
 use crate::maker::Maker;
 use gfp_fill::AcceptFault;
+use lcas_packet::Packet;
 use lcas_source::{CommandFault, SourceTable};
 use session_model::Command;
 use std::alloc::{AllocError, Global};
@@ -129,6 +131,19 @@ impl SourceCore {
         } else {
             None
         }
+    }
+
+    /// Has the packets of the next decision step pass on the return packet that the terminal says of the other
+    /// way of a pair: they tell its member status and its RS-Ack. Where the call isn't made between two steps
+    /// both are 0, and where it is made again the last one counts.
+    pub fn tell(&mut self, packet: Packet)
+        ensures stands { (scenario : Scenario) (cells : List (Option Told)) →
+            Stands self.old scenario cells →
+            Stands self.new (with_told scenario (steps_in self.old.ticks) (told_by packet)) cells }
+        ensures ticks { self.new.ticks ≡ self.old.ticks }
+        ensures kind { SameKind self.new self.old }
+    {
+        self.maker.told = Some(packet);
     }
 
     /// Makes the next frame, a container for each line at its place in `out`. The return cell that

@@ -21,8 +21,7 @@ use Rattle.session_model.specs.Packet.{packet_nibbles, read_of}
 use Rattle.session_model.proofs.PacketLaws.{read_of-packet_nibbles}
 use Rattle.session_model.specs.Scenario.{Scenario, carried_by, is_read}
 use Rattle.session_model.specs.Table.{Told}
-use Rattle.session_model.specs.Source.{table_of}
-use Rattle.session_model.specs.Forward.{forward_packet}
+use Rattle.session_model.specs.Telling.{sent_packet}
 use Rattle.session_model.specs.Sent.{container_of, containers_of}
 use Rattle.session_model.specs.Rows.{read_packet, read_packets, container_in, container_on}
 use Rattle.session_model.specs.SessionRows.{packet_if, packets_of}
@@ -34,7 +33,7 @@ use Rattle.line_law.proofs.StableLaws.{verdict-stays}
 use Rattle.line_law.proofs.RowLaws.{earlier, packets_stay, are_read}
 use Rattle.row_law.specs.Received.{HasPackets, TellsRow}
 use Rattle.terminal_law.specs.Lines.{HasLines, given, ComesOfLine, ComeOfLines}
-use Rattle.terminal_law.proofs.SentLaws.{forward-packet, container-at, containers-size, are-sent, packet-nibbles}
+use Rattle.terminal_law.proofs.SentLaws.{sent-packet, container-at, containers-size, are-sent, packet-nibbles}
 
 -- ---- one line
 abbrev windows_of : Scenario → ℕ → List Window
@@ -99,10 +98,10 @@ module _ (scenario : Scenario) (returns : List (Option Told)) (lines : HasLines 
         (container-at scenario returns line scenario.ticks t low)
 
     packet-read : (k : ℕ) → 16 * k + 23 < scenario.ticks → IsSome (verdict own (16 * k + 23)) →
-        read_packet own k ≡ packet_if (is_read scenario line k) (forward_packet (table_of scenario returns k) line k)
+        read_packet own k ≡ packet_if (is_read scenario line k) (sent_packet scenario returns line k)
     packet-read k low decided =
         let containers : List Container = containers_of scenario returns line scenario.ticks in
-        let packet : Packet = forward_packet (table_of scenario returns k) line k in
+        let packet : Packet = sent_packet scenario returns line k in
         let size = containers-size scenario returns line scenario.ticks in
         let (told, is) = is-some (verdict own (16 * k + 23)) decided in
         let all_decided = subst (λ verdict. IsSome verdict) (sym (verdict-all (16 * k + 23) told is)) refl in
@@ -111,7 +110,7 @@ module _ (scenario : Scenario) (returns : List (Option Told)) (lines : HasLines 
         ∙ are_read (windows_of scenario line) containers comes.delay comes.carries k is-line (omega arith) all_decided
         ∙ read-back packet (sent_nibbles containers k) (is_read scenario line k)
         (ap read_of (packet-nibbles scenario returns line scenario.ticks k lines.few low))
-        (ap result_ok (read_of-packet_nibbles packet (forward-packet scenario returns line k lines.few)))
+        (ap result_ok (read_of-packet_nibbles packet (sent-packet scenario returns line k lines.few)))
 
 -- ---- all lines
 map-lines : {X Y : Type 0} (f : X → Y) (g : ℕ → Y) (xs : List X) (from : ℕ) →
@@ -129,8 +128,7 @@ module _ (scenario : Scenario) (returns : List (Option Told)) (lines : HasLines 
   packets-read : (k : ℕ) → 16 * k + 23 < scenario.ticks → AreDecidedAt cells (16 * k + 23) →
       read_packets cells k ≡ packets_of scenario returns k
   packets-read k low decided =
-      let table = table_of scenario returns k in
-      let g = λ (line : ℕ). packet_if (is_read scenario line k) (forward_packet table line k) in
+      let g = λ (line : ℕ). packet_if (is_read scenario line k) (sent_packet scenario returns line k) in
       let size = come.lines in
       map-lines (λ own. read_packet own k) g cells 0
       (λ m own here.

@@ -16,6 +16,7 @@ use Rattle.session_model.specs.Interleave.{part_of}
 use Rattle.session_model.specs.Payload.{payload_of}
 use Rattle.session_model.specs.Piece.{stream_of}
 use Rattle.session_model.specs.Forward.{forward_packet}
+use Rattle.session_model.specs.Telling.{telling, telling_at}
 use Rattle.session_model.specs.Packet.{packet_nibbles}
 use Rattle.session_model.specs.Sent.{active_at, rank_of, payload_by, payload_on, nibble_at, container_of}
 use Rattle.session_law.specs.Feedback.{lines_of}
@@ -158,8 +159,8 @@ module _ (scenario : Scenario) (a b : List (Option Told)) where
             let k : ℕ = (t - 8) / 16 in
             let same = after-agree scenario a b (suc k)
             (Agree-sooner scenario a b (suc k) ((t + 8) / 16) (omega arith) agree) in
-            ap (λ source. if nat_lt t 8 then 0 else slice_index (packet_nibbles (forward_packet source.table line k))
-            ((t - 8) % 16)) same
+            ap (λ source. if nat_lt t 8 then 0 else slice_index
+            (packet_nibbles (telling (telling_at scenario k) (forward_packet source.table line k))) ((t - 8) % 16)) same
       ]
 
   container-agree : (line t : ℕ) → Agree scenario a b ((t + 8) / 16) →

@@ -1,12 +1,14 @@
 -- The containers that the source makes: their H4 octets say their numbers and its packets.
-use Rattle.std.proofs.Common.{◌≡◌, ℕ, suc, ◌+◌, ◌-◌, ◌*◌, ◌/◌, ◌%◌, ◌<◌, ◌≤◌, ◌==◌, nat_lt, true, false, if◌then◌else◌}
-use Rattle.std.proofs.Common.{inl, inr, List, [], ◌∷◌, map, filter, take, drop, length, slice_get, slice_index, Option}
-use Rattle.std.proofs.Common.{Some, option_map, refl, sym, ◌∙◌, ap, subst, arith, lit<}
+use Rattle.std.proofs.Common.{◌≡◌, ℕ, suc, ◌+◌, ◌-◌, ◌*◌, ◌/◌, ◌%◌, ◌<◌, ◌≤◌, ◌==◌, nat_lt, not, Bool, true, false}
+use Rattle.std.proofs.Common.{if◌then◌else◌, inl, inr, List, [], ◌∷◌, map, filter, take, drop, length, slice_get}
+use Rattle.std.proofs.Common.{slice_index, slice_index_or, Option, Some, option_map, refl, sym, ◌∙◌, ap, subst, arith}
+use Rattle.std.proofs.Common.{lit<}
 use Rattle.std.specs.List.{range_with_len, list_any}
 use Rattle.std.proofs.lemmas.Bool.{cases_Bool, ltb-true, ltb-false}
 use Rattle.std.proofs.lemmas.List.{length-map, drop-map}
 use Rattle.std.proofs.lemmas.List.FromFn.{length-range_with_len, take-map-range_with_len, fill_by_all}
 use Rattle.std.proofs.lemmas.Option.{slice_get-map, slice_get_within}
+use Rattle.remainder.proofs.BitLaws.{number_below}
 use Rattle.vc_cell.specs.declared.Container.{Container}
 use Rattle.session_model.specs.declared.table.Member.{Member}
 use Rattle.session_model.specs.Packet.{IsPacket, packet_nibbles}
@@ -14,7 +16,8 @@ use Rattle.session_model.proofs.PacketLaws.{length-packet_nibbles, packet_nibble
 use Rattle.session_model.specs.Scenario.{Scenario}
 use Rattle.session_model.specs.Table.{Told, is_normal}
 use Rattle.session_model.specs.Source.{table_of}
-use Rattle.session_model.specs.Forward.{ctrl_by, place_in, forward_packet}
+use Rattle.session_model.specs.Forward.{ctrl_by, place_in}
+use Rattle.session_model.specs.Telling.{telling_at, mst_by, sent_packet}
 use Rattle.session_model.specs.Line.{HasPlace, AreSent, sent_nibbles}
 use Rattle.session_model.specs.Sent.{nibble_in, nibble_at, container_of, containers_of}
 use Rattle.session_law.proofs.PlanLaws.{order-length}
@@ -43,15 +46,18 @@ normal-least (member ∷ order) =
       | false ↦ omega arith
     ]
 
-pub forward-packet : (scenario : Scenario) (returns : List (Option Told)) (line k : ℕ) → length scenario.windows ≤ 128 →
-    IsPacket (forward_packet (table_of scenario returns k) line k)
-forward-packet scenario returns line k limit =
+mst-below : (oks : List Bool) → mst_by oks < 256
+mst-below oks = number_below (map (λ place. not (slice_index_or oks place true)) (range_with_len 0 8))
+
+pub sent-packet : (scenario : Scenario) (returns : List (Option Told)) (line k : ℕ) → length scenario.windows ≤ 128 →
+    IsPacket (sent_packet scenario returns line k)
+sent-packet scenario returns line k limit =
     let order = (table_of scenario returns k).order in
     let most = order-length scenario returns (suc k) in
     let least = normal-least order in
     let count = length-map (filter is_normal order) (λ (member : Member). member.line) in
     record {
-      mst = lit< tt;
+      mst = mst-below (telling_at scenario k).oks;
       sq = place-sq order 0 line (omega arith);
       mfi2 = omega arith;
       act = omega arith;
@@ -65,8 +71,8 @@ halved hi lo octet low e = (omega arith, omega arith)
 module _ (scenario : Scenario) (returns : List (Option Told)) (limit : length scenario.windows ≤ 128) (line : ℕ) where
   nibble-small : (k place : ℕ) → place < 16 → nibble_in scenario returns line k place < 16
   nibble-small k place low =
-      packet_nibbles_below (forward_packet (table_of scenario returns k) line k)
-      (forward-packet scenario returns line k limit) place 0 low
+      packet_nibbles_below (sent_packet scenario returns line k)
+      (sent-packet scenario returns line k limit) place 0 low
 
   nibble-below : (t : ℕ) → nibble_at scenario returns line t < 16
   nibble-below t =
@@ -146,18 +152,18 @@ containers-part scenario returns line frames from count fits =
 pub packet-nibbles : (scenario : Scenario) (returns : List (Option Told)) (line frames k : ℕ) →
     length scenario.windows ≤ 128 → 16 * k + 23 < frames →
     sent_nibbles (containers_of scenario returns line frames) k ≡ packet_nibbles
-    (forward_packet (table_of scenario returns k) line k)
+    (sent_packet scenario returns line k)
 packet-nibbles scenario returns line frames k limit inside =
-    let nibbles : List ℕ = packet_nibbles (forward_packet (table_of scenario returns k) line k) in
+    let nibbles : List ℕ = packet_nibbles (sent_packet scenario returns line k) in
     ap (map (λ container. container.h4 / 16))
     (containers-part scenario returns line frames (16 * k + 8) 16 (omega arith))
     ∙ map-part (container_of scenario returns line) (λ container. container.h4 / 16) (slice_index nibbles)
     (16 * k + 8) 0 16 (λ i low. each i low)
     ∙ sym (fill_by_all (slice_index nibbles) nibbles 16 0
-    (length-packet_nibbles (forward_packet (table_of scenario returns k) line k)) (λ i low. refl))
+    (length-packet_nibbles (sent_packet scenario returns line k)) (λ i low. refl))
   where
     each : (i : ℕ) → i < 16 → (container_of scenario returns line (16 * k + 8 + i)).h4 / 16 ≡ slice_index
-        (packet_nibbles (forward_packet (table_of scenario returns k) line k)) (0 + i)
+        (packet_nibbles (sent_packet scenario returns line k)) (0 + i)
     each i low =
         let t : ℕ = 16 * k + 8 + i in
         let nibble : ℕ = nibble_at scenario returns line t in

@@ -11,12 +11,12 @@ ghost use Rattle.vc_cell.specs.declared.Cell.{Cell};
 ghost use Rattle.session_model.specs.Scenario.{Scenario, packets, steps_in};
 ghost use Rattle.session_model.specs.Table.{Told};
 ghost use Rattle.session_model.specs.Told.{told_in};
-ghost use Rattle.session_model.specs.Source.{after, table_of};
+ghost use Rattle.session_model.specs.Source.{after};
 ghost use Rattle.session_model.specs.Back.{return_cell, cells_before, session_cells};
 ghost use Rattle.session_model.specs.Packet.{IsPacket, packet_nibbles};
 ghost use Rattle.session_model.specs.Client.{stream_before};
 ghost use Rattle.session_model.specs.Payload.{payload_of};
-ghost use Rattle.session_model.specs.Forward.{forward_packet};
+ghost use Rattle.session_model.specs.Telling.{sent_packet};
 ghost use Rattle.session_model.specs.Line.{AreSent, sent_nibbles};
 ghost use Rattle.session_model.specs.Rows.{row_at, return_at};
 ghost use Rattle.session_model.specs.SessionRows.{is_whole_row};
@@ -39,11 +39,11 @@ pub fn sent_law()
         length scenario.windows ≤ 128 → AreSent (containers_of scenario returns line frames) }
     ensures packets { (scenario : Scenario) (returns : List (Option Told)) (line k : ℕ) →
         length scenario.windows ≤ 128 →
-        IsPacket (forward_packet (table_of scenario returns k) line k) }
+        IsPacket (sent_packet scenario returns line k) }
     ensures nibbles { (scenario : Scenario) (returns : List (Option Told)) (line frames k : ℕ) →
         length scenario.windows ≤ 128 → 16 * k + 23 < frames →
         sent_nibbles (containers_of scenario returns line frames) k
-        ≡ packet_nibbles (forward_packet (table_of scenario returns k) line k) }
+        ≡ packet_nibbles (sent_packet scenario returns line k) }
     ensures payload { (scenario : Scenario) (returns : List (Option Told)) (line t : ℕ) →
         scenario.size ≤ vc4_size → length (container_of scenario returns line t).payload ≡ vc4_size }
     ensures octets { (scenario : Scenario) (returns : List (Option Told)) (line t : ℕ) →

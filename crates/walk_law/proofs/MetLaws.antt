@@ -89,7 +89,7 @@ plain_network windows ring lag ticks lines failures some_ring some_lag some_tick
   delays = All-replicate (λ delay. delay ≤ 2047) (length windows) 0 (omega arith);
   windows_each = refl;
   windows = failures;
-  lost = record { few = omega arith; apart = tt; ends = All-nil (λ (window : ℕ × ℕ). window.1 ≤ 62500) };
+  lost = record { apart = tt; ends = All-nil (λ (window : ℕ × ℕ). window.1 ≤ 62500) };
   ring = some_ring;
   lag = some_lag;
   ticks = some_ticks;

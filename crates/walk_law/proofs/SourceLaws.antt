@@ -76,6 +76,7 @@ module _ (script : Script) (s : Counts) (can : CanWalk script) (walked : IsWalke
         (session-agree (scenario_of script) (used_in script.config.lag s.ticks) (used_in script.config.lag s.ticks) few
         (omega arith));
     offers = λ u low. frames-landed script s u walked low;
+    tells = λ k low. refl;
   }
 
   pub told-tables : (j : ℕ) → j ≤ steps_in s.ticks →

@@ -1,5 +1,5 @@
 -- The containers of a session.
-use Rattle.terminal_law.proofs.SentLaws.{forward-packet, are-sent, packet-nibbles}
+use Rattle.terminal_law.proofs.SentLaws.{sent-packet, are-sent, packet-nibbles}
 use Rattle.terminal_law.proofs.DealtLaws.{payload-size, dealt-row, container-same}
 use Rattle.terminal_law.proofs.OctetLaws.{payload-octets}
 use Rattle.terminal_law.proofs.sent_law.Goals as goal
@@ -8,7 +8,7 @@ pub returns-clause-places : goal.returns-clause-places
 returns-clause-places c = are-sent
 
 pub returns-clause-packets : goal.returns-clause-packets
-returns-clause-packets c = forward-packet
+returns-clause-packets c = sent-packet
 
 pub returns-clause-nibbles : goal.returns-clause-nibbles
 returns-clause-nibbles c = packet-nibbles

@@ -4,12 +4,18 @@ use Rattle.std.proofs.Common.{◌∙◌, ap, subst, arith, get_or-set_other}
 use Rattle.std.proofs.lemmas.Bool.{cases_lt}
 use Rattle.std.proofs.lemmas.List.FromFn.{fill_by_all}
 use Rattle.std.proofs.lemmas.Grind.{get_or-set_at}
+use Rattle.session_model.specs.declared.packet.Packet.{Packet}
 use Rattle.session_model.specs.Packet.{packet_nibbles}
 use Rattle.session_model.specs.Forward.{forward_packet}
+use Rattle.session_model.specs.Telling.{telling, passed_on}
 use Rattle.source_core.proofs.step.say_all.Goals as goal
 
 pub loop-line-preserved : goal.loop-line-preserved
 loop-line-preserved c = record { said = said; below = below } where
+  told_packet : ℕ → Packet
+  told_packet line =
+      telling (passed_on c.args.told) (forward_packet c.args.table.now.source.table line (c.args.table.now.steps - 1))
+
   at_most : (line : ℕ) (d : List ℕ) (P : List ℕ → Type 0) → line < c.loop-line.line + 1 →
       (line < c.loop-line.line → P (slice_index_or c.loop-line.nibbles line d)) →
       (line ≡ c.loop-line.line → P c.said.result) →
@@ -28,14 +34,12 @@ loop-line-preserved c = record { said = said; below = below } where
 
   said : (line : ℕ) (d : List ℕ) → line < c.loop-line.line + 1 →
       slice_index_or (slice_set c.loop-line.nibbles c.loop-line.line c.said.result) line d
-      ≡ packet_nibbles (forward_packet c.args.table.now.source.table line (c.args.table.now.steps - 1))
+      ≡ packet_nibbles (told_packet line)
   said line d low =
-      at_most line d (λ nibbles. nibbles ≡ packet_nibbles
-      (forward_packet c.args.table.now.source.table line (c.args.table.now.steps - 1))) low
-      (c.loop-line.invariant.said line d)
-      (λ same. c.said.ensures.nibbles ∙ ap packet_nibbles c.packet.ensures
-      ∙ ap (λ line. packet_nibbles (forward_packet c.args.table.now.source.table line (c.args.table.now.steps - 1)))
-      (sym same))
+      at_most line d (λ nibbles. nibbles ≡ packet_nibbles (told_packet line)) low (c.loop-line.invariant.said line d)
+      (λ same. c.said.ensures.nibbles
+      ∙ ap packet_nibbles (c.with_told.ensures ∙ ap (telling (passed_on c.args.told)) c.packet.ensures)
+      ∙ ap (λ line. packet_nibbles (told_packet line)) (sym same))
 
   below : (line : ℕ) (d : List ℕ) → line < c.loop-line.line + 1 →
       All (λ nibble. nibble < 16) (slice_index_or (slice_set c.loop-line.nibbles c.loop-line.line c.said.result) line d)
@@ -44,8 +48,8 @@ loop-line-preserved c = record { said = said; below = below } where
 
 pub returns-clause-nibbles : goal.returns-clause-nibbles
 returns-clause-nibbles c =
-    fill_by_all (λ line. packet_nibbles
-    (forward_packet c.args.table.now.source.table line (c.args.table.now.steps - 1))) c.loop-line.nibbles
+    fill_by_all (λ line. packet_nibbles (telling (passed_on c.args.told)
+    (forward_packet c.args.table.now.source.table line (c.args.table.now.steps - 1)))) c.loop-line.nibbles
     (length c.args.nibbles.now) []
     (omega arith) (λ line low. c.loop-line.invariant.said line [] (omega arith))
 

@@ -7,6 +7,7 @@ use Rattle.vc_cell.specs.declared.Container.{Container}
 use Rattle.session_model.specs.Piece.{stream_of}
 use Rattle.session_model.specs.Client.{reached, place_of}
 use Rattle.session_model.specs.Payload.{payload_of}
+use Rattle.session_model.specs.Telling.{passed_on}
 use Rattle.gfp_fill.specs.Stream.{Stands as HasWritten}
 use Rattle.vc_cell.specs.Held.{held}
 use Rattle.vcat_interleave.specs.Spread.{Spreads}
@@ -24,7 +25,7 @@ begin_all-requires-clause-members c =
     let lines = sym c.requires.places in
     rw c.deref-2.ensures.0 (subst (λ n. AreMembers n c.take_step.new.active.items) lines
     (next-members f.lag f.size f.ticks f.queue f.filler f.table f.active.items c.take_step.new.active.items
-    f.nibbles.items (length f.row.items) c.take_step.ensures.active c.requires.is))
+    f.nibbles.items (passed_on f.told) (length f.row.items) c.take_step.ensures.active c.requires.is))
 
 pub fill_all-requires-clause-members : goal.fill_all-requires-clause-members
 fill_all-requires-clause-members c =
@@ -32,7 +33,7 @@ fill_all-requires-clause-members c =
     let lines = sym c.requires.places ∙ sym c.begin_all.auto.out in
     rw c.deref-3.ensures.0 (subst (λ n. AreMembers n c.take_step.new.active.items) lines
     (next-members f.lag f.size f.ticks f.queue f.filler f.table f.active.items c.take_step.new.active.items
-    f.nibbles.items (length f.row.items) c.take_step.ensures.active c.requires.is))
+    f.nibbles.items (passed_on f.told) (length f.row.items) c.take_step.ensures.active c.requires.is))
 
 pub fill_all-requires-clause-room : goal.fill_all-requires-clause-room
 fill_all-requires-clause-room c =
@@ -42,7 +43,8 @@ fill_all-requires-clause-room c =
     let fits = frame-fits f.size f.table.lines (length f.row.items) c.from-size.result
     (length c.deref-3.result.now) next c.requires.is.room
     (next-members f.lag f.size f.ticks f.queue f.filler f.table f.active.items c.take_step.new.active.items
-    f.nibbles.items (length f.row.items) c.take_step.ensures.active c.requires.is) c.from-size.ensures many in
+    f.nibbles.items (passed_on f.told) (length f.row.items) c.take_step.ensures.active c.requires.is)
+    c.from-size.ensures many in
     let same = ap length c.deref_mut-2.ensures.value in
     omega arith
 
@@ -57,11 +59,11 @@ returns-clause-frame c scenario cells stands =
     let before = stands in
     let due = is-due f.lag f.ticks c.args.back c.requires.back in
     let are_said = c.take_step.ensures.nibbles
-    ∙ ap (nibbles_by (is_step f.ticks) next.table) c.deref_mut.ensures.value in
+    ∙ ap (nibbles_by (is_step f.ticks) next.table (passed_on f.told)) c.deref_mut.ensures.value in
     let fields = next-fields f.lag f.size f.ticks f.queue f.filler f.table next.table f.active.items members
-    f.nibbles.items next.nibbles c.args.back scenario cells
-    c.take_step.ensures.table c.take_step.ensures.active are_said due before in
-    let many = ap length are_said ∙ nibbles_by-length (is_step f.ticks) next.table f.nibbles.items in
+    f.nibbles.items next.nibbles (passed_on f.told) (passed_on next.told) c.args.back scenario cells
+    c.take_step.ensures.table c.take_step.ensures.active are_said c.take_step.ensures.told due before in
+    let many = ap length are_said ∙ nibbles_by-length (is_step f.ticks) next.table (passed_on f.told) f.nibbles.items in
     let is_said : (with_items f.nibbles next.nibbles).items ≡ next.nibbles =
     with_items_is f.nibbles next.nibbles (omega (arith, f.nibbles.ok.0, many)) in
     let stream = stream_now scenario cells f.ticks in
@@ -82,7 +84,7 @@ returns-clause-frame c scenario cells stands =
     sent-frame lines f.ticks next.nibbles members size row (held c.begin_all.new.out)
     (held c.fill_all.new.out) begun spreads
     (length-map c.begin_all.new.out (λ (b : Box Container). b.value) ∙ c.begin_all.auto.out)
-    ∙ frame-ticked size f.ticks next.table members next.nibbles row lines scenario more fields
+    ∙ frame-ticked size f.ticks next.table members next.nibbles (passed_on next.told) row lines scenario more fields
     (c.from-size.ensures ∙ before.size) octets are_lines
 
 pub returns-clause-stands : goal.returns-clause-stands
@@ -93,20 +95,20 @@ returns-clause-stands c scenario cells stands =
     let before = stands in
     let due = is-due f.lag f.ticks c.args.back c.requires.back in
     let are_said = c.take_step.ensures.nibbles
-    ∙ ap (nibbles_by (is_step f.ticks) next.table) c.deref_mut.ensures.value in
-    let many = ap length are_said ∙ nibbles_by-length (is_step f.ticks) next.table f.nibbles.items in
+    ∙ ap (nibbles_by (is_step f.ticks) next.table (passed_on f.told)) c.deref_mut.ensures.value in
+    let many = ap length are_said ∙ nibbles_by-length (is_step f.ticks) next.table (passed_on f.told) f.nibbles.items in
     let is_said : (with_items f.nibbles next.nibbles).items ≡ next.nibbles =
     with_items_is f.nibbles next.nibbles (omega (arith, f.nibbles.ok.0, many)) in
     let fields = next-fields f.lag f.size f.ticks f.queue f.filler f.table next.table f.active.items members
-    f.nibbles.items next.nibbles c.args.back scenario cells
-    c.take_step.ensures.table c.take_step.ensures.active are_said due before in
+    f.nibbles.items next.nibbles (passed_on f.told) (passed_on next.told) c.args.back scenario cells
+    c.take_step.ensures.table c.take_step.ensures.active are_said c.take_step.ensures.told due before in
     let len : c.from-size.result * length c.deref-3.result.now ≡ f.size * length members =
     ap (λ n. n * length c.deref-3.result.now) c.from-size.ensures
     ∙ ap (λ lines. f.size * length lines) c.deref-3.ensures.0 in
     rw is_said
     (Stands-ticked f.lag f.size f.ticks f.queue c.fill_all.new.queue f.filler c.fill_all.new.filler f.table next.table
-    f.active.items members f.nibbles.items next.nibbles c.args.back scenario cells
-    fields due
+    f.active.items members f.nibbles.items next.nibbles (passed_on f.told) (passed_on next.told)
+    c.args.back scenario cells fields due
     (λ stream place written. subst (λ n. HasWritten c.fill_all.new.filler c.fill_all.new.queue
     (reached (place + n) stream) (place + n)) len (c.fill_all.ensures.stands stream place written)) before)
 
@@ -115,8 +117,9 @@ returns-clause-is c =
     let f = c.args.self.now in
     let said = c.take_step.new.nibbles in
     let are_said = c.take_step.ensures.nibbles
-    ∙ ap (nibbles_by (is_step f.ticks) c.take_step.new.table) c.deref_mut.ensures.value in
-    let many = ap length are_said ∙ nibbles_by-length (is_step f.ticks) c.take_step.new.table f.nibbles.items in
+    ∙ ap (nibbles_by (is_step f.ticks) c.take_step.new.table (passed_on f.told)) c.deref_mut.ensures.value in
+    let many = ap length are_said
+    ∙ nibbles_by-length (is_step f.ticks) c.take_step.new.table (passed_on f.told) f.nibbles.items in
     let is_said : (with_items f.nibbles said).items ≡ said =
     with_items_is f.nibbles said (omega (arith, f.nibbles.ok.0, many)) in
     let same = ap length c.deref_mut-2.ensures.value in
@@ -127,5 +130,6 @@ returns-clause-is c =
     let next = c.take_step.new in
     rw (is_said, is_row, ← octets)
     (IsTerminal-ticked f.lag f.size f.ticks f.queue c.fill_all.new.queue f.filler c.fill_all.new.filler f.table
-    next.table f.active.items next.active.items f.nibbles.items said (length f.row.items) c.args.back
+    next.table f.active.items next.active.items f.nibbles.items said (passed_on f.told) (passed_on next.told)
+    (length f.row.items) c.args.back
     c.take_step.ensures.table c.take_step.ensures.active are_said c.take_step.ensures.below c.requires.is)

@@ -1,5 +1,6 @@
 -- A frame more came.
 use Rattle.std.proofs.Common.{sym, subst}
+use Rattle.session_model.specs.Telling.{passed_on}
 use Rattle.source_core.specs.Step.{terminal_of}
 use Rattle.source_core.specs.Given.{with_frame, Stands}
 use Rattle.source_core.proofs.GivenSteps.{Stands-with_frame}
@@ -10,7 +11,7 @@ returns-clause-stands c scenario cells stands =
     let f = c.self.inside.maker in
     let before = subst (λ core. Stands core scenario cells) (sym c.self.view_is) stands in
     subst (λ core. Stands (terminal_of f.lag f.size f.ticks c.push.new.self f.filler f.table f.active.items
-    f.nibbles.items) (with_frame scenario core.ticks c.args.frame.now) cells) c.self.view_is
+    f.nibbles.items (passed_on f.told)) (with_frame scenario core.ticks c.args.frame.now) cells) c.self.view_is
     (Stands-with_frame f.lag f.size f.ticks f.queue c.push.new.self f.filler f.table f.active.items f.nibbles.items
-    scenario cells c.args.frame.now
+    (passed_on f.told) scenario cells c.args.frame.now
     (λ stream place written. c.push.ensures.stands f.filler stream place written) before)

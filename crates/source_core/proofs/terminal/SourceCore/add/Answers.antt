@@ -2,6 +2,7 @@
 use Rattle.std.proofs.Common.{length, sym, ◌∙◌, ap, subst}
 use Rattle.session_model.specs.declared.table.Command.TheVariants.{Add as add}
 use Rattle.session_model.specs.Course.{Course}
+use Rattle.session_model.specs.Telling.{passed_on}
 use Rattle.source_core.specs.Step.{terminal_of}
 use Rattle.source_core.specs.Given.{with_command, Stands}
 use Rattle.source_core.proofs.FieldSteps.{IsTerminal-asked}
@@ -13,7 +14,8 @@ invariant_of-self c =
     let f = c.self.inside.maker in
     record {
       made = IsTerminal-asked f.lag f.size f.ticks f.queue f.filler f.table c.add.new.self f.active.items
-          f.nibbles.items (length f.row.items) (add c.args.line) c.add.ensures.asked c.self.invariant.made;
+          f.nibbles.items (passed_on f.told) (length f.row.items) (add c.args.line) c.add.ensures.asked
+          c.self.invariant.made;
       places = c.self.invariant.places ∙ sym (ap (λ (course : Course). course.lines) c.add.ensures.asked);
     }
 
@@ -22,6 +24,6 @@ returns-clause-stands c scenario cells stands =
     let f = c.self.inside.maker in
     let before = subst (λ core. Stands core scenario cells) (sym c.self.view_is) stands in
     subst (λ core. Stands (terminal_of f.lag f.size f.ticks f.queue f.filler c.add.new.self f.active.items
-    f.nibbles.items) (with_command scenario core.ticks (add c.args.line)) cells) c.self.view_is
+    f.nibbles.items (passed_on f.told)) (with_command scenario core.ticks (add c.args.line)) cells) c.self.view_is
     (Stands-with_command f.lag f.size f.ticks f.queue f.filler f.table c.add.new.self f.active.items f.nibbles.items
-    scenario cells (add c.args.line) c.add.ensures.asked before)
+    (passed_on f.told) scenario cells (add c.args.line) c.add.ensures.asked before)
