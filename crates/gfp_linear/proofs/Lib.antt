@@ -1,0 +1,7 @@
+pub mod AreaLaws
+mod BusyLaws
+mod ReachLaws
+mod PieceLaws
+mod StreamSteps
+mod IdleLaws
+mod TurnLaws
