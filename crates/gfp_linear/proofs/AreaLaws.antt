@@ -1,5 +1,5 @@
 -- What comes of an area, by its size and its extension header, and by how it ended.
-use Rattle.std.proofs.Common.{◌≡◌, ℕ, ◌-◌, ◌≤◌, Bool, true, false, List, [], ◌∷◌, ◌++◌, length, map, take, drop}
+use Rattle.std.proofs.Common.{◌≡◌, ℕ, ◌-◌, ◌≤◌, Bool, true, false, List, ◌++◌, length, map, take, drop}
 use Rattle.std.proofs.Common.{Some, None, Option, inl, inr, refl, sym, ◌∙◌, ap, subst, arith, length-drop}
 use Rattle.std.specs.Prelude.{nat_lt, if◌then◌else◌, ◌↔◌, IsTrue, IfSome, slice_index, Result, Ok, Err, MatchOption}
 use Rattle.std.specs.Option.{option_to_list}

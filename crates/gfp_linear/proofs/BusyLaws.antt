@@ -1,5 +1,6 @@
 -- The numbers of the channels with a frame: how a turn is found among them, and what one more frame or one less does.
-use Rattle.std.proofs.Common.{◌≡◌, ℕ, zero, suc, ◌+◌, ◌-◌, ◌<◌, ◌≤◌, List, [], ◌∷◌, ◌++◌, length, take, drop, All, Option}
+use Rattle.std.proofs.Common.{◌≡◌, ◌≢◌, ℕ, zero, suc, ◌+◌, ◌-◌, ◌<◌, ◌≤◌, List, [], ◌∷◌, ◌++◌, length, take, drop, All}
+use Rattle.std.proofs.Common.{Bool, true, false, ◌↔◌}
 use Rattle.std.proofs.Common.{Some, None, refl, sym, ◌∙◌, ap, ap₂, subst, arith, append_assoc, append-nil, length-take-le}
 use Rattle.std.proofs.Common.{length-append, length-take, length-drop}
 use Rattle.std.specs.Prelude.{slice_index_or, slice_set, insert, remove, replicate}
@@ -7,7 +8,7 @@ use Rattle.std.proofs.lemmas.Bool.{le-leb, lt-leb, le-ltb}
 use Rattle.std.proofs.lemmas.List.{take-append-drop, take_at, drop_at}
 use Rattle.std.proofs.lemmas.List.Elements.{All-nil, All-cons, All-head, All-tail, All-weaker, All-get_or}
 use Rattle.linear_model.specs.Channels.{Channels, turn, first_busy, or_else, with_queue, waiting_of}
-use Rattle.linear_model.specs.Channels.{channel_refusal}
+use Rattle.linear_model.specs.Channels.{channel_refusal, pushed_by, pushed, served}
 use Rattle.gfp_linear.specs.Queue.{busy_from, first_from, first_of, turn_among, IsRising}
 
 -- ---- in parts
@@ -257,13 +258,42 @@ set-with cid queue [] inside = absurd (omega arith)
 set-with zero queue (other ∷ queues) inside = refl
 set-with (suc cid) queue (other ∷ queues) inside = ap (λ l. other ∷ l) (set-with cid queue queues (omega arith))
 
--- a frame that is accepted
+-- ---- a frame is accepted
+abbrev pub channels_of : ℕ → List (List (List ℕ)) → Channels
+channels_of next queues = record { waiting = queues; next = next }
+
 pub accepted : (cid : ℕ) (frame : List ℕ) (channels : Channels) → cid < length channels.waiting →
     64 ≤ length frame → length frame ≤ 9600 → length (waiting_of cid channels) < 16 →
     channel_refusal cid frame channels ≡ None
 accepted cid frame channels inside least most room =
-    rw (lt-leb (length channels.waiting) cid inside, le-ltb (length frame) 64 least, le-ltb 9600 (length frame) most,
-    lt-leb 16 (length (waiting_of cid channels)) room) refl
+    rw (
+      lt-leb (length channels.waiting) cid inside,
+      le-ltb (length frame) 64 least,
+      le-ltb 9600 (length frame) most,
+      lt-leb 16 (length (waiting_of cid channels)) room,
+    ) refl
+
+-- a test that says whether a queue has none
+pub silent-told : (queue : List (List ℕ)) (told : Bool) → (told ≡ true) ↔ (queue ≡ []) → told ≡ false → queue ≢ []
+silent-told queue told says other is = let yes : told ≡ true = says.1 is in absurd cc
+
+-- the queue of a channel is edited as it is described
+pub pushed-is : (cid next : ℕ) (frame : List ℕ) (queues : List (List (List ℕ))) (queue : List (List ℕ)) →
+    cid < length queues → 64 ≤ length frame → length frame ≤ 9600 → length (slice_index_or queues cid []) < 16 →
+    queue ≡ slice_index_or queues cid [] ++ frame ∷ [] →
+    channels_of next (slice_set queues cid queue) ≡ pushed cid frame (channels_of next queues)
+pushed-is cid next frame queues queue inside least most room is =
+    ap (channels_of next) (set-with cid queue queues inside ∙ ap (λ q. with_queue cid q queues) is)
+    ∙ sym (ap (λ r. pushed_by r cid frame (channels_of next queues))
+    (accepted cid frame (channels_of next queues) inside least most room))
+
+-- the queue of a channel without its oldest frame
+pub served-is : (cid next : ℕ) (frame : List ℕ) (rest : List (List ℕ)) (queues : List (List (List ℕ))) →
+    cid < length queues → slice_index_or queues cid [] ≡ frame ∷ rest →
+    channels_of (cid + 1) (slice_set queues cid rest) ≡ served cid (channels_of next queues)
+served-is cid next frame rest queues inside is =
+    ap (channels_of (cid + 1)) (set-with cid rest queues inside
+    ∙ ap (λ q. with_queue cid q queues) (sym (ap (drop 1) is)))
 
 module _ (cid : ℕ) (queues : List (List (List ℕ))) (inside : cid < length queues) where
   front : List ℕ
@@ -322,6 +352,18 @@ module _ (cid : ℕ) (queues : List (List (List ℕ))) (inside : cid < length qu
   unfolding one_of
   busy-kept first other frames more is = is_now (other ∷ more) ∙ sym (was (first ∷ frames) is)
 
+  -- as where one more frame waits of it
+  pub busy-pushed : (queue : List (List ℕ)) (frame : List ℕ) → slice_index_or queues cid [] ≡ queue → queue ≢ [] →
+      busy_from 0 (with_queue cid (queue ++ frame ∷ []) queues) ≡ busy_from 0 queues
+  busy-pushed [] frame is some = absurd (some refl)
+  busy-pushed (first ∷ frames) frame is some = busy-kept first first frames (frames ++ frame ∷ []) is
+
+  -- and as where one less does, if it isn't the last
+  pub busy-less : (frame : List ℕ) (rest : List (List ℕ)) → slice_index_or queues cid [] ≡ frame ∷ rest → rest ≢ [] →
+      busy_from 0 (with_queue cid rest queues) ≡ busy_from 0 queues
+  busy-less frame [] is some = absurd (some refl)
+  busy-less frame (other ∷ more) is some = busy-kept frame other (other ∷ more) more is
+
   -- one that had none and has one
   pub busy-added : (n : ℕ) (frame : List ℕ) (frames : List (List ℕ)) → slice_index_or queues cid [] ≡ [] →
       n ≤ length (busy_from 0 queues) → All (λ c. c < cid) (take n (busy_from 0 queues)) →
@@ -379,8 +421,7 @@ busy-some cid ([] ∷ queues) =
     (busy_from (cid + 1) queues) (busy-some (cid + 1) queues)
 busy-some cid ((frame ∷ frames) ∷ queues) =
     let none : cid - cid ≡ 0 = omega arith in
-    All-cons (HasFrame cid ((frame ∷ frames) ∷ queues)) cid (busy_from (cid + 1) queues)
-    (
+    All-cons (HasFrame cid ((frame ∷ frames) ∷ queues)) cid (busy_from (cid + 1) queues) (
       omega arith,
       omega arith,
       subst (λ (k : ℕ). 0 < length (slice_index_or ((frame ∷ frames) ∷ queues) k [])) (sym none) (omega arith),
@@ -398,3 +439,27 @@ some-at queues at d inside =
     (busy-some 0 queues) in
     let same : cid - 0 ≡ cid = omega arith in
     (omega (arith, has.1), subst (λ (k : ℕ). 0 < length (slice_index_or queues k [])) same has.2)
+
+-- the channel at a place among those with a frame
+pub record IsNext (queues : List (List (List ℕ))) (at cid : ℕ) : Type 0 where
+  pub inside : cid < length queues
+  pub place : at < length (busy_from 0 queues)
+  pub here : slice_index_or (busy_from 0 queues) at cid ≡ cid
+  pub some : 0 < length (slice_index_or queues cid [])
+
+pub is-next : (queues : List (List (List ℕ))) (busy : List ℕ) (at cid : ℕ) → busy ≡ busy_from 0 queues →
+    at < length (busy_from 0 queues) → cid ≡ slice_index_or busy at cid → IsNext queues at cid
+is-next queues busy at cid numbers place is =
+    let here : slice_index_or (busy_from 0 queues) at cid ≡ cid =
+    sym (is ∙ ap (λ l. slice_index_or l at cid) numbers) in
+    let has = some-at queues at cid place in
+    record {
+      inside = subst (λ (k : ℕ). k < length queues) here has.0;
+      place = place;
+      here = here;
+      some = subst (λ (k : ℕ). 0 < length (slice_index_or queues k [])) here has.1;
+    }
+
+pub none-next : (queues : List (List (List ℕ))) (at cid : ℕ) → IsNext queues at cid →
+    slice_index_or queues cid [] ≡ [] → ⊥
+none-next queues at cid next none = omega (arith, next.some, ap length none)

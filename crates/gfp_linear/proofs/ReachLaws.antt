@@ -1,7 +1,7 @@
 -- Reaching a place of the stream: which pieces are begun, that they are the fewest, and that a place can be reached in
 -- parts.
 use Rattle.std.proofs.Common.{◌≡◌, ℕ, zero, suc, ◌+◌, ◌≤◌, ◌<◌, subst, nat_le, true, false, if◌then◌else◌, List, []}
-use Rattle.std.proofs.Common.{Option, Some, None, ◌∷◌, ◌++◌, take, length, refl, sym, ◌∙◌, ap, arith}
+use Rattle.std.proofs.Common.{Option, Some, None, ◌∷◌, ◌++◌, take, length, refl, sym, ◌∙◌, arith}
 use Rattle.std.proofs.lemmas.List.Sums.{sum_by-append}
 use Rattle.std.proofs.lemmas.List.{append_assoc, append-nil}
 use Rattle.std.proofs.lemmas.Bool.{leb-true, leb-false}
@@ -172,4 +172,3 @@ reached-fewest place stream =
       reach = reaching-reaches place place stream (omega arith);
       fewest = follows.fewest;
     }
-

@@ -12,9 +12,9 @@ use Rattle.session_model.proofs.CutLaws.{joined-append}
 use Rattle.session_model.proofs.ScrambledOctets.{length-scrambled_octets, scrambled_octets-append}
 use Rattle.gfp_scramble.specs.Scrambler.{Stands as HasScrambled, Continues, ScramblesTo}
 use Rattle.linear_model.specs.Linear.{linear_header, extension_header}
-use Rattle.linear_model.specs.Channels.{Channels, turn, oldest, served}
+use Rattle.linear_model.specs.Channels.{Channels, turn, oldest, served, pushed}
 use Rattle.linear_model.specs.Stream.{LinearPiece, idle, client, area_of, linear_stream, size_of, size, Shared, next_by}
-use Rattle.linear_model.specs.Stream.{one_more, reached}
+use Rattle.linear_model.specs.Stream.{one_more, reached, offered}
 use Rattle.gfp_linear.specs.Queue.{Queued}
 use Rattle.gfp_linear.specs.Filler.{Sender, head_of, Stands, HasWritten}
 use Rattle.gfp_linear.proofs.PieceLaws.{stream_behind, linear_stream-append, linear_stream-push, length-linear_stream}
@@ -358,3 +358,19 @@ take-written at n out part back within some =
 pub none_of : (octets : List ℕ) → length octets ≡ 0 → octets ≡ []
 none_of [] e = refl
 none_of (o ∷ octets) e = absurd (omega (arith, e))
+
+-- ---- a frame is offered
+pub offered_stands : (cid : ℕ) (frame : List ℕ) (sender : Sender) (queue more : Queued) (stream : Shared) (place : ℕ) →
+    more.begun ≡ queue.begun → more.channels ≡ pushed cid frame queue.channels →
+    Stands sender queue stream place → Stands sender more (offered cid frame stream) place
+offered_stands cid frame sender queue more stream place begun channels stands =
+    let given : List ℕ = stands.given in
+    record {
+      waits = channels ∙ ap (pushed cid frame) stands.waits;
+      within = stands.within;
+      given = given;
+      scrambled = stands.scrambled;
+      areas = stands.areas ∙ ap (λ l. given ++ l) (sym begun);
+      rest = stands.rest
+          ∙ ap (λ l. head_of sender ++ drop (length given) (scrambled_octets (given ++ l))) (sym begun);
+    }

@@ -113,7 +113,9 @@ fn step_of(end: AreaStep, area: &[u8]) -> LinearStep
         AreaStep::Nothing => LinearStep::Nothing,
         AreaStep::Area => whole_step(area),
         AreaStep::Dropped(AreaWhy::Unsettled) => LinearStep::Dropped(LinearWhy::Unsettled),
-        AreaStep::Dropped(AreaWhy::TooLong { pli }) => LinearStep::Dropped(LinearWhy::TooLong { pli }),
+        AreaStep::Dropped(AreaWhy::TooLong { pli }) => LinearStep::Dropped(LinearWhy::TooLong {
+            pli,
+        }),
     }
 }
 

@@ -135,11 +135,7 @@ impl LinearQueue {
             return None;
         }
         let at = count_below(busy, self.next);
-        if at < busy.len() {
-            Some(at)
-        } else {
-            Some(0)
-        }
+        if at < busy.len() { Some(at) } else { Some(0) }
     }
 
     /// How many octets of the frame that is being sent aren't written.

@@ -1,6 +1,6 @@
 -- The buffer that is handed in goes to the spare ones, and that of the oldest frame takes its place.
 use Rattle.std.proofs.Common.{sym, arith, subst}
-use Rattle.std.proofs.lemmas.List.Elements.{All-head, All-rest, All-push, All-same}
+use Rattle.std.proofs.lemmas.List.Elements.{All-rest, All-push, All-same}
 use Rattle.gfp_linear.specs.Queue.{HoldsFrame, HasRoom}
 use Rattle.gfp_linear.proofs.channel.ChannelQueue.begin.Goals as goal
 

@@ -1,5 +1,5 @@
 -- No channel has a frame.
-use Rattle.std.proofs.Common.{◌≡◌, ℕ, List, [], length, replicate, sym, ◌∙◌, ap, arith}
+use Rattle.std.proofs.Common.{◌≡◌, ℕ, [], length, replicate, sym, ◌∙◌, ap, arith}
 use Rattle.std.proofs.lemmas.List.{length-replicate}
 use Rattle.gfp_linear.specs.Queue.{busy_from}
 use Rattle.gfp_linear.proofs.BusyLaws.{none-busy}

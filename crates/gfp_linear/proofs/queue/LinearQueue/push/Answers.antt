@@ -1,10 +1,12 @@
 -- The queue of one channel has a frame more, and where it had none the channel is among those with a frame.
-use Rattle.std.proofs.Common.{◌≡◌, ℕ, ◌<◌, ◌≤◌, take, drop, List, [], ◌∷◌, ◌++◌, length, All, insert, sym, ◌∙◌, ap, subst, arith}
+use Rattle.std.proofs.Common.{◌≡◌, ℕ, ◌<◌, ◌≤◌, take, drop, List, [], ◌∷◌, ◌++◌, length, All, insert, sym, ◌∙◌, ap, subst, arith, refl}
 use Rattle.std.proofs.Common.{slice_index_or, slice_set}
 use Rattle.std.proofs.lemmas.List.{get_or_default, length-set}
-use Rattle.linear_model.specs.Channels.{with_queue}
-use Rattle.gfp_linear.specs.Queue.{busy_from, IsRising}
-use Rattle.gfp_linear.proofs.BusyLaws.{busy-rising, busy-room, busy-added, set-with}
+use Rattle.linear_model.specs.Channels.{with_queue, pushed}
+use Rattle.gfp_linear.specs.Queue.{Queued, busy_from, IsRising}
+use Rattle.gfp_linear.proofs.BusyLaws.{busy-rising, busy-room, busy-added, busy-pushed, set-with, pushed-is}
+use Rattle.gfp_linear.proofs.BusyLaws.{silent-told, channels_of}
+use Rattle.gfp_linear.proofs.StreamSteps.{offered_stands}
 use Rattle.gfp_linear.proofs.queue.LinearQueue.push.Goals as goal
 
 pub count_below-place-requires : goal.count_below-place-requires
@@ -65,3 +67,85 @@ invariant_of-self-then-was_silent c =
       written = c.self.invariant.written;
       sending = c.self.invariant.sending;
     }
+
+pub invariant_of-self-else-was_silent : goal.invariant_of-self-else-was_silent
+invariant_of-self-else-was_silent c =
+    let items : List (List (List ℕ)) = c.self.inside.queues.items in
+    let cid : ℕ = c.args.cid in
+    let at : ℕ = c.from-at.result in
+    let frame : List ℕ = c.args.frame.now in
+    let inside : cid < length items = omega (arith, c.if-from-channels.false) in
+    let there : at < length items = omega (arith, inside, c.from-at.ensures) in
+    let was : slice_index_or items cid [] ≡ c.index.result.now =
+    ap (λ k. slice_index_or items k []) (sym c.from-at.ensures)
+    ∙ get_or_default items at [] c.index.result.now there ∙ sym c.index.ensures in
+    let old : c.index_mut.result.now ≡ c.index.result.now =
+    c.index_mut.ensures.value ∙ sym (get_or_default items at [] c.index_mut.result.now there)
+    ∙ ap (λ k. slice_index_or items k []) c.from-at.ensures ∙ was in
+    let new : c.push.new.self ≡ c.index.result.now ++ frame ∷ [] =
+    c.if-not-push.ensures.taken ∙ ap (λ q. q ++ frame ∷ []) old in
+    let edit : slice_set items at c.push.new.self ≡ with_queue cid (c.index.result.now ++ frame ∷ []) items =
+    ap (λ k. slice_set items k c.push.new.self) c.from-at.ensures ∙ set-with cid c.push.new.self items inside
+    ∙ ap (λ q. with_queue cid q items) new in
+    let size : length (slice_set items at c.push.new.self) ≡ length items = length-set items at c.push.new.self in
+    record {
+      some = omega (arith, size, c.self.invariant.some);
+      most = omega (arith, size, c.self.invariant.most);
+      numbers = c.self.invariant.numbers
+          ∙ sym (ap (busy_from 0) edit
+          ∙ busy-pushed cid items inside c.index.result.now frame was
+          (silent-told c.index.result.now c.is_silent-was_silent.result c.is_silent-was_silent.ensures
+          c.if-was_silent.false));
+      places = omega (arith, size, c.self.invariant.places);
+      round = omega (arith, size, c.self.invariant.round);
+      written = c.self.invariant.written;
+      sending = c.self.invariant.sending;
+    }
+
+pub returns-then-was_silent-clause-channels : goal.returns-then-was_silent-clause-channels
+returns-then-was_silent-clause-channels c =
+    let items : List (List (List ℕ)) = c.self.inside.queues.items in
+    let cid : ℕ = c.args.cid in
+    let at : ℕ = c.from-at.result in
+    let frame : List ℕ = c.args.frame.now in
+    let next : ℕ = c.self.inside.next in
+    let inside : cid < length items = omega (arith, c.if-from-channels.false) in
+    let there : at < length items = omega (arith, inside, c.from-at.ensures) in
+    let old : c.index_mut.result.now ≡ slice_index_or items cid [] =
+    c.index_mut.ensures.value ∙ sym (get_or_default items at [] c.index_mut.result.now there)
+    ∙ ap (λ k. slice_index_or items k []) c.from-at.ensures in
+    let few : length c.index_mut.result.now < 16 = c.if-not-push.ensures.room.0 refl in
+    let room : length (slice_index_or items cid []) < 16 = omega (arith, few, ap length old) in
+    ap (λ k. channels_of next (slice_set items k c.push.new.self)) c.from-at.ensures
+    ∙ pushed-is cid next frame items c.push.new.self inside (omega arith) (omega arith) room
+    (c.if-not-push.ensures.taken ∙ ap (λ q. q ++ frame ∷ []) old)
+    ∙ ap (λ (q : Queued). pushed cid frame q.channels) c.self.view_is
+
+pub returns-else-was_silent-clause-channels : goal.returns-else-was_silent-clause-channels
+returns-else-was_silent-clause-channels c =
+    let items : List (List (List ℕ)) = c.self.inside.queues.items in
+    let cid : ℕ = c.args.cid in
+    let at : ℕ = c.from-at.result in
+    let frame : List ℕ = c.args.frame.now in
+    let next : ℕ = c.self.inside.next in
+    let inside : cid < length items = omega (arith, c.if-from-channels.false) in
+    let there : at < length items = omega (arith, inside, c.from-at.ensures) in
+    let old : c.index_mut.result.now ≡ slice_index_or items cid [] =
+    c.index_mut.ensures.value ∙ sym (get_or_default items at [] c.index_mut.result.now there)
+    ∙ ap (λ k. slice_index_or items k []) c.from-at.ensures in
+    let few : length c.index_mut.result.now < 16 = c.if-not-push.ensures.room.0 refl in
+    let room : length (slice_index_or items cid []) < 16 = omega (arith, few, ap length old) in
+    ap (λ k. channels_of next (slice_set items k c.push.new.self)) c.from-at.ensures
+    ∙ pushed-is cid next frame items c.push.new.self inside (omega arith) (omega arith) room
+    (c.if-not-push.ensures.taken ∙ ap (λ q. q ++ frame ∷ []) old)
+    ∙ ap (λ (q : Queued). pushed cid frame q.channels) c.self.view_is
+
+pub returns-then-was_silent-clause-stands : goal.returns-then-was_silent-clause-stands
+returns-then-was_silent-clause-stands c sender shared place stands =
+    offered_stands c.args.cid c.args.frame.now sender c.args.self.now _ shared place
+    (ap (λ (q : Queued). q.begun) c.self.view_is) (returns-then-was_silent-clause-channels c) stands
+
+pub returns-else-was_silent-clause-stands : goal.returns-else-was_silent-clause-stands
+returns-else-was_silent-clause-stands c sender shared place stands =
+    offered_stands c.args.cid c.args.frame.now sender c.args.self.now _ shared place
+    (ap (λ (q : Queued). q.begun) c.self.view_is) (returns-else-was_silent-clause-channels c) stands

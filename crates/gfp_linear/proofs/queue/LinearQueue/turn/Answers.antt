@@ -1,5 +1,5 @@
 -- The turn is that of the first channel with a frame that isn't below the next one, or else of the first of all.
-use Rattle.std.proofs.Common.{◌≡◌, ℕ, ◌<◌, All, List, length, take, Some, None, sym, ◌∙◌, ap, subst, arith, slice_index_or}
+use Rattle.std.proofs.Common.{◌≡◌, ℕ, ◌<◌, All, List, take, Some, None, sym, ◌∙◌, ap, subst, arith, slice_index_or}
 use Rattle.std.proofs.lemmas.List.{take_all}
 use Rattle.linear_model.specs.Channels.{Channels, turn}
 use Rattle.gfp_linear.specs.Queue.{Queued, busy_from, turn_among, IsRising}
