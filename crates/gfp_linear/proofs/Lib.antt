@@ -1,7 +1,7 @@
 pub mod AreaLaws
 mod BusyLaws
-mod ReachLaws
+pub mod ReachLaws
 mod PieceLaws
-mod StreamSteps
+pub mod StreamSteps
 mod IdleLaws
-mod TurnLaws
+pub mod TurnLaws

@@ -1,0 +1,9 @@
+pub mod StreamLaws
+pub mod SettledLaws
+pub mod ToldLaws
+pub mod GivenLaws
+pub mod KindLaws
+pub mod ItemLaws
+pub mod QueueLaws
+pub mod CutLaws
+pub mod ChannelLaws

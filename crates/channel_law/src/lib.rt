@@ -1,0 +1,68 @@
+//! The laws of channels that share a stream by linear extension headers: what of each channel a stream carries, what
+//! is delivered of it where octets don't arrive, and what an answer to a frame depends on. There is no code here.
+//! Begin with `channel_law`; `kind_law` is the law of losses for any kind of frames, of which those with a linear
+//! extension header are one.
+#![tactic(auto)]
+
+ghost use Rattle.std.specs.Prelude.{◌≡◌, ℕ, ◌<◌, ◌≤◌, ◌^◌, true, List, [], ◌∷◌, ◌++◌, length, take, All};
+ghost use Rattle.std.specs.List.{flat_map};
+ghost use Rattle.session_model.specs.Piece.{Piece, idle};
+ghost use Rattle.session_model.specs.Segment.{StreamRow, octets_of_rows};
+ghost use Rattle.session_model.specs.Loss.{TrueStarts, frames_kept};
+ghost use Rattle.linear_model.specs.declared.Cut.{Cut};
+ghost use Rattle.linear_model.specs.Linear.{LinearOutcome, ChannelFrame};
+ghost use Rattle.linear_model.specs.Channels.{Channels, silent, waiting_of, channel_refusal, pushed};
+ghost use Rattle.linear_model.specs.Stream.{unsent, reached, frames_of, stream_to, cut_rows};
+ghost use Rattle.channel_law.specs.Kind.{Kind, IsKind, stream_in, IsPieceIn, rows_told, Carries};
+ghost use Rattle.channel_law.specs.Kept.{AreSound, items, carried_of, kept_of, delivered_of, AreOrdered};
+
+/// What the answer to a frame depends on: the number of channels, and how many frames of that channel wait.
+pub fn answer_law()
+    ensures { (cid : ℕ) (frame : List ℕ) (one other : Channels) →
+        length one.waiting ≡ length other.waiting →
+        length (waiting_of cid one) ≡ length (waiting_of cid other) →
+        channel_refusal cid frame one ≡ channel_refusal cid frame other }
+{}
+
+/// At most 256 channels whose frames may all be sent stay so with each frame of octets that is offered.
+pub fn sound_law()
+    ensures silent { (channels : ℕ) → channels ≤ 256 → AreSound (silent channels) }
+    ensures pushed { (cid : ℕ) (frame : List ℕ) (channels : Channels) →
+        All (λ octet. octet < 2 ^ 8) frame → AreSound channels →
+        AreSound (pushed cid frame channels) }
+{}
+
+/// Of each channel: the frames that are begun, and those of them that the stream carries whole, are the first of
+/// those that were accepted; without cuts these are what is delivered; and with cuts, where each place that is
+/// confirmed first behind one is that of a piece, those are delivered, in order and each once, that are carried and
+/// aren't lost.
+pub fn channel_law()
+    ensures begun { (place cid : ℕ) (channels : Channels) →
+        let made = reached place (unsent channels) in
+        frames_of cid made.pieces ++ waiting_of cid made.channels ≡ waiting_of cid channels }
+    ensures carried { (place cid : ℕ) (channels : Channels) →
+        let carried = carried_of cid place (reached place (unsent channels)).pieces in
+        carried ≡ take (length carried) (waiting_of cid channels) }
+    ensures uncut { (place cid : ℕ) (channels : Channels) → AreSound channels →
+        delivered_of cid [] (stream_to place channels)
+        ≡ carried_of cid place (reached place (unsent channels)).pieces }
+    ensures first { (place cid : ℕ) (channels : Channels) → AreSound channels →
+        let delivered = delivered_of cid [] (stream_to place channels) in
+        delivered ≡ take (length delivered) (waiting_of cid channels) }
+    ensures kept { (place cid : ℕ) (channels : Channels) (cuts : List Cut) →
+        AreSound channels → AreOrdered 0 cuts →
+        let rows = cut_rows 0 cuts (stream_to place channels) in
+        let pieces = (reached place (unsent channels)).pieces in
+        TrueStarts (items pieces) rows →
+        delivered_of cid cuts (stream_to place channels) ≡ kept_of cid pieces rows }
+{}
+
+/// The law of losses for any kind of frames: where each place that is confirmed first after a break is that of a
+/// piece, what is told of rows is what is read of the items that they carry and that aren't lost.
+pub fn kind_law()
+    ensures { (kind : Kind LinearOutcome ChannelFrame) (pieces : List Piece)
+        (rows : List StreamRow) → IsKind kind → All (IsPieceIn kind) pieces →
+        Carries rows (stream_in kind (idle ∷ idle ∷ pieces)) →
+        TrueStarts (idle ∷ idle ∷ pieces) rows →
+        rows_told kind rows ≡ flat_map kind.read (frames_kept (idle ∷ idle ∷ pieces) rows) }
+{}
