@@ -6,7 +6,7 @@ use Rattle.std.specs.List.{flat_map}
 use Rattle.std.proofs.lemmas.List.{append_assoc, take-append-drop, take_at, length-take-le}
 use Rattle.std.proofs.lemmas.List.Concat.{flat_map-append}
 use Rattle.std.proofs.lemmas.List.Elements.{All-tail}
-use Rattle.session_model.specs.Piece.{size_of, client as with_item}
+use Rattle.session_model.specs.Piece.{size_of, client as with_content}
 use Rattle.session_model.specs.Segment.{StreamRow, Segment, segments}
 use Rattle.session_model.specs.Loss.{extents, TrueStarts}
 use Rattle.linear_model.specs.declared.Cut.{Cut}
@@ -21,9 +21,10 @@ use Rattle.gfp_linear.proofs.TurnLaws.{reached-keeps}
 use Rattle.loss_law.proofs.ExtentLaws.{frames_to}
 use Rattle.loss_law.proofs.PrefixLaws.{all_frames, frames_to-first}
 use Rattle.channel_law.specs.Kind.{stream_in, IsPieceIn, segment_told, Carries}
-use Rattle.channel_law.specs.Kept.{AreSound, linear_kind, items, read_item, frame_with, frames_told, item_frames}
+use Rattle.channel_law.specs.Kept.{AreSound, linear_kind, as_pieces, read_content, frame_with, frames_told}
+use Rattle.channel_law.specs.Kept.{content_frames}
 use Rattle.channel_law.specs.Kept.{carried_of, kept_of, delivered_of, AreOrdered}
-use Rattle.channel_law.proofs.ItemLaws.{linear-sound, stream-items, IsSent, items_sent}
+use Rattle.channel_law.proofs.ContentLaws.{linear-sound, stream-pieces, IsSent, pieces_sent}
 use Rattle.channel_law.proofs.QueueLaws.{reached_sent, unsent_may}
 use Rattle.channel_law.proofs.CutLaws.{none-ordered, cut-octets, all-whole}
 use Rattle.channel_law.proofs.KindLaws.{told-kept, told-all}
@@ -33,33 +34,33 @@ told-append : (cid : ℕ) (one other : List ChannelFrame) →
     frames_told cid (one ++ other) ≡ frames_told cid one ++ frames_told cid other
 told-append cid one other = flat_map-append (frame_with cid) one other
 
-item-append : (cid : ℕ) (one other : List (List ℕ)) →
-    item_frames cid (one ++ other) ≡ item_frames cid one ++ item_frames cid other
-item-append cid one other =
-    ap (frames_told cid) (flat_map-append read_item one other)
-    ∙ told-append cid (flat_map read_item one) (flat_map read_item other)
+content-append : (cid : ℕ) (one other : List (List ℕ)) →
+    content_frames cid (one ++ other) ≡ content_frames cid one ++ content_frames cid other
+content-append cid one other =
+    ap (frames_told cid) (flat_map-append read_content one other)
+    ∙ told-append cid (flat_map read_content one) (flat_map read_content other)
 
--- all items of pieces are its frames among them
-pub all-items : (cid start : ℕ) (pieces : List LinearPiece) →
-    item_frames cid (all_frames (extents start (items pieces))) ≡ frames_of cid pieces
+-- all contents of pieces are, of a channel, its frames among them
+pub all-frames : (cid start : ℕ) (pieces : List LinearPiece) →
+    content_frames cid (all_frames (extents start (as_pieces pieces))) ≡ frames_of cid pieces
 unfolding extents
-all-items cid start [] = refl
-all-items cid start (idle ∷ pieces) = all-items cid (start + 4) pieces
-all-items cid start (client other frame ∷ pieces) =
-    let next : ℕ = start + size_of (with_item (extension_header other ++ frame)) in
-    ap (λ l. frame_with cid (record { cid = other; frame = frame }) ++ l) (all-items cid next pieces)
+all-frames cid start [] = refl
+all-frames cid start (idle ∷ pieces) = all-frames cid (start + 4) pieces
+all-frames cid start (client other frame ∷ pieces) =
+    let next : ℕ = start + size_of (with_content (extension_header other ++ frame)) in
+    ap (λ l. frame_with cid (record { cid = other; frame = frame }) ++ l) (all-frames cid next pieces)
 
 -- what is carried whole of it are the first of them
 pub carried-first : (cid place : ℕ) (pieces : List LinearPiece) → (rest : List (List ℕ)) ×
     (frames_of cid pieces ≡ carried_of cid place pieces ++ rest)
 carried-first cid place pieces =
-    let all : List (List ℕ) = all_frames (extents 0 (items pieces)) in
-    let some = frames_to-first place 0 (items pieces) in
+    let all : List (List ℕ) = all_frames (extents 0 (as_pieces pieces)) in
+    let some = frames_to-first place 0 (as_pieces pieces) in
     let count : ℕ = some.0 in (
-      item_frames cid (drop count all),
-      sym (all-items cid 0 pieces) ∙ ap (item_frames cid) (sym (take-append-drop count all))
-          ∙ item-append cid (take count all) (drop count all)
-          ∙ ap (λ l. item_frames cid l ++ item_frames cid (drop count all)) (sym some.1),
+      content_frames cid (drop count all),
+      sym (all-frames cid 0 pieces) ∙ ap (content_frames cid) (sym (take-append-drop count all))
+          ∙ content-append cid (take count all) (drop count all)
+          ∙ ap (λ l. content_frames cid l ++ content_frames cid (drop count all)) (sym some.1),
     )
 
 -- ---- what is told of rows is what is delivered
@@ -88,17 +89,17 @@ module _ (place : ℕ) (channels : Channels) (sound : AreSound channels) where
       subst (All IsSent) two (reached_sent place (unsent channels) (unsent_may channels sound)).pieces in
       All-tail IsSent idle behind (All-tail IsSent idle (idle ∷ behind) all)
 
-  items_behind : All (IsPieceIn linear_kind) (items behind)
-  items_behind = items_sent behind behind_sent
+  pieces_behind : All (IsPieceIn linear_kind) (as_pieces behind)
+  pieces_behind = pieces_sent behind behind_sent
 
-  same_stream : linear_stream made.pieces ≡ stream_in linear_kind (items (idle ∷ idle ∷ behind))
-  same_stream = ap linear_stream two ∙ sym (stream-items (idle ∷ idle ∷ behind))
+  same_stream : linear_stream made.pieces ≡ stream_in linear_kind (as_pieces (idle ∷ idle ∷ behind))
+  same_stream = ap linear_stream two ∙ sym (stream-pieces (idle ∷ idle ∷ behind))
 
   abbrev octets : List ℕ
   octets = stream_to place channels
 
   carries : (cuts : List Cut) → AreOrdered 0 cuts →
-      Carries (cut_rows 0 cuts octets) (stream_in linear_kind (items (idle ∷ idle ∷ behind)))
+      Carries (cut_rows 0 cuts octets) (stream_in linear_kind (as_pieces (idle ∷ idle ∷ behind)))
   carries cuts ordered = record {
     rest = drop place (linear_stream made.pieces);
     parts = sym same_stream ∙ sym (take-append-drop place (linear_stream made.pieces))
@@ -112,13 +113,13 @@ module _ (place : ℕ) (channels : Channels) (sound : AreSound channels) where
 
   -- with cuts
   pub delivered-kept : (cid : ℕ) (cuts : List Cut) → AreOrdered 0 cuts →
-      TrueStarts (items made.pieces) (cut_rows 0 cuts octets) →
+      TrueStarts (as_pieces made.pieces) (cut_rows 0 cuts octets) →
       delivered_of cid cuts octets ≡ kept_of cid made.pieces (cut_rows 0 cuts octets)
   delivered-kept cid cuts ordered starts =
       let rows : List StreamRow = cut_rows 0 cuts octets in
       ap (frames_told cid) (delivered-segments (segments rows)
-      ∙ told-kept linear_kind linear-sound (items behind) items_behind rows (carries cuts ordered)
-      (subst (λ (ps : List LinearPiece). TrueStarts (items ps) rows) two starts))
+      ∙ told-kept linear_kind linear-sound (as_pieces behind) pieces_behind rows (carries cuts ordered)
+      (subst (λ (ps : List LinearPiece). TrueStarts (as_pieces ps) rows) two starts))
       ∙ ap (λ (ps : List LinearPiece). kept_of cid ps rows) (sym two)
 
   -- without
@@ -126,9 +127,9 @@ module _ (place : ℕ) (channels : Channels) (sound : AreSound channels) where
   delivered-all cid =
       let rows : List StreamRow = cut_rows 0 [] octets in
       ap (frames_told cid) (delivered-segments (segments rows)
-      ∙ told-all linear_kind linear-sound (items behind) items_behind rows (carries [] none-ordered)
+      ∙ told-all linear_kind linear-sound (as_pieces behind) pieces_behind rows (carries [] none-ordered)
       (all-whole octets))
-      ∙ ap (λ n. item_frames cid (frames_to n (extents 0 (items (idle ∷ idle ∷ behind)))))
+      ∙ ap (λ n. content_frames cid (frames_to n (extents 0 (as_pieces (idle ∷ idle ∷ behind)))))
       (ap length (cut-octets 0 [] octets none-ordered) ∙ size-octets)
       ∙ ap (λ (ps : List LinearPiece). carried_of cid place ps) (sym two)
 

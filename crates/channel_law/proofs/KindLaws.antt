@@ -1,4 +1,4 @@
--- What all segments of a stream of one kind tell is what is read of the items that are carried and aren't lost.
+-- What all segments of a stream of one kind tell is what is read of the contents that are carried and aren't lost.
 use Rattle.std.proofs.Common.{◌≡◌, ℕ, ◌+◌, true, false, List, [], ◌∷◌, ◌++◌, length, map, filter, take, drop, All}
 use Rattle.std.proofs.Common.{Option, Some, None, refl, sym, ◌∙◌, ap, ap₂, subst, arith, inl, inr}
 use Rattle.std.specs.Prelude.{IfSome}

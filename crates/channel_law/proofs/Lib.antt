@@ -3,7 +3,7 @@ pub mod SettledLaws
 pub mod ToldLaws
 pub mod GivenLaws
 pub mod KindLaws
-pub mod ItemLaws
+pub mod ContentLaws
 pub mod QueueLaws
 pub mod CutLaws
 pub mod ChannelLaws

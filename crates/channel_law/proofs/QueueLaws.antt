@@ -15,7 +15,7 @@ use Rattle.linear_model.specs.Stream.{idle, client, size, Shared, unsent, next_b
 use Rattle.linear_model.specs.Stream.{reached}
 use Rattle.gfp_linear.proofs.TurnLaws.{IsBusy, turn-busy}
 use Rattle.channel_law.specs.Kept.{IsChannelFrame, AreSound}
-use Rattle.channel_law.proofs.ItemLaws.{IsSent}
+use Rattle.channel_law.proofs.ContentLaws.{IsSent}
 
 -- ---- one queue is another one
 length-with_queue : (cid : ℕ) (queue : List (List ℕ)) (queues : List (List (List ℕ))) →

@@ -47,11 +47,11 @@ module _ {X Y : Type 0} (kind : Kind X Y) (sound : IsKind kind) where
       ∙ flat_map-append with_header (scrambled_behind [] (map (area_in kind) front))
       (scrambled_behind ([] ++ joined (map (area_in kind) front)) (map (area_in kind) more))
 
-  -- an area is as long as that of an Ethernet frame with the same item
+  -- an area is as long as that of an Ethernet frame with the same content
   pub length-area : (piece : Piece) → length (area_in kind piece) ≡ length (area_of piece)
   length-area idle = refl
-  length-area (client item) =
-      omega (arith, length-append kind.header item, length-append type_header item, sound.four)
+  length-area (client content) =
+      omega (arith, length-append kind.header content, length-append type_header content, sound.four)
 
   sizes-same : (pieces : List Piece) → map length (map (area_in kind) pieces) ≡ map length (map area_of pieces)
   sizes-same [] = refl
@@ -66,14 +66,14 @@ module _ {X Y : Type 0} (kind : Kind X Y) (sound : IsKind kind) where
   -- areas that may be sent
   IsPli-area : (piece : Piece) → IsPieceIn kind piece → IsPli (length (area_in kind piece))
   IsPli-area idle is = idle_fits
-  IsPli-area (client item) is =
-      let size : length (kind.header ++ item) ≡ 4 + length item =
-      omega (arith, length-append kind.header item, sound.four) in
+  IsPli-area (client content) is =
+      let size : length (kind.header ++ content) ≡ 4 + length content =
+      omega (arith, length-append kind.header content, sound.four) in
       (omega (arith, size, is.most), inr (omega (arith, size)))
 
   area_below : (piece : Piece) → IsPieceIn kind piece → All (λ o. o < 256) (area_in kind piece)
   area_below idle is = All-nil (λ o. o < 256)
-  area_below (client item) is = All-append (λ o. o < 256) kind.header item sound.octets is.octets
+  area_below (client content) is = All-append (λ o. o < 256) kind.header content sound.octets is.octets
 
   pub plis : (pieces : List Piece) → All (IsPieceIn kind) pieces →
       All (λ area. IsPli (length area)) (map (area_in kind) pieces)

@@ -1,4 +1,4 @@
--- What is told of a run is what is read of the items whose piece ends in it.
+-- What is told of a run is what is read of the contents whose piece ends in it.
 use Rattle.std.proofs.Common.{◌≡◌, ℕ, ◌+◌, ◌-◌, ◌<◌, ◌≤◌, true, false, List, [], ◌∷◌, ◌++◌, length, map, take, drop}
 use Rattle.std.proofs.Common.{All}
 use Rattle.std.proofs.Common.{Some, None, refl, sym, ◌∙◌, ap, ap₂, arith, inl, inr, length-append, length-take}
@@ -25,7 +25,7 @@ use Rattle.loss_law.proofs.FoundLaws.{runs_after, runs_of_search, runs-search, r
 use Rattle.loss_law.proofs.SettledLaws.{joined_below}
 use Rattle.loss_law.proofs.ExtentLaws.{frames_to}
 use Rattle.loss_law.proofs.LaterLaws.{extents_after_first}
-use Rattle.channel_law.specs.Kind.{Kind, IsKind, area_in, stream_in, IsItem, IsPieceIn, told_in}
+use Rattle.channel_law.specs.Kind.{Kind, IsKind, area_in, stream_in, IsContent, IsPieceIn, told_in}
 use Rattle.channel_law.proofs.StreamLaws.{idle_fits, stream_behind, stream-append, length-area, length-stream, plis}
 use Rattle.channel_law.proofs.StreamLaws.{areas_below}
 use Rattle.channel_law.proofs.SettledLaws.{outcomes-idle, told-settled}
@@ -37,9 +37,9 @@ frames_to-none : (place start : ℕ) (pieces : List Piece) → place < start + 4
 unfolding extents
 frames_to-none place start [] few = refl
 frames_to-none place start (idle ∷ pieces) few = frames_to-none place (start + size_of idle) pieces (omega arith)
-frames_to-none place start (client item ∷ pieces) few =
-    rw (lt-leb (start + size_of (client item)) place (omega arith))
-    (frames_to-none place (start + size_of (client item)) pieces (omega arith))
+frames_to-none place start (client content ∷ pieces) few =
+    rw (lt-leb (start + size_of (client content)) place (omega arith))
+    (frames_to-none place (start + size_of (client content)) pieces (omega arith))
 
 frames_after_first-none : (place start : ℕ) (pieces : List Piece) → place < start + 4 →
     frames_to place (extents_after_first start pieces) ≡ []
@@ -47,8 +47,8 @@ unfolding extents_after_first
 frames_after_first-none place start [] few = refl
 frames_after_first-none place start (idle ∷ pieces) few =
     frames_after_first-none place (start + size_of idle) pieces (omega arith)
-frames_after_first-none place start (client item ∷ pieces) few =
-    frames_to-none place (start + size_of (client item)) pieces (omega arith)
+frames_after_first-none place start (client content ∷ pieces) few =
+    frames_to-none place (start + size_of (client content)) pieces (omega arith)
 
 -- ---- the first area is whole, or not
 whole-short : (count : ℕ) (area : List ℕ) (more : List (List ℕ)) → count < 4 + length area →
@@ -119,12 +119,12 @@ module _ {X Y : Type 0} (kind : Kind X Y) (sound : IsKind kind) where
   outcome-some before [] some = absurd (omega arith)
   outcome-some before (o ∷ area) some = refl
 
-  told-item : (before : ℕ) (item : List ℕ) → IsItem kind item →
-      flat_map kind.told (area_outcomes kind.outcome true before (kind.header ++ item)) ≡ kind.read item
-  told-item before item is =
-      ap (flat_map kind.told) (outcome-some before (kind.header ++ item)
-      (omega (arith, length-append kind.header item, sound.four)))
-      ∙ append-nil (kind.told (kind.outcome true (kind.header ++ item))) ∙ is.comes
+  told-content : (before : ℕ) (content : List ℕ) → IsContent kind content →
+      flat_map kind.told (area_outcomes kind.outcome true before (kind.header ++ content)) ≡ kind.read content
+  told-content before content is =
+      ap (flat_map kind.told) (outcome-some before (kind.header ++ content)
+      (omega (arith, length-append kind.header content, sound.four)))
+      ∙ append-nil (kind.told (kind.outcome true (kind.header ++ content))) ∙ is.comes
 
   told-none : (before : ℕ) → flat_map kind.told (outcomes_after_with kind.outcome true before []) ≡ []
   unfolding outcomes_after_with
@@ -146,18 +146,18 @@ module _ {X Y : Type 0} (kind : Kind X Y) (sound : IsKind kind) where
       (outcomes_after_with kind.outcome true (before + length area) more)
 
   -- what ends by a place, of pieces of which the first ends by it
-  to-cons : (place start : ℕ) (item : List ℕ) (pieces : List Piece) → start + size_of (client item) ≤ place →
-      flat_map kind.read (frames_to place (extents start (client item ∷ pieces)))
-      ≡ kind.read item ++ flat_map kind.read (frames_to place (extents (start + size_of (client item)) pieces))
+  to-cons : (place start : ℕ) (content : List ℕ) (pieces : List Piece) → start + size_of (client content) ≤ place →
+      flat_map kind.read (frames_to place (extents start (client content ∷ pieces)))
+      ≡ kind.read content ++ flat_map kind.read (frames_to place (extents (start + size_of (client content)) pieces))
   unfolding extents
-  to-cons place start item pieces by = rw (le-leb (start + size_of (client item)) place by) refl
+  to-cons place start content pieces by = rw (le-leb (start + size_of (client content)) place by) refl
 
-  to-none : (place start : ℕ) (item : List ℕ) (pieces : List Piece) → place < start + size_of (client item) →
-      frames_to place (extents start (client item ∷ pieces)) ≡ []
+  to-none : (place start : ℕ) (content : List ℕ) (pieces : List Piece) → place < start + size_of (client content) →
+      frames_to place (extents start (client content ∷ pieces)) ≡ []
   unfolding extents
-  to-none place start item pieces short =
-      rw (lt-leb (start + size_of (client item)) place short)
-      (frames_to-none place (start + size_of (client item)) pieces (omega (arith, short)))
+  to-none place start content pieces short =
+      rw (lt-leb (start + size_of (client content)) place short)
+      (frames_to-none place (start + size_of (client content)) pieces (omega (arith, short)))
 
   pub told-whole : (before count start : ℕ) (pieces : List Piece) → All (IsPieceIn kind) pieces →
       flat_map kind.told (outcomes_after_with kind.outcome true before (whole_areas count (map (area_in kind) pieces)))
@@ -178,26 +178,26 @@ module _ {X Y : Type 0} (kind : Kind X Y) (sound : IsKind kind) where
             ∙ ap (λ place. flat_map kind.read (frames_to place (extents (start + 4) pieces)))
             (let e : start + 4 + (count - 4) ≡ start + count = omega (arith, long) in e)
       ]
-  told-whole before count start (client item ∷ pieces) all =
-      let area : List ℕ = kind.header ++ item in
+  told-whole before count start (client content ∷ pieces) all =
+      let area : List ℕ = kind.header ++ content in
       let rest : List (List ℕ) = map (area_in kind) pieces in
-      let size : ℕ = size_of (client item) in
+      let size : ℕ = size_of (client content) in
       let long : 4 + length area ≡ size =
-      ap (λ n. 4 + n) (length-area kind sound (client item)) in
+      ap (λ n. 4 + n) (length-area kind sound (client content)) in
       elim (cases_lt count size) [
         | inl short ↦ ap (λ l. flat_map kind.told (outcomes_after_with kind.outcome true before l))
             (whole-short count area rest (omega (arith, short, long)))
             ∙ told-none before
-            ∙ sym (ap (flat_map kind.read) (to-none (start + count) start item pieces (omega (arith, short))))
+            ∙ sym (ap (flat_map kind.read) (to-none (start + count) start content pieces (omega (arith, short))))
         | inr whole ↦ ap (λ l. flat_map kind.told (outcomes_after_with kind.outcome true before l))
             (whole-long count area rest (omega (arith, whole, long)))
             ∙ told-cons before area (whole_areas (count - (4 + length area)) rest)
-            ∙ ap₂ ◌++◌ (told-item before item (All-head (IsPieceIn kind) (client item) pieces all))
+            ∙ ap₂ ◌++◌ (told-content before content (All-head (IsPieceIn kind) (client content) pieces all))
             (told-whole (before + length area) (count - (4 + length area)) (start + size) pieces
-            (All-tail (IsPieceIn kind) (client item) pieces all)
+            (All-tail (IsPieceIn kind) (client content) pieces all)
             ∙ ap (λ place. flat_map kind.read (frames_to place (extents (start + size) pieces)))
             (let e : start + size + (count - (4 + length area)) ≡ start + count = omega (arith, whole, long) in e))
-            ∙ sym (to-cons (start + count) start item pieces (omega (arith, whole)))
+            ∙ sym (to-cons (start + count) start content pieces (omega (arith, whole)))
       ]
 
   -- ---- a run that isn't settled
@@ -237,14 +237,14 @@ module _ {X Y : Type 0} (kind : Kind X Y) (sound : IsKind kind) where
             ∙ ap (λ place. flat_map kind.read (frames_to place (extents_after_first (start + 4) pieces)))
             (let e : start + 4 + (count - 4) ≡ start + count = omega (arith, long) in e)
       ]
-  told-run before count start (client item ∷ pieces) first all =
-      let area : List ℕ = kind.header ++ item in
+  told-run before count start (client content ∷ pieces) first all =
+      let area : List ℕ = kind.header ++ content in
       let rest : List (List ℕ) = map (area_in kind) pieces in
-      let size : ℕ = size_of (client item) in
+      let size : ℕ = size_of (client content) in
       let left : ℕ = count - (4 + length area) in
-      let long : 4 + length area ≡ size = ap (λ n. 4 + n) (length-area kind sound (client item)) in
-      let is : IsItem kind item = All-head (IsPieceIn kind) (client item) pieces all in
-      let more : All (IsPieceIn kind) pieces = All-tail (IsPieceIn kind) (client item) pieces all in
+      let long : 4 + length area ≡ size = ap (λ n. 4 + n) (length-area kind sound (client content)) in
+      let is : IsContent kind content = All-head (IsPieceIn kind) (client content) pieces all in
+      let more : All (IsPieceIn kind) pieces = All-tail (IsPieceIn kind) (client content) pieces all in
       elim (cases_lt count size) [
         | inl short ↦ ap (told_behind before) (whole-short count area rest (omega (arith, short, long)))
             ∙ run-none before
@@ -252,9 +252,9 @@ module _ {X Y : Type 0} (kind : Kind X Y) (sound : IsKind kind) where
             (frames_to-none (start + count) (start + size) pieces (omega (arith, short))))
         | inr whole ↦ ap (told_behind before) (whole-long count area rest (omega (arith, whole, long)))
             ∙ told-settled kind sound before area (whole_areas left rest)
-            (omega (arith, length-append kind.header item, sound.four, is.least))
+            (omega (arith, length-append kind.header content, sound.four, is.least))
             (All-append (λ o. o < 256) before area first
-            (All-append (λ o. o < 256) kind.header item sound.octets is.octets))
+            (All-append (λ o. o < 256) kind.header content sound.octets is.octets))
             (All-whole_areas (All (λ o. o < 256)) left rest (areas_below kind sound pieces more))
             ∙ told-whole 0 left (start + size) pieces more
             ∙ ap (λ place. flat_map kind.read (frames_to place (extents (start + size) pieces)))

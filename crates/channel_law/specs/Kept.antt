@@ -4,7 +4,7 @@ use Rattle.std.specs.Prelude.{ℕ, ◌<◌, ◌≤◌, ◌^◌, ◌==◌, if◌t
 use Rattle.std.specs.Prelude.{drop, All}
 use Rattle.std.specs.Prelude.{slice_index}
 use Rattle.std.specs.List.{flat_map}
-use Rattle.session_model.specs.Piece.{Piece, idle as no_frame, client as with_item}
+use Rattle.session_model.specs.Piece.{Piece, idle as no_frame, client as with_content}
 use Rattle.session_model.specs.Segment.{StreamRow}
 use Rattle.session_model.specs.Loss.{Extent, extents, is_carried, frames_kept}
 use Rattle.linear_model.specs.declared.Cut.{Cut}
@@ -26,19 +26,19 @@ pub record AreSound (channels : Channels) : Type 0 where
 
 -- ---- frames with a linear extension header, as a kind
 -- what stands behind the type header
-abbrev pub read_item : List ℕ → List ChannelFrame
-read_item item = record { cid = slice_index item 0; frame = drop 4 item } ∷ []
+abbrev pub read_content : List ℕ → List ChannelFrame
+read_content content = record { cid = slice_index content 0; frame = drop 4 content } ∷ []
 
 abbrev pub linear_kind : Kind LinearOutcome ChannelFrame
-linear_kind = record { header = linear_header; outcome = linear_outcome; told = frame_in; read = read_item }
+linear_kind = record { header = linear_header; outcome = linear_outcome; told = frame_in; read = read_content }
 
 -- the pieces as they are of that kind, by which places in the stream and losses are told
-abbrev pub item_of : LinearPiece → Piece
-item_of idle = no_frame
-item_of (client cid frame) = with_item (extension_header cid ++ frame)
+abbrev pub as_piece : LinearPiece → Piece
+as_piece idle = no_frame
+as_piece (client cid frame) = with_content (extension_header cid ++ frame)
 
-abbrev pub items : List LinearPiece → List Piece
-items pieces = map item_of pieces
+abbrev pub as_pieces : List LinearPiece → List Piece
+as_pieces pieces = map as_piece pieces
 
 -- ---- frames of one channel
 abbrev pub frame_with : ℕ → ChannelFrame → List (List ℕ)
@@ -47,17 +47,17 @@ frame_with cid told = if told.cid == cid then told.frame ∷ [] else []
 abbrev pub frames_told : ℕ → List ChannelFrame → List (List ℕ)
 frames_told cid told = flat_map (frame_with cid) told
 
-abbrev pub item_frames : ℕ → List (List ℕ) → List (List ℕ)
-item_frames cid them = frames_told cid (flat_map read_item them)
+abbrev pub content_frames : ℕ → List (List ℕ) → List (List ℕ)
+content_frames cid them = frames_told cid (flat_map read_content them)
 
 -- those that a stream carries whole where it ends at a place
 abbrev pub carried_of : ℕ → ℕ → List LinearPiece → List (List ℕ)
 carried_of cid place pieces =
-    item_frames cid (map (λ (e : Extent). e.frame) (filter (is_carried place) (extents 0 (items pieces))))
+    content_frames cid (map (λ (e : Extent). e.frame) (filter (is_carried place) (extents 0 (as_pieces pieces))))
 
 -- those that rows carry and that aren't lost
 abbrev pub kept_of : ℕ → List LinearPiece → List StreamRow → List (List ℕ)
-kept_of cid pieces rows = item_frames cid (frames_kept (items pieces) rows)
+kept_of cid pieces rows = content_frames cid (frames_kept (as_pieces pieces) rows)
 
 -- those that are delivered of octets with cuts
 abbrev pub delivered_of : ℕ → List Cut → List ℕ → List (List ℕ)

@@ -8,7 +8,7 @@ use Rattle.session_model.specs.Outcome.{outcomes_with}
 use Rattle.session_model.specs.Segment.{StreamRow, Segment, segments, octets_of_rows}
 
 -- the type header; what comes of an area by whether the descrambler is settled; what that tells; and what is told of
--- the item behind the type header where the frame comes through
+-- the content behind the type header where the frame comes through
 pub record Kind (X Y : Type 0) : Type 0 where
   pub header : List ℕ
   pub outcome : Bool → List ℕ → X
@@ -22,24 +22,24 @@ pub record IsKind {X Y : Type 0} (kind : Kind X Y) : Type 0 where
   pub unsettled : (area : List ℕ) → kind.told (kind.outcome false area) ≡ []
 
 -- ---- its stream
--- the area of a piece, whose item stands behind the type header
+-- the area of a piece, whose content stands behind the type header
 abbrev pub area_in : {X Y : Type 0} → Kind X Y → Piece → List ℕ
 area_in kind idle = []
-area_in kind (client item) = kind.header ++ item
+area_in kind (client content) = kind.header ++ content
 
 abbrev pub stream_in : {X Y : Type 0} → Kind X Y → List Piece → List ℕ
 stream_in kind pieces = flat_map with_header (scrambled_areas (map (area_in kind) pieces))
 
--- an item that may be sent: its area has six octets at least, and as many as a header may say; and it comes through
-pub record IsItem {X Y : Type 0} (kind : Kind X Y) (item : List ℕ) : Type 0 where
-  pub least : 2 ≤ length item
-  pub most : length item ≤ 65531
-  pub octets : All (λ octet. octet < 2 ^ 8) item
-  pub comes : kind.told (kind.outcome true (kind.header ++ item)) ≡ kind.read item
+-- a content that may be sent: its area has six octets at least, and as many as a header may say; and it comes through
+pub record IsContent {X Y : Type 0} (kind : Kind X Y) (content : List ℕ) : Type 0 where
+  pub least : 2 ≤ length content
+  pub most : length content ≤ 65531
+  pub octets : All (λ octet. octet < 2 ^ 8) content
+  pub comes : kind.told (kind.outcome true (kind.header ++ content)) ≡ kind.read content
 
 abbrev pub IsPieceIn : {X Y : Type 0} → Kind X Y → Piece → Type 0
 IsPieceIn kind idle = Unit {0}
-IsPieceIn kind (client item) = IsItem kind item
+IsPieceIn kind (client content) = IsContent kind content
 
 -- ---- what is told
 abbrev pub told_in : {X Y : Type 0} → Kind X Y → Bool → List ℕ → List Y

@@ -14,7 +14,9 @@ ghost use Rattle.linear_model.specs.Linear.{LinearOutcome, ChannelFrame};
 ghost use Rattle.linear_model.specs.Channels.{Channels, silent, waiting_of, channel_refusal, pushed};
 ghost use Rattle.linear_model.specs.Stream.{unsent, reached, frames_of, stream_to, cut_rows};
 ghost use Rattle.channel_law.specs.Kind.{Kind, IsKind, stream_in, IsPieceIn, rows_told, Carries};
-ghost use Rattle.channel_law.specs.Kept.{AreSound, items, carried_of, kept_of, delivered_of, AreOrdered};
+ghost use Rattle.channel_law.specs.Worked.{worked_channels, worked_pieces, worked_stream, worked_cuts};
+ghost use Rattle.channel_law.specs.Worked.{worked_rows};
+ghost use Rattle.channel_law.specs.Kept.{AreSound, as_pieces, carried_of, kept_of, delivered_of, AreOrdered};
 
 /// What the answer to a frame depends on: the number of channels, and how many frames of that channel wait.
 pub fn answer_law()
@@ -53,16 +55,28 @@ pub fn channel_law()
         AreSound channels → AreOrdered 0 cuts →
         let rows = cut_rows 0 cuts (stream_to place channels) in
         let pieces = (reached place (unsent channels)).pieces in
-        TrueStarts (items pieces) rows →
+        TrueStarts (as_pieces pieces) rows →
         delivered_of cid cuts (stream_to place channels) ≡ kept_of cid pieces rows }
 {}
 
 /// The law of losses for any kind of frames: where each place that is confirmed first after a break is that of a
-/// piece, what is told of rows is what is read of the items that they carry and that aren't lost.
+/// piece, what is told of rows is what is read of the contents that they carry and that aren't lost.
 pub fn kind_law()
     ensures { (kind : Kind LinearOutcome ChannelFrame) (pieces : List Piece)
         (rows : List StreamRow) → IsKind kind → All (IsPieceIn kind) pieces →
         Carries rows (stream_in kind (idle ∷ idle ∷ pieces)) →
         TrueStarts (idle ∷ idle ∷ pieces) rows →
         rows_told kind rows ≡ flat_map kind.read (frames_kept (idle ∷ idle ∷ pieces) rows) }
+{}
+
+/// A worked stream, computed: two frames of each of two channels are sent in turns, and the first of them is cut off.
+/// Without the cut all come. With it one of the second channel is before the place that is confirmed, the next of the
+/// first channel settles the descrambler, and the last one is delivered. What is confirmed is the place of a piece.
+pub fn worked_law()
+    ensures turns { (reached 64 (unsent worked_channels)).pieces ≡ worked_pieces }
+    ensures uncut { delivered_of 0 [] worked_stream ≡ (1 ∷ 2 ∷ []) ∷ (3 ∷ 4 ∷ []) ∷ [] }
+    ensures first { delivered_of 0 worked_cuts worked_stream ≡ [] }
+    ensures second { delivered_of 1 worked_cuts worked_stream ≡ (7 ∷ 8 ∷ []) ∷ [] }
+    ensures kept { kept_of 1 worked_pieces worked_rows ≡ (7 ∷ 8 ∷ []) ∷ [] }
+    ensures starts { TrueStarts (as_pieces worked_pieces) worked_rows }
 {}

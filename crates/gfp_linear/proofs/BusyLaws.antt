@@ -1,7 +1,8 @@
 -- The numbers of the channels with a frame: how a turn is found among them, and what one more frame or one less does.
 use Rattle.std.proofs.Common.{◌≡◌, ◌≢◌, ℕ, zero, suc, ◌+◌, ◌-◌, ◌<◌, ◌≤◌, List, [], ◌∷◌, ◌++◌, length, take, drop, All}
 use Rattle.std.proofs.Common.{Bool, true, false, ◌↔◌}
-use Rattle.std.proofs.Common.{Some, None, refl, sym, ◌∙◌, ap, ap₂, subst, arith, append_assoc, append-nil, length-take-le}
+use Rattle.std.proofs.Common.{Some, None, refl, sym, ◌∙◌, ap, ap₂, subst, arith, append_assoc, append-nil}
+use Rattle.std.proofs.Common.{length-take-le}
 use Rattle.std.proofs.Common.{length-append, length-take, length-drop}
 use Rattle.std.specs.Prelude.{slice_index_or, slice_set, insert, remove, replicate}
 use Rattle.std.proofs.lemmas.Bool.{le-leb, lt-leb, le-ltb}
@@ -31,7 +32,8 @@ busy-append cid (queue ∷ queues) more =
     busy-cons cid queue (queues ++ more)
     ∙ ap (λ l. one_of queue cid ++ l) (busy-append (cid + 1) queues more
     ∙ ap (λ n. busy_from (cid + 1) queues ++ busy_from n more) place)
-    ∙ sym (append_assoc (one_of queue cid) (busy_from (cid + 1) queues) (busy_from (cid + length (queue ∷ queues)) more))
+    ∙ sym (append_assoc (one_of queue cid) (busy_from (cid + 1) queues)
+    (busy_from (cid + length (queue ∷ queues)) more))
     ∙ ap (λ l. l ++ busy_from (cid + length (queue ∷ queues)) more) (sym (busy-cons cid queue queues))
 
 -- ---- their bounds

@@ -129,15 +129,15 @@ pub record Follows (before : List LinearPiece) (place : ℕ) (after : List Linea
   pub follow : after ≡ before ++ more
   pub fewest : (n : ℕ) → n < length more → size (before ++ take n more) < place
 
-fewest_next : (before : List LinearPiece) (piece : LinearPiece) (more : List LinearPiece) (place : ℕ) → size before < place →
-    ((n : ℕ) → n < length more → size (before ++ piece ∷ [] ++ take n more) < place) → (n : ℕ) →
+fewest_next : (before : List LinearPiece) (piece : LinearPiece) (more : List LinearPiece) (place : ℕ) →
+    size before < place → ((n : ℕ) → n < length more → size (before ++ piece ∷ [] ++ take n more) < place) → (n : ℕ) →
     n < length (piece ∷ more) → size (before ++ take n (piece ∷ more)) < place
 fewest_next before piece more place short rest zero h = let e : before ++ [] ≡ before = append-nil before in rw e short
 fewest_next before piece more place short rest (suc n) h = let e = append_assoc before (piece ∷ []) (take n more) in
     rw e at (rest n (omega arith))
 
-follows-next : (before : List LinearPiece) (piece : LinearPiece) (place : ℕ) (after : List LinearPiece) → size before < place →
-    Follows (before ++ piece ∷ []) place after → Follows before place after
+follows-next : (before : List LinearPiece) (piece : LinearPiece) (place : ℕ) (after : List LinearPiece) →
+    size before < place → Follows (before ++ piece ∷ []) place after → Follows before place after
 follows-next before piece place after short follows = record {
   more = piece ∷ follows.more;
   follow = follows.follow ∙ append_assoc before (piece ∷ []) follows.more;

@@ -1,6 +1,7 @@
 -- What one step of a fill does to what stands, and how steps follow one another.
 use Rattle.std.proofs.Common.{◌≡◌, ℕ, ◌+◌, ◌<◌, ◌≤◌, List, [], ◌∷◌, ◌++◌, length, map, take, drop, refl, sym, ap, ap₂}
-use Rattle.std.proofs.Common.{Option, Some, None, subst, ◌∙◌, arith, append_assoc, length-append, length-take-le, length-drop}
+use Rattle.std.proofs.Common.{Option, Some, None, subst, ◌∙◌, arith, append_assoc, length-append, length-take-le}
+use Rattle.std.proofs.Common.{length-drop}
 use Rattle.std.proofs.Math.Seq.{take-add, take-append-add}
 use Rattle.std.proofs.lemmas.List.{append-nil, map-append, take_at, drop_at, drop_all, take-append-drop, take-append-le}
 use Rattle.std.proofs.lemmas.List.{drop-append-le, drop-drop}
@@ -57,8 +58,8 @@ one_queue sender queue other stream place one two =
 
 -- ---- octets of pieces that are begun are written
 part_written : (stream : Shared) (place n : ℕ) (sender : Sender) (queue : Queued) (rest octets : List ℕ)
-    → place ≤ size stream.pieces → drop place (linear_stream stream.pieces) ≡ rest → n ≤ length rest → octets ≡ take n rest
-    → (place + n ≤ size stream.pieces → Stands sender queue stream (place + n)) →
+    → place ≤ size stream.pieces → drop place (linear_stream stream.pieces) ≡ rest → n ≤ length rest →
+    octets ≡ take n rest → (place + n ≤ size stream.pieces → Stands sender queue stream (place + n)) →
     HasWritten sender queue stream place octets
 part_written stream place n sender queue rest octets within is fits part stands =
     let count : length octets ≡ n = ap length part ∙ length-take-le n rest fits in
@@ -155,8 +156,8 @@ areas-push pieces piece =
     ∙ ap (λ l. joined (map area_of pieces) ++ l) (append-nil (area_of piece))
 
 -- where all octets of the pieces are written, the place is at the end of the stream
-all_written : (s : Sender) (queue : Queued) (stream : Shared) (place : ℕ) → Stands s queue stream place → head_of s ≡ [] →
-    queue.begun ≡ [] → place ≡ size stream.pieces
+all_written : (s : Sender) (queue : Queued) (stream : Shared) (place : ℕ) → Stands s queue stream place →
+    head_of s ≡ [] → queue.begun ≡ [] → place ≡ size stream.pieces
 all_written s queue stream place stands head begun =
     let given = stands.given in
     let none : drop place (linear_stream stream.pieces) ≡ [] =
@@ -171,8 +172,8 @@ all_given : (s : Sender) (queue : Queued) (stream : Shared) (place : ℕ) → (s
 all_given s queue stream place stands begun = stands.areas ∙ ap (λ l. stands.given ++ l) begun ∙ append-nil stands.given
 
 -- the octets of one more piece
-one_more_piece : (pieces : List LinearPiece) (piece : LinearPiece) (given : List ℕ) → joined (map area_of pieces) ≡ given
-    → drop (size pieces) (linear_stream (pieces ++ piece ∷ [])) ≡ core_header (length (area_of piece)) ++ drop
+one_more_piece : (pieces : List LinearPiece) (piece : LinearPiece) (given : List ℕ) →
+    joined (map area_of pieces) ≡ given → drop (size pieces) (linear_stream (pieces ++ piece ∷ [])) ≡ core_header (length (area_of piece)) ++ drop
     (length given) (scrambled_octets (given ++ area_of piece))
 one_more_piece pieces piece given is =
     let octets : List ℕ = core_header (length (area_of piece)) ++ drop (length (joined (map area_of pieces)))
@@ -313,7 +314,8 @@ still_next stream place n later more =
     ap (λ s. take n (drop place (linear_stream s.pieces))) (sym (reached-join (place + n) later stream more))
     ∙ ap (λ l. take n (drop place (linear_stream l))) fewest.follow
     ∙ ap (λ l. take n (drop place l)) (linear_stream-append sooner.pieces fewest.more)
-    ∙ within-append place n (linear_stream sooner.pieces) (stream_behind (joined (map area_of sooner.pieces)) fewest.more)
+    ∙ within-append place n (linear_stream sooner.pieces)
+    (stream_behind (joined (map area_of sooner.pieces)) fewest.more)
     (omega (arith, long sooner.pieces))
 
 pub written-both : (s t : Sender) (queue rest : Queued) (stream : Shared) (place : ℕ) (first more : List ℕ) →
@@ -343,7 +345,8 @@ written-both s t queue rest stream place first more one other =
 pub written-none : (s : Sender) (queue : Queued) (stream : Shared) (place : ℕ) → Stands s queue stream place →
     HasWritten s queue stream place []
 written-none s queue stream place stands =
-    part_written stream place 0 s queue (drop place (linear_stream stream.pieces)) [] stands.within refl (omega arith) refl
+    part_written stream place 0 s queue (drop place (linear_stream stream.pieces)) [] stands.within refl (omega arith)
+    refl
     (λ reach. let same : place + 0 ≡ place = omega arith in rw same stands)
 
 -- what stands in the first part of a slice after a part of it was written

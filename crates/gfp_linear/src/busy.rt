@@ -1,5 +1,5 @@
-//! The channels with a frame, by rising number: whose turn it is costs as much as the number of these has digits, however
-//! many channels are silent.
+//! The channels with a frame, by rising number: whose turn it is costs as much as the number of these has digits,
+//! however many channels are silent.
 
 ghost use Rattle.std.specs.Prelude.{◌≡◌, ◌≤◌, ◌<◌, All, length, take, drop, insert, vec_len};
 ghost use Rattle.std.specs.Vec.{vec_capacity};

@@ -41,9 +41,9 @@ const IDLE_OCTETS: [u8; CORE_HEADER * IDLES] = [
     0xb6, 0xab, 0x31, 0xe0, 0xb6, 0xab, 0x31, 0xe0, 0xb6, 0xab, 0x31, 0xe0, 0xb6, 0xab, 0x31, 0xe0,
 ];
 
-/// Writes the stream of channels: two idle frames, and then the frames that wait, in turns that go round the channels, or
-/// an idle frame where none does. The payload areas are scrambled as one list, and the core headers are not. A frame is
-/// sent from the buffer in which it waited, so a `LinearFiller` belongs to one `LinearQueue`.
+/// Writes the stream of channels: two idle frames, and then the frames that wait, in turns that go round the channels,
+/// or an idle frame where none does. The payload areas are scrambled as one list, and the core headers are not. A frame
+/// is sent from the buffer in which it waited, so a `LinearFiller` belongs to one `LinearQueue`.
 #[derive(Clone, Copy)]
 pub struct LinearFiller {
     scrambler: Scrambler,

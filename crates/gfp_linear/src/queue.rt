@@ -39,14 +39,17 @@ impl Model for LinearQueue {
 
     ghost Value = { Queued };
 
-    ghost view = { λ queue. record { channels = record { waiting = queue.queues.items; next = queue.next }; begun = drop queue.sent queue.begun.items } };
+    ghost view = { λ queue. record {
+      channels = record { waiting = queue.queues.items; next = queue.next };
+      begun = drop queue.sent queue.begun.items;
+    } };
 
     ghost invariant = { λ queue. IsKept queue.queues.items queue.busy queue.next queue.sent queue.begun };
 }
 
 impl LinearQueue {
-    /// So many channels, from 1 to 256, without a frame. There is room for 16 frames of 9,600 octets of each, and for the
-    /// one that is being sent; no other call takes memory.
+    /// So many channels, from 1 to 256, without a frame. There is room for 16 frames of 9,600 octets of each, and for
+    /// the one that is being sent; no other call takes memory.
     pub fn new(alloc: Global, channels: u16) -> Result<LinearQueue, AllocError>
         requires some { 1 ≤ channels }
         requires most { channels ≤ 256 }
@@ -98,8 +101,8 @@ impl LinearQueue {
         Ok(())
     }
 
-    /// Begins to send the oldest frame of the channel whose turn it is, and says which channel that is and how many octets
-    /// the frame has.
+    /// Begins to send the oldest frame of the channel whose turn it is, and says which channel that is and how many
+    /// octets the frame has.
     pub(crate) fn begin(&mut self) -> Option<(u8, usize)>
         ensures none { IfNone result (turn self.old.channels ≡ None) }
         ensures stays { IfNone result (self.new ≡ self.old) }

@@ -1,5 +1,6 @@
 -- The one in the middle tells of half of them.
-use Rattle.std.proofs.Common.{◌≡◌, ℕ, suc, ◌+◌, ◌-◌, ◌/◌, ◌<◌, ◌≤◌, List, All, length, take, subst, arith, slice_index_or}
+use Rattle.std.proofs.Common.{◌≡◌, ℕ, suc, ◌+◌, ◌-◌, ◌/◌, ◌<◌, ◌≤◌, List, All, length, take, subst, arith}
+use Rattle.std.proofs.Common.{slice_index_or}
 use Rattle.gfp_linear.proofs.BusyLaws.{rising-below, rising-from}
 use Rattle.gfp_linear.proofs.busy.count_below.Goals as goal
 

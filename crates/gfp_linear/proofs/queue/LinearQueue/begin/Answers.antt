@@ -17,8 +17,8 @@ index_mut-requires c =
     let at : ℕ = c.in_ok-at.at in
     let next : IsNext items at cid =
     is-next items c.self.inside.busy.items at cid c.self.invariant.numbers
-    (subst (λ (q : Queued). at < length (busy_from 0 q.channels.waiting)) (sym c.self.view_is) c.in_ok-at.ensures.within)
-    c.index-cid.ensures in
+    (subst (λ (q : Queued). at < length (busy_from 0 q.channels.waiting)) (sym c.self.view_is)
+    c.in_ok-at.ensures.within) c.index-cid.ensures in
     omega (arith, next.inside, c.from-channel.ensures)
 
 pub invariant_of-self : goal.invariant_of-self
@@ -28,8 +28,8 @@ invariant_of-self c =
     let at : ℕ = c.in_ok-at.at in
     let next : IsNext items at cid =
     is-next items c.self.inside.busy.items at cid c.self.invariant.numbers
-    (subst (λ (q : Queued). at < length (busy_from 0 q.channels.waiting)) (sym c.self.view_is) c.in_ok-at.ensures.within)
-    c.index-cid.ensures in
+    (subst (λ (q : Queued). at < length (busy_from 0 q.channels.waiting)) (sym c.self.view_is)
+    c.in_ok-at.ensures.within) c.index-cid.ensures in
     let there : c.from-channel.result < length items = omega (arith, next.inside, c.from-channel.ensures) in
     let old : c.index_mut.result.now ≡ slice_index_or items cid [] =
     c.index_mut.ensures.value ∙ sym (get_or_default items c.from-channel.result [] c.index_mut.result.now there)
@@ -43,8 +43,8 @@ returns-in_err-n-clause-none c =
     let at : ℕ = c.in_ok-at.at in
     let next : IsNext items at cid =
     is-next items c.self.inside.busy.items at cid c.self.invariant.numbers
-    (subst (λ (q : Queued). at < length (busy_from 0 q.channels.waiting)) (sym c.self.view_is) c.in_ok-at.ensures.within)
-    c.index-cid.ensures in
+    (subst (λ (q : Queued). at < length (busy_from 0 q.channels.waiting)) (sym c.self.view_is)
+    c.in_ok-at.ensures.within) c.index-cid.ensures in
     let there : c.from-channel.result < length items = omega (arith, next.inside, c.from-channel.ensures) in
     let old : c.index_mut.result.now ≡ slice_index_or items cid [] =
     c.index_mut.ensures.value ∙ sym (get_or_default items c.from-channel.result [] c.index_mut.result.now there)
@@ -58,8 +58,8 @@ returns-in_err-n-clause-stays c =
     let at : ℕ = c.in_ok-at.at in
     let next : IsNext items at cid =
     is-next items c.self.inside.busy.items at cid c.self.invariant.numbers
-    (subst (λ (q : Queued). at < length (busy_from 0 q.channels.waiting)) (sym c.self.view_is) c.in_ok-at.ensures.within)
-    c.index-cid.ensures in
+    (subst (λ (q : Queued). at < length (busy_from 0 q.channels.waiting)) (sym c.self.view_is)
+    c.in_ok-at.ensures.within) c.index-cid.ensures in
     let there : c.from-channel.result < length items = omega (arith, next.inside, c.from-channel.ensures) in
     let old : c.index_mut.result.now ≡ slice_index_or items cid [] =
     c.index_mut.ensures.value ∙ sym (get_or_default items c.from-channel.result [] c.index_mut.result.now there)
@@ -73,8 +73,8 @@ index-requires c =
     let at : ℕ = c.in_ok-at.at in
     let next : IsNext items at cid =
     is-next items c.self.inside.busy.items at cid c.self.invariant.numbers
-    (subst (λ (q : Queued). at < length (busy_from 0 q.channels.waiting)) (sym c.self.view_is) c.in_ok-at.ensures.within)
-    c.index-cid.ensures in
+    (subst (λ (q : Queued). at < length (busy_from 0 q.channels.waiting)) (sym c.self.view_is)
+    c.in_ok-at.ensures.within) c.index-cid.ensures in
     omega (arith, next.inside, c.from-channel.ensures)
 
 pub invariant_of-self-then-is_silent : goal.invariant_of-self-then-is_silent
@@ -84,8 +84,8 @@ invariant_of-self-then-is_silent c =
     let at : ℕ = c.in_ok-at.at in
     let next : IsNext items at cid =
     is-next items c.self.inside.busy.items at cid c.self.invariant.numbers
-    (subst (λ (q : Queued). at < length (busy_from 0 q.channels.waiting)) (sym c.self.view_is) c.in_ok-at.ensures.within)
-    c.index-cid.ensures in
+    (subst (λ (q : Queued). at < length (busy_from 0 q.channels.waiting)) (sym c.self.view_is)
+    c.in_ok-at.ensures.within) c.index-cid.ensures in
     let there : c.from-channel.result < length items = omega (arith, next.inside, c.from-channel.ensures) in
     let old : c.index_mut.result.now ≡ slice_index_or items cid [] =
     c.index_mut.ensures.value ∙ sym (get_or_default items c.from-channel.result [] c.index_mut.result.now there)
@@ -119,8 +119,8 @@ invariant_of-self-else-is_silent c =
     let at : ℕ = c.in_ok-at.at in
     let next : IsNext items at cid =
     is-next items c.self.inside.busy.items at cid c.self.invariant.numbers
-    (subst (λ (q : Queued). at < length (busy_from 0 q.channels.waiting)) (sym c.self.view_is) c.in_ok-at.ensures.within)
-    c.index-cid.ensures in
+    (subst (λ (q : Queued). at < length (busy_from 0 q.channels.waiting)) (sym c.self.view_is)
+    c.in_ok-at.ensures.within) c.index-cid.ensures in
     let there : c.from-channel.result < length items = omega (arith, next.inside, c.from-channel.ensures) in
     let old : c.index_mut.result.now ≡ slice_index_or items cid [] =
     c.index_mut.ensures.value ∙ sym (get_or_default items c.from-channel.result [] c.index_mut.result.now there)
@@ -154,8 +154,8 @@ returns-then-is_silent-clause-frame c =
     let at : ℕ = c.in_ok-at.at in
     let next : IsNext items at cid =
     is-next items c.self.inside.busy.items at cid c.self.invariant.numbers
-    (subst (λ (q : Queued). at < length (busy_from 0 q.channels.waiting)) (sym c.self.view_is) c.in_ok-at.ensures.within)
-    c.index-cid.ensures in
+    (subst (λ (q : Queued). at < length (busy_from 0 q.channels.waiting)) (sym c.self.view_is)
+    c.in_ok-at.ensures.within) c.index-cid.ensures in
     let there : c.from-channel.result < length items = omega (arith, next.inside, c.from-channel.ensures) in
     let old : c.index_mut.result.now ≡ slice_index_or items cid [] =
     c.index_mut.ensures.value ∙ sym (get_or_default items c.from-channel.result [] c.index_mut.result.now there)
@@ -172,8 +172,8 @@ returns-then-is_silent-clause-rest c =
     let at : ℕ = c.in_ok-at.at in
     let next : IsNext items at cid =
     is-next items c.self.inside.busy.items at cid c.self.invariant.numbers
-    (subst (λ (q : Queued). at < length (busy_from 0 q.channels.waiting)) (sym c.self.view_is) c.in_ok-at.ensures.within)
-    c.index-cid.ensures in
+    (subst (λ (q : Queued). at < length (busy_from 0 q.channels.waiting)) (sym c.self.view_is)
+    c.in_ok-at.ensures.within) c.index-cid.ensures in
     let there : c.from-channel.result < length items = omega (arith, next.inside, c.from-channel.ensures) in
     let old : c.index_mut.result.now ≡ slice_index_or items cid [] =
     c.index_mut.ensures.value ∙ sym (get_or_default items c.from-channel.result [] c.index_mut.result.now there)
@@ -192,8 +192,8 @@ returns-else-is_silent-clause-frame c =
     let at : ℕ = c.in_ok-at.at in
     let next : IsNext items at cid =
     is-next items c.self.inside.busy.items at cid c.self.invariant.numbers
-    (subst (λ (q : Queued). at < length (busy_from 0 q.channels.waiting)) (sym c.self.view_is) c.in_ok-at.ensures.within)
-    c.index-cid.ensures in
+    (subst (λ (q : Queued). at < length (busy_from 0 q.channels.waiting)) (sym c.self.view_is)
+    c.in_ok-at.ensures.within) c.index-cid.ensures in
     let there : c.from-channel.result < length items = omega (arith, next.inside, c.from-channel.ensures) in
     let old : c.index_mut.result.now ≡ slice_index_or items cid [] =
     c.index_mut.ensures.value ∙ sym (get_or_default items c.from-channel.result [] c.index_mut.result.now there)
@@ -210,8 +210,8 @@ returns-else-is_silent-clause-rest c =
     let at : ℕ = c.in_ok-at.at in
     let next : IsNext items at cid =
     is-next items c.self.inside.busy.items at cid c.self.invariant.numbers
-    (subst (λ (q : Queued). at < length (busy_from 0 q.channels.waiting)) (sym c.self.view_is) c.in_ok-at.ensures.within)
-    c.index-cid.ensures in
+    (subst (λ (q : Queued). at < length (busy_from 0 q.channels.waiting)) (sym c.self.view_is)
+    c.in_ok-at.ensures.within) c.index-cid.ensures in
     let there : c.from-channel.result < length items = omega (arith, next.inside, c.from-channel.ensures) in
     let old : c.index_mut.result.now ≡ slice_index_or items cid [] =
     c.index_mut.ensures.value ∙ sym (get_or_default items c.from-channel.result [] c.index_mut.result.now there)

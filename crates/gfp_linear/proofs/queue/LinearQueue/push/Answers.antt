@@ -1,5 +1,6 @@
 -- The queue of one channel has a frame more, and where it had none the channel is among those with a frame.
-use Rattle.std.proofs.Common.{◌≡◌, ℕ, ◌<◌, ◌≤◌, take, drop, List, [], ◌∷◌, ◌++◌, length, All, insert, sym, ◌∙◌, ap, subst, arith, refl}
+use Rattle.std.proofs.Common.{◌≡◌, ℕ, ◌<◌, ◌≤◌, take, drop, List, [], ◌∷◌, ◌++◌, length, All, insert, sym, ◌∙◌, ap}
+use Rattle.std.proofs.Common.{subst, arith, refl}
 use Rattle.std.proofs.Common.{slice_index_or, slice_set}
 use Rattle.std.proofs.lemmas.List.{get_or_default, length-set}
 use Rattle.linear_model.specs.Channels.{with_queue, pushed}

@@ -16,8 +16,8 @@ use Rattle.linear_model.specs.Linear.{linear_header, extension_header, cid_field
 use Rattle.linear_model.specs.Linear.{linear_type_fault}
 use Rattle.linear_model.specs.Linear.{linear_outcome, frame_in, linear_area}
 use Rattle.linear_model.specs.Stream.{LinearPiece, idle, client, area_of, linear_stream}
-use Rattle.channel_law.specs.Kind.{IsKind, area_in, stream_in, IsItem, IsPieceIn}
-use Rattle.channel_law.specs.Kept.{IsChannelFrame, read_item, linear_kind, item_of, items}
+use Rattle.channel_law.specs.Kind.{IsKind, area_in, stream_in, IsContent, IsPieceIn}
+use Rattle.channel_law.specs.Kept.{IsChannelFrame, read_content, linear_kind, as_piece, as_pieces}
 
 -- ---- the headers
 linear_header_right : linear_type_fault linear_header ≡ None
@@ -60,7 +60,7 @@ linear-sound = record {
 }
 
 comes : (cid : ℕ) (frame : List ℕ) → length frame ≤ 9600 →
-    frame_in (linear_outcome true (linear_area cid frame)) ≡ read_item (extension_header cid ++ frame)
+    frame_in (linear_outcome true (linear_area cid frame)) ≡ read_content (extension_header cid ++ frame)
 comes cid frame most =
     rw (
       le-ltb 9608 (length (linear_area cid frame)) (omega arith),
@@ -69,9 +69,9 @@ comes cid frame most =
       extension_right cid,
     ) refl
 
-pub item-sound : (cid : ℕ) (frame : List ℕ) → cid < 256 → IsChannelFrame frame →
-    IsItem linear_kind (extension_header cid ++ frame)
-item-sound cid frame few is = record {
+pub content-sound : (cid : ℕ) (frame : List ℕ) → cid < 256 → IsChannelFrame frame →
+    IsContent linear_kind (extension_header cid ++ frame)
+content-sound cid frame few is = record {
   least = omega (arith, length-append (extension_header cid) frame);
   most = omega (arith, length-append (extension_header cid) frame, is.most);
   octets = All-append (λ o. o < 256) (extension_header cid) frame (extension_below cid few) is.octets;
@@ -79,27 +79,27 @@ item-sound cid frame few is = record {
 }
 
 -- ---- the stream
-area-item : (piece : LinearPiece) → area_in linear_kind (item_of piece) ≡ area_of piece
-area-item idle = refl
-area-item (client cid frame) = refl
+area-content : (piece : LinearPiece) → area_in linear_kind (as_piece piece) ≡ area_of piece
+area-content idle = refl
+area-content (client cid frame) = refl
 
-areas-items : (pieces : List LinearPiece) → map (area_in linear_kind) (items pieces) ≡ map area_of pieces
-areas-items [] = refl
-areas-items (piece ∷ pieces) = ap₂ ◌∷◌ (area-item piece) (areas-items pieces)
+areas-pieces : (pieces : List LinearPiece) → map (area_in linear_kind) (as_pieces pieces) ≡ map area_of pieces
+areas-pieces [] = refl
+areas-pieces (piece ∷ pieces) = ap₂ ◌∷◌ (area-content piece) (areas-pieces pieces)
 
-pub stream-items : (pieces : List LinearPiece) → stream_in linear_kind (items pieces) ≡ linear_stream pieces
-stream-items pieces = ap (λ areas. flat_map with_header (scrambled_areas areas)) (areas-items pieces)
+pub stream-pieces : (pieces : List LinearPiece) → stream_in linear_kind (as_pieces pieces) ≡ linear_stream pieces
+stream-pieces pieces = ap (λ areas. flat_map with_header (scrambled_areas areas)) (areas-pieces pieces)
 
 -- pieces that may be sent
 abbrev pub IsSent : LinearPiece → Type 0
 IsSent idle = Unit {0}
 IsSent (client cid frame) = (cid < 256) × IsChannelFrame frame
 
-item_sent : (piece : LinearPiece) → IsSent piece → IsPieceIn linear_kind (item_of piece)
-item_sent idle is = tt
-item_sent (client cid frame) is = item-sound cid frame is.0 is.1
+content_sent : (piece : LinearPiece) → IsSent piece → IsPieceIn linear_kind (as_piece piece)
+content_sent idle is = tt
+content_sent (client cid frame) is = content-sound cid frame is.0 is.1
 
-pub items_sent : (pieces : List LinearPiece) → All IsSent pieces → All (IsPieceIn linear_kind) (items pieces)
-items_sent pieces all =
-    All-map (IsPieceIn linear_kind) item_of pieces
-    (All-weaker IsSent (λ piece. IsPieceIn linear_kind (item_of piece)) item_sent pieces all)
+pub pieces_sent : (pieces : List LinearPiece) → All IsSent pieces → All (IsPieceIn linear_kind) (as_pieces pieces)
+pieces_sent pieces all =
+    All-map (IsPieceIn linear_kind) as_piece pieces
+    (All-weaker IsSent (λ piece. IsPieceIn linear_kind (as_piece piece)) content_sent pieces all)
