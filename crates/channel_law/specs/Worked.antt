@@ -1,5 +1,5 @@
 -- A worked stream of two channels with a cut.
-use Rattle.std.specs.Prelude.{ℕ, true, false, List, [], ◌∷◌}
+use Rattle.std.specs.Prelude.{ℕ, List, [], ◌∷◌, replicate}
 use Rattle.session_model.specs.Segment.{StreamRow}
 use Rattle.linear_model.specs.declared.Cut.{Cut}
 use Rattle.linear_model.specs.Channels.{Channels}
@@ -27,3 +27,15 @@ worked_cuts = record { first = 8; end = 22 } ∷ []
 
 unfoldable pub worked_rows : List StreamRow
 worked_rows = cut_rows 0 worked_cuts worked_stream
+
+-- ---- the headers of a frame, as they are sent
+-- frames of 64 zero octets, two of channel 0 and one of channel 1
+abbrev zeros : List ℕ
+zeros = replicate 64 0
+
+abbrev pub zero_channels : Channels
+zero_channels = record { waiting = (zeros ∷ zeros ∷ []) ∷ (zeros ∷ []) ∷ []; next = 0 }
+
+-- after two idles: the core header of 72 octets, the type header, and CID 0 with its spare octet
+abbrev pub first_octets : List ℕ
+first_octets = 0xb6 ∷ 0xe3 ∷ 0xf8 ∷ 0x2c ∷ 0x01 ∷ 0x01 ∷ 0x23 ∷ 0x10 ∷ 0x00 ∷ 0x00 ∷ []

@@ -4,7 +4,7 @@
 //! extension header are one.
 #![tactic(auto)]
 
-ghost use Rattle.std.specs.Prelude.{◌≡◌, ℕ, ◌<◌, ◌≤◌, ◌^◌, true, List, [], ◌∷◌, ◌++◌, length, take, All};
+ghost use Rattle.std.specs.Prelude.{◌≡◌, ℕ, ◌<◌, ◌≤◌, ◌^◌, true, List, [], ◌∷◌, ◌++◌, length, take, drop, All};
 ghost use Rattle.std.specs.List.{flat_map};
 ghost use Rattle.session_model.specs.Piece.{Piece, idle};
 ghost use Rattle.session_model.specs.Segment.{StreamRow, octets_of_rows};
@@ -15,7 +15,7 @@ ghost use Rattle.linear_model.specs.Channels.{Channels, silent, waiting_of, chan
 ghost use Rattle.linear_model.specs.Stream.{unsent, reached, frames_of, stream_to, cut_rows};
 ghost use Rattle.channel_law.specs.Kind.{Kind, IsKind, stream_in, IsPieceIn, rows_told, Carries};
 ghost use Rattle.channel_law.specs.Worked.{worked_channels, worked_pieces, worked_stream, worked_cuts};
-ghost use Rattle.channel_law.specs.Worked.{worked_rows};
+ghost use Rattle.channel_law.specs.Worked.{worked_rows, zero_channels, first_octets};
 ghost use Rattle.channel_law.specs.Kept.{AreSound, as_pieces, carried_of, kept_of, delivered_of, AreOrdered};
 
 /// What the answer to a frame depends on: the number of channels, and how many frames of that channel wait.
@@ -71,7 +71,8 @@ pub fn kind_law()
 
 /// A worked stream, computed: two frames of each of two channels are sent in turns, and the first of them is cut off.
 /// Without the cut all come. With it one of the second channel is before the place that is confirmed, the next of the
-/// first channel settles the descrambler, and the last one is delivered. What is confirmed is the place of a piece.
+/// first channel settles the descrambler, and the last one is delivered. What is confirmed is the place of a piece. And
+/// the first octets of a frame of zeros, behind the two idles, as they are sent.
 pub fn worked_law()
     ensures turns { (reached 64 (unsent worked_channels)).pieces ≡ worked_pieces }
     ensures uncut { delivered_of 0 [] worked_stream ≡ (1 ∷ 2 ∷ []) ∷ (3 ∷ 4 ∷ []) ∷ [] }
@@ -79,4 +80,5 @@ pub fn worked_law()
     ensures second { delivered_of 1 worked_cuts worked_stream ≡ (7 ∷ 8 ∷ []) ∷ [] }
     ensures kept { kept_of 1 worked_pieces worked_rows ≡ (7 ∷ 8 ∷ []) ∷ [] }
     ensures starts { TrueStarts (as_pieces worked_pieces) worked_rows }
+    ensures octets { drop 8 (stream_to 18 zero_channels) ≡ first_octets }
 {}

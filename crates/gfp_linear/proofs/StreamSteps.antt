@@ -173,8 +173,8 @@ all_given s queue stream place stands begun = stands.areas ∙ ap (λ l. stands.
 
 -- the octets of one more piece
 one_more_piece : (pieces : List LinearPiece) (piece : LinearPiece) (given : List ℕ) →
-    joined (map area_of pieces) ≡ given → drop (size pieces) (linear_stream (pieces ++ piece ∷ [])) ≡ core_header (length (area_of piece)) ++ drop
-    (length given) (scrambled_octets (given ++ area_of piece))
+    joined (map area_of pieces) ≡ given → drop (size pieces) (linear_stream (pieces ++ piece ∷ []))
+    ≡ core_header (length (area_of piece)) ++ drop (length given) (scrambled_octets (given ++ area_of piece))
 one_more_piece pieces piece given is =
     let octets : List ℕ = core_header (length (area_of piece)) ++ drop (length (joined (map area_of pieces)))
     (scrambled_octets (joined (map area_of pieces) ++ area_of piece)) in

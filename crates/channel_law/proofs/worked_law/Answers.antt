@@ -47,6 +47,11 @@ unfolding worked_rows worked_stream first_busy with_queue reaching cut core_head
     divide add_front scramble_on pli_of head hec_of header_with hunt_within segments_on cut_rows extents
 returns-clause-kept c = refl
 
+pub returns-clause-octets : goal.returns-clause-octets
+unfolding first_busy with_queue reaching cut core_header octets_of xors bits number_behind divide add_front scramble_on
+    hec_of
+returns-clause-octets c = refl
+
 -- ---- what is confirmed first
 front : Segment
 front = record { first = true; base = 0; octets = take 8 worked_stream }
