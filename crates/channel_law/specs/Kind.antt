@@ -1,5 +1,5 @@
--- A kind of frames on a stream, by what stands in an area behind a type header and what a receiver tells of it. That
--- the law of losses is said of any kind is this project's own.
+-- A kind of frames on a stream, by what stands in an area behind a type header and what a receiver tells of it. To
+-- make the kind a setting of the law of losses is this project's own.
 use Rattle.std.specs.Prelude.{◌≡◌, ℕ, ◌<◌, ◌≤◌, ◌^◌, Bool, true, false, List, [], ◌++◌, length, map, All}
 use Rattle.std.specs.List.{flat_map}
 use Rattle.session_model.specs.Core.{head}

@@ -1,7 +1,7 @@
 //! The laws of channels that share a stream by linear extension headers: what of each channel a stream carries, what
 //! is delivered of it where octets don't arrive, and what an answer to a frame depends on. There is no code here.
-//! Begin with `channel_law`; `kind_law` is the law of losses for any kind of frames, of which those with a linear
-//! extension header are one.
+//! Begin with `channel_law`; `kind_law` is the law of losses where the kind of frames is a setting, of which those
+//! with a linear extension header are one.
 #![tactic(auto)]
 
 ghost use Rattle.std.specs.Prelude.{◌≡◌, ℕ, ◌<◌, ◌≤◌, ◌^◌, true, List, [], ◌∷◌, ◌++◌, length, take, drop, All};
@@ -59,8 +59,8 @@ pub fn channel_law()
         delivered_of cid cuts (stream_to place channels) ≡ kept_of cid pieces rows }
 {}
 
-/// The law of losses for any kind of frames: where each place that is confirmed first after a break is that of a
-/// piece, what is told of rows is what is read of the contents that they carry and that aren't lost.
+/// The law of losses where the kind of frames is a setting: where each place that is confirmed first after a break is
+/// that of a piece, what is told of rows is what is read of the contents that they carry and that aren't lost.
 pub fn kind_law()
     ensures { (kind : Kind LinearOutcome ChannelFrame) (pieces : List Piece)
         (rows : List StreamRow) → IsKind kind → All (IsPieceIn kind) pieces →
