@@ -20,14 +20,15 @@ use Rattle.gfp_linear.proofs.StreamSteps.{long}
 use Rattle.gfp_linear.proofs.TurnLaws.{reached-keeps}
 use Rattle.loss_law.proofs.ExtentLaws.{frames_to}
 use Rattle.loss_law.proofs.PrefixLaws.{all_frames, frames_to-first}
-use Rattle.channel_law.specs.Kind.{stream_in, IsPieceIn, segment_told, Carries}
+use Rattle.loss_law.specs.Kind.{stream_in, IsPieceIn, segment_told, Carries}
 use Rattle.channel_law.specs.Kept.{AreSound, linear_kind, as_pieces, read_content, frame_with, frames_told}
 use Rattle.channel_law.specs.Kept.{content_frames}
 use Rattle.channel_law.specs.Kept.{carried_of, kept_of, delivered_of, AreOrdered}
 use Rattle.channel_law.proofs.ContentLaws.{linear-sound, stream-pieces, IsSent, pieces_sent}
 use Rattle.channel_law.proofs.QueueLaws.{reached_sent, unsent_may}
 use Rattle.channel_law.proofs.CutLaws.{none-ordered, cut-octets, all-whole}
-use Rattle.channel_law.proofs.KindLaws.{told-kept, told-all}
+use Rattle.loss_law.proofs.KeptLaws.{told-kept}
+use Rattle.loss_law.proofs.WholeLaws.{told-all}
 
 -- ---- frames of one channel
 told-append : (cid : ℕ) (one other : List ChannelFrame) →

@@ -16,7 +16,7 @@ use Rattle.linear_model.specs.Linear.{linear_header, extension_header, cid_field
 use Rattle.linear_model.specs.Linear.{linear_type_fault}
 use Rattle.linear_model.specs.Linear.{linear_outcome, frame_in, linear_area}
 use Rattle.linear_model.specs.Stream.{LinearPiece, idle, client, area_of, linear_stream}
-use Rattle.channel_law.specs.Kind.{IsKind, area_in, stream_in, IsContent, IsPieceIn}
+use Rattle.loss_law.specs.Kind.{IsKind, area_in, stream_in, IsContent, IsPieceIn}
 use Rattle.channel_law.specs.Kept.{IsChannelFrame, read_content, linear_kind, as_piece, as_pieces}
 
 -- ---- the headers

@@ -1,8 +1,3 @@
-pub mod StreamLaws
-pub mod SettledLaws
-pub mod ToldLaws
-pub mod GivenLaws
-pub mod KindLaws
 pub mod ContentLaws
 pub mod QueueLaws
 pub mod CutLaws

@@ -12,7 +12,7 @@ use Rattle.linear_model.specs.Linear.{linear_header, extension_header, LinearOut
 use Rattle.linear_model.specs.Linear.{frame_in}
 use Rattle.linear_model.specs.Channels.{Channels}
 use Rattle.linear_model.specs.Stream.{LinearPiece, idle, client, cut_outcomes}
-use Rattle.channel_law.specs.Kind.{Kind}
+use Rattle.loss_law.specs.Kind.{Kind}
 
 -- ---- channels of which each frame may be sent
 pub record IsChannelFrame (frame : List ℕ) : Type 0 where

@@ -1,19 +1,13 @@
 //! The laws of channels that share a stream by linear extension headers: what of each channel a stream carries, what
 //! is delivered of it where octets don't arrive, and what an answer to a frame depends on. There is no code here.
-//! Begin with `channel_law`; `kind_law` is the law of losses where the kind of frames is a setting, of which those
-//! with a linear extension header are one.
+//! Begin with `channel_law`. It is the law of losses with frames that have a linear extension header as their kind.
 #![tactic(auto)]
 
 ghost use Rattle.std.specs.Prelude.{◌≡◌, ℕ, ◌<◌, ◌≤◌, ◌^◌, true, List, [], ◌∷◌, ◌++◌, length, take, drop, All};
-ghost use Rattle.std.specs.List.{flat_map};
-ghost use Rattle.session_model.specs.Piece.{Piece, idle};
-ghost use Rattle.session_model.specs.Segment.{StreamRow, octets_of_rows};
-ghost use Rattle.session_model.specs.Loss.{TrueStarts, frames_kept};
+ghost use Rattle.session_model.specs.Loss.{TrueStarts};
 ghost use Rattle.linear_model.specs.declared.Cut.{Cut};
-ghost use Rattle.linear_model.specs.Linear.{LinearOutcome, ChannelFrame};
 ghost use Rattle.linear_model.specs.Channels.{Channels, silent, waiting_of, channel_refusal, pushed};
 ghost use Rattle.linear_model.specs.Stream.{unsent, reached, frames_of, stream_to, cut_rows};
-ghost use Rattle.channel_law.specs.Kind.{Kind, IsKind, stream_in, IsPieceIn, rows_told, Carries};
 ghost use Rattle.channel_law.specs.Worked.{worked_channels, worked_pieces, worked_stream, worked_cuts};
 ghost use Rattle.channel_law.specs.Worked.{worked_rows, zero_channels, first_octets};
 ghost use Rattle.channel_law.specs.Kept.{AreSound, as_pieces, carried_of, kept_of, delivered_of, AreOrdered};
@@ -57,16 +51,6 @@ pub fn channel_law()
         let pieces = (reached place (unsent channels)).pieces in
         TrueStarts (as_pieces pieces) rows →
         delivered_of cid cuts (stream_to place channels) ≡ kept_of cid pieces rows }
-{}
-
-/// The law of losses where the kind of frames is a setting: where each place that is confirmed first after a break is
-/// that of a piece, what is told of rows is what is read of the contents that they carry and that aren't lost.
-pub fn kind_law()
-    ensures { (kind : Kind LinearOutcome ChannelFrame) (pieces : List Piece)
-        (rows : List StreamRow) → IsKind kind → All (IsPieceIn kind) pieces →
-        Carries rows (stream_in kind (idle ∷ idle ∷ pieces)) →
-        TrueStarts (idle ∷ idle ∷ pieces) rows →
-        rows_told kind rows ≡ flat_map kind.read (frames_kept (idle ∷ idle ∷ pieces) rows) }
 {}
 
 /// A worked stream, computed: two frames of each of two channels are sent in turns, and the first of them is cut off.

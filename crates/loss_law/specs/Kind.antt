@@ -1,10 +1,12 @@
 -- A kind of frames on a stream, by what stands in an area behind a type header and what a receiver tells of it. To
 -- make the kind a setting of the law of losses is this project's own.
-use Rattle.std.specs.Prelude.{◌≡◌, ℕ, ◌<◌, ◌≤◌, ◌^◌, Bool, true, false, List, [], ◌++◌, length, map, All}
+use Rattle.std.specs.Prelude.{◌≡◌, ℕ, ◌<◌, ◌≤◌, ◌^◌, Bool, true, false, List, [], ◌∷◌, ◌++◌, length, map, All}
 use Rattle.std.specs.List.{flat_map}
 use Rattle.session_model.specs.Core.{head}
 use Rattle.session_model.specs.Piece.{Piece, idle, client, scrambled_areas, with_header}
-use Rattle.session_model.specs.Outcome.{outcomes_with}
+use Rattle.session_model.specs.TypeHeader.{type_header}
+use Rattle.session_model.specs.Outcome.{Outcome, client_outcome, outcomes_with}
+use Rattle.session_model.specs.Delivery.{frame_in}
 use Rattle.session_model.specs.Segment.{StreamRow, Segment, segments, octets_of_rows}
 
 -- the type header; what comes of an area by whether the descrambler is settled; what that tells; and what is told of
@@ -55,3 +57,12 @@ rows_told kind rows = flat_map (segment_told kind) (segments rows)
 pub record Carries (rows : List StreamRow) (stream : List ℕ) : Type 0 where
   pub rest : List ℕ
   pub parts : stream ≡ octets_of_rows rows ++ rest
+
+-- ---- Ethernet frames of at most a number of octets
+abbrev pub plain_kind : ℕ → Kind Outcome (List ℕ)
+plain_kind longest = record {
+  header = type_header;
+  outcome = client_outcome longest;
+  told = frame_in;
+  read = λ frame. frame ∷ [];
+}

@@ -10,7 +10,7 @@ use Rattle.session_model.specs.TypeHeader.{type_header}
 use Rattle.session_model.specs.Piece.{Piece, idle, client, area_of, joined, with_header, stream_of}
 use Rattle.session_model.proofs.AreaLaws.{scrambled_behind, map-length-scrambled_behind, scrambled_behind-append}
 use Rattle.session_model.proofs.StreamLaws.{length-with_header}
-use Rattle.channel_law.specs.Kind.{Kind, IsKind, area_in, stream_in, IsPieceIn}
+use Rattle.loss_law.specs.Kind.{Kind, IsKind, area_in, stream_in, IsPieceIn}
 
 -- areas of the same sizes have as many octets with their headers
 pub headed-same : (a b : List (List ℕ)) → map length a ≡ map length b →

@@ -22,13 +22,11 @@ use Rattle.gfp_delineate.proofs.FrontLaws.{whole_areas-scrambled_behind, descram
 use Rattle.gfp_delineate.proofs.Delivery.{fits-scrambled}
 use Rattle.session_model.specs.Loss.{extents}
 use Rattle.loss_law.proofs.FoundLaws.{runs_after, runs_of_search, runs-search, runs-confirmed, runs-none, drop-part}
-use Rattle.loss_law.proofs.SettledLaws.{joined_below}
-use Rattle.loss_law.proofs.ExtentLaws.{frames_to}
-use Rattle.loss_law.proofs.LaterLaws.{extents_after_first}
-use Rattle.channel_law.specs.Kind.{Kind, IsKind, area_in, stream_in, IsContent, IsPieceIn, told_in}
-use Rattle.channel_law.proofs.StreamLaws.{idle_fits, stream_behind, stream-append, length-area, length-stream, plis}
-use Rattle.channel_law.proofs.StreamLaws.{areas_below}
-use Rattle.channel_law.proofs.SettledLaws.{outcomes-idle, told-settled}
+use Rattle.loss_law.proofs.ExtentLaws.{frames_to, extents_after_first}
+use Rattle.loss_law.specs.Kind.{Kind, IsKind, area_in, stream_in, IsContent, IsPieceIn, told_in}
+use Rattle.loss_law.proofs.KindStreamLaws.{idle_fits, stream_behind, stream-append, length-area, length-stream, plis}
+use Rattle.loss_law.proofs.KindStreamLaws.{areas_below}
+use Rattle.loss_law.proofs.SettledLaws.{joined_below, outcomes-idle, told-settled}
 
 -- ---- places
 -- nothing ends by a place at which the first of pieces isn't whole
