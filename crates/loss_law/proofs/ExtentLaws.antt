@@ -90,3 +90,9 @@ extents-between start (piece ∷ pieces) = by piece (extents-between (start + si
         (start + size_of (client frame) + length (stream_of pieces)))
         (IsBetween start (start + length (stream_of (client frame ∷ pieces)))) (wider (client frame))
         (extents (start + size_of (client frame)) pieces) all)
+
+-- the client frames after the first one
+unfoldable pub extents_after_first : ℕ → List Piece → List Extent
+extents_after_first place [] = []
+extents_after_first place (idle ∷ pieces) = extents_after_first (place + size_of idle) pieces
+extents_after_first place (client frame ∷ pieces) = extents (place + size_of (client frame)) pieces

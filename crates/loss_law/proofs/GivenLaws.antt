@@ -11,8 +11,7 @@ use Rattle.session_model.specs.Segment.{Segment}
 use Rattle.session_model.specs.Loss.{Extent, extents, is_carried, lies_in, confirmed_in, missed_after, is_missed}
 use Rattle.session_model.specs.Loss.{is_given}
 use Rattle.loss_law.proofs.FilterLaws.{and_false, and_true, or_true, filter-skip, filter-none, filter-same}
-use Rattle.loss_law.proofs.ExtentLaws.{IsBetween, extents-between, extents-append}
-use Rattle.loss_law.proofs.LaterLaws.{extents_after_first}
+use Rattle.loss_law.proofs.ExtentLaws.{IsBetween, extents-between, extents-append, extents_after_first}
 
 -- a client frame that begins between a place and another frame
 abbrev pub is_between : ℕ → Extent → Extent → Bool

@@ -1,27 +1,32 @@
--- What all segments give is what is carried and isn't lost.
-use Rattle.std.proofs.Common.{◌≡◌, ℕ, ◌+◌, ◌≤◌, Bool, true, false, not, List, [], ◌∷◌, ◌++◌, length, map, filter, take}
-use Rattle.std.proofs.Common.{drop, All, Option, Some, None, refl, sym, ◌∙◌, ap, ap₂, subst, arith, inl, inr}
-use Rattle.std.proofs.Common.{length-drop}
+-- What all segments tell is what is read of what is carried and isn't lost: of any kind of frames, and so of Ethernet
+-- frames.
+use Rattle.std.proofs.Common.{◌≡◌, ℕ, ◌+◌, ◌<◌, ◌≤◌, Bool, true, false, not, List, [], ◌∷◌, ◌++◌, length, map, filter}
+use Rattle.std.proofs.Common.{take, drop, All, Option, Some, None, refl, sym, ◌∙◌, ap, ap₂, subst, arith, inl, inr}
+use Rattle.std.proofs.Common.{length-drop, length-append}
 use Rattle.std.specs.Prelude.{nat_le, ◌&&◌, ◌||◌, IfSome}
 use Rattle.std.specs.List.{list_any, flat_map}
 use Rattle.std.specs.Option.{option_map}
-use Rattle.std.proofs.lemmas.Bool.{cases_Bool, leb-true, le-leb}
+use Rattle.std.proofs.lemmas.Bool.{cases_Bool, leb-true, le-leb, le-ltb}
 use Rattle.std.proofs.lemmas.List.{map-append, take-append-le, drop-append-le}
+use Rattle.std.proofs.lemmas.List.Concat.{flat_map-append}
 use Rattle.std.proofs.lemmas.List.Elements.{All-nil, All-cons, All-head, All-tail, All-append, All-weaker}
-use Rattle.session_model.specs.Piece.{Piece, idle, client, size_of, stream_of}
+use Rattle.remainder.specs.Bits.{bits, number_behind}
+use Rattle.remainder.specs.Remainder.{add_front, divide}
+use Rattle.hec16.specs.Hec.{hec_of}
+use Rattle.session_model.specs.TypeHeader.{type_header, type_fault}
+use Rattle.session_model.specs.Piece.{Piece, idle, client, area_of, size_of, stream_of, with_header, scrambled_areas}
 use Rattle.session_model.specs.Hunt.{Confirmed, hunt}
-use Rattle.session_model.specs.Outcome.{outcomes}
-use Rattle.session_model.specs.Delivery.{frame_in}
-use Rattle.gfp_delineate.proofs.Delivery.{IsSendable, delivered-stream}
-use Rattle.session_model.specs.Segment.{StreamRow, Segment, segments_of, segments, segment_frames, deliver}
+use Rattle.gfp_delineate.proofs.Delivery.{IsSendable}
+use Rattle.session_model.specs.Segment.{StreamRow, Segment, segments_of, segments, deliver, octets_of_rows}
 use Rattle.session_model.specs.Loss.{Extent, extents, is_carried, lies_in, confirmed_in, is_given, is_frame_lost}
 use Rattle.session_model.specs.Loss.{IsPlaceOfPiece, StartsTrue, TrueStarts, frames_kept}
-use Rattle.session_model.specs.Segment.{octets_of_rows}
 use Rattle.loss_law.specs.Carried.{CarriesStream, IsSentPiece}
+use Rattle.loss_law.specs.Kind.{Kind, IsKind, area_in, stream_in, IsPieceIn, told_in, segment_told, rows_told, Carries}
+use Rattle.loss_law.specs.Kind.{plain_kind}
 use Rattle.loss_law.proofs.FilterLaws.{and_false, filter-skip, filter-keep, filter-none, filter-same}
 use Rattle.loss_law.proofs.FoundLaws.{confirmed-within}
-use Rattle.loss_law.proofs.ExtentLaws.{IsBetween, extents-between, frames_ended}
-use Rattle.loss_law.proofs.LaterLaws.{IsLong, frames_of_later, frames_of_none}
+use Rattle.loss_law.proofs.ExtentLaws.{IsBetween, extents-between}
+use Rattle.loss_law.proofs.ToldLaws.{told-later, told-unconfirmed, told-stream}
 use Rattle.loss_law.proofs.GivenLaws.{all_of, given_later, given_none, given_first}
 use Rattle.loss_law.proofs.CutLaws.{IsPart, InOrder, Stands-all}
 
@@ -128,16 +133,6 @@ given_by_all all pieces low (segment ∷ further) order =
     ∙ sym (merged high (λ e. is_given all e segment) (λ e. list_any (is_given all e) further)
     (λ e is. given_upper all e segment is) (λ e is. any_lower all e high further order.1 is) 0 pieces)
 
-frames_of_all : (longest : ℕ) (test : Segment → List Extent) (segments : List Segment) →
-    All (λ segment. segment_frames longest segment ≡ map (λ (e : Extent). e.frame) (test segment)) segments →
-    flat_map (segment_frames longest) segments ≡ map (λ (e : Extent). e.frame) (flat_map test segments)
-frames_of_all longest test [] each = refl
-frames_of_all longest test (segment ∷ further) each =
-    let P : Segment → Type 0 = λ segment. segment_frames longest segment ≡ map (λ (e : Extent). e.frame)
-    (test segment) in
-    ap₂ ◌++◌ (All-head P segment further each) (frames_of_all longest test further (All-tail P segment further each))
-    ∙ sym (map-append (λ (e : Extent). e.frame) (test segment) (flat_map test further))
-
 -- ---- one segment
 pub part_of_stream : (sent rest : List ℕ) (base count : ℕ) → base + count ≤ length sent →
     take count (drop base (sent ++ rest)) ≡ take count (drop base sent)
@@ -158,123 +153,188 @@ pub sendable_of : (longest : ℕ) (piece : Piece) → IsSentPiece longest piece 
 sendable_of longest idle sent = tt
 sendable_of longest (client frame) sent = record { size = sent.most; octets = sent.octets }
 
-long_of : (longest : ℕ) (piece : Piece) → IsSentPiece longest piece → IsLong piece
-long_of longest idle sent = tt
-long_of longest (client frame) sent = sent.least
+-- all segments of rows are parts of the octets of the rows
+pub parts-of : (rows : List StreamRow) → All (IsPart (octets_of_rows rows)) (segments rows)
+parts-of rows =
+    let sent : List ℕ = octets_of_rows rows in
+    let stands = Stands-all rows in
+    All-append (IsPart sent) (segments_of rows).ended ((segments_of rows).last ∷ []) stands.each
+    (All-cons (IsPart sent) (segments_of rows).last [] stands.last (All-nil (IsPart sent)))
 
-module _ (longest : ℕ) (pieces : List Piece) (segment : Segment) (fits : longest ≤ 65531) where
+kept : (all : List Extent) (e : Extent) (rows : List StreamRow) → list_any (is_given all e) (segments rows) ≡
+    (is_carried (length (octets_of_rows rows)) e && not (is_frame_lost (segments rows) all e))
+kept all e rows =
+    let sent : List ℕ = octets_of_rows rows in
+    let parts : List Segment = segments rows in
+    elim (cases_Bool (list_any (is_given all e) parts)) [
+      | inl some ↦ some ∙ sym (ap₂ (λ a b. a && not (not b))
+          (le-leb e.to (length sent) (any_upper all e sent parts (parts-of rows) some)) some)
+      | inr none ↦ none ∙ sym (ap (λ b. is_carried (length sent) e && not (not b)) none
+          ∙ and_false (is_carried (length sent) e))
+    ]
+
+-- what the segments of rows give is what the rows carry and isn't lost
+pub given-kept : (pieces : List Piece) (rows : List StreamRow) →
+    flat_map (λ segment. filter (λ e. is_given (extents 0 pieces) e segment) (extents 0 pieces)) (segments rows)
+    ≡ filter (λ e. is_carried (length (octets_of_rows rows)) e
+    && not (is_frame_lost (segments rows) (extents 0 pieces) e)) (extents 0 pieces)
+given-kept pieces rows =
+    let all : List Extent = extents 0 pieces in
+    given_by_all all pieces 0 (segments rows) (Stands-all rows).order
+    ∙ filter-same (λ e. list_any (is_given all e) (segments rows))
+    (λ e. is_carried (length (octets_of_rows rows)) e && not (is_frame_lost (segments rows) all e)) all
+    (all_of (λ e. list_any (is_given all e) (segments rows)
+    ≡ (is_carried (length (octets_of_rows rows)) e && not (is_frame_lost (segments rows) all e)))
+    (λ e. kept all e rows) all)
+
+-- ---- any kind of frames
+abbrev frames_in : List Extent → List (List ℕ)
+frames_in all = map (λ (e : Extent). e.frame) all
+
+module _ {X Y : Type 0} (kind : Kind X Y) (sound : IsKind kind) (pieces : List Piece)
+    (sent : All (IsPieceIn kind) pieces) where
+  abbrev pub piece_list : List Piece
+  piece_list = idle ∷ idle ∷ pieces
+
   abbrev stream : List ℕ
-  stream = stream_of (idle ∷ idle ∷ pieces)
+  stream = stream_in kind piece_list
 
-  abbrev given : List (List ℕ)
-  given = map (λ (e : Extent). e.frame)
-      (filter (λ e. is_given (extents 0 (idle ∷ idle ∷ pieces)) e segment) (extents 0 (idle ∷ idle ∷ pieces)))
+  -- the frames that a segment gives
+  abbrev pub given : Segment → List Extent
+  given segment = filter (λ e. is_given (extents 0 piece_list) e segment) (extents 0 piece_list)
 
-  first_given : segment.first ≡ true → segment.base ≡ 0 →
-      segment.octets ≡ take (length segment.octets) (drop segment.base stream) → All (IsSendable longest) pieces →
-      segment_frames longest segment ≡ given
-  first_given first base octets sendable =
-      let count : ℕ = length segment.octets in
-      ap₂ (λ first octets. flat_map frame_in (outcomes longest first octets)) first
-      (octets ∙ ap (λ n. take count (drop n stream)) base)
-      ∙ delivered-stream longest count pieces fits sendable
-      ∙ frames_ended count 0 (idle ∷ idle ∷ pieces)
-      ∙ ap (map (λ (e : Extent). e.frame)) (sym (given_first segment (extents 0 (idle ∷ idle ∷ pieces)) first base))
+  abbrev read_of : List Extent → List Y
+  read_of all = flat_map kind.read (frames_in all)
 
-  later_given : (found : Option Confirmed) → hunt true 0 segment.octets ≡ found → segment.first ≡ false →
+  all_sent : All (IsPieceIn kind) piece_list
+  all_sent = All-cons (IsPieceIn kind) idle (idle ∷ pieces) tt (All-cons (IsPieceIn kind) idle pieces tt sent)
+
+  first_given : (segment : Segment) → segment.first ≡ true → segment.base ≡ 0 →
       segment.octets ≡ take (length segment.octets) (drop segment.base stream) →
-      All (IsSentPiece longest) (idle ∷ idle ∷ pieces) →
-      IfSome (confirmed_in segment) (IsPlaceOfPiece (idle ∷ idle ∷ pieces)) → segment_frames longest segment ≡ given
-  later_given None is later octets sent starts =
+      segment_told kind segment ≡ read_of (given segment)
+  first_given segment first base octets =
+      let count : ℕ = length segment.octets in
+      ap₂ (told_in kind) first (octets ∙ ap (λ n. take count (drop n stream)) base)
+      ∙ told-stream kind sound count pieces sent
+      ∙ ap read_of (sym (given_first segment (extents 0 piece_list) first base))
+
+  later_given : (segment : Segment) (found : Option Confirmed) → hunt true 0 segment.octets ≡ found →
+      segment.first ≡ false → segment.octets ≡ take (length segment.octets) (drop segment.base stream) →
+      IfSome (confirmed_in segment) (IsPlaceOfPiece piece_list) → segment_told kind segment ≡ read_of (given segment)
+  later_given segment None is later octets starts =
       let none : confirmed_in segment ≡ None = ap (option_map (λ (c : Confirmed). segment.base + c.place)) is in
-      ap (λ first. flat_map frame_in (outcomes longest first segment.octets)) later
-      ∙ frames_of_none longest segment.octets is
-      ∙ ap (map (λ (e : Extent). e.frame)) (sym (given_none segment (extents 0 (idle ∷ idle ∷ pieces)) later none))
-  later_given (Some confirmed) is later octets sent starts =
+      ap (λ first. told_in kind first segment.octets) later
+      ∙ told-unconfirmed kind sound segment.octets is
+      ∙ ap read_of (sym (given_none segment (extents 0 piece_list) later none))
+  later_given segment (Some confirmed) is later octets starts =
       let place : ℕ = segment.base + confirmed.place in
       let count : ℕ = length segment.octets in
       let some : confirmed_in segment ≡ Some place = ap (option_map (λ (c : Confirmed). segment.base + c.place)) is in
-      let true_start : IsPlaceOfPiece (idle ∷ idle ∷ pieces) place =
-      subst (λ found. IfSome found (IsPlaceOfPiece (idle ∷ idle ∷ pieces))) some starts in
+      let true_start : IsPlaceOfPiece piece_list place =
+      subst (λ found. IfSome found (IsPlaceOfPiece piece_list)) some starts in
       let front : List Piece = true_start.front in
       let more : List Piece = true_start.more in
-      let both : All (IsSentPiece longest) (front ++ more) = subst (All (IsSentPiece longest)) true_start.parts sent in
-      let gone : All (IsSentPiece longest) front = All-front (IsSentPiece longest) front more both in
-      let left : All (IsSentPiece longest) more = All-after (IsSentPiece longest) front more both in
-      let same : segment.octets ≡ take count (drop segment.base (stream_of (front ++ more))) = octets
-      ∙ ap (λ ps. take count (drop segment.base (stream_of ps))) true_start.parts in
-      ap₂ (λ first octets. flat_map frame_in (outcomes longest first octets)) later same
-      ∙ frames_of_later longest front more segment.base count confirmed fits
-      (All-weaker (IsSentPiece longest) (IsSendable longest) (sendable_of longest) front gone)
-      (All-weaker (IsSentPiece longest) (IsSendable longest) (sendable_of longest) more left)
-      (All-weaker (IsSentPiece longest) IsLong (long_of longest) more left)
+      let both : All (IsPieceIn kind) (front ++ more) = subst (All (IsPieceIn kind)) true_start.parts all_sent in
+      let same : segment.octets ≡ take count (drop segment.base (stream_in kind (front ++ more))) = octets
+      ∙ ap (λ ps. take count (drop segment.base (stream_in kind ps))) true_start.parts in
+      ap₂ (told_in kind) later same
+      ∙ told-later kind sound front more segment.base count confirmed
+      (All-front (IsPieceIn kind) front more both) (All-after (IsPieceIn kind) front more both)
       (ap (hunt true 0) (sym same) ∙ is) true_start.ends (omega (arith, confirmed-within segment.octets confirmed is))
-      ∙ ap (map (λ (e : Extent). e.frame))
+      ∙ ap read_of
       (sym (given_later segment place later some (omega arith) front more true_start.ends)
       ∙ ap (λ ps. filter (λ e. is_given (extents 0 ps) e segment) (extents 0 ps)) (sym true_start.parts))
 
-  segment_given : (sent rest : List ℕ) → stream ≡ sent ++ rest → IsPart sent segment →
-      All (IsSentPiece longest) pieces → StartsTrue (idle ∷ idle ∷ pieces) segment →
-      segment_frames longest segment ≡ given
-  segment_given sent rest carried is sendable starts =
+  segment_given : (segment : Segment) (arrived rest : List ℕ) → stream ≡ arrived ++ rest → IsPart arrived segment →
+      StartsTrue piece_list segment → segment_told kind segment ≡ read_of (given segment)
+  segment_given segment arrived rest carried is starts =
       let octets : segment.octets ≡ take (length segment.octets) (drop segment.base stream) =
-      is.octets ∙ sym (part_of_stream sent rest segment.base (length segment.octets) is.fits)
+      is.octets ∙ sym (part_of_stream arrived rest segment.base (length segment.octets) is.fits)
       ∙ ap (λ l. take (length segment.octets) (drop segment.base l)) (sym carried) in
       elim (cases_Bool segment.first) [
-        | inl first ↦ first_given first (is.first first) octets
-            (All-weaker (IsSentPiece longest) (IsSendable longest) (sendable_of longest) pieces sendable)
-        | inr later ↦ later_given (hunt true 0 segment.octets) refl later octets
-            (All-cons (IsSentPiece longest) idle (idle ∷ pieces) tt
-            (All-cons (IsSentPiece longest) idle pieces tt sendable)) (starts later)
+        | inl first ↦ first_given segment first (is.first first) octets
+        | inr later ↦ later_given segment (hunt true 0 segment.octets) refl later octets (starts later)
       ]
 
+  all_given : (arrived rest : List ℕ) (segments : List Segment) → stream ≡ arrived ++ rest →
+      All (IsPart arrived) segments → All (StartsTrue piece_list) segments →
+      flat_map (segment_told kind) segments ≡ read_of (flat_map given segments)
+  all_given arrived rest [] carried parts starts = refl
+  all_given arrived rest (segment ∷ further) carried parts starts =
+      ap₂ ◌++◌ (segment_given segment arrived rest carried (All-head (IsPart arrived) segment further parts)
+      (All-head (StartsTrue piece_list) segment further starts))
+      (all_given arrived rest further carried (All-tail (IsPart arrived) segment further parts)
+      (All-tail (StartsTrue piece_list) segment further starts))
+      ∙ sym (flat_map-append kind.read (frames_in (given segment)) (frames_in (flat_map given further)))
+      ∙ ap (flat_map kind.read)
+      (sym (map-append (λ (e : Extent). e.frame) (given segment) (flat_map given further)))
+
+  -- the law of losses
+  pub told-kept : (rows : List StreamRow) → Carries rows (stream_in kind piece_list) → TrueStarts piece_list rows →
+      rows_told kind rows ≡ flat_map kind.read (frames_kept piece_list rows)
+  told-kept rows carried starts =
+      all_given (octets_of_rows rows) carried.rest (segments rows) carried.parts (parts-of rows) starts
+      ∙ ap read_of (given-kept piece_list rows)
+
+-- ---- Ethernet frames are a kind
+type_header_right : type_fault type_header ≡ None
+unfolding type_fault hec_of bits divide add_front number_behind
+type_header_right = refl
+
+pub plain-sound : (longest : ℕ) → IsKind (plain_kind longest)
+plain-sound longest =
+    let below : ℕ → Type 0 = λ o. o < 256 in
+    record {
+      four = refl;
+      octets = All-cons below 0 (1 ∷ 16 ∷ 33 ∷ []) (omega arith)
+          (All-cons below 1 (16 ∷ 33 ∷ []) (omega arith)
+          (All-cons below 16 (33 ∷ []) (omega arith) (All-cons below 33 [] (omega arith) (All-nil below))));
+      unsettled = λ area. refl;
+    }
+
+plain-piece : (longest : ℕ) → longest ≤ 65531 → (piece : Piece) → IsSentPiece longest piece →
+    IsPieceIn (plain_kind longest) piece
+plain-piece longest fits idle sent = tt
+plain-piece longest fits (client frame) sent =
+    let short : length (type_header ++ frame) ≤ longest + 4 =
+    omega (arith, length-append type_header frame, sent.most) in
+    record {
+      least = sent.least;
+      most = omega (arith, sent.most, fits);
+      octets = sent.octets;
+      comes = rw (le-ltb (longest + 4) (length (type_header ++ frame)) short, type_header_right) refl;
+    }
+
+pub plain-pieces : (longest : ℕ) (pieces : List Piece) → longest ≤ 65531 → All (IsSentPiece longest) pieces →
+    All (IsPieceIn (plain_kind longest)) pieces
+plain-pieces longest pieces fits sent =
+    All-weaker (IsSentPiece longest) (IsPieceIn (plain_kind longest)) (plain-piece longest fits) pieces sent
+
+plain-area : (longest : ℕ) (piece : Piece) → area_in (plain_kind longest) piece ≡ area_of piece
+plain-area longest idle = refl
+plain-area longest (client frame) = refl
+
+plain-areas : (longest : ℕ) (pieces : List Piece) → map (area_in (plain_kind longest)) pieces ≡ map area_of pieces
+plain-areas longest [] = refl
+plain-areas longest (piece ∷ pieces) = ap₂ ◌∷◌ (plain-area longest piece) (plain-areas longest pieces)
+
+pub plain-carries : (longest : ℕ) (pieces : List Piece) (rows : List StreamRow) → CarriesStream rows pieces →
+    Carries rows (stream_in (plain_kind longest) pieces)
+plain-carries longest pieces rows carried = record {
+  rest = carried.rest;
+  parts = ap (λ areas. flat_map with_header (scrambled_areas areas)) (plain-areas longest pieces) ∙ carried.stream;
+}
+
+pub plain-read : (longest : ℕ) (frames : List (List ℕ)) → flat_map (plain_kind longest).read frames ≡ frames
+plain-read longest [] = refl
+plain-read longest (frame ∷ frames) = ap (λ l. frame ∷ l) (plain-read longest frames)
+
 -- ---- the theorem
-abbrev GivesAll : ℕ → List Piece → Segment → Type 0
-GivesAll longest pieces segment =
-    segment_frames longest segment ≡ map (λ (e : Extent). e.frame)
-    (filter (λ e. is_given (extents 0 (idle ∷ idle ∷ pieces)) e segment) (extents 0 (idle ∷ idle ∷ pieces)))
-
-each_given : (longest : ℕ) (pieces : List Piece) (sent rest : List ℕ) (segments : List Segment) → longest ≤ 65531 →
-    stream_of (idle ∷ idle ∷ pieces) ≡ sent ++ rest → All (IsSentPiece longest) pieces →
-    All (IsPart sent) segments → All (StartsTrue (idle ∷ idle ∷ pieces)) segments →
-    All (GivesAll longest pieces) segments
-each_given longest pieces sent rest [] fits carried sendable parts starts = All-nil (GivesAll longest pieces)
-each_given longest pieces sent rest (segment ∷ further) fits carried sendable parts starts =
-    All-cons (GivesAll longest pieces) segment further
-    (segment_given longest pieces segment fits sent rest carried (All-head (IsPart sent) segment further parts) sendable
-    (All-head (StartsTrue (idle ∷ idle ∷ pieces)) segment further starts))
-    (each_given longest pieces sent rest further fits carried sendable (All-tail (IsPart sent) segment further parts)
-    (All-tail (StartsTrue (idle ∷ idle ∷ pieces)) segment further starts))
-
 pub deliver-kept : (longest : ℕ) (pieces : List Piece) (rows : List StreamRow) → longest ≤ 65531 →
     All (IsSentPiece longest) pieces → CarriesStream rows (idle ∷ idle ∷ pieces) →
     TrueStarts (idle ∷ idle ∷ pieces) rows →
     deliver longest rows ≡ frames_kept (idle ∷ idle ∷ pieces) rows
-deliver-kept longest pieces rows fits sendable carried starts =
-    let sent : List ℕ = octets_of_rows rows in
-    let all : List Extent = extents 0 (idle ∷ idle ∷ pieces) in
-    let parts : List Segment = segments rows in
-    let stands = Stands-all rows in
-    let each : All (IsPart sent) parts =
-    All-append (IsPart sent) (segments_of rows).ended ((segments_of rows).last ∷ []) stands.each
-    (All-cons (IsPart sent) (segments_of rows).last [] stands.last (All-nil (IsPart sent))) in
-    frames_of_all longest (λ segment. filter (λ e. is_given all e segment) all) parts
-    (each_given longest pieces sent carried.rest parts fits carried.stream sendable each starts)
-    ∙ ap (map (λ (e : Extent). e.frame))
-    (given_by_all all (idle ∷ idle ∷ pieces) 0 parts stands.order
-    ∙ filter-same (λ e. list_any (is_given all e) parts)
-    (λ e. is_carried (length sent) e && not (is_frame_lost parts all e)) all
-    (all_of (λ e. list_any (is_given all e) parts ≡ (is_carried (length sent) e && not (is_frame_lost parts all e)))
-    (λ e. kept e parts each) all))
-  where
-    kept : (e : Extent) (parts : List Segment) → All (IsPart (octets_of_rows rows)) parts →
-        list_any (is_given (extents 0 (idle ∷ idle ∷ pieces)) e) parts ≡
-        (is_carried (length (octets_of_rows rows)) e && not (is_frame_lost parts (extents 0 (idle ∷ idle ∷ pieces)) e))
-    kept e parts each =
-        let all : List Extent = extents 0 (idle ∷ idle ∷ pieces) in
-        elim (cases_Bool (list_any (is_given all e) parts)) [
-          | inl some ↦ some ∙ sym (ap₂ (λ a b. a && not (not b))
-              (le-leb e.to (length (octets_of_rows rows)) (any_upper all e (octets_of_rows rows) parts each some)) some)
-          | inr none ↦ none ∙ sym (ap (λ b. is_carried (length (octets_of_rows rows)) e && not (not b)) none
-              ∙ and_false (is_carried (length (octets_of_rows rows)) e))
-        ]
+deliver-kept longest pieces rows fits sent carried starts =
+    told-kept (plain_kind longest) (plain-sound longest) pieces (plain-pieces longest pieces fits sent) rows
+    (plain-carries longest (idle ∷ idle ∷ pieces) rows carried) starts
+    ∙ plain-read longest (frames_kept (idle ∷ idle ∷ pieces) rows)

@@ -2,7 +2,8 @@ pub mod FilterLaws
 pub mod FoundLaws
 pub mod SettledLaws
 pub mod ExtentLaws
-pub mod LaterLaws
+pub mod KindStreamLaws
+pub mod ToldLaws
 pub mod GivenLaws
 pub mod CutLaws
 pub mod KeptLaws

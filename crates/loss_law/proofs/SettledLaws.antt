@@ -1,13 +1,14 @@
 -- What comes of a run that begins in the middle of a stream: its first client frame settles the descrambler.
 use Rattle.std.proofs.Common.{◌≡◌, ℕ, ◌+◌, ◌-◌, ◌<◌, ◌≤◌, true, false, List, [], ◌∷◌, ◌++◌, length, map, drop, All}
 use Rattle.std.proofs.Common.{refl, sym, ◌∙◌, ap, ap₂, arith, append_assoc}
+use Rattle.std.specs.List.{flat_map}
 use Rattle.std.proofs.lemmas.List.{append-nil, length-append, drop-drop, drop_at}
 use Rattle.std.proofs.lemmas.List.Elements.{All-nil, All-append, All-head, All-tail}
+use Rattle.std.proofs.lemmas.List.Concat.{flat_map-append}
 use Rattle.std.proofs.lemmas.Bool.{le-leb}
 use Rattle.session_model.specs.Scramble.{scrambled_octets, descrambled_octets}
 use Rattle.session_model.specs.Piece.{cut, joined}
-use Rattle.session_model.specs.declared.Why.TheVariants.{Unsettled}
-use Rattle.session_model.specs.Outcome.{dropping, outcome_of, outcomes_after_with, outcomes_after, descrambled_areas}
+use Rattle.session_model.specs.Outcome.{area_outcomes, outcomes_after_with, descrambled_areas}
 use Rattle.session_model.proofs.ScrambledOctets.{length-scrambled_octets, scrambled_octets-append}
 use Rattle.session_model.proofs.ScrambledOctets.{descrambled_octets-scrambled_octets, descrambled_octets-behind}
 use Rattle.session_model.proofs.CutLaws.{cut-joined}
@@ -15,6 +16,7 @@ use Rattle.session_model.proofs.AreaLaws.{scrambled_behind, descrambled_behind, 
 use Rattle.session_model.proofs.AreaLaws.{joined-scrambled_behind, length-scrambled_single, descrambled_areas-append}
 use Rattle.session_model.proofs.AreaLaws.{descrambled_behind-single, length-descrambled_single}
 use Rattle.gfp_delineate.proofs.FrontLaws.{scrambled_behind-cons}
+use Rattle.loss_law.specs.Kind.{Kind, IsKind}
 
 -- ---- the octets after a part of a scrambled list that has six octets at least are descrambled to what they were,
 -- whatever
@@ -73,48 +75,64 @@ descrambled_behind-settled before area rest six first below =
     ∙ ap (cut (map length rest)) (descrambled-rest before area (joined rest) six all ∙ sym (append-nil (joined rest)))
     ∙ cut-joined rest []
 
--- ---- outcomes
-outcome_of-settled : (longest before other : ℕ) (area : List ℕ) → 6 ≤ before →
-    outcome_of longest false before area ≡ outcome_of longest true other area
-outcome_of-settled longest before other [] six = refl
-outcome_of-settled longest before other (o ∷ area) six = rw (le-leb 6 before six) refl
+-- ---- what is told of a run of any kind of frames
+module _ {X Y : Type 0} (kind : Kind X Y) (sound : IsKind kind) where
+  outcome-settled : (before other : ℕ) (area : List ℕ) → 6 ≤ before →
+      area_outcomes kind.outcome false before area ≡ area_outcomes kind.outcome true other area
+  outcome-settled before other [] six = refl
+  outcome-settled before other (o ∷ area) six = rw (le-leb 6 before six) refl
 
-outcomes-settled : (longest before other : ℕ) (areas : List (List ℕ)) → 6 ≤ before →
-    outcomes_after longest false before areas ≡ outcomes_after longest true other areas
-unfolding outcomes_after_with
-outcomes-settled longest before other [] six = refl
-outcomes-settled longest before other (area ∷ areas) six =
-    ap₂ ◌++◌ (outcome_of-settled longest before other area six)
-    (outcomes-settled longest (before + length area) (other + length area) areas (omega (arith, six)))
+  outcomes-settled : (before other : ℕ) (areas : List (List ℕ)) → 6 ≤ before →
+      outcomes_after_with kind.outcome false before areas ≡ outcomes_after_with kind.outcome true other areas
+  unfolding outcomes_after_with
+  outcomes-settled before other [] six = refl
+  outcomes-settled before other (area ∷ areas) six =
+      ap₂ ◌++◌ (outcome-settled before other area six)
+      (outcomes-settled (before + length area) (other + length area) areas (omega (arith, six)))
 
--- an area that begins a run which isn't settled
-outcome_of-first : (longest : ℕ) (area : List ℕ) → 0 < length area →
-    outcome_of longest false 0 area ≡ dropping Unsettled ∷ []
-outcome_of-first longest [] some = absurd (omega arith)
-outcome_of-first longest (o ∷ area) some = refl
+  -- an area that begins a run which isn't settled
+  outcome-first : (area : List ℕ) → 0 < length area →
+      area_outcomes kind.outcome false 0 area ≡ kind.outcome false area ∷ []
+  outcome-first [] some = absurd (omega arith)
+  outcome-first (o ∷ area) some = refl
 
-pub outcomes-idle : (longest : ℕ) (before : List ℕ) (areas : List (List ℕ)) →
-    outcomes_after longest false 0 (descrambled_areas (scrambled_behind before ([] ∷ areas)))
-    ≡ outcomes_after longest false 0 (descrambled_areas (scrambled_behind before areas))
-unfolding cut outcomes_after_with
-outcomes-idle longest before areas = refl
+  told-first : (area : List ℕ) → 0 < length area →
+      flat_map kind.told (area_outcomes kind.outcome false 0 area) ≡ []
+  told-first area some =
+      ap (flat_map kind.told) (outcome-first area some) ∙ append-nil (kind.told (kind.outcome false area))
+      ∙ sound.unsettled area
 
-pub outcomes-first : (longest : ℕ) (before area : List ℕ) (rest : List (List ℕ)) → 6 ≤ length area →
-    All (λ o. o < 256) (before ++ area) → All (All (λ o. o < 256)) rest →
-    outcomes_after longest false 0 (descrambled_areas (scrambled_behind before (area ∷ rest)))
-    ≡ dropping Unsettled ∷ outcomes_after longest true 0 rest
-unfolding outcomes_after_with
-outcomes-first longest before area rest six first below =
-    let first_part : List ℕ = drop (length before) (scrambled_octets (before ++ area)) in
-    let plain : List ℕ = drop (length {A = ℕ} []) (descrambled_octets ([] ++ first_part)) in
-    let size : length plain ≡ length area = length-descrambled_single [] first_part
-    ∙ length-scrambled_single before area in
-    let areas : descrambled_areas (scrambled_behind before (area ∷ rest)) ≡ plain ∷ rest =
-    ap descrambled_areas (scrambled_behind-cons before area rest)
-    ∙ descrambled_areas-append (first_part ∷ []) (scrambled_behind (before ++ area) rest)
-    ∙ ap₂ ◌++◌ (descrambled_behind-single [] first_part)
-    (ap (λ l. descrambled_behind l (scrambled_behind (before ++ area) rest)) (append-nil first_part)
-    ∙ descrambled_behind-settled before area rest six first below) in
-    ap (outcomes_after longest false 0) areas
-    ∙ ap₂ ◌++◌ (outcome_of-first longest plain (omega (arith, size, six)))
-    (outcomes-settled longest (0 + length plain) 0 rest (omega (arith, size, six)))
+  pub outcomes-idle : (before : List ℕ) (areas : List (List ℕ)) →
+      outcomes_after_with kind.outcome false 0 (descrambled_areas (scrambled_behind before ([] ∷ areas)))
+      ≡ outcomes_after_with kind.outcome false 0 (descrambled_areas (scrambled_behind before areas))
+  unfolding cut outcomes_after_with
+  outcomes-idle before areas = refl
+
+  told-two : (first : List ℕ) (rest : List (List ℕ)) → 6 ≤ length first →
+      flat_map kind.told (outcomes_after_with kind.outcome false 0 (first ∷ rest))
+      ≡ flat_map kind.told (outcomes_after_with kind.outcome true 0 rest)
+  unfolding outcomes_after_with
+  told-two first rest six =
+      flat_map-append kind.told (area_outcomes kind.outcome false 0 first)
+      (outcomes_after_with kind.outcome false (0 + length first) rest)
+      ∙ ap₂ ◌++◌ (told-first first (omega (arith, six)))
+      (ap (flat_map kind.told) (outcomes-settled (0 + length first) 0 rest (omega (arith, six))))
+
+  pub told-settled : (before area : List ℕ) (rest : List (List ℕ)) → 6 ≤ length area →
+      All (λ o. o < 256) (before ++ area) → All (All (λ o. o < 256)) rest →
+      flat_map kind.told (outcomes_after_with kind.outcome false 0
+      (descrambled_areas (scrambled_behind before (area ∷ rest))))
+      ≡ flat_map kind.told (outcomes_after_with kind.outcome true 0 rest)
+  told-settled before area rest six first below =
+      let first_part : List ℕ = drop (length before) (scrambled_octets (before ++ area)) in
+      let plain : List ℕ = drop (length {A = ℕ} []) (descrambled_octets ([] ++ first_part)) in
+      let size : length plain ≡ length area = length-descrambled_single [] first_part
+      ∙ length-scrambled_single before area in
+      let areas : descrambled_areas (scrambled_behind before (area ∷ rest)) ≡ plain ∷ rest =
+      ap descrambled_areas (scrambled_behind-cons before area rest)
+      ∙ descrambled_areas-append (first_part ∷ []) (scrambled_behind (before ++ area) rest)
+      ∙ ap₂ ◌++◌ (descrambled_behind-single [] first_part)
+      (ap (λ l. descrambled_behind l (scrambled_behind (before ++ area) rest)) (append-nil first_part)
+      ∙ descrambled_behind-settled before area rest six first below) in
+      ap (λ l. flat_map kind.told (outcomes_after_with kind.outcome false 0 l)) areas
+      ∙ told-two plain rest (omega (arith, size, six))

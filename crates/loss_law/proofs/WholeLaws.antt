@@ -3,14 +3,16 @@ use Rattle.std.proofs.Common.{◌≡◌, ℕ, ◌≤◌, true, List, [], ◌∷�
 use Rattle.std.proofs.Common.{append_assoc}
 use Rattle.std.specs.List.{flat_map}
 use Rattle.std.proofs.lemmas.List.{append-nil, take_at}
-use Rattle.std.proofs.lemmas.List.Elements.{All-head, All-tail, All-weaker}
+use Rattle.std.proofs.lemmas.List.Elements.{All-head, All-tail}
 use Rattle.session_model.specs.Piece.{Piece, idle, frames_by}
-use Rattle.session_model.specs.Delivery.{delivered}
-use Rattle.gfp_delineate.proofs.Delivery.{IsSendable, delivered-stream}
 use Rattle.session_model.specs.Segment.{StreamRow, Segments, no_rows, longer, row_by, segments_on, segments}
-use Rattle.session_model.specs.Segment.{segment_frames, deliver, octets_of_rows}
+use Rattle.session_model.specs.Segment.{deliver, octets_of_rows}
+use Rattle.session_model.specs.Loss.{extents}
 use Rattle.loss_law.specs.Carried.{CarriesStream, IsSentPiece}
-use Rattle.loss_law.proofs.KeptLaws.{sendable_of}
+use Rattle.loss_law.specs.Kind.{Kind, IsKind, stream_in, IsPieceIn, told_in, segment_told, rows_told, Carries, plain_kind}
+use Rattle.loss_law.proofs.ExtentLaws.{frames_to, frames_ended}
+use Rattle.loss_law.proofs.ToldLaws.{told-stream}
+use Rattle.loss_law.proofs.KeptLaws.{plain-sound, plain-pieces, plain-carries, plain-read}
 
 abbrev pub IsWhole : StreamRow → Type 0
 IsWhole row = row.whole ≡ true
@@ -36,14 +38,26 @@ pub only_segment : (rows : List StreamRow) → All IsWhole rows →
     segments rows ≡ record { first = true; base = 0; octets = octets_of_rows rows } ∷ []
 only_segment rows whole = ap (λ (come : Segments). come.ended ++ come.last ∷ []) (segments-whole no_rows rows whole)
 
+-- what it tells, of any kind of frames
+module _ {X Y : Type 0} (kind : Kind X Y) (sound : IsKind kind) (pieces : List Piece)
+    (sent : All (IsPieceIn kind) pieces) where
+  pub told-all : (rows : List StreamRow) → Carries rows (stream_in kind (idle ∷ idle ∷ pieces)) → All IsWhole rows →
+      rows_told kind rows
+      ≡ flat_map kind.read (frames_to (length (octets_of_rows rows)) (extents 0 (idle ∷ idle ∷ pieces)))
+  told-all rows carried whole =
+      let octets : List ℕ = octets_of_rows rows in
+      ap (flat_map (segment_told kind)) (only_segment rows whole)
+      ∙ append-nil (told_in kind true octets)
+      ∙ ap (told_in kind true)
+      (sym (ap (take (length octets)) carried.parts ∙ take_at octets carried.rest (length octets) refl))
+      ∙ told-stream kind sound (length octets) pieces sent
+
 pub deliver-whole : (longest : ℕ) (pieces : List Piece) (rows : List StreamRow) → longest ≤ 65531 →
     All (IsSentPiece longest) pieces → CarriesStream rows (idle ∷ idle ∷ pieces) → All IsWhole rows →
     deliver longest rows ≡ frames_by (length (octets_of_rows rows)) (idle ∷ idle ∷ pieces)
 deliver-whole longest pieces rows fits sent carried whole =
     let octets : List ℕ = octets_of_rows rows in
-    ap (flat_map (segment_frames longest)) (only_segment rows whole)
-    ∙ append-nil (delivered longest octets)
-    ∙ ap (delivered longest)
-    (sym (ap (take (length octets)) carried.stream ∙ take_at octets carried.rest (length octets) refl))
-    ∙ delivered-stream longest (length octets) pieces fits
-    (All-weaker (IsSentPiece longest) (IsSendable longest) (sendable_of longest) pieces sent)
+    told-all (plain_kind longest) (plain-sound longest) pieces (plain-pieces longest pieces fits sent) rows
+    (plain-carries longest (idle ∷ idle ∷ pieces) rows carried) whole
+    ∙ plain-read longest (frames_to (length octets) (extents 0 (idle ∷ idle ∷ pieces)))
+    ∙ sym (frames_ended (length octets) 0 (idle ∷ idle ∷ pieces))

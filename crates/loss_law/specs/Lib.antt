@@ -1,3 +1,4 @@
 pub mod Carried
 pub mod Added
 pub mod Worked
+pub mod Kind

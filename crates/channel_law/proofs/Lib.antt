@@ -1,0 +1,4 @@
+pub mod ContentLaws
+pub mod QueueLaws
+pub mod CutLaws
+pub mod ChannelLaws

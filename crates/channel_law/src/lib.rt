@@ -1,0 +1,68 @@
+//! The laws of channels that share a stream by linear extension headers: what of each channel a stream carries, what
+//! is delivered of it where octets don't arrive, and what an answer to a frame depends on. There is no code here.
+//! Begin with `channel_law`. It is the law of losses with frames that have a linear extension header as their kind.
+#![tactic(auto)]
+
+ghost use Rattle.std.specs.Prelude.{◌≡◌, ℕ, ◌<◌, ◌≤◌, ◌^◌, true, List, [], ◌∷◌, ◌++◌, length, take, drop, All};
+ghost use Rattle.session_model.specs.Loss.{TrueStarts};
+ghost use Rattle.linear_model.specs.declared.Cut.{Cut};
+ghost use Rattle.linear_model.specs.Channels.{Channels, silent, waiting_of, channel_refusal, pushed};
+ghost use Rattle.linear_model.specs.Stream.{unsent, reached, frames_of, stream_to, cut_rows};
+ghost use Rattle.channel_law.specs.Worked.{worked_channels, worked_pieces, worked_stream, worked_cuts};
+ghost use Rattle.channel_law.specs.Worked.{worked_rows, zero_channels, first_octets};
+ghost use Rattle.channel_law.specs.Kept.{AreSound, as_pieces, carried_of, kept_of, delivered_of, AreOrdered};
+
+/// What the answer to a frame depends on: the number of channels, and how many frames of that channel wait.
+pub fn answer_law()
+    ensures { (cid : ℕ) (frame : List ℕ) (one other : Channels) →
+        length one.waiting ≡ length other.waiting →
+        length (waiting_of cid one) ≡ length (waiting_of cid other) →
+        channel_refusal cid frame one ≡ channel_refusal cid frame other }
+{}
+
+/// At most 256 channels whose frames may all be sent stay so with each frame of octets that is offered.
+pub fn sound_law()
+    ensures silent { (channels : ℕ) → channels ≤ 256 → AreSound (silent channels) }
+    ensures pushed { (cid : ℕ) (frame : List ℕ) (channels : Channels) →
+        All (λ octet. octet < 2 ^ 8) frame → AreSound channels →
+        AreSound (pushed cid frame channels) }
+{}
+
+/// Of each channel: the frames that are begun, and those of them that the stream carries whole, are the first of
+/// those that were accepted; without cuts these are what is delivered; and with cuts, where each place that is
+/// confirmed first behind one is that of a piece, those are delivered, in order and each once, that are carried and
+/// aren't lost.
+pub fn channel_law()
+    ensures begun { (place cid : ℕ) (channels : Channels) →
+        let made = reached place (unsent channels) in
+        frames_of cid made.pieces ++ waiting_of cid made.channels ≡ waiting_of cid channels }
+    ensures carried { (place cid : ℕ) (channels : Channels) →
+        let carried = carried_of cid place (reached place (unsent channels)).pieces in
+        carried ≡ take (length carried) (waiting_of cid channels) }
+    ensures uncut { (place cid : ℕ) (channels : Channels) → AreSound channels →
+        delivered_of cid [] (stream_to place channels)
+        ≡ carried_of cid place (reached place (unsent channels)).pieces }
+    ensures first { (place cid : ℕ) (channels : Channels) → AreSound channels →
+        let delivered = delivered_of cid [] (stream_to place channels) in
+        delivered ≡ take (length delivered) (waiting_of cid channels) }
+    ensures kept { (place cid : ℕ) (channels : Channels) (cuts : List Cut) →
+        AreSound channels → AreOrdered 0 cuts →
+        let rows = cut_rows 0 cuts (stream_to place channels) in
+        let pieces = (reached place (unsent channels)).pieces in
+        TrueStarts (as_pieces pieces) rows →
+        delivered_of cid cuts (stream_to place channels) ≡ kept_of cid pieces rows }
+{}
+
+/// A worked stream, computed: two frames of each of two channels are sent in turns, and the first of them is cut off.
+/// Without the cut all come. With it one of the second channel is before the place that is confirmed, the next of the
+/// first channel settles the descrambler, and the last one is delivered. What is confirmed is the place of a piece. And
+/// the first octets of a frame of zeros, behind the two idles, as they are sent.
+pub fn worked_law()
+    ensures turns { (reached 64 (unsent worked_channels)).pieces ≡ worked_pieces }
+    ensures uncut { delivered_of 0 [] worked_stream ≡ (1 ∷ 2 ∷ []) ∷ (3 ∷ 4 ∷ []) ∷ [] }
+    ensures first { delivered_of 0 worked_cuts worked_stream ≡ [] }
+    ensures second { delivered_of 1 worked_cuts worked_stream ≡ (7 ∷ 8 ∷ []) ∷ [] }
+    ensures kept { kept_of 1 worked_pieces worked_rows ≡ (7 ∷ 8 ∷ []) ∷ [] }
+    ensures starts { TrueStarts (as_pieces worked_pieces) worked_rows }
+    ensures octets { drop 8 (stream_to 18 zero_channels) ≡ first_octets }
+{}

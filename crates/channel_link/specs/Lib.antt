@@ -1,0 +1,6 @@
+pub mod Lines
+pub mod Helps
+pub mod Plan
+pub mod Drafts
+pub mod Text
+pub mod Run

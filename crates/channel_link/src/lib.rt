@@ -1,0 +1,22 @@
+//! Clients that share a stream by channel numbers: what a text says of channels, frames and cuts, and the lines of the
+//! frames that get through. The language is a definition that computes, `plan_of`: lines, words, and for each line the
+//! first fault that it has or what it adds to the lines before it; the reader gives just that, in one pass. How frames
+//! are queued, sent and received is in `gfp_linear`. Begin with `read_plan` and `ChannelRun`.
+#![tactic(auto)]
+
+mod draft;
+mod fault;
+mod help;
+mod keyword;
+mod lines;
+mod read;
+mod reception;
+mod run;
+mod statement;
+
+pub use draft::{ChannelPlan, CutList, Offer, OfferList};
+pub use fault::LineFault;
+pub use help::plan_help;
+pub use keyword::Keyword;
+pub use read::{PlanFault, read_plan};
+pub use run::ChannelRun;

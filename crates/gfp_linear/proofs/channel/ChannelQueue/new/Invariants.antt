@@ -1,0 +1,13 @@
+use Rattle.std.proofs.Common.{◌≡◌, ◌≤◌, vec_len}
+use Rattle.std.specs.List.{All}
+use Rattle.std.specs.Vec.{vec_capacity}
+use Rattle.linear_model.specs.Channels.{most_of_channel}
+use Rattle.gfp_linear.specs.Queue.{HasRoom}
+use Rattle.gfp_linear.proofs.channel.ChannelQueue.new.Given as goal
+
+abbrev pub invariant-loop : goal.invariant-loop
+invariant-loop l = record {
+  made : vec_len l.spare ≡ l.counter;
+  spares : most_of_channel ≤ vec_capacity l.spare;
+  room : All HasRoom l.spare.items;
+}

@@ -1,0 +1,5 @@
+use Rattle.gfp_linear.proofs.TurnLaws.{reached-keeps}
+use Rattle.gfp_linear.proofs.turns_law.Goals as goal
+
+pub returns : goal.returns
+returns c place cid shared = reached-keeps place shared cid

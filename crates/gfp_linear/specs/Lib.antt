@@ -1,0 +1,3 @@
+pub mod Delineator
+pub mod Queue
+pub mod Filler
