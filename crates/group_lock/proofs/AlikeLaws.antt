@@ -55,6 +55,7 @@ scenario_with setting orders offers = record {
   lost = setting.lost;
   orders = orders;
   offers = offers;
+  tells = [];
 }
 
 kind-told : (setting : Setting) (orders : List DueCommand) (offers : List DueFrame) (ticks : ℕ) (kind : ItemKind) →
@@ -98,6 +99,7 @@ comes-kind scenario ticks (Frame octets) = record {
   offers = not-yet (λ (offer : DueFrame). has_come ticks offer.due) scenario.offers
       (record { due = ticks; frame = octets }) (late-test ticks ticks (omega arith));
   orders = refl;
+  tells = λ k low. refl;
 }
 comes-kind scenario ticks (Add line) = record {
   lines = refl;
@@ -106,6 +108,7 @@ comes-kind scenario ticks (Add line) = record {
   offers = refl;
   orders = not-yet (λ (order : DueCommand). has_come ticks order.due) scenario.orders
       (record { due = ticks; command = add line }) (late-test ticks ticks (omega arith));
+  tells = λ k low. refl;
 }
 comes-kind scenario ticks (Remove line) = record {
   lines = refl;
@@ -114,6 +117,7 @@ comes-kind scenario ticks (Remove line) = record {
   offers = refl;
   orders = not-yet (λ (order : DueCommand). has_come ticks order.due) scenario.orders
       (record { due = ticks; command = remove line }) (late-test ticks ticks (omega arith));
+  tells = λ k low. refl;
 }
 
 pub alike-kind : (scenario : Scenario) (cells : List (Option Told)) (ticks : ℕ) (kind : ItemKind) →
@@ -126,7 +130,7 @@ pub alike-cells : (scenario : Scenario) (a b : List (Option Told)) (ticks : ℕ)
     AgreeBefore (steps_in ticks - scenario.lag) a b → Alike scenario a scenario b ticks
 alike-cells scenario a b ticks agree =
     alike-landed scenario scenario a b ticks
-    (record { lines = refl; lag = refl; size = refl; offers = refl; orders = refl }) agree
+    (record { lines = refl; lag = refl; size = refl; offers = refl; orders = refl; tells = λ k low. refl }) agree
 
 -- ---- why an item is refused
 pub refusal-alike : (one : Scenario) (a : List (Option Told)) (other : Scenario) (b : List (Option Told)) (t due : ℕ)

@@ -59,6 +59,7 @@ keeps-begin at size total none lines lag places rings unused passed no_frame no_
       of_size = refl;
       no_offers = refl;
       no_orders = refl;
+      no_tells = refl;
     } in
     let scenario : scenario_in at ≡ journal_scenario setting [] = ap (journal_scenario setting) entries in
     let no_entry : (i : ℕ) (entry : Numbered) → slice_get at.journal.entries i ≡ Some entry → ⊥ =

@@ -36,8 +36,8 @@ pub record Setting : Type 0 where
   pub size : ℕ
   pub lost : List (ℕ × ℕ)
 
--- what was accepted is all that lands, each after the ticks of its entry. No line fails: what a source makes doesn't
--- depend on failures
+-- what was accepted is all that lands, each after the ticks of its entry, and there is nothing to tell. No line fails:
+-- what a source makes doesn't depend on failures
 abbrev pub journal_scenario : Setting → List Numbered → Scenario
 journal_scenario setting entries = record {
   lag = setting.lag;
@@ -47,6 +47,7 @@ journal_scenario setting entries = record {
   lost = setting.lost;
   orders = orders_of (items_in entries);
   offers = offers_of (items_in entries);
+  tells = [];
 }
 
 -- a journal is legal: each entry is accepted at its place

@@ -263,6 +263,7 @@ module _ (script : Script) (all : Opened) (is : IsNew script all) (valid : IsVal
             no_offers = take-none
                 (offers_of script.items);
             no_orders = take-none (orders_of script.items);
+            no_tells = refl;
           }));
       lines = is.source.core.lines;
       lag = is.source.core.lag;

@@ -39,6 +39,7 @@ invariant_of-result c =
                 fresh.of_size ∙ m.core.size;
             no_offers = fresh.no_offers;
             no_orders = fresh.no_orders;
+            no_tells = fresh.no_tells;
           }));
     }
 
@@ -68,5 +69,6 @@ returns-clause-begun c =
                 fresh.of_size ∙ m.core.size;
             no_offers = fresh.no_offers;
             no_orders = fresh.no_orders;
+            no_tells = fresh.no_tells;
           });
     }
