@@ -4,6 +4,13 @@
 //! are queued, sent and received is in `gfp_linear`. Begin with `read_plan` and `ChannelRun`.
 #![tactic(auto)]
 
+ghost use Rattle.std.specs.Prelude.{◌≡◌, ◌↔◌, ℕ, List, Err};
+ghost use Rattle.std.specs.Str.Lines.{lines};
+ghost use Rattle.text_lines.specs.FirstFault.{IsFirstFault};
+ghost use Rattle.channel_link.specs.declared.fault.LineFault.{LineFault};
+ghost use Rattle.channel_link.specs.Lines.{at_first, plan_lines};
+ghost use Rattle.channel_link.specs.Plan.{plan_of};
+
 mod draft;
 mod fault;
 mod help;
@@ -20,3 +27,10 @@ pub use help::plan_help;
 pub use keyword::Keyword;
 pub use read::{PlanFault, read_plan};
 pub use run::ChannelRun;
+
+/// A text has the fault of a line exactly where that line is faulty after lines none of which is.
+pub fn fault_law()
+    ensures { (text : List ℕ) (number : ℕ) (fault : LineFault) →
+        (plan_of text ≡ Err (number, fault))
+        ↔ IsFirstFault plan_lines 1 at_first (lines text) number fault }
+{}
