@@ -4,3 +4,4 @@ pub mod OfferLaws
 pub mod ReceptionSteps
 pub mod StreamLaws
 pub mod TextLaws
+pub mod PlanLaws
