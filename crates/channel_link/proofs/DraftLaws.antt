@@ -3,6 +3,7 @@ use Rattle.std.proofs.Common.{◌≡◌, ℕ, ◌+◌, ◌<◌, ◌≤◌, true,
 use Rattle.std.specs.Prelude.{None, Some, Ok, Err, nat_lt}
 use Rattle.std.proofs.lemmas.Bool.Decides.{nat_tests}
 use Rattle.std.proofs.lemmas.List.Sums.{fold-append}
+use Rattle.std.proofs.lemmas.List.Elements.{All-nil, All-cons, All-append}
 use Rattle.text_lines.specs.Words.{words}
 use Rattle.text_lines.specs.Language.{said_from, said_by}
 use Rattle.text_lines.proofs.LanguageLaws.{line_faulty, line_sound, end_missing, end_sound}
@@ -16,7 +17,7 @@ use Rattle.channel_link.specs.declared.draft.ChannelPlan.{ChannelPlan}
 use Rattle.channel_link.specs.declared.draft.Statement.{Statement}
 use Rattle.channel_link.specs.declared.draft.Statement.TheVariants as says
 use Rattle.channel_link.specs.Lines.{awaited, words_fault, words_said, after, at_first, missing_line, plan_lines}
-use Rattle.channel_link.specs.Plan.{plan_in, plan_of_draft, plan_of, AreCuts, IsPlan, IsPlanFault}
+use Rattle.channel_link.specs.Plan.{plan_in, plan_of_draft, plan_of, AreCuts, IsOfOctets, IsPlan, IsPlanFault}
 use Rattle.channel_link.specs.Drafts.{end_behind, stopped, IsDraft, IsLineStop, Fits}
 
 -- ---- the text
@@ -86,6 +87,7 @@ draft-first = record {
   channels = λ at. absurd (omega (arith, at));
   octets = λ at. absurd (omega (arith, at));
   few = omega arith;
+  frames = All-nil IsOfOctets;
   none = λ low. refl;
   cuts = tt;
   end = refl;
@@ -98,6 +100,7 @@ draft-after d (says.Channels count) is fits = record {
   channels = λ at. (fits.1, fits.2);
   octets = λ at. absurd (omega (arith, at));
   few = is.few;
+  frames = is.frames;
   none = λ low. is.none (let at = fits.0 in omega (arith, at));
   cuts = is.cuts;
   end = is.end;
@@ -107,6 +110,7 @@ draft-after d (says.Octets count) is fits = record {
   channels = λ at. is.channels (let first = fits.0 in omega (arith, first));
   octets = λ at. fits.1;
   few = fits.2;
+  frames = is.frames;
   none = λ low. is.none (let at = fits.0 in omega (arith, at));
   cuts = no-cuts count d.cuts (is.none (let at = fits.0 in omega (arith, at)));
   end = is.end;
@@ -116,6 +120,8 @@ draft-after d (says.Offer offer) is fits = record {
   channels = is.channels;
   octets = is.octets;
   few = is.few;
+  frames = All-append IsOfOctets d.offers (offer ∷ []) is.frames
+      (All-cons IsOfOctets offer [] fits.1 (All-nil IsOfOctets));
   none = is.none;
   cuts = is.cuts;
   end = is.end;
@@ -125,6 +131,7 @@ draft-after d (says.Cut cut) is fits = record {
   channels = λ at. is.channels (let least = fits.0 in omega (arith, least));
   octets = λ at. is.octets fits.0;
   few = is.few;
+  frames = is.frames;
   none = λ low. absurd (omega (arith, low));
   cuts =
       cuts-more 0 d.octets d.cuts cut is.cuts (subst (λ n. n ≤ cut.first) is.end fits.1) fits.2 fits.3;
@@ -140,5 +147,6 @@ plan-whole d is least =
       most = channels.1;
       long = is.octets least;
       short = is.few;
+      frames = is.frames;
       cuts = is.cuts;
     }

@@ -1,6 +1,6 @@
 -- Of each channel of a plan: the frames that it accepted, those that its stream carries, those of them that arrive, and
 -- those that are delivered.
-use Rattle.std.specs.Prelude.{ℕ, ◌<◌, ◌^◌, List, map, All}
+use Rattle.std.specs.Prelude.{ℕ, List, map}
 use Rattle.session_model.specs.Segment.{StreamRow}
 use Rattle.session_model.specs.Loss.{TrueStarts}
 use Rattle.linear_model.specs.Linear.{ChannelFrame}
@@ -11,10 +11,6 @@ use Rattle.channel_law.specs.Offers.{accepted_frames}
 use Rattle.channel_link.specs.declared.draft.Offer.{Offer}
 use Rattle.channel_link.specs.declared.draft.ChannelPlan.{ChannelPlan}
 use Rattle.channel_link.specs.Text.{after_offers, delivered}
-
--- the frames that are offered are octets
-abbrev pub AreOctets : ChannelPlan → Type 0
-AreOctets plan = All (λ (offer : Offer). All (λ octet. octet < 2 ^ 8) offer.frame) plan.offers
 
 -- the channels when the stream begins, its pieces, and its rows: those that arrive and those that are cut
 abbrev pub plan_channels : ChannelPlan → Channels

@@ -11,7 +11,7 @@ ghost use Rattle.channel_link.specs.declared.fault.LineFault.{LineFault};
 ghost use Rattle.channel_link.specs.Lines.{at_first, plan_lines};
 ghost use Rattle.channel_link.specs.declared.draft.ChannelPlan.{ChannelPlan};
 ghost use Rattle.channel_link.specs.Plan.{plan_of, IsPlan};
-ghost use Rattle.channel_link.specs.Delivered.{AreOctets, HasTrueStarts, accepted_by, carried_by, kept_by, delivered_by};
+ghost use Rattle.channel_link.specs.Delivered.{HasTrueStarts, accepted_by, carried_by, kept_by, delivered_by};
 
 mod draft;
 mod fault;
@@ -37,14 +37,14 @@ pub fn fault_law()
         ↔ IsFirstFault plan_lines 1 at_first (lines text) number fault }
 {}
 
-/// Of each channel of a plan whose frames are octets: those that its stream carries whole are, in order, the first of
-/// those that were accepted. Without cuts just these are delivered. With cuts, where each place that is confirmed
-/// first behind one is that of a piece, those are delivered, in order and each once, that are carried and aren't lost.
+/// Of each channel of a plan: the frames that its stream carries whole are, in order, the first of those that were
+/// accepted. Without cuts just these are delivered. With cuts, where each place that is confirmed first behind one is
+/// that of a piece, those are delivered, in order and each once, that are carried and aren't lost.
 pub fn plan_law()
     ensures carried { (plan : ChannelPlan) (cid : ℕ) →
         carried_by plan cid ≡ take (length (carried_by plan cid)) (accepted_by plan cid) }
-    ensures uncut { (plan : ChannelPlan) (cid : ℕ) → IsPlan plan → AreOctets plan →
+    ensures uncut { (plan : ChannelPlan) (cid : ℕ) → IsPlan plan →
         plan.cuts ≡ [] → delivered_by plan cid ≡ carried_by plan cid }
-    ensures kept { (plan : ChannelPlan) (cid : ℕ) → IsPlan plan → AreOctets plan →
+    ensures kept { (plan : ChannelPlan) (cid : ℕ) → IsPlan plan →
         HasTrueStarts plan → delivered_by plan cid ≡ kept_by plan cid }
 {}
