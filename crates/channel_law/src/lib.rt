@@ -6,7 +6,9 @@
 ghost use Rattle.std.specs.Prelude.{◌≡◌, ℕ, ◌<◌, ◌≤◌, ◌^◌, true, List, [], ◌∷◌, ◌++◌, length, take, drop, All};
 ghost use Rattle.session_model.specs.Loss.{TrueStarts};
 ghost use Rattle.linear_model.specs.declared.Cut.{Cut};
-ghost use Rattle.linear_model.specs.Channels.{Channels, silent, waiting_of, channel_refusal, pushed};
+ghost use Rattle.linear_model.specs.Linear.{ChannelFrame};
+ghost use Rattle.linear_model.specs.Channels.{Channels, silent, waiting_of, channel_refusal};
+ghost use Rattle.channel_law.specs.Offers.{after_frames, accepted_frames};
 ghost use Rattle.linear_model.specs.Stream.{unsent, reached, frames_of, stream_to, cut_rows};
 ghost use Rattle.channel_law.specs.Worked.{worked_channels, worked_pieces, worked_stream, worked_cuts};
 ghost use Rattle.channel_law.specs.Worked.{worked_rows, zero_channels, first_octets};
@@ -20,12 +22,20 @@ pub fn answer_law()
         channel_refusal cid frame one ≡ channel_refusal cid frame other }
 {}
 
-/// At most 256 channels whose frames may all be sent stay so with each frame of octets that is offered.
-pub fn sound_law()
+/// Of frames that are offered one after the other, what waits of a channel is what waited before, and behind it, in
+/// order, those that are accepted. Where they are octets, all that wait may be sent: of at most 256 channels without a
+/// frame, and then after each offer.
+pub fn offers_law()
+    ensures accepted { (cid : ℕ) (channels : Channels) (offers : List ChannelFrame) →
+        waiting_of cid (after_frames channels offers)
+        ≡ waiting_of cid channels ++ accepted_frames cid channels offers }
+    ensures all { (cid channels : ℕ) (offers : List ChannelFrame) →
+        waiting_of cid (after_frames (silent channels) offers)
+        ≡ accepted_frames cid (silent channels) offers }
     ensures silent { (channels : ℕ) → channels ≤ 256 → AreSound (silent channels) }
-    ensures pushed { (cid : ℕ) (frame : List ℕ) (channels : Channels) →
-        All (λ octet. octet < 2 ^ 8) frame → AreSound channels →
-        AreSound (pushed cid frame channels) }
+    ensures sound { (channels : Channels) (offers : List ChannelFrame) →
+        All (λ (offer : ChannelFrame). All (λ octet. octet < 2 ^ 8) offer.frame) offers →
+        AreSound channels → AreSound (after_frames channels offers) }
 {}
 
 /// Of each channel: the frames that are begun, and those of them that the stream carries whole, are the first of

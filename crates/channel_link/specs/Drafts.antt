@@ -1,5 +1,5 @@
 -- What a draft meets, and what a line may say that stands after those of a draft, as private clauses say it.
-use Rattle.std.specs.Prelude.{◌≡◌, ⊤, ℕ, ◌==◌, ◌<◌, ◌≤◌, not, List, [], length, Option, Some, option_map}
+use Rattle.std.specs.Prelude.{◌≡◌, ⊤, ℕ, ◌==◌, ◌<◌, ◌≤◌, not, List, [], length, All, Option, Some, option_map}
 use Rattle.std.specs.Option.{option_or}
 use Rattle.std.specs.List.{fold}
 use Rattle.text_lines.specs.Words.{word_at}
@@ -17,7 +17,7 @@ use Rattle.channel_link.specs.declared.read.PlanFault.TheVariants as whole
 use Rattle.channel_link.specs.declared.draft.Statement.{Statement}
 use Rattle.channel_link.specs.declared.draft.Statement.TheVariants as says
 use Rattle.channel_link.specs.declared.draft.Draft.{Draft}
-use Rattle.channel_link.specs.Plan.{AreCuts}
+use Rattle.channel_link.specs.Plan.{AreCuts, IsOfOctets}
 
 -- why a word wasn't read, as why its line wasn't
 abbrev pub lifted : FieldStop → LineStop
@@ -53,6 +53,7 @@ pub record IsDraft (d : Draft) : Type 0 where
   pub channels : 1 ≤ d.next → (1 ≤ d.channels) × (d.channels ≤ 256)
   pub octets : 2 ≤ d.next → 1 ≤ d.octets
   pub few : d.octets ≤ 100000000
+  pub frames : All IsOfOctets d.offers
   pub none : d.next ≤ 2 → d.cuts ≡ []
   pub cuts : AreCuts 0 d.octets d.cuts
   pub end : d.end ≡ end_behind 0 d.cuts
@@ -61,5 +62,5 @@ abbrev pub Fits : Draft → Statement → Type 0
 Fits d says.Nothing = ⊤
 Fits d (says.Channels count) = (d.next ≡ 0) × (1 ≤ count) × (count ≤ 256)
 Fits d (says.Octets count) = (d.next ≡ 1) × (1 ≤ count) × (count ≤ 100000000)
-Fits d (says.Offer offer) = 2 ≤ d.next
+Fits d (says.Offer offer) = (2 ≤ d.next) × IsOfOctets offer
 Fits d (says.Cut cut) = (2 ≤ d.next) × (d.end ≤ cut.first) × (cut.first < cut.end) × (cut.end ≤ d.octets)

@@ -4,3 +4,4 @@ pub mod Plan
 pub mod Drafts
 pub mod Text
 pub mod Run
+pub mod Delivered

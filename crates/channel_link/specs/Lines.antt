@@ -1,5 +1,5 @@
--- The lines of a text of channels: what each may say after those before it, which fault it has first, and what it adds to
--- them. This language is this project's own.
+-- The lines of a text of channels: what each may say after those before it, which fault it has first, and what it adds
+-- to them. This language is this project's own.
 use Rattle.std.specs.Prelude.{ℕ, ◌==◌, ◌&&◌, nat_lt, not, Bool, false, List, [], ◌∷◌, ◌++◌, length, Option, Some, None}
 use Rattle.std.specs.Prelude.{drop, option_map, codes, bytes_eq, if◌then◌else◌}
 use Rattle.std.specs.Option.{option_or}

@@ -1,9 +1,10 @@
 -- The plan that a text says, or its first fault.
-use Rattle.std.specs.Prelude.{◌≡◌, ⊤, ◌≤◌, ◌<◌, ℕ, List, [], ◌∷◌, Result, Ok, Err}
+use Rattle.std.specs.Prelude.{◌≡◌, ⊤, ◌≤◌, ◌<◌, ◌^◌, ℕ, List, [], ◌∷◌, All, Result, Ok, Err}
 use Rattle.text_lines.specs.Language.{said_by}
 use Rattle.linear_model.specs.declared.Cut.{Cut}
 use Rattle.channel_link.specs.declared.fault.LineFault.{LineFault}
 use Rattle.channel_link.specs.declared.draft.Draft.{Draft}
+use Rattle.channel_link.specs.declared.draft.Offer.{Offer}
 use Rattle.channel_link.specs.declared.draft.ChannelPlan.{ChannelPlan}
 use Rattle.channel_link.specs.declared.read.PlanFault.{PlanFault}
 use Rattle.channel_link.specs.declared.read.PlanFault.TheVariants as fault
@@ -32,9 +33,14 @@ AreCuts place most [] = ⊤
 AreCuts place most (cut ∷ cuts) =
     (place ≤ cut.first) × (cut.first < cut.end) × (cut.end ≤ most) × AreCuts cut.end most cuts
 
+-- an offered frame is octets
+abbrev pub IsOfOctets : Offer → Type 0
+IsOfOctets offer = All (λ octet. octet < 2 ^ 8) offer.frame
+
 pub record IsPlan (plan : ChannelPlan) : Type 0 where
   pub some : 1 ≤ plan.channels
   pub most : plan.channels ≤ 256
   pub long : 1 ≤ plan.octets
   pub short : plan.octets ≤ 100000000
+  pub frames : All IsOfOctets plan.offers
   pub cuts : AreCuts 0 plan.octets plan.cuts

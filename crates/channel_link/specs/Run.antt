@@ -1,6 +1,6 @@
 -- What a run has in hand, and what was received so far, as private clauses say it.
-use Rattle.std.specs.Prelude.{◌≡◌, ℕ, ◌+◌, ◌-◌, nat_le, Bool, true, false, List, [], ◌∷◌, ◌++◌, length, drop, Option}
-use Rattle.std.specs.Prelude.{if◌then◌else◌}
+use Rattle.std.specs.Prelude.{◌≡◌, ℕ, ◌+◌, ◌-◌, nat_le, Bool, true, false, List, [], ◌∷◌, ◌++◌, length, take, drop}
+use Rattle.std.specs.Prelude.{Option, if◌then◌else◌}
 use Rattle.std.specs.List.{flat_map}
 use Rattle.outside_io.specs.Start.{Start}
 use Rattle.got_lines.specs.Told.{HasText}
@@ -8,7 +8,6 @@ use Rattle.session_model.specs.Segment.{Segment}
 use Rattle.linear_model.specs.declared.Cut.{Cut}
 use Rattle.linear_model.specs.Linear.{LinearOutcome, frame_in, linear_outcomes}
 use Rattle.linear_model.specs.Channels.{silent}
-use Rattle.linear_model.specs.Stream.{cut_outcomes}
 use Rattle.gfp_linear.specs.Queue.{Queued, unbegun}
 use Rattle.gfp_linear.specs.Delineator.{LinearReceiver, StandsIn}
 use Rattle.channel_link.specs.declared.draft.ChannelPlan.{ChannelPlan}
@@ -37,8 +36,17 @@ open_segment place first (cut ∷ cuts) octets =
     if nat_le (length octets) (cut.first - place) then record { first = first; base = place; octets = octets }
     else open_segment cut.end false cuts (drop (cut.end - place) octets)
 
+-- it has an octet more
 abbrev pub longer_by : Segment → ℕ → Segment
 longer_by segment o = record { first = segment.first; base = segment.base; octets = segment.octets ++ o ∷ [] }
+
+-- what came of the segments that end before it
+unfoldable pub ended_outcomes : ℕ → Bool → List Cut → List ℕ → List LinearOutcome
+ended_outcomes place first [] octets = []
+ended_outcomes place first (cut ∷ cuts) octets =
+    if nat_le (length octets) (cut.first - place) then []
+    else linear_outcomes first (take (cut.first - place) octets)
+    ++ ended_outcomes cut.end false cuts (drop (cut.end - place) octets)
 
 -- how many cuts end by a place
 unfoldable pub ended_by : ℕ → List Cut → ℕ
@@ -59,7 +67,5 @@ pub record Received {K : Type 0} (written : K → Option (List ℕ)) (faults : K
     (start : Start) (cuts : List Cut) (sent : List ℕ) : Type 0 where
   pub place : reception.place ≡ length sent
   pub ended : reception.ended ≡ ended_by (length sent) cuts
-  pub before : List LinearOutcome
-  pub open : ReceivedIn written faults reception start before (open_segment 0 true cuts sent)
-  pub all : cut_outcomes cuts sent ≡ before ++ linear_outcomes (open_segment 0 true cuts sent).first
-      (open_segment 0 true cuts sent).octets
+  pub goes_on : ReceivedIn written faults reception start (ended_outcomes 0 true cuts sent)
+      (open_segment 0 true cuts sent)

@@ -28,6 +28,15 @@ impl Model for OfferList {
     ghost view = { λ offers. offers.0.items };
 }
 
+impl OfferList {
+    /// How many there are.
+    pub fn count(&self) -> u64
+        ensures { result ≡ length self.now }
+    {
+        self.0.len() as u64
+    }
+}
+
 /// The cuts of a stream.
 #[derive(Drop)]
 pub struct CutList(pub Vec<Cut>);

@@ -5,6 +5,7 @@ ghost use Rattle.got_lines.specs.Told.{HasText};
 ghost use Rattle.session_model.specs.Limits.{longest_frame};
 ghost use Rattle.session_model.specs.Segment.{Segment};
 ghost use Rattle.linear_model.specs.Linear.{LinearOutcome};
+ghost use Rattle.channel_link.specs.Plan.{AreCuts};
 ghost use Rattle.channel_link.specs.Text.{got_text};
 ghost use Rattle.channel_link.specs.Run.{Received, ReceivedIn, longer_by};
 
@@ -57,7 +58,8 @@ fn receive<K: ByteSink>(reception: &mut Reception<K>, o: u8)
     ensures ended { reception.new.ended ≡ reception.old.ended }
 {
     match reception.delineator.byte(o) {
-        LinearStep::Nothing | LinearStep::Dropped(_) => {}
+        LinearStep::Nothing => {}
+        LinearStep::Dropped(_) => {}
         LinearStep::Frame { cid } => {
             write_frame(cid, reception.delineator.frame(), &mut reception.lines);
             reception.got += 1;
@@ -67,6 +69,7 @@ fn receive<K: ByteSink>(reception: &mut Reception<K>, o: u8)
 
 /// Sends the next octet, which arrives where no cut has it. Where a cut begins the receiver is told of a break.
 fn send<K: ByteSink>(reception: &mut Reception<K>, cuts: &[Cut], o: u8)
+    requires order { (most : ℕ) × AreCuts 0 most cuts.now }
     requires stands { (start : Start) × ((sent : List ℕ) ×
         Received K.written K.faults reception.old start cuts.now sent) }
     requires few { reception.old.got ≤ reception.old.place }
@@ -94,6 +97,7 @@ fn send<K: ByteSink>(reception: &mut Reception<K>, cuts: &[Cut], o: u8)
 
 /// Sends octets.
 pub(crate) fn send_all<K: ByteSink>(reception: &mut Reception<K>, cuts: &[Cut], octets: &[u8])
+    requires order { (most : ℕ) × AreCuts 0 most cuts.now }
     requires stands { (start : Start) × ((sent : List ℕ) ×
         Received K.written K.faults reception.old start cuts.now sent) }
     requires few { reception.old.got ≤ reception.old.place }

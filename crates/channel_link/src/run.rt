@@ -148,7 +148,12 @@ impl ChannelRun {
             place: 0,
             ended: 0,
         };
-        carry(&mut queue, plan.octets, plan.cuts.0.as_slice(), &mut reception);
+        carry(
+            &mut queue,
+            plan.octets,
+            plan.cuts.0.as_slice(),
+            &mut reception,
+        );
         let Reception {
             delineator: _,
             mut lines,
@@ -157,11 +162,12 @@ impl ChannelRun {
             ended: _,
         } = reception;
         write_refused(refused.as_slice(), &mut lines);
+        let count = refused.len() as u64;
         let mut line = [0u8; LINE_ROOM];
         let end = end_line(
             Counts {
-                accepted: (plan.offers.0.len() - refused.len()) as u64,
-                refused: refused.len() as u64,
+                accepted: plan.offers.count() - count,
+                refused: count,
                 got,
             },
             &mut line,

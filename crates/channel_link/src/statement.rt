@@ -2,6 +2,7 @@
 ghost use Rattle.std.specs.Prelude.{◌≡◌, ◌≤◌, ◌<◌, length, IfOk, IfErr, None, Some};
 ghost use Rattle.text_lines.specs.Words.{words, number_at};
 ghost use Rattle.channel_link.specs.Lines.{cut_said, offer_said, rest_fault, said, words_fault, words_said, place};
+ghost use Rattle.channel_link.specs.Plan.{IsOfOctets};
 ghost use Rattle.channel_link.specs.Drafts.{IsDraft, IsLineStop, IsPlaced, Fits, one_fault};
 
 use crate::draft::{Draft, Offer, Statement};
@@ -45,6 +46,7 @@ fn read_offer(alloc: Global, draft: &Draft, rest: &[u8]) -> Result<Offer, LineSt
     ensures ok { IfOk result (λ offer.
         (rest_fault draft.now Keyword.Frame (words rest.now) ≡ None)
         × (offer ≡ offer_said (words rest.now))) }
+    ensures fits { IfOk result IsOfOctets }
     ensures err { IfErr result (λ stop.
         IsLineStop stop (rest_fault draft.now Keyword.Frame (words rest.now))) }
 {

@@ -37,14 +37,14 @@ first-has cid ((frame ∷ frames) ∷ queues) =
     )
 
 -- ---- another queue
-same-queue : (cid : ℕ) (queue : List (List ℕ)) (queues : List (List (List ℕ))) → cid < length queues →
+pub same-queue : (cid : ℕ) (queue : List (List ℕ)) (queues : List (List (List ℕ))) → cid < length queues →
     slice_index_or (with_queue cid queue queues) cid [] ≡ queue
 unfolding with_queue
 same-queue cid queue [] inside = absurd (omega arith)
 same-queue zero queue (other ∷ queues) inside = refl
 same-queue (suc cid) queue (other ∷ queues) inside = same-queue cid queue queues (omega arith)
 
-other-queue : (cid other : ℕ) (queue : List (List ℕ)) (queues : List (List (List ℕ))) → other ≢ cid →
+pub other-queue : (cid other : ℕ) (queue : List (List ℕ)) (queues : List (List (List ℕ))) → other ≢ cid →
     slice_index_or (with_queue other queue queues) cid [] ≡ slice_index_or queues cid []
 unfolding with_queue
 other-queue cid other queue [] differ = refl

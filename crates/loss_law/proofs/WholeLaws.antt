@@ -9,7 +9,8 @@ use Rattle.session_model.specs.Segment.{StreamRow, Segments, no_rows, longer, ro
 use Rattle.session_model.specs.Segment.{deliver, octets_of_rows}
 use Rattle.session_model.specs.Loss.{extents}
 use Rattle.loss_law.specs.Carried.{CarriesStream, IsSentPiece}
-use Rattle.loss_law.specs.Kind.{Kind, IsKind, stream_in, IsPieceIn, told_in, segment_told, rows_told, Carries, plain_kind}
+use Rattle.loss_law.specs.Kind.{Kind, IsKind, stream_in, IsPieceIn, told_in, segment_told, rows_told, Carries}
+use Rattle.loss_law.specs.Kind.{plain_kind}
 use Rattle.loss_law.proofs.ExtentLaws.{frames_to, frames_ended}
 use Rattle.loss_law.proofs.ToldLaws.{told-stream}
 use Rattle.loss_law.proofs.KeptLaws.{plain-sound, plain-pieces, plain-carries, plain-read}

@@ -1,0 +1,59 @@
+-- A frame more, or none.
+use Rattle.std.proofs.Common.{◌≡◌, List, [], ◌∷◌, ◌++◌, sym, ◌∙◌, ap, subst, refl, length}
+use Rattle.std.specs.List.{flat_map}
+use Rattle.got_lines.specs.Told.{HasText}
+use Rattle.linear_model.specs.Linear.{ChannelFrame, LinearOutcome, delivery, frame_in, linear_outcomes}
+use Rattle.gfp_linear.specs.Delineator.{frame_of, outcomes_told}
+use Rattle.gfp_linear.specs.declared.delineator.LinearStep.TheVariants.{Frame}
+use Rattle.channel_link.specs.Text.{got_text}
+use Rattle.channel_link.proofs.TextLaws.{frames-more, frames-same, texts-more, length-more}
+use Rattle.channel_link.proofs.reception.receive.Goals as goal
+
+pub returns-in-Nothing-clause-received : goal.returns-in-Nothing-clause-received
+returns-in-Nothing-clause-received g c start segment before r =
+    let all = segment.octets ++ c.args.o ∷ [] in
+    let same = frames-same before (linear_outcomes segment.first segment.octets)
+    (outcomes_told (frame_of c.byte.new.self) c.byte.result) (linear_outcomes segment.first all)
+    (c.byte.ensures.outcome segment.first segment.octets r.stands)
+    (subst (λ s. flat_map frame_in (outcomes_told (frame_of c.byte.new.self) s) ≡ []) (sym c.in-Nothing.is) refl) in
+    record {
+      stands = c.byte.ensures.stands segment.first segment.octets r.stands;
+      text = subst (λ f. HasText g.K.ByteSink.written g.K.ByteSink.faults c.args.reception.now.lines start
+          (flat_map got_text f)) (sym same) r.text;
+      got = r.got ∙ ap length (sym same);
+    }
+
+pub returns-in-Dropped-clause-received : goal.returns-in-Dropped-clause-received
+returns-in-Dropped-clause-received g c start segment before r =
+    let all = segment.octets ++ c.args.o ∷ [] in
+    let same = frames-same before (linear_outcomes segment.first segment.octets)
+    (outcomes_told (frame_of c.byte.new.self) c.byte.result) (linear_outcomes segment.first all)
+    (c.byte.ensures.outcome segment.first segment.octets r.stands)
+    (subst (λ s. flat_map frame_in (outcomes_told (frame_of c.byte.new.self) s) ≡ []) (sym c.in-Dropped.is) refl) in
+    record {
+      stands = c.byte.ensures.stands segment.first segment.octets r.stands;
+      text = subst (λ f. HasText g.K.ByteSink.written g.K.ByteSink.faults c.args.reception.now.lines start
+          (flat_map got_text f)) (sym same) r.text;
+      got = r.got ∙ ap length (sym same);
+    }
+
+pub returns-in-Frame-clause-received : goal.returns-in-Frame-clause-received
+returns-in-Frame-clause-received g c start segment before r =
+    let all = segment.octets ++ c.args.o ∷ [] in
+    let outcomes : List LinearOutcome = linear_outcomes segment.first segment.octets in
+    let frame : ChannelFrame = record { cid = c.in-Frame.cid; frame = c.frame.result.now } in
+    let was : List ChannelFrame = flat_map frame_in (before ++ outcomes) in
+    let told : linear_outcomes segment.first all ≡ outcomes ++ delivery c.in-Frame.cid c.frame.result.now ∷ [] =
+    c.in-Frame.ensures.outcome segment.first segment.octets r.stands
+    ∙ ap (λ f. outcomes ++ outcomes_told f (Frame c.in-Frame.cid)) c.frame.ensures in
+    let more : flat_map frame_in (before ++ linear_outcomes segment.first all) ≡ was ++ frame ∷ [] =
+    frames-more before outcomes (delivery c.in-Frame.cid c.frame.result.now ∷ []) (linear_outcomes segment.first all)
+    told in
+    record {
+      stands = c.in-Frame.ensures.stands segment.first segment.octets r.stands;
+      text = subst (HasText g.K.ByteSink.written g.K.ByteSink.faults c.write_frame.new.lines start)
+          (sym (ap (flat_map got_text) more ∙ texts-more was frame))
+          (c.write_frame.ensures start (flat_map got_text was) r.text);
+      got = length-more was (flat_map frame_in (before ++ linear_outcomes segment.first all)) frame
+          c.args.reception.now.got more r.got;
+    }
