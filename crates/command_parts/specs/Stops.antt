@@ -1,5 +1,5 @@
 -- Why a command stopped, as private clauses say it.
-use Rattle.std.specs.Prelude.{ℕ, List, codes}
+use Rattle.std.specs.Prelude.{ℕ, ◌<◌, List, length, IfSome, codes}
 use Rattle.command_parts.specs.declared.stop.Stop.{Stop}
 use Rattle.command_parts.specs.declared.stop.Stop.TheVariants.{Read, TooLong, Refused, Write, Memory}
 use Rattle.command_parts.specs.Task.{Answer, refuses, reads, refused_status}
@@ -27,3 +27,11 @@ StopsReading source answer TooLong = IsLong source
 StopsReading source answer (Refused fault) = Meets source (reads answer) (refuses fault.why fault.note.items)
 StopsReading source answer Write = ⊥
 StopsReading source answer Memory = Quiet source
+
+-- some octets of a source, at most so many, weren't taken
+abbrev pub StopsTaking : {S : Type 0} → Lent S → ℕ → Stop → Type 0
+StopsTaking source room Read = FailedOnce source
+StopsTaking source room TooLong = IfSome (source.octets source.old) (λ text. room < length text) × Quiet source
+StopsTaking source room (Refused fault) = ⊥
+StopsTaking source room Write = ⊥
+StopsTaking source room Memory = Quiet source

@@ -1,5 +1,5 @@
 //! The script that an input says, and the notes on what is wrong with one, put together in a slice with room for one.
-ghost use Rattle.std.specs.Prelude.{◌≡◌, ◌≢◌, ◌+◌, ◌≤◌, length, take, IfOk, IfErr};
+ghost use Rattle.std.specs.Prelude.{◌≡◌, ◌≢◌, ◌⊎◌, ℕ, ◌+◌, ◌≤◌, List, ◌++◌, length, take, IfOk, IfErr, Err};
 ghost use Rattle.session_model.specs.declared.script.Script.{Script};
 ghost use Rattle.session_model.specs.Valid.{IsValid};
 ghost use Rattle.script_read.specs.declared.fault.ScriptFault.{ScriptFault};
@@ -7,14 +7,17 @@ ghost use Rattle.command_parts.specs.Task.{Answer};
 ghost use Rattle.command_parts.specs.Ends.{lent};
 ghost use Rattle.command_parts.specs.Stops.{StopsReading};
 ghost use Rattle.command_parts.specs.Faults.{kind_text, kind_of, line_text, fault_text, IsRefusedFor};
-ghost use Rattle.command_parts.specs.Scripts.{HasScript, script_answer};
+ghost use Rattle.command_parts.specs.Scripts.{HasScript, IsTaken, script_answer};
+ghost use Rattle.script_read.specs.Script.{script_of};
+ghost use Rattle.script_read.specs.Pieces.{Follows, HasRoom, IsReader};
 
 use crate::help::{lag_help, line_help, slip_help, spread_help};
-use crate::input::read_input;
+use crate::input::{MOST, skip_rest, take_some};
 use crate::stop::{Fault, Refusal, Stop};
+use memchr::memchr;
 use outside_io::ByteSource;
 use report_text::LineCursor;
-use script_read::{LineFault, ScriptFault, read_script};
+use script_read::{LineFault, ScriptFault, ScriptReader};
 use session_model::Script;
 use std::alloc::Global;
 use text_lines::LineKind;
@@ -24,6 +27,9 @@ const NOTE_ROOM: usize = 256;
 
 /// Room for what is said of how to write a line.
 const HELP_ROOM: usize = 160;
+
+/// The octets of a script that are asked for at once.
+const PIECE: usize = 65_536;
 
 /// The word of a kind of fault.
 fn kind_word(kind: LineKind) -> &'static [u8]
@@ -200,19 +206,69 @@ fn stop_of(fault: ScriptFault) -> Stop
     }
 }
 
-/// Reads the script that an input says.
+/// Reads on once the end of a line has come.
+fn read_more(
+    reader: ScriptReader,
+    alloc: Global,
+    rest: Vec<u8>,
+    piece: &[u8],
+) -> Result<(ScriptReader, Vec<u8>), ScriptFault>
+    requires reader { IsReader reader }
+    requires room { HasRoom reader (length rest.items) }
+    ensures reader { IfOk result (λ read. IsReader read.0) }
+    ensures follows { (all : List ℕ) → Follows reader rest.items all →
+        IfOk result (λ read. Follows read.0 read.1.items all) }
+    ensures fault { (all : List ℕ) → Follows reader rest.items all → IfErr result (λ fault.
+        (fault ≡ ScriptFault.Memory) ⊎ ((more : List ℕ) → script_of (all ++ more) ≡ Err fault)) }
+{
+    match memchr(b'\n', piece) {
+        Some(_) => reader.read_on(alloc, rest),
+        None => Ok((reader, rest)),
+    }
+}
+
+/// Reads the rest of an input whose lines so far have a fault, since what is wrong with the input comes first.
+fn stop_after<S: ByteSource>(alloc: Global, source: &mut S, room: usize, fault: ScriptFault) -> Stop
+    ensures stopped { (start : S) (before : List ℕ) (writes : Script → Answer) →
+        IsTaken S.left S.faults start source.old before room →
+        (fault ≡ ScriptFault.Memory) ⊎ ((more : List ℕ) → script_of (before ++ more) ≡ Err fault) →
+        StopsReading (lent S.left S.faults start source.new) (script_answer writes) result }
+{
+    match skip_rest(alloc, source, room) {
+        Ok(()) => stop_of(fault),
+        Err(stop) => stop,
+    }
+}
+
+/// Reads the script that an input says, each line once it is whole.
 pub fn read_whole_script<S: ByteSource>(alloc: Global, source: &mut S) -> Result<Script, Stop>
     ensures script { IfOk result (HasScript (lent S.left S.faults source.old source.new)) }
     ensures valid { IfOk result IsValid }
     ensures stopped { (writes : Script → Answer) → IfErr result
         (StopsReading (lent S.left S.faults source.old source.new) (script_answer writes)) }
 {
-    let text = match read_input(alloc, source) {
-        Ok(text) => text,
-        Err(stop) => return Err(stop),
-    };
-    match read_script(alloc, text.as_slice()) {
-        Ok(script) => Ok(script),
-        Err(fault) => Err(stop_of(fault)),
+    let mut reader = ScriptReader::new(alloc);
+    let mut rest = Vec::new(alloc);
+    let mut room = MOST;
+    let mut buf = [0u8; PIECE];
+    loop {
+        let n = match take_some(source, &mut buf, &mut rest, room) {
+            Ok(n) => n,
+            Err(stop) => return Err(stop),
+        };
+        if n == 0 {
+            return match reader.finish(alloc, rest.as_slice()) {
+                Ok(script) => Ok(script),
+                Err(fault) => Err(stop_of(fault)),
+            };
+        }
+        room -= n;
+        match read_more(reader, alloc, rest, &buf[..n]) {
+            Ok((next, left)) => {
+                reader = next;
+                rest = left;
+            }
+            Err(fault) => return Err(stop_after(alloc, source, room, fault)),
+        }
     }
 }

@@ -1,3 +1,4 @@
 mod DigitLaws
 mod TextSteps
 mod SixteenLaws
+mod LaneLaws

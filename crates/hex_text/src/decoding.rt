@@ -1,11 +1,11 @@
 //! Text to octets.
 
-ghost use Rattle.std.specs.Prelude.{◌≡◌, ◌≢◌, ℕ, ◌+◌, ◌*◌, ◌/◌, ◌<◌, ◌≤◌, List, ◌++◌, length, Bool, true, false};
-ghost use Rattle.std.specs.Prelude.{Result, Ok, OnOk, OnErr, vec_len, slice_index};
+ghost use Rattle.std.specs.Prelude.{◌≡◌, ◌≢◌, ℕ, ◌+◌, ◌*◌, ◌/◌, ◌%◌, ◌<◌, ◌≤◌, List, ◌++◌, length, Bool, true, false};
+ghost use Rattle.std.specs.Prelude.{Result, Ok, Some, OnOk, OnErr, vec_len, slice_index};
 ghost use Rattle.std.specs.Vec.{vec_capacity};
-ghost use Rattle.hex.specs.Hex.{decode_of};
+ghost use Rattle.hex.specs.Hex.{decode_of, hex_digit_value, is_hex_digit};
 
-use crate::digits::{is_digit, value};
+use crate::digits::{are_digits, is_digit, value, values};
 use std::simd::prelude::*;
 
 // How many pairs are read at once.
@@ -42,8 +42,8 @@ pub fn decode_into(text: &[u8], octets: &mut Vec<u8>) -> Result<(), NotHex>
     }
 }
 
-// Writes the octets that pairs of digits say, and says whether all were digits. The test comes once, after
-// the last pair, so that nothing stands between the pairs.
+// Writes the octets that pairs of digits say, and says whether all were digits. It goes on to the last pair
+// in any case, so that no jump stands between the pairs.
 fn decode(text: &[u8], octets: &mut [u8]) -> bool
     requires { length text.now ≡ 2 * length octets.old }
     ensures yes { result ≡ true → decode_of text.now ≡ Ok octets.new }
@@ -52,11 +52,7 @@ fn decode(text: &[u8], octets: &mut [u8]) -> bool
     let mut right = true;
     let mut done = 0;
     while done + PAIRS <= octets.len() {
-        let (upper, lower) = columns(text, 2 * done);
-        for j in 0..PAIRS {
-            right = right & is_digit(upper[j]) & is_digit(lower[j]);
-            octets[done + j] = value(upper[j]) * 16 + value(lower[j]);
-        }
+        right = right & decode_sixteen(text, 2 * done, &mut octets[done..done + PAIRS]);
         done += PAIRS;
     }
     for i in done..octets.len() {
@@ -68,15 +64,47 @@ fn decode(text: &[u8], octets: &mut [u8]) -> bool
     right
 }
 
+// Writes the octets that sixteen pairs of digits say, and says whether all were digits.
+#[inline]
+fn decode_sixteen(text: &[u8], at: usize, octets: &mut [u8]) -> bool
+    requires pairs { at + 32 ≤ length text.now }
+    requires room { length octets.old ≡ 16 }
+    ensures upper { result ≡ true → (i : ℕ) → i < 16 →
+        hex_digit_value (slice_index text.now (at + 2 * i)) ≡ Some (slice_index octets.new i / 16) }
+    ensures lower { result ≡ true → (i : ℕ) → i < 16 → hex_digit_value
+        (slice_index text.now (at + 2 * i + 1)) ≡ Some (slice_index octets.new i % 16) }
+    ensures other { result ≡ false → (i : ℕ) × (i < 32)
+        × (is_hex_digit (slice_index text.now (at + i)) ≡ false) }
+{
+    let (upper, lower) = columns(text, at);
+    let upper = values(upper);
+    let lower = values(lower);
+    joined(upper, lower).copy_to_slice(octets);
+    are_digits(upper, lower)
+}
+
 // The first digits of sixteen pairs, and the second ones.
 #[inline]
-fn columns(text: &[u8], at: usize) -> ([u8; PAIRS], [u8; PAIRS])
+fn columns(text: &[u8], at: usize) -> (u8x16, u8x16)
     requires { at + 32 ≤ length text.now }
     ensures upper { (n : ℕ) → n < 16 → slice_index result.0 n ≡ slice_index text.now (at + 2 * n) }
     ensures lower { (n : ℕ) → n < 16 → slice_index result.1 n ≡ slice_index text.now (at + 2 * n + 1) }
+    ensures uppers { length result.0 ≡ 16 }
+    ensures lowers { length result.1 ≡ 16 }
 {
     let front = u8x16::from_slice(&text[at..]);
     let back = u8x16::from_slice(&text[at + PAIRS..]);
-    let (upper, lower) = front.deinterleave(back);
-    (upper.to_array(), lower.to_array())
+    front.deinterleave(back)
+}
+
+// The octets of values of two digits each.
+#[inline]
+fn joined(upper: u8x16, lower: u8x16) -> u8x16
+    requires uppers { length upper ≡ 16 }
+    requires lowers { length lower ≡ 16 }
+    ensures octets { (i : ℕ) → i < 16 → slice_index upper i < 16 → slice_index lower i < 16 →
+        slice_index result i ≡ slice_index upper i * 16 + slice_index lower i }
+    ensures lanes { length result ≡ 16 }
+{
+    upper * u8x16::splat(16) + lower
 }

@@ -1,6 +1,6 @@
 -- The lines of a script, one line on and at the end.
 use Rattle.std.proofs.Common.{◌≡◌, ℕ, ◌+◌, ◌<◌, ◌≤◌, List, ◌∷◌, ap, sym, ◌∙◌, arith, refl, true, false, inl, inr, ◌⊎◌}
-use Rattle.std.specs.Prelude.{None, Some, Err, nat_lt}
+use Rattle.std.specs.Prelude.{None, Some, Err, Result, nat_lt}
 use Rattle.std.proofs.lemmas.Bool.{cases_lt}
 use Rattle.std.proofs.lemmas.Bool.Decides.{nat_tests}
 use Rattle.script_read.specs.declared.fault.LineFault.{LineFault}
@@ -9,7 +9,7 @@ use Rattle.script_read.specs.declared.fault.LineStop.{LineStop}
 use Rattle.script_read.specs.declared.fault.LineStop.TheVariants as stop
 use Rattle.text_lines.specs.Words.{words}
 use Rattle.script_read.specs.Lifted.{IsStop}
-use Rattle.text_lines.specs.Language.{said_from, said_by}
+use Rattle.text_lines.specs.Language.{said_from}
 use Rattle.text_lines.proofs.LanguageLaws.{line_faulty, line_sound}
 use Rattle.script_read.specs.declared.fault.ScriptFault.{ScriptFault}
 use Rattle.script_read.specs.declared.fault.ScriptFault.TheVariants as fault
@@ -17,7 +17,7 @@ use Rattle.script_read.specs.declared.draft.Draft.{Draft}
 use Rattle.script_read.specs.declared.draft.Statement.{Statement}
 use Rattle.script_read.specs.Statements.{awaited, words_fault, words_said, after}
 use Rattle.script_read.specs.Drafts.{fault_at}
-use Rattle.script_read.specs.Script.{missing_line, script_lines, script_of_draft, script_of}
+use Rattle.script_read.specs.Script.{missing_line, script_lines, script_of_draft}
 
 -- a line without a fault
 pub line_said : (n : ℕ) (d new : Draft) (all : List (List ℕ)) (l : List ℕ) (ls : List (List ℕ)) (said : Statement)
@@ -26,20 +26,30 @@ pub line_said : (n : ℕ) (d new : Draft) (all : List (List ℕ)) (l : List ℕ)
 line_said n d new all l ls said first none says is =
     line_sound script_lines n d new all l ls first none (is ∙ ap (λ (r : Statement). after d r) says)
 
--- the text whose line has this fault first
-pub line_told : (text : List ℕ) (n : ℕ) (kind : LineFault) → said_by script_lines text ≡ Err (n, kind)
-    → script_of text ≡ Err (fault.Line n kind)
-line_told text n kind is = ap script_of_draft is
+-- what is said of a text whose line has this fault first
+pub line_told : (whole : Result Draft (ℕ × LineFault)) (n : ℕ) (kind : LineFault) → whole ≡ Err (n, kind)
+    → script_of_draft whole ≡ Err (fault.Line n kind)
+line_told whole n kind is = ap script_of_draft is
 
 -- a line that was not read
-pub line_stops : (text : List ℕ) (n : ℕ) (d : Draft) (all : List (List ℕ)) (l : List ℕ) (ls : List (List ℕ))
-    (why : LineStop) (f : ScriptFault)
-    → said_by script_lines text ≡ said_from script_lines n d all → f ≡ fault_at n why → all ≡ l ∷ ls
-    → IsStop why (words_fault d (words l))
-    → (f ≡ fault.Memory) ⊎ (script_of text ≡ Err f)
-line_stops text n d all l ls (stop.Fault kind) f same is first fails =
-    inr (line_told text n kind (same ∙ line_faulty script_lines n d all l ls kind first fails) ∙ ap Err (sym is))
-line_stops text n d all l ls stop.Memory f same is first fails = inl is
+pub line_stops : (whole : Result Draft (ℕ × LineFault)) (n : ℕ) (d : Draft) (all : List (List ℕ)) (l : List ℕ)
+    (ls : List (List ℕ)) (why : LineStop) (f : ScriptFault)
+    → whole ≡ said_from script_lines n d all → f ≡ fault_at n why → all ≡ l ∷ ls → IsStop why (words_fault d (words l))
+    → (f ≡ fault.Memory) ⊎ (script_of_draft whole ≡ Err f)
+line_stops whole n d all l ls (stop.Fault kind) f same is first fails =
+    inr (line_told whole n kind (same ∙ line_faulty script_lines n d all l ls kind first fails) ∙ ap Err (sym is))
+line_stops whole n d all l ls stop.Memory f same is first fails = inl is
+
+-- the same whatever follows
+pub lines_stop : (whole : List ℕ → Result Draft (ℕ × LineFault)) (n : ℕ) (d : Draft) (all : List ℕ → List (List ℕ))
+    (l : List ℕ) (ls : List ℕ → List (List ℕ)) (why : LineStop) (f : ScriptFault)
+    → ((more : List ℕ) → whole more ≡ said_from script_lines n d (all more)) → f ≡ fault_at n why
+    → ((more : List ℕ) → all more ≡ l ∷ ls more) → IsStop why (words_fault d (words l))
+    → (f ≡ fault.Memory) ⊎ ((more : List ℕ) → script_of_draft (whole more) ≡ Err f)
+lines_stop whole n d all l ls (stop.Fault kind) f same is first fails =
+    inr (λ more. line_told (whole more) n kind
+    (same more ∙ line_faulty script_lines n d (all more) l (ls more) kind (first more) fails) ∙ ap Err (sym is))
+lines_stop whole n d all l ls stop.Memory f same is first fails = inl is
 
 -- ---- after the last line
 below : (n : ℕ) → n < 6 → nat_lt n 6 ≡ true

@@ -97,7 +97,7 @@ pub told_line : (text : List ℕ) (m : ℕ) (kind : LineFault)
     → (script_of text ≡ refused (fault.Line m kind)) ↔ IsFirstFault script_lines 1 at_first (lines text) m kind
 told_line text m kind = (
   λ e. (first_fault script_lines text m kind).0 (line_of (said_by script_lines text) m kind e),
-  λ is. line_told text m kind ((first_fault script_lines text m kind).1 is),
+  λ is. line_told (said_by script_lines text) m kind ((first_fault script_lines text m kind).1 is),
 )
 
 -- a draft that passes the tests

@@ -7,3 +7,4 @@ mod ValidLaws
 mod FirstFaultLaws
 mod FitLaws
 pub mod ReadLaws
+mod PieceLaws

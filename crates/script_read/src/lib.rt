@@ -13,10 +13,12 @@ mod keyword;
 mod laws;
 mod limits;
 mod network;
+mod pieces;
 mod script;
 mod statement;
 
 pub use fault::{LineFault, ScriptFault};
 pub use keyword::{Keyword, Part};
 pub use laws::{fault_law, valid_law};
+pub use pieces::ScriptReader;
 pub use script::read_script;

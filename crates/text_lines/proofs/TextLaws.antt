@@ -3,7 +3,7 @@ use Rattle.std.proofs.Common.{◌≡◌, ◌≢◌, ℕ, ◌-◌, ◌<◌, ◌==
 use Rattle.std.proofs.Common.{slice_index_or, take, drop, All, false, ◌+◌, ◌≤◌, inl, inr}
 use Rattle.std.specs.List.{slice_split, onto_first}
 use Rattle.std.specs.Str.Lines.{lines, lines_of_parts, strip_carriage_return}
-use Rattle.std.proofs.lemmas.List.{take_all, length-drop, length-take-le}
+use Rattle.std.proofs.lemmas.List.{take_all, take_at, drop_at, length-append, append_assoc, length-drop, length-take-le}
 use Rattle.std.proofs.lemmas.List.Splits.{slice_split_none, slice_split_at, slice_split-cons_yes, length-slice_split}
 use Rattle.std.proofs.lemmas.Bool.{cases_Bool}
 use Rattle.std.proofs.lemmas.Bool.Decides.{nat_tests}
@@ -33,6 +33,27 @@ parts_more part (next ∷ parts) some = refl
 part_last : (part : List ℕ) → 0 < length part → lines_of_parts (part ∷ []) ≡ part ∷ []
 part_last part some = grind (arith, nat_tests)
 
+-- a line and its LF, and what is after them
+size_of : (text line rest : List ℕ) → text ≡ line ++ 10 ∷ rest → length text ≡ length line + 1 + length rest
+size_of text line rest is = let size = ap (λ (t : List ℕ). length t) is in
+    omega (arith, size, length-append line (10 ∷ rest))
+
+in_parts : (text line rest : List ℕ) → text ≡ line ++ 10 ∷ rest → text ≡ (line ++ 10 ∷ []) ++ rest
+in_parts text line rest is = is ∙ sym (append_assoc line (10 ∷ []) rest)
+
+front_of : (text line rest : List ℕ) → text ≡ line ++ 10 ∷ rest
+    → take (length text - length rest) text ≡ line ++ 10 ∷ []
+front_of text line rest is =
+    ap (take (length text - length rest)) (in_parts text line rest is)
+    ∙ take_at (line ++ 10 ∷ []) rest (length text - length rest)
+    (omega (arith, size_of text line rest is, length-append line (10 ∷ [])))
+
+pub rest_of : (text line rest : List ℕ) → text ≡ line ++ 10 ∷ rest → rest ≡ drop (length text - length rest) text
+rest_of text line rest is =
+    sym (ap (drop (length text - length rest)) (in_parts text line rest is)
+    ∙ drop_at (line ++ 10 ∷ []) rest (length text - length rest)
+    (omega (arith, size_of text line rest is, length-append line (10 ∷ []))))
+
 -- a line and its LF stand in front of the other lines
 lines_front : (line rest : List ℕ) → Lacks 10 line → lines (line ++ 10 ∷ rest) ≡ strip_carriage_return line ∷ lines rest
 lines_front line rest lacks =
@@ -44,6 +65,15 @@ pub lines_cut : (text line rest stripped : List ℕ) → Lacks 10 line → text 
     → stripped ≡ strip_carriage_return line → lines text ≡ stripped ∷ lines rest
 lines_cut text line rest stripped lacks is said = ap lines is ∙ lines_front line rest lacks
     ∙ ap (λ (t : List ℕ). t ∷ lines rest) (sym said)
+
+-- the same of a line that other text follows
+pub lines_whole : (text line rest stripped more : List ℕ) → Lacks 10 line → text ≡ line ++ 10 ∷ rest
+    → stripped ≡ strip_carriage_return line
+    → lines (take (length text - length rest) text ++ more) ≡ stripped ∷ lines more
+lines_whole text line rest stripped more lacks is said =
+    let part : take (length text - length rest) text ≡ line ++ 10 ∷ [] = front_of text line rest is in
+    ap (λ (t : List ℕ). lines (t ++ more)) part ∙ ap lines (append_assoc line (10 ∷ []) more)
+    ∙ lines_front line more lacks ∙ ap (λ (t : List ℕ). t ∷ lines more) (sym said)
 
 pub lines_last : (text : List ℕ) (n : ℕ) → n ≡ 0 → Lacks 10 text → 0 < length text
     → lines text ≡ text ∷ lines (take n (drop (length text) text))

@@ -11,5 +11,5 @@ mod words;
 
 pub use fault::{FieldFault, FieldStop, LineKind};
 pub use fields::{number_within, octets_within};
-pub use lines::next_line;
+pub use lines::{next_line, next_whole_line};
 pub use words::{count_words, first_word, four_words, next_word, one_word, three_words, two_words};

@@ -1,5 +1,6 @@
 //! The lines of a text. Nothing is copied.
-ghost use Rattle.std.specs.Prelude.{◌≡◌, ◌≤◌, ◌<◌, ◌+◌, ◌∷◌, ◌++◌, [], length, IfSome, IfNone};
+ghost use Rattle.std.specs.Prelude.{◌≡◌, ℕ, ◌≤◌, ◌<◌, ◌+◌, ◌-◌, List, ◌∷◌, ◌++◌, []};
+ghost use Rattle.std.specs.Prelude.{length, take, drop, IfSome, IfNone};
 ghost use Rattle.std.specs.Str.Lines.{lines, strip_carriage_return};
 ghost use Rattle.text_lines.specs.Cut.{Lacks};
 
@@ -42,5 +43,21 @@ pub fn next_line(text: &[u8]) -> Option<(&[u8], &[u8])>
     match cut(text, b'\n') {
         Some((line, rest)) => Some((without_return(line), rest)),
         None => Some((text, &text[text.len()..])),
+    }
+}
+
+/// The first line of a text that an LF ends, without its end, and the text after it.
+pub fn next_whole_line(text: &[u8]) -> Option<(&[u8], &[u8])>
+    ensures some { IfSome result (λ parts. (more : List ℕ) →
+        let n = length text.now - length parts.1.now in
+        lines (take n text.now ++ more) ≡ parts.0.now ∷ lines more) }
+    ensures rest { IfSome result (λ parts.
+        parts.1.now ≡ drop (length text.now - length parts.1.now) text.now) }
+    ensures moves { IfSome result (λ parts. length parts.1.now < length text.now) }
+    ensures none { IfNone result (Lacks 10 text.now) }
+{
+    match cut(text, b'\n') {
+        Some((line, rest)) => Some((without_return(line), rest)),
+        None => None,
     }
 }

@@ -1,19 +1,16 @@
 -- The octets of the pairs so far are written, if all were digits; else one wasn't.
 use Rattle.std.proofs.Common.{◌≤◌, ◌+◌, ◌-◌, length}
-use Rattle.hex_text.proofs.TextSteps.{IsDecoded}
+use Rattle.hex_text.proofs.TextSteps.{AreRead}
 use Rattle.hex_text.proofs.decoding.decode.Given as goal
 
 abbrev pub invariant-loop-done : goal.invariant-loop-done
 invariant-loop-done l = record {
   within : l.done ≤ length l.octets;
-  decoded : IsDecoded l.text l.octets l.done l.right;
+  read : AreRead l.text l.octets l.done l.right;
 }
 
 abbrev pub decreases-loop-done : goal.decreases-loop-done
 decreases-loop-done l = length l.octets - l.done
 
-abbrev pub invariant-loop-j : goal.invariant-loop-j
-invariant-loop-j l = IsDecoded l.text l.octets (l.done + l.j) l.right
-
 abbrev pub invariant-loop-i : goal.invariant-loop-i
-invariant-loop-i l = IsDecoded l.text l.octets l.i l.right
+invariant-loop-i l = AreRead l.text l.octets l.i l.right

@@ -1,14 +1,9 @@
--- A draft that passes the tests is a script that meets all that is said of one.
-use Rattle.std.proofs.Common.{sym, subst}
-use Rattle.session_model.specs.Valid.{IsValid, HasFewLosses}
-use Rattle.script_read.proofs.ValidLaws.{IsValid-draft}
+-- The text is one piece, before which nothing stands.
+use Rattle.std.proofs.Common.{[]}
 use Rattle.script_read.proofs.script.read_script.Goals as goal
 
-pub returns-clause-valid : goal.returns-clause-valid
-returns-clause-valid c =
-    subst IsValid (sym c.finished.ensures)
-    (IsValid-draft c.in-Ok.draft c.in-Ok.ensures.stands.0 c.in-Ok.ensures.stands.1 c.in-Ok.ensures.few
-    (sym c.in_default.ensures))
+pub returns-clause-script : goal.returns-clause-script
+returns-clause-script c = c.finish.ensures.script [] c.new.ensures.stands
 
-pub returns-clause-few_lost : goal.returns-clause-few_lost
-returns-clause-few_lost c = subst HasFewLosses (sym c.finished.ensures) c.in-Ok.ensures.stands.0.config.few_lost
+pub returns-clause-fault : goal.returns-clause-fault
+returns-clause-fault c = c.finish.ensures.fault [] c.new.ensures.stands

@@ -1,16 +1,17 @@
 -- What the lines read so far say; the rest of the text is read from there.
 use Rattle.std.proofs.Common.{◌≡◌, ◌≤◌, ◌+◌, length}
 use Rattle.std.specs.Str.Lines.{lines}
-use Rattle.text_lines.specs.Language.{said_from, said_by}
+use Rattle.text_lines.specs.Language.{said_from}
 use Rattle.script_read.specs.Script.{script_lines}
 use Rattle.script_read.specs.Drafts.{IsDraft}
-use Rattle.script_read.proofs.script.read_draft.Given as goal
+use Rattle.script_read.proofs.pieces.ScriptReader.read_draft.Given as goal
 
 abbrev pub invariant-loop-line : goal.invariant-loop-line
 invariant-loop-line l = record {
-  value : said_by script_lines l.fn.text ≡ said_from script_lines l.number l.draft (lines l.rest);
+  value : said_from script_lines l.fn.self.number l.fn.self.draft (lines l.fn.text)
+      ≡ said_from script_lines l.number l.draft (lines l.rest);
   stands : IsDraft l.draft;
-  small : l.number + length l.rest ≤ length l.fn.text + 1;
+  small : l.number + length l.rest ≤ l.fn.self.number + length l.fn.text;
   few : length l.draft.items + 1 ≤ l.number;
 }
 

@@ -1,0 +1,172 @@
+//! A script whose text comes in pieces.
+ghost use Rattle.std.specs.Prelude.{◌≡◌, ◌⊎◌, ℕ, ◌+◌, ◌≤◌, List, [], ◌++◌, length, take, IfOk, IfErr, Ok, Err};
+ghost use Rattle.std.specs.Str.Lines.{lines};
+ghost use Rattle.text_lines.specs.Language.{said_from};
+ghost use Rattle.script_read.specs.Script.{script_of, script_of_draft, script_in, script_lines};
+ghost use Rattle.script_read.specs.Pieces.{Stands, HasRoom, IsReader, Follows};
+ghost use Rattle.script_read.specs.Drafts.{IsDraft, fault_at};
+ghost use Rattle.session_model.specs.Valid.{IsValid, HasFewLosses};
+ghost use Rattle.session_model.specs.Limits.{longest_input};
+
+use crate::draft::Draft;
+use crate::fault::{LineFault, LineStop, ScriptFault};
+use crate::growth::{add, no_lines};
+use crate::keyword::awaited;
+use crate::limits::fault_of_config;
+use crate::statement::read_line;
+use session_model::Script;
+use std::alloc::Global;
+use text_lines::{next_line, next_whole_line};
+
+/// Reads a script whose text comes in pieces, each line once it is whole.
+#[derive(Drop)]
+pub struct ScriptReader {
+    // What the lines so far say.
+    draft: Draft,
+    // The number of the next line.
+    number: u32,
+}
+
+// The fault of a line that wasn't read.
+fn fault_of(number: u32, stop: LineStop) -> ScriptFault
+    ensures { result ≡ fault_at number stop }
+{
+    match stop {
+        LineStop::Fault(fault) => ScriptFault::Line { number, fault },
+        LineStop::Memory => ScriptFault::Memory,
+    }
+}
+
+impl ScriptReader {
+    /// A reader that has read nothing.
+    pub fn new(alloc: Global) -> ScriptReader
+        ensures reader { IsReader result }
+        ensures stands { Stands result [] }
+        ensures room { HasRoom result longest_input }
+    {
+        ScriptReader {
+            draft: no_lines(alloc),
+            number: 1,
+        }
+    }
+
+    // Reads the whole lines at the front of a piece, and says how many octets they have. What is left has to
+    // stand at the front of the next piece.
+    fn read_lines(self, alloc: Global, piece: &[u8]) -> Result<(ScriptReader, usize), ScriptFault>
+        requires reader { IsReader self }
+        requires room { HasRoom self (length piece.now) }
+        ensures reader { IfOk result (λ read. IsReader read.0) }
+        ensures within { IfOk result (λ read. read.1 ≤ length piece.now) }
+        ensures stands { (text : List ℕ) → Stands self text →
+            IfOk result (λ read. Stands read.0 (text ++ take read.1 piece.now)) }
+        ensures fault { (text : List ℕ) → Stands self text → IfErr result (λ fault.
+            (fault ≡ ScriptFault.Memory)
+            ⊎ ((more : List ℕ) → script_of (text ++ (piece.now ++ more)) ≡ Err fault)) }
+    {
+        let mut draft = self.draft;
+        let mut number = self.number;
+        let mut rest = piece;
+        while let Some((line, later)) = next_whole_line(rest) {
+            let said = match read_line(alloc, &draft, line) {
+                Ok(said) => said,
+                Err(stop) => return Err(fault_of(number, stop)),
+            };
+            match add(alloc, &mut draft, said) {
+                Ok(()) => number += 1,
+                Err(_) => return Err(ScriptFault::Memory),
+            }
+            rest = later;
+        }
+        Ok((ScriptReader { draft, number }, piece.len() - rest.len()))
+    }
+
+    /// Reads the whole lines at the front of the rest of a text, and gives what is left then.
+    pub fn read_on(
+        self,
+        alloc: Global,
+        rest: Vec<u8>,
+    ) -> Result<(ScriptReader, Vec<u8>), ScriptFault>
+        requires reader { IsReader self }
+        requires room { HasRoom self (length rest.items) }
+        ensures reader { IfOk result (λ read. IsReader read.0) }
+        ensures follows { (all : List ℕ) → Follows self rest.items all →
+            IfOk result (λ read. Follows read.0 read.1.items all) }
+        ensures fault { (all : List ℕ) → Follows self rest.items all → IfErr result (λ fault.
+            (fault ≡ ScriptFault.Memory)
+            ⊎ ((more : List ℕ) → script_of (all ++ more) ≡ Err fault)) }
+    {
+        match self.read_lines(alloc, rest.as_slice()) {
+            Ok((reader, used)) => match Vec::from_slice(alloc, &rest[used..]) {
+                Ok(left) => Ok((reader, left)),
+                Err(_) => Err(ScriptFault::Memory),
+            },
+            Err(fault) => Err(fault),
+        }
+    }
+
+    // What the lines of the rest of a text say after those that were read.
+    fn read_draft(self, alloc: Global, text: &[u8]) -> Result<Draft, ScriptFault>
+        requires reader { IsReader self }
+        requires room { HasRoom self (length text.now) }
+        ensures ok { IfOk result (λ draft.
+            said_from script_lines self.number self.draft (lines text.now) ≡ Ok draft) }
+        ensures stands { IfOk result (λ draft. IsDraft draft × (6 ≤ draft.next)) }
+        ensures few { IfOk result (λ draft. length draft.items ≤ longest_input) }
+        ensures err { IfErr result (λ fault. (fault ≡ ScriptFault.Memory) ⊎ (script_of_draft
+            (said_from script_lines self.number self.draft (lines text.now)) ≡ Err fault)) }
+    {
+        let mut draft = self.draft;
+        let mut number = self.number;
+        let mut rest = text;
+        while let Some((line, later)) = next_line(rest) {
+            rest = later;
+            let said = match read_line(alloc, &draft, line) {
+                Ok(said) => said,
+                Err(stop) => return Err(fault_of(number, stop)),
+            };
+            match add(alloc, &mut draft, said) {
+                Ok(()) => number += 1,
+                Err(_) => return Err(ScriptFault::Memory),
+            }
+        }
+        if draft.next < 6 {
+            return Err(ScriptFault::Line {
+                number,
+                fault: LineFault::Missing(awaited(draft.next)),
+            });
+        }
+        Ok(draft)
+    }
+
+    /// The script of a text whose last piece this is.
+    pub fn finish(self, alloc: Global, piece: &[u8]) -> Result<Script, ScriptFault>
+        requires reader { IsReader self }
+        requires room { HasRoom self (length piece.now) }
+        ensures script { (text : List ℕ) → Stands self text →
+            IfOk result (λ script. script_of (text ++ piece.now) ≡ Ok script) }
+        ensures valid { IfOk result IsValid }
+        ensures few_lost { IfOk result HasFewLosses }
+        ensures fault { (text : List ℕ) → Stands self text → IfErr result (λ fault.
+            (fault ≡ ScriptFault.Memory) ⊎ (script_of (text ++ piece.now) ≡ Err fault)) }
+    {
+        let draft = match self.read_draft(alloc, piece) {
+            Ok(draft) => draft,
+            Err(fault) => return Err(fault),
+        };
+        if let Some(fault) = fault_of_config(&draft.config) {
+            return Err(fault);
+        }
+        Ok(finished(draft))
+    }
+}
+
+// The script that a draft has become.
+fn finished(draft: Draft) -> Script
+    ensures { result ≡ script_in draft }
+{
+    Script {
+        config: draft.config,
+        items: draft.items,
+        events: draft.events,
+    }
+}
