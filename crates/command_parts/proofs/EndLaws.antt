@@ -123,14 +123,10 @@ command-none usage (none other) command is = command
 command-none usage (reads answer) command is = absurd cc
 command-none usage (makes answer) command is = absurd cc
 
-refused-is : (why : Refusal) → (refused_status why ≡ 5) ⊎ (refused_status why ≡ 6)
-refused-is Line = inl refl
-refused-is Limit = inr refl
-
--- a refusal is none of the other statuses
-pub not-refused : (why : Refusal) (s n : ℕ) → s ≡ refused_status why → s ≡ n → n ≢ 5 → n ≢ 6 → ⊥
-not-refused why s n is at five six =
-    elim (refused-is why) [ inl e ↦ five (sym at ∙ is ∙ e) | inr e ↦ six (sym at ∙ is ∙ e) ]
+-- a refusal has one of two statuses
+pub refused-within : (why : Refusal) → (5 ≤ refused_status why) × (refused_status why ≤ 6)
+refused-within Line = (omega arith, omega arith)
+refused-within Limit = (omega arith, omega arith)
 
 module _ {S K E : Type 0} (source : Lent S) (out : Lent K) (notes : Lent E) (task : Task) (s : ℕ) where
   pub known : Ends source out notes task s → IsTrue (is_status s)
@@ -138,88 +134,63 @@ module _ {S K E : Type 0} (source : Lent S) (out : Lent K) (notes : Lent E) (tas
   known (no_command is it) = rw is refl
   known (unread is it) = rw is refl
   known (cut is it) = rw is refl
-  known (refused why is it) = elim (refused-is why) [ inl e ↦ rw (is ∙ e) refl | inr e ↦ rw (is ∙ e) refl ]
+  known (refused Line is it) = rw is refl
+  known (refused Limit is it) = rw is refl
   known (short is it) = rw is refl
   known (too_long is it) = rw is refl
   known (beyond is it) = rw is refl
 
+  -- the least and the greatest status of an end
+  abbrev range : Ends source out notes task s → ℕ × ℕ
+  range (done is it) = (0, 0)
+  range (no_command is it) = (2, 2)
+  range (unread is it) = (3, 3)
+  range (cut is it) = (4, 4)
+  range (refused why is it) = (5, 6)
+  range (short is it) = (7, 7)
+  range (too_long is it) = (8, 8)
+  range (beyond is it) = (8, 8)
+
+  within : (ends : Ends source out notes task s) → ((range ends).0 ≤ s) × (s ≤ (range ends).1)
+  within (done is it) = (omega (arith, is), omega (arith, is))
+  within (no_command is it) = (omega (arith, is), omega (arith, is))
+  within (unread is it) = (omega (arith, is), omega (arith, is))
+  within (cut is it) = (omega (arith, is), omega (arith, is))
+  within (refused why is it) = let own = refused-within why in (omega (arith, is, own.0), omega (arith, is, own.1))
+  within (short is it) = (omega (arith, is), omega (arith, is))
+  within (too_long is it) = (omega (arith, is), omega (arith, is))
+  within (beyond is it) = (omega (arith, is), omega (arith, is))
+
   pub no-command : Ends source out notes task s → s ≡ 2 → IsNoCommand source out notes task
-  no-command (done is it) at = absurd (omega (arith, is, at))
   no-command (no_command is it) at = it
-  no-command (unread is it) at = absurd (omega (arith, is, at))
-  no-command (cut is it) at = absurd (omega (arith, is, at))
-  no-command (refused why is it) at = absurd (not-refused why s 2 is at (λ z. omega (arith, z)) (λ z. omega (arith, z)))
-  no-command (short is it) at = absurd (omega (arith, is, at))
-  no-command (too_long is it) at = absurd (omega (arith, is, at))
-  no-command (beyond is it) at = absurd (omega (arith, is, at))
+  no-command ends at = absurd (let is = within ends in omega (arith, is.0, is.1, at))
 
   pub is-unread : Ends source out notes task s → s ≡ 3 → IsUnread source out notes task
-  is-unread (done is it) at = absurd (omega (arith, is, at))
-  is-unread (no_command is it) at = absurd (omega (arith, is, at))
   is-unread (unread is it) at = it
-  is-unread (cut is it) at = absurd (omega (arith, is, at))
-  is-unread (refused why is it) at = absurd (not-refused why s 3 is at (λ z. omega (arith, z)) (λ z. omega (arith, z)))
-  is-unread (short is it) at = absurd (omega (arith, is, at))
-  is-unread (too_long is it) at = absurd (omega (arith, is, at))
-  is-unread (beyond is it) at = absurd (omega (arith, is, at))
+  is-unread ends at = absurd (let is = within ends in omega (arith, is.0, is.1, at))
 
   pub is-done : Ends source out notes task s → s ≡ 0 → IsDone source out notes task
   is-done (done is it) at = it
-  is-done (no_command is it) at = absurd (omega (arith, is, at))
-  is-done (unread is it) at = absurd (omega (arith, is, at))
-  is-done (cut is it) at = absurd (omega (arith, is, at))
-  is-done (refused why is it) at = absurd (not-refused why s 0 is at (λ z. omega (arith, z)) (λ z. omega (arith, z)))
-  is-done (short is it) at = absurd (omega (arith, is, at))
-  is-done (too_long is it) at = absurd (omega (arith, is, at))
-  is-done (beyond is it) at = absurd (omega (arith, is, at))
+  is-done ends at = absurd (let is = within ends in omega (arith, is.0, is.1, at))
 
   pub is-cut : Ends source out notes task s → s ≡ 4 → IsCut source out notes task
-  is-cut (done is it) at = absurd (omega (arith, is, at))
-  is-cut (no_command is it) at = absurd (omega (arith, is, at))
-  is-cut (unread is it) at = absurd (omega (arith, is, at))
   is-cut (cut is it) at = it
-  is-cut (refused why is it) at = absurd (not-refused why s 4 is at (λ z. omega (arith, z)) (λ z. omega (arith, z)))
-  is-cut (short is it) at = absurd (omega (arith, is, at))
-  is-cut (too_long is it) at = absurd (omega (arith, is, at))
-  is-cut (beyond is it) at = absurd (omega (arith, is, at))
+  is-cut ends at = absurd (let is = within ends in omega (arith, is.0, is.1, at))
 
   pub is-short : Ends source out notes task s → s ≡ 7 → IsShort source out notes task
-  is-short (done is it) at = absurd (omega (arith, is, at))
-  is-short (no_command is it) at = absurd (omega (arith, is, at))
-  is-short (unread is it) at = absurd (omega (arith, is, at))
-  is-short (cut is it) at = absurd (omega (arith, is, at))
-  is-short (refused why is it) at = absurd (not-refused why s 7 is at (λ z. omega (arith, z)) (λ z. omega (arith, z)))
   is-short (short is it) at = it
-  is-short (too_long is it) at = absurd (omega (arith, is, at))
-  is-short (beyond is it) at = absurd (omega (arith, is, at))
+  is-short ends at = absurd (let is = within ends in omega (arith, is.0, is.1, at))
 
   pub is-long : Ends source out notes task s → s ≡ 8 → IsTooLong source out notes task ⊎ IsBeyond source out notes task
-  is-long (done is it) at = absurd (omega (arith, is, at))
-  is-long (no_command is it) at = absurd (omega (arith, is, at))
-  is-long (unread is it) at = absurd (omega (arith, is, at))
-  is-long (cut is it) at = absurd (omega (arith, is, at))
-  is-long (refused why is it) at = absurd (not-refused why s 8 is at (λ z. omega (arith, z)) (λ z. omega (arith, z)))
-  is-long (short is it) at = absurd (omega (arith, is, at))
   is-long (too_long is it) at = inl it
   is-long (beyond is it) at = inr it
+  is-long ends at = absurd (let is = within ends in omega (arith, is.0, is.1, at))
 
   pub is-refused : Ends source out notes task s → (s ≡ 5) ⊎ (s ≡ 6) → (why : Refusal) × (s ≡ refused_status why) ×
       IsRefused source out notes task why
-  is-refused (done is it) either =
-      elim either [ inl at ↦ absurd (omega (arith, is, at)) | inr at ↦ absurd (omega (arith, is, at)) ]
-  is-refused (no_command is it) either =
-      elim either [ inl at ↦ absurd (omega (arith, is, at)) | inr at ↦ absurd (omega (arith, is, at)) ]
-  is-refused (unread is it) either =
-      elim either [ inl at ↦ absurd (omega (arith, is, at)) | inr at ↦ absurd (omega (arith, is, at)) ]
-  is-refused (cut is it) either =
-      elim either [ inl at ↦ absurd (omega (arith, is, at)) | inr at ↦ absurd (omega (arith, is, at)) ]
   is-refused (refused why is it) either = (why, is, it)
-  is-refused (short is it) either =
-      elim either [ inl at ↦ absurd (omega (arith, is, at)) | inr at ↦ absurd (omega (arith, is, at)) ]
-  is-refused (too_long is it) either =
-      elim either [ inl at ↦ absurd (omega (arith, is, at)) | inr at ↦ absurd (omega (arith, is, at)) ]
-  is-refused (beyond is it) either =
-      elim either [ inl at ↦ absurd (omega (arith, is, at)) | inr at ↦ absurd (omega (arith, is, at)) ]
+  is-refused ends either = absurd (let is = within ends in
+      elim either [ inl at ↦ omega (arith, is.0, is.1, at) | inr at ↦ omega (arith, is.0, is.1, at) ])
 
   pub none-is : Ends source out notes task s → (usage : List ℕ) → task ≡ none usage → s ≡ 2
   none-is (done is it) usage e = absurd (command-none usage task (meets-command source task it.answer it.meets) e)
@@ -273,54 +244,10 @@ module _ {S K E : Type 0} (source : Lent S) (out : Lent K) (notes : Lent E) (tas
   not-read (beyond is it) never = meets-unread source task exceeds it.meets never
 
   pub read-text : Ends source out notes task s → Reads task → HasReadAt s → (text : List ℕ) × HasRead source text
-  read-text (done is it) does at = meets-text source task it.answer it.meets does
-  read-text (no_command is it) does at =
-      elim at [
-        | inl a ↦ absurd (omega (arith, is, a))
-        | inr x ↦ elim x [
-          | inl a ↦ absurd (omega (arith, is, a))
-          | inr y ↦ elim y
-              [ inl a ↦ absurd (omega (arith, is, a)) | inr a ↦ absurd (omega (arith, is, a)) ]
-        ]
-      ]
-  read-text (unread is it) does at =
-      elim at [
-        | inl a ↦ absurd (omega (arith, is, a))
-        | inr x ↦ elim x [
-          | inl a ↦ absurd (omega (arith, is, a))
-          | inr y ↦ elim y
-              [ inl a ↦ absurd (omega (arith, is, a)) | inr a ↦ absurd (omega (arith, is, a)) ]
-        ]
-      ]
-  read-text (cut is it) does at = meets-text source task it.answer it.meets does
-  read-text (refused why is it) does at = meets-text source task (refuses why it.note) it.meets does
-  read-text (short is it) does at =
-      elim at [
-        | inl a ↦ absurd (omega (arith, is, a))
-        | inr x ↦ elim x [
-          | inl a ↦ absurd (omega (arith, is, a))
-          | inr y ↦ elim y
-              [ inl a ↦ absurd (omega (arith, is, a)) | inr a ↦ absurd (omega (arith, is, a)) ]
-        ]
-      ]
-  read-text (too_long is it) does at =
-      elim at [
-        | inl a ↦ absurd (omega (arith, is, a))
-        | inr x ↦ elim x [
-          | inl a ↦ absurd (omega (arith, is, a))
-          | inr y ↦ elim y
-              [ inl a ↦ absurd (omega (arith, is, a)) | inr a ↦ absurd (omega (arith, is, a)) ]
-        ]
-      ]
-  read-text (beyond is it) does at =
-      elim at [
-        | inl a ↦ absurd (omega (arith, is, a))
-        | inr x ↦ elim x [
-          | inl a ↦ absurd (omega (arith, is, a))
-          | inr y ↦ elim y
-              [ inl a ↦ absurd (omega (arith, is, a)) | inr a ↦ absurd (omega (arith, is, a)) ]
-        ]
-      ]
+  read-text ends does (inl at) = let it = is-done ends at in meets-text source task it.answer it.meets does
+  read-text ends does (inr (inl at)) = let it = is-cut ends at in meets-text source task it.answer it.meets does
+  read-text ends does (inr (inr either)) =
+      let (why, is, it) = is-refused ends either in meets-text source task (refuses why it.note) it.meets does
 
   -- ---- reading
   pub fits : Ends source out notes task s → Reads task → HasReadAt s →

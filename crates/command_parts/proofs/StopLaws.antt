@@ -14,7 +14,7 @@ use Rattle.command_parts.specs.Faults.{IsRefusedFor}
 use Rattle.command_parts.specs.declared.stop.Fault.{Fault}
 use Rattle.command_parts.specs.declared.stop.Refusal.{Refusal}
 use Rattle.command_parts.specs.Status.{HasRunAt}
-use Rattle.command_parts.proofs.EndLaws.{not-refused}
+use Rattle.command_parts.proofs.EndLaws.{refused-within}
 use Rattle.command_parts.specs.Scripts.{HasScript, answer_of, script_answer}
 use Rattle.command_parts.specs.Stops.{StopsReading, note_of, status_at}
 
@@ -171,9 +171,9 @@ stops-not-run source answer Read status stops is (inr at) = omega (arith, is, at
 stops-not-run source answer TooLong status stops is (inl at) = omega (arith, is, at)
 stops-not-run source answer TooLong status stops is (inr at) = omega (arith, is, at)
 stops-not-run source answer (Refused it) status stops is (inl at) =
-    not-refused it.why status 0 is at (λ z. omega (arith, z)) (λ z. omega (arith, z))
+    let own = refused-within it.why in omega (arith, is, own.0, at)
 stops-not-run source answer (Refused it) status stops is (inr at) =
-    not-refused it.why status 4 is at (λ z. omega (arith, z)) (λ z. omega (arith, z))
+    let own = refused-within it.why in omega (arith, is, own.0, at)
 stops-not-run source answer Write status stops is at = stops
 stops-not-run source answer Memory status stops is (inl at) = omega (arith, is, at)
 stops-not-run source answer Memory status stops is (inr at) = omega (arith, is, at)

@@ -6,7 +6,7 @@ use Rattle.std.proofs.Math.ListN.{set}
 use Rattle.std.specs.List.{AllZip}
 
 module _ {A : Type 0} where
-  some-is : (x y : A) → Some x ≡ Some y → x ≡ y
+  pub some-is : (x y : A) → Some x ≡ Some y → x ≡ y
   some-is x y e = cc
 
   -- ---- an element of a list in which one was set

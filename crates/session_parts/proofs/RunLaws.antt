@@ -10,7 +10,8 @@ use Rattle.sink_worker.specs.Told.{Writes}
 use Rattle.sink_worker.specs.declared.worker.SinkWorker.{SinkWorker}
 use Rattle.sink_worker.specs.Worker.{Stands, IsLater, parts_of, cells_of, size_of, taken_of, has_failed}
 use Rattle.sink_worker.proofs.PartsLaws.{given-then, later-then}
-use Rattle.session_parts.specs.Duty.{Begun, HasRun}
+use Rattle.alarm_log.specs.declared.log.AlarmLog.{AlarmLog}
+use Rattle.session_parts.specs.Duty.{Begun, HasRun, IsLogLater}
 
 abbrev Told : Bool → Seen → Seen → List ℕ → Type 0
 Told failed first now text = Writes known_of faults_of false failed first now text
@@ -18,6 +19,14 @@ Told failed first now text = Writes known_of faults_of false failed first now te
 module _ {K : Type 0} (written : K → Option (List ℕ)) (faults : K → ℕ) where
   abbrev seen_of : K → Seen
   seen_of k = seen (written k) (faults k)
+
+  -- so far a session has run, by what it writes to
+  abbrev pub HasRunTo : Begun → SinkWorker → K → Type 0
+  HasRunTo begun sink now = HasRun begun sink (seen (written now) (faults now))
+
+  -- what the duty of a sink stands for, by its parts
+  abbrev pub StandsFor : Begun → ℕ → SinkWorker → K → Option AlarmLog → Type 0
+  StandsFor begun name sink now log = (name ≡ begun.name) × HasRunTo begun sink now × IsLogLater begun.log log
 
   told-then : (failed next : Bool) (first : Seen) (old new : K) (text more : List ℕ) →
       Told failed first (seen_of old) text → Writes written faults failed next old new more →
@@ -44,7 +53,7 @@ module _ {K : Type 0} (written : K → Option (List ℕ)) (faults : K → ℕ) w
   pub run-then : (begun : Begun) (a b : SinkWorker) (old new : K) → Stands b → IsLater a b →
       Writes written faults (has_failed a) (has_failed b) old new
       (got_texts (added_frames (size_of b) (cells_of b) (taken_of a) (taken_of b))) →
-      HasRun begun a (seen_of old) → HasRun begun b (seen_of new)
+      HasRunTo begun a old → HasRunTo begun b new
   run-then begun a b old new stands later writes run =
       let before = given_frames (size_of a) (cells_of a) (taken_of a) in
       let more = added_frames (size_of b) (cells_of b) (taken_of a) (taken_of b) in
@@ -60,7 +69,7 @@ module _ {K : Type 0} (written : K → Option (List ℕ)) (faults : K → ℕ) w
 
   -- what a session has written, by what was there when it began
   pub run-writes : (first now : K) (begun : Begun) (sink : SinkWorker) → begun.first ≡ seen_of first →
-      HasRun begun sink (seen_of now) →
+      HasRunTo begun sink now →
       Writes written faults false (has_failed sink) first now
       (got_texts (given_frames (size_of sink) (cells_of sink) (taken_of sink)))
   run-writes first now begun sink is run =

@@ -33,6 +33,7 @@ use Rattle.session_parts.specs.Duty.{Begun, HasRun}
 use Rattle.session_parts.specs.Lines.{AreLater}
 use Rattle.session_parts.specs.Laid.{AreDone, AreSendEnds, AreReceiveEnds}
 use Rattle.session_parts.specs.Opened.{IsLineOf}
+use Rattle.session_parts.proofs.RunLaws.{HasRunTo}
 use Rattle.session_parts.proofs.ZipLaws.{zip-length}
 use Rattle.session_parts.proofs.DealLaws.{zip-at}
 use Rattle.session_run.specs.Beside.{AreLaid, IsSessionOf}
@@ -69,10 +70,10 @@ module _ {K : Type 0} (written : K → Option (List ℕ)) (faults : K → ℕ) w
 
   -- a worker that is handed on, with what it writes to
   pub handed-on : (begun : Begun) (a b : SinkWorker) (old new : K) → b ≡ a → new ≡ old →
-      HasRun begun a (seen (written old) (faults old)) → HasRun begun b (seen (written new) (faults new))
+      HasRunTo written faults begun a old → HasRunTo written faults begun b new
   handed-on begun a b old new is same run =
-      subst (λ (sink : SinkWorker). HasRun begun sink (seen (written new) (faults new))) (sym is)
-      (subst (λ (k : K). HasRun begun a (seen (written k) (faults k))) (sym same) run)
+      subst (λ (sink : SinkWorker). HasRunTo written faults begun sink new) (sym is)
+      (subst (HasRunTo written faults begun a) (sym same) run)
 
   -- what was written as a whole, or in part
   pub writes-whole : (failed : Bool) (old new : K) (own text : List ℕ) → own ≡ text →
@@ -84,6 +85,13 @@ module _ {K : Type 0} (written : K → Option (List ℕ)) (faults : K → ℕ) w
       Writes written faults false failed old new own → failed ≡ true → AppendsPart written faults old new text
   writes-part false old new own text is writes some = absurd cc
   writes-part true old new own text is writes some = subst (AppendsPart written faults old new) is writes
+
+-- the ends of all rings are ends of the same rings, one at each line
+pub record AreEndsLater (group : GroupState) (lines : List LineWorker) (sink : SinkWorker) : Type 0 where
+  pub sends : AreSendEnds group.tx.items lines
+  pub receives : AreReceiveEnds lines sink.rx.items
+  pub returns : AreEnds sink.back group.back
+  pub count : (length group.tx.items ≡ length lines) × (length sink.rx.items ≡ length lines)
 
 module _ (script : Script) (first : GroupState) (begun : List LineWorker) (taker : SinkWorker)
     (open' : IsOpen script first begun taker)
@@ -98,7 +106,7 @@ module _ (script : Script) (first : GroupState) (begun : List LineWorker) (taker
       (slice_get begun m ≡ Some old) × IsLater old worker
   old-at m worker there = zip-at IsLater begun lines m worker later there
 
-  pub send-ends : AreSendEnds group.tx.items lines
+  send-ends : AreSendEnds group.tx.items lines
   send-ends m out worker at there =
       let (old, was, grew) = old-at m worker there in
       let inside = slice_get_within begun m old was in
@@ -107,7 +115,7 @@ module _ (script : Script) (first : GroupState) (begun : List LineWorker) (taker
       ends-moved out' out old.consumer worker.consumer (open'.lines.sends m out' old at' was)
       (bound.sends.each m out' out at' at) grew.same.consumer
 
-  pub receive-ends : AreReceiveEnds lines sink.rx.items
+  receive-ends : AreReceiveEnds lines sink.rx.items
   receive-ends m worker into there at =
       let (old, was, grew) = old-at m worker there in
       let inside = slice_get_within begun m old was in
@@ -116,15 +124,20 @@ module _ (script : Script) (first : GroupState) (begun : List LineWorker) (taker
       ends-moved old.producer worker.producer into' into (open'.lines.receives m old into' was at') grew.same.producer
       (after.1.ends.each m into' into at' at)
 
-  pub return-ends : AreEnds sink.back group.back
+  return-ends : AreEnds sink.back group.back
   return-ends = ends-moved taker.back sink.back first.back group.back open'.returns after.1.back
       (bound.returns.each 0 first.back group.back refl refl)
 
-  pub counts : (length group.tx.items ≡ length lines) × (length sink.rx.items ≡ length lines)
-  counts = (
-    omega (arith, bound.sends.count, as-many, open'.lines.tx_count, open'.lines.workers_count),
-    omega (arith, after.1.ends.count, as-many, open'.lines.rx_count, open'.lines.workers_count),
-  )
+  pub ends-later : AreEndsLater group lines sink
+  ends-later = record {
+    sends = send-ends;
+    receives = receive-ends;
+    returns = return-ends;
+    count = (
+      omega (arith, bound.sends.count, as-many, open'.lines.tx_count, open'.lines.workers_count),
+      omega (arith, after.1.ends.count, as-many, open'.lines.rx_count, open'.lines.workers_count),
+    );
+  }
 
 -- all have done what they had to do, and the ends of all rings were laid beside each other
 module _ (script : Script) (first : GroupState) (begun : List LineWorker) (taker : SinkWorker)

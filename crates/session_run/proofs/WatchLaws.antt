@@ -22,31 +22,28 @@ use Rattle.member_ring.specs.declared.alarm.Alarm.{Alarm}
 use Rattle.member_ring.specs.declared.alarm.AlarmKind.{AlarmKind}
 use Rattle.member_ring.specs.declared.alarm.AlarmKind.TheVariants.{Fails, Returns, Ends}
 use Rattle.member_ring.specs.Alarms.{alarm_at, alarms_from, alarms_of_line}
-use Rattle.member_ring.specs.Worker.{number_of, windows_of, total_of, raised_by, IsLater}
+use Rattle.member_ring.specs.Worker.{number_of, IsLater}
 use Rattle.sink_worker.specs.declared.worker.SinkWorker.{SinkWorker}
 use Rattle.group_lock.specs.declared.group.GroupState.{GroupState}
 use Rattle.alarm_log.specs.declared.log.AlarmLog.{AlarmLog}
 use Rattle.alarm_log.specs.declared.post.AlarmPost.{AlarmPost}
 use Rattle.alarm_log.specs.Alarms.{of_line}
 use Rattle.alarm_log.specs.Logs.{IsMade, IsPostOf, SameLog, IsAlone}
-use Rattle.alarm_log.specs.Posts.{posted_by, put_by, kept_by, most_by, SamePost}
+use Rattle.alarm_log.specs.Posts.{posted_by, SamePost}
 use Rattle.watched_line.specs.declared.served.ServedLine.{ServedLine}
-use Rattle.watched_line.specs.Served.{worker_of, line_of, AreServedLater, AreWatchable, AreTold, MayWatch}
+use Rattle.watched_line.specs.Served.{worker_of, IsServedLater, AreServedLater, AreWatchable, AreTold}
 use Rattle.watched_line.proofs.ServedLaws.{workers-later}
 use Rattle.session_parts.specs.Lines.{AreLater, AreNumbered}
 use Rattle.session_parts.specs.Laid.{AreDone, AreServedDone}
-use Rattle.session_parts.specs.Opened.{IsLineOf, AreOpened}
+use Rattle.session_parts.specs.Opened.{AreOpened}
 use Rattle.session_parts.specs.Session.{IsEnded}
 use Rattle.session_model.specs.declared.script.Script.{Script}
 use Rattle.walk_law.specs.Rings.{line_cells}
-use Rattle.session_parts.proofs.DealLaws.{zip-at}
+use Rattle.session_parts.proofs.DealLaws.{some-is, zip-at}
 use Rattle.session_parts.proofs.ZipLaws.{zip-length}
 use Rattle.session_run.specs.Beside.{AreLaid}
 
 module _ {A B : Type 0} (f : A → B) where
-  some-is : (x y : A) → Some x ≡ Some y → x ≡ y
-  some-is x y e = cc
-
   -- at one place of a list and of what comes of it
   map-at : (xs : List A) (k : ℕ) (x : A) → slice_get xs k ≡ Some x → slice_get (map f xs) k ≡ Some (f x)
   map-at [] k x there = absurd cc
@@ -68,6 +65,14 @@ pub served-count : (workers : Vec LineWorker) (lines : Vec ServedLine) → map w
     vec_len lines ≡ vec_len workers
 served-count workers lines is = let size = map-size worker_of lines.items in let same = ap length is in
     omega (arith, size, same, lines.ok.0, workers.ok.0)
+
+-- and as many as those later
+pub served-few : (workers : Vec LineWorker) (first last : Vec ServedLine) → map worker_of first.items ≡ workers.items →
+    AreServedLater first.items last.items → vec_len last ≤ vec_len workers
+served-few workers first last is later =
+    let count = served-count workers first is in
+    let long = zip-length IsServedLater first.items last.items later in
+    omega (arith, count, long, first.ok.0, last.ok.0)
 
 pub served-numbers : (workers : List LineWorker) (lines : List ServedLine) → map worker_of lines ≡ workers →
     ((k : ℕ) (worker : LineWorker) → slice_get workers k ≡ Some worker → number_of worker ≡ k) → AreNumbered 0 lines

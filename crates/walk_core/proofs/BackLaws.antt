@@ -26,7 +26,7 @@ use Rattle.walk_core.specs.declared.moved.Moved.TheVariants.{Yes, Stalled}
 use Rattle.walk_core.specs.Moved.{answer_by, moved_of, counts_after}
 use Rattle.group_source.specs.Landed.{Landed}
 use Rattle.walk_core.specs.Parts.{Parts, counts_of, HasBack, IsWalk}
-use Rattle.walk_core.proofs.EventLaws.{walk-fits, walked-next}
+use Rattle.walk_core.proofs.EventLaws.{walk-fits, walked-next, source-stays, landed-stays}
 
 pub ring-size : (script : Script) (s : Counts) → length (return_ring script s) ≡ in_return s
 ring-size script s = length-map (range_with_len s.backs (in_return s)) (said_packet script)
@@ -183,7 +183,7 @@ module _ (script : Script) (parts : Parts) (landing : Landed) (got : ℕ) (last 
           total = is.total;
           walked = walked-next script (counts_of parts landing) _ Back is.walked
               (back-moved script (counts_of parts landing) parts.back is.back some).0;
-          source = record { made = is.source.made; lines = is.source.lines; lag = is.source.lag; size = is.source.size };
+          source = source-stays script (counts_of parts landing) _ _ _ parts.source is.source;
           sent = is.sent;
           lines = is.lines;
           sink = record {
@@ -195,13 +195,7 @@ module _ (script : Script) (parts : Parts) (landing : Landed) (got : ℕ) (last 
             size = is.sink.size;
           };
           back = record { ring = refl; lost = refl; inbox = refl; room = refl };
-          landed = record {
-            items = is.landed.items;
-            refusals = is.landed.refusals;
-            frames = is.landed.frames;
-            commands =
-                is.landed.commands;
-          };
+          landed = landed-stays script (counts_of parts landing) _ _ _ landing is.landed;
           counted = is.counted;
           noted = is.noted;
         })

@@ -40,7 +40,7 @@ use Rattle.group_source.specs.Landed.{Landed}
 use Rattle.walk_core.specs.Parts.{Parts, frame_in, HasSent, counts_of, calls_on, line_counts, HasLine, IsWalk}
 use Rattle.walk_core.specs.Carry.{carry_cause, CanCarry, HasRoom, IsSentOn, IsCarriedAt}
 use Rattle.walk_core.specs.Waiting.{send_ring, receive_ring}
-use Rattle.walk_core.proofs.EventLaws.{walk-fits, walked-next}
+use Rattle.walk_core.proofs.EventLaws.{walk-fits, walked-next, source-stays, landed-stays}
 use Rattle.walk_core.proofs.SendLaws.{sent-carried, counts-here, counts-of, waits-none, waits-some}
 
 -- a line in numbers
@@ -365,12 +365,7 @@ module _ (script : Script) (parts : Parts) (landing : Landed) (got : ℕ) (last 
             valid = is.valid;
             total = is.total;
             walked = walked-next script (counts_of parts landing) _ (Carry m) is.walked carry-counts;
-            source = record {
-              made = is.source.made;
-              lines = is.source.lines;
-              lag = is.source.lag;
-              size = is.source.size;
-            };
+            source = source-stays script (counts_of parts landing) _ _ _ parts.source is.source;
             sent = subst (λ ls. HasSent script parts.source.ticks ls sent) (sym lines-are)
                 (sent-carried script parts.source.ticks m (counts_of parts landing).lines (line_counts line)
                 (record { carried = line.carried + 1; popped = line.popped }) parts.sent sent
@@ -394,12 +389,7 @@ module _ (script : Script) (parts : Parts) (landing : Landed) (got : ℕ) (last 
               size = is.sink.size;
             };
             back = record { ring = is.back.ring; lost = is.back.lost; inbox = is.back.inbox; room = is.back.room };
-            landed = record {
-              items = is.landed.items;
-              refusals = is.landed.refusals;
-              frames = is.landed.frames;
-              commands = is.landed.commands;
-            };
+            landed = landed-stays script (counts_of parts landing) _ _ _ landing is.landed;
             counted = is.counted;
             noted = is.noted;
           }

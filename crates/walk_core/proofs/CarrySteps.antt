@@ -103,7 +103,7 @@ module _ (script : Script) (parts : Parts) (landing : Landed) (got : ℕ) (last 
               (line-there own own_read) after none-is has by.carried by.popped
               sent changed k at
 
-          pub line-counts : counts_of (record parts { lines = slice_set parts.lines k after; sent = sent }) landing
+          line-counts : counts_of (record parts { lines = slice_set parts.lines k after; sent = sent }) landing
               ≡ counts_after old.script old.counts (Carry m)
           line-counts =
               carry-counts_at script parts landing got last is m line-low own
@@ -111,8 +111,12 @@ module _ (script : Script) (parts : Parts) (landing : Landed) (got : ℕ) (last 
               sent changed k at
               ∙ ap (λ (w : Walked). counts_after w.script w.counts (Carry m)) view
 
-          pub line-moves : Yes ≡ moved_of old.script old.counts (Carry m)
+          line-moves : Yes ≡ moved_of old.script old.counts (Carry m)
           line-moves =
               carry-moved script parts landing got last is m line-low own
               (line-there own own_read) after none-is has by.carried by.popped
               ∙ ap (λ (w : Walked). moved_of w.script w.counts (Carry m)) view
+
+          pub line-carried : (counts_of (record parts { lines = slice_set parts.lines k after; sent = sent }) landing
+              ≡ counts_after old.script old.counts (Carry m)) × (Yes ≡ moved_of old.script old.counts (Carry m))
+          line-carried = (line-counts, line-moves)

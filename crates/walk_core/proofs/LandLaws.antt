@@ -1,6 +1,6 @@
 -- An item lands.
 use Rattle.std.proofs.Common.{◌≡◌, ℕ, ◌+◌, nat_lt, slice_get, Option, Some, None, option_map, inl, inr, refl, sym, ◌∙◌}
-use Rattle.std.proofs.Common.{ap, arith}
+use Rattle.std.proofs.Common.{ap}
 use Rattle.std.proofs.lemmas.Bool.{cases_Bool}
 use Rattle.session_model.specs.declared.script.Item.{Item}
 use Rattle.session_model.specs.declared.script.Script.{Script}

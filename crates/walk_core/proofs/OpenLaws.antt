@@ -1,5 +1,5 @@
 -- A walk of which no event was made.
-use Rattle.std.proofs.Common.{◌≡◌, ◌⊎◌, ℕ, zero, suc, ◌+◌, ◌-◌, ◌<◌, ◌≤◌, min, List, [], ◌∷◌, ◌++◌, All, length, take}
+use Rattle.std.proofs.Common.{◌≡◌, ◌⊎◌, ℕ, zero, suc, ◌+◌, ◌-◌, ◌<◌, min, List, [], ◌∷◌, ◌++◌, All, length, take}
 use Rattle.std.proofs.Common.{drop, map, filter, replicate, slice_get, slice_index_or, Some, None, refl, sym, ◌∙◌, ap}
 use Rattle.std.proofs.Common.{subst, arith, inl, inr}
 use Rattle.std.specs.List.{range_with_len, flat_map}
@@ -18,7 +18,6 @@ use Rattle.session_model.specs.Segment.{segments_on}
 use Rattle.session_model.specs.SessionStream.{rows_of}
 use Rattle.session_model.specs.Run.{delineate_within}
 use Rattle.session_model.specs.Hunt.{hunt_within}
-use Rattle.report_text.specs.declared.report.Refusal.{Refusal}
 use Rattle.session_model.specs.Back.{cells_before}
 use Rattle.session_model.specs.Valid.{IsValid}
 use Rattle.session_model.specs.Counts.{LineCounts, Counts, begin, used_in, in_return, in_inbox}

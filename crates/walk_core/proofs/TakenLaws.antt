@@ -43,7 +43,7 @@ use Rattle.walk_core.specs.Moved.{answer_by, moved_of, counts_after, delivered_s
 use Rattle.group_source.specs.Landed.{Landed}
 use Rattle.walk_core.specs.Parts.{Parts, HasSent, HasBack, counts_of, line_counts, IsWalk}
 use Rattle.walk_core.specs.Take.{take_cause, CanPop, HasPopped, CanTake, HasRow}
-use Rattle.walk_core.proofs.EventLaws.{walk-fits, walked-next}
+use Rattle.walk_core.proofs.EventLaws.{walk-fits, walked-next, source-stays, landed-stays}
 use Rattle.walk_core.proofs.SendLaws.{sent-later}
 use Rattle.walk_core.proofs.BackLaws.{ring-size}
 use Rattle.walk_core.proofs.CarryLaws.{numbers, map-get, same-some}
@@ -332,13 +332,7 @@ module _ (script : Script) (parts : Parts) (landing : Landed) (got : ℕ) (last 
             valid = is.valid;
             total = is.total;
             walked = walked-next script was _ Take is.walked waits-counts;
-            source = record {
-              made = is.source.made;
-              lines = is.source.lines;
-              lag = is.source.lag;
-              size =
-                  is.source.size;
-            };
+            source = source-stays script (counts_of parts landing) _ _ _ parts.source is.source;
             sent = sent;
             lines = popped.lines;
             sink = record {
@@ -350,12 +344,7 @@ module _ (script : Script) (parts : Parts) (landing : Landed) (got : ℕ) (last 
               size = is.sink.size;
             };
             back = record { ring = is.back.ring; lost = is.back.lost; inbox = is.back.inbox; room = is.back.room };
-            landed = record {
-              items = is.landed.items;
-              refusals = is.landed.refusals;
-              frames = is.landed.frames;
-              commands = is.landed.commands;
-            };
+            landed = landed-stays script (counts_of parts landing) _ _ _ landing is.landed;
             counted = is.counted;
             noted = is.noted;
           }
@@ -437,13 +426,7 @@ module _ (script : Script) (parts : Parts) (landing : Landed) (got : ℕ) (last 
                 valid = is.valid;
                 total = is.total;
                 walked = subst (IsWalked script) (sym counts-are) walked-on;
-                source = record {
-                  made = is.source.made;
-                  lines = is.source.lines;
-                  lag = is.source.lag;
-                  size =
-                      is.source.size;
-                };
+                source = source-stays script (counts_of parts landing) _ _ _ parts.source is.source;
                 sent = sent;
                 lines = popped.lines;
                 sink = record {
@@ -462,12 +445,7 @@ module _ (script : Script) (parts : Parts) (landing : Landed) (got : ℕ) (last 
                   inbox = ap (λ (b : Return). b.inbox) says ∙ is.back.inbox;
                   room = ap (λ (b : Return). b.room) says ∙ is.back.room;
                 });
-                landed = record {
-                  items = is.landed.items;
-                  refusals = is.landed.refusals;
-                  frames = is.landed.frames;
-                  commands = is.landed.commands;
-                };
+                landed = landed-stays script (counts_of parts landing) _ _ _ landing is.landed;
                 counted = counted;
                 noted = is.noted;
               }

@@ -660,25 +660,12 @@ sent-placed script parts landing got last sent is has = record {
   valid = is.valid;
   total = is.total;
   walked = is.walked;
-  source = record { made = is.source.made; lines = is.source.lines; lag = is.source.lag; size = is.source.size };
+  source = is.source;
   sent = has;
   lines = is.lines;
-  sink = record {
-    gathers = is.sink.gathers;
-    taken = is.sink.taken;
-    passed = is.sink.passed;
-    lines = is.sink.lines;
-    all = is.sink.all;
-    size = is.sink.size;
-  };
-  back = record { ring = is.back.ring; lost = is.back.lost; inbox = is.back.inbox; room = is.back.room };
-  landed = record {
-    items = is.landed.items;
-    refusals = is.landed.refusals;
-    frames = is.landed.frames;
-    commands =
-        is.landed.commands;
-  };
+  sink = is.sink;
+  back = is.back;
+  landed = is.landed;
   counted = is.counted;
   noted = is.noted;
 }

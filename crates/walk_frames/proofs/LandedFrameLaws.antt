@@ -2,8 +2,7 @@
 use Rattle.std.proofs.Common.{◌≡◌, ℕ, zero, suc, ◌+◌, ◌-◌, ◌<◌, ◌≤◌, nat_lt, if◌then◌else◌, Bool, true, false, List, []}
 use Rattle.std.proofs.Common.{◌∷◌, ◌++◌, take, drop, length, All, Option, Some, None, slice_get, get_or, ◌⊎◌, refl, sym}
 use Rattle.std.proofs.Common.{◌∙◌, ap, ap₂, subst, arith, inl, inr, append-nil, length-append}
-use Rattle.std.specs.List.{flat_map}
-use Rattle.std.proofs.lemmas.Bool.{lt-ltb, ltb-false, cases_Bool}
+use Rattle.std.proofs.lemmas.Bool.{lt-ltb}
 use Rattle.std.proofs.lemmas.List.{take_all, drop_all}
 use Rattle.std.proofs.lemmas.List.Concat.{flat_map-append}
 use Rattle.std.proofs.lemmas.List.Elements.{All-nil, All-cons, All-append, All-weaker}
@@ -213,7 +212,7 @@ module _ (script : Script) (s : Counts) (cursor : Cursor) (at : IsAt script s cu
   client : (octets : List ℕ) → item.kind ≡ Frame octets → is_client item.kind ≡ true
   client octets kind = ap is_client kind
 
-  pub pass-at : (octets : List ℕ) (now : Cursor) → item.kind ≡ Frame octets →
+  pass-at : (octets : List ℕ) (now : Cursor) → item.kind ≡ Frame octets →
       now ≡ record { item = i + 1; refusal = r; left = cursor.left - 1 } → IsAt script s now
   pass-at octets now kind is =
       let why = refusal_at script (record { number = cursor.item; item = item }) in
@@ -233,7 +232,7 @@ module _ (script : Script) (s : Counts) (cursor : Cursor) (at : IsAt script s cu
         refusals = both.1;
       })
 
-  pub pass-next : (octets : List ℕ) (n : ℕ) (now : Cursor) → item.kind ≡ Frame octets → n ≡ length octets →
+  pass-next : (octets : List ℕ) (n : ℕ) (now : Cursor) → item.kind ≡ Frame octets → n ≡ length octets →
       now ≡ record { item = i + 1; refusal = r; left = cursor.left - 1 } →
       IsNext script cursor now (record { number = i; due = item.due; length = n; refusal = result })
   pass-next octets n now kind size is =
@@ -259,6 +258,11 @@ module _ (script : Script) (s : Counts) (cursor : Cursor) (at : IsAt script s cu
         rest = frame-rest script s cursor at item there some (client octets kind);
       }))
 
+  pub passed : (octets : List ℕ) (n : ℕ) (now : Cursor) → item.kind ≡ Frame octets → n ≡ length octets →
+      now ≡ record { item = i + 1; refusal = r; left = cursor.left - 1 } →
+      IsAt script s now × IsNext script cursor now (record { number = i; due = item.due; length = n; refusal = result })
+  passed octets n now kind size is = (pass-at octets now kind is, pass-next octets n now kind size is)
+
   none-here : is_client item.kind ≡ false → length (offer_of item.due item.kind) ≡ 0
   none-here other = by item.kind other
     where
@@ -267,7 +271,7 @@ module _ (script : Script) (s : Counts) (cursor : Cursor) (at : IsAt script s cu
       by (Add line) is = refl
       by (Remove line) is = refl
 
-  pub skip-at : (now : Cursor) → is_client item.kind ≡ false →
+  skip-at : (now : Cursor) → is_client item.kind ≡ false →
       now ≡ record { item = i + 1; refusal = r; left = cursor.left } → IsAt script s now
   skip-at now other is =
       let parts = other-refusals script s cursor at item there some other in
@@ -287,7 +291,7 @@ module _ (script : Script) (s : Counts) (cursor : Cursor) (at : IsAt script s cu
         refusals = both.1;
       })
 
-  pub skip-past : (now : Cursor) → is_client item.kind ≡ false →
+  skip-past : (now : Cursor) → is_client item.kind ≡ false →
       now ≡ record { item = i + 1; refusal = r; left = cursor.left } → IsSkipped script cursor now
   skip-past now other is =
       let before = before-next script s cursor at item there some in
@@ -297,6 +301,10 @@ module _ (script : Script) (s : Counts) (cursor : Cursor) (at : IsAt script s cu
         before = omega (arith, before, none);
         rest = other-rest script s cursor at item there some other;
       })
+
+  pub skipped : (now : Cursor) → is_client item.kind ≡ false →
+      now ≡ record { item = i + 1; refusal = r; left = cursor.left } → IsAt script s now × IsSkipped script cursor now
+  skipped now other is = (skip-at now other is, skip-past now other is)
 
 -- ---- the end
 same-either : (client : Bool) (xs : List Numbered) → (if client then xs else xs) ≡ xs

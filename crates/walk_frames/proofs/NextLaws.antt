@@ -1,20 +1,19 @@
 -- What the next frame that has landed does to the stream.
-use Rattle.std.proofs.Common.{◌≡◌, ℕ, zero, suc, ◌+◌, ◌<◌, ◌≤◌, List, [], ◌∷◌, ◌++◌, length, take, get_or, Option, Some}
-use Rattle.std.proofs.Common.{None, option_map, slice_get, refl, sym, ◌∙◌, ap, ap₂, subst, arith, inl, inr}
+use Rattle.std.proofs.Common.{◌≡◌, ℕ, zero, suc, ◌+◌, ◌<◌, ◌≤◌, List, [], ◌∷◌, length, take, get_or, Option, Some}
+use Rattle.std.proofs.Common.{None, option_map, slice_get, refl, sym, ◌∙◌, ap, ap₂, arith}
 use Rattle.std.proofs.Common.{length-append}
-use Rattle.std.proofs.lemmas.Bool.{cases_lt}
 use Rattle.session_model.specs.declared.refusal.AcceptFault.{AcceptFault}
 use Rattle.session_model.specs.declared.script.Script.{Script}
 use Rattle.session_model.specs.Scenario.{DueFrame, scenario_of, offer_of, offers_of}
-use Rattle.session_model.specs.Client.{Stream, frame_refusal, offered}
+use Rattle.session_model.specs.Client.{frame_refusal, offered}
 use Rattle.session_model.specs.Valid.{IsValid}
 use Rattle.script_law.proofs.ItemLaws.{offers_rise}
 use Rattle.report_text.specs.declared.report.Refusal.{Refusal}
 use Rattle.report_text.specs.declared.report.Refusal.TheVariants.{Frame as frame_fault}
 use Rattle.walk_law.specs.Walk.{session_of}
-use Rattle.walk_law.specs.Landed.{Numbered, stream_met, kind_refusal, refusal_at, IsOfferAt}
+use Rattle.walk_law.specs.Landed.{stream_met, kind_refusal}
 use Rattle.walk_law.proofs.LandLaws.{offer-at}
-use Rattle.fate_law.specs.Ruler.{Ruler, ruler_of, with_waiting}
+use Rattle.fate_law.specs.Ruler.{ruler_of, with_waiting}
 use Rattle.walk_frames.specs.declared.landed.LandedFrame.{LandedFrame}
 use Rattle.walk_frames.specs.Landed.{Cursor, frames_before_item, IsNext}
 use Rattle.walk_frames.specs.Places.{stream_in, Between, IsEarly, IsLate}

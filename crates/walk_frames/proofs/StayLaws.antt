@@ -1,15 +1,14 @@
 -- What became of a frame is known by the pieces that the rows reach: those after them change nothing.
-use Rattle.std.proofs.Common.{◌≡◌, ℕ, zero, suc, ◌+◌, ◌-◌, ◌<◌, ◌≤◌, nat_le, nat_lt, ◌&&◌, ◌||◌, Bool, true, false}
-use Rattle.std.proofs.Common.{if◌then◌else◌, List, [], ◌∷◌, ◌++◌, length, get_or, All, Option, Some, None, slice_get}
+use Rattle.std.proofs.Common.{◌≡◌, ℕ, zero, suc, ◌+◌, ◌-◌, ◌<◌, ◌≤◌, nat_le, ◌&&◌, ◌||◌, Bool, true, false}
+use Rattle.std.proofs.Common.{if◌then◌else◌, List, [], ◌∷◌, ◌++◌, length, All, Option, Some, None, slice_get}
 use Rattle.std.proofs.Common.{refl, sym, ◌∙◌, ap, ap₂, subst, arith, inl, inr, length-take}
-use Rattle.std.specs.List.{list_any, list_all}
-use Rattle.std.proofs.lemmas.Bool.{cases_lt, lt-leb, lt-ltb, le-ltb}
+use Rattle.std.specs.List.{list_any}
+use Rattle.std.proofs.lemmas.Bool.{cases_lt, lt-leb, le-ltb}
 use Rattle.session_model.specs.declared.script.Script.{Script}
-use Rattle.session_model.specs.Scenario.{Scenario, scenario_of}
-use Rattle.session_model.specs.Table.{Told}
+use Rattle.session_model.specs.Scenario.{scenario_of}
 use Rattle.session_model.specs.Piece.{Piece, stream_of}
-use Rattle.session_model.specs.Client.{Stream, place_of, stream_before}
-use Rattle.session_model.specs.Segment.{StreamRow, Segment, segments, segments_of, octets_of_rows}
+use Rattle.session_model.specs.Client.{place_of, stream_before}
+use Rattle.session_model.specs.Segment.{StreamRow, Segment, segments, octets_of_rows}
 use Rattle.session_model.specs.Loss.{Extent, extents, is_carried, lies_in, confirmed_in}
 use Rattle.loss_law.proofs.ExtentLaws.{IsBetween, extents-append, extents-between}
 use Rattle.loss_law.proofs.SessionStreamLaws.{pieces-begin, rows-octets}
@@ -17,8 +16,8 @@ use Rattle.walk_law.specs.Walk.{session_of}
 use Rattle.walk_law.specs.Delivered.{session_rows}
 use Rattle.walk_law.specs.Promise.{session_pieces}
 use Rattle.fate_law.specs.declared.Fate.{Fate}
-use Rattle.fate_law.specs.declared.Fate.TheVariants.{Waits, Cut, Unconfirmed, Hunting, Unsettled, Got}
-use Rattle.fate_law.specs.Fates.{row_at, spoiled_after, is_settled_by, fate_after, fate_in, fate_among, carried_fate}
+use Rattle.fate_law.specs.declared.Fate.TheVariants.{Waits, Cut, Hunting, Unsettled, Got}
+use Rattle.fate_law.specs.Fates.{row_at, spoiled_after, is_settled_by, fate_after, fate_in, fate_among}
 use Rattle.fate_law.specs.Fates.{fate_of}
 use Rattle.fate_law.specs.SessionFates.{fate_if, fate_at}
 

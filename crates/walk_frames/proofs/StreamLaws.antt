@@ -1,24 +1,21 @@
 -- The stream of a walk is ruled frame by frame, and tick by tick.
-use Rattle.std.proofs.Common.{◌≡◌, ℕ, zero, suc, ◌+◌, ◌<◌, ◌≤◌, ◌&&◌, nat_le, Bool, true, false, List, [], ◌∷◌, ◌++◌}
-use Rattle.std.proofs.Common.{map, filter, fold, take, length, Option, Some, None, option_map, slice_get, refl, sym}
-use Rattle.std.proofs.Common.{◌∙◌, ap, subst, arith, inl, inr}
-use Rattle.std.proofs.lemmas.Bool.{cases_lt, le-leb}
+use Rattle.std.proofs.Common.{◌≡◌, ℕ, zero, suc, ◌+◌, ◌<◌, ◌≤◌, Bool, true, false, List, [], ◌∷◌, ◌++◌}
+use Rattle.std.proofs.Common.{map, filter, fold, take, length, Option, Some, None, slice_get, refl, sym}
+use Rattle.std.proofs.Common.{◌∙◌, ap, arith}
 use Rattle.std.proofs.lemmas.Bool.Decides.{nat_tests}
-use Rattle.std.proofs.lemmas.List.{map-append, append-nil}
+use Rattle.std.proofs.lemmas.List.{map-append}
 use Rattle.std.proofs.lemmas.List.Elements.{filter-append}
 use Rattle.std.proofs.lemmas.List.Sums.{fold-append}
 use Rattle.session_model.specs.declared.refusal.AcceptFault.{AcceptFault}
 use Rattle.session_model.specs.declared.script.Script.{Script}
-use Rattle.session_model.specs.Scenario.{scenario_of, Scenario, DueFrame, comes_at, frames_at}
+use Rattle.session_model.specs.Scenario.{scenario_of, Scenario, DueFrame, comes_at}
 use Rattle.session_model.specs.Table.{Told}
-use Rattle.session_model.specs.Piece.{Piece}
 use Rattle.session_model.specs.Loss.{extents}
 use Rattle.session_model.specs.Client.{Stream, frame_refusal, offered_by, offered, reached, place_of, stream_before}
 use Rattle.walk_law.specs.Walk.{session_of}
 use Rattle.walk_law.specs.Landed.{stream_met}
 use Rattle.walk_law.proofs.LandLaws.{filter-first}
-use Rattle.fate_law.specs.Ruler.{Ruler, new_ruler, ruler_of, ruled, with_waiting}
-use Rattle.fate_law.proofs.RulerLaws.{reached-ruled}
+use Rattle.fate_law.specs.Ruler.{new_ruler, ruler_of, with_waiting}
 use Rattle.walk_frames.specs.Places.{place_in, stream_in, Between}
 
 -- ---- a frame

@@ -1,5 +1,5 @@
 -- The stream of a script in a number of ticks, after its first frames.
-use Rattle.std.specs.Prelude.{◌≡◌, ℕ, ◌≤◌, ◌<◌, take, Option, Some, slice_get}
+use Rattle.std.specs.Prelude.{◌≡◌, ℕ, ◌≤◌, ◌<◌, take, Some, slice_get}
 use Rattle.session_model.specs.declared.script.Script.{Script}
 use Rattle.session_model.specs.Scenario.{DueFrame, scenario_of, offers_of}
 use Rattle.session_model.specs.Client.{Stream, place_of, stream_before}

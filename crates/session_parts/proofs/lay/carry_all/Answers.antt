@@ -1,5 +1,5 @@
 -- A worker that was done before its burst is as it was.
-use Rattle.std.proofs.Common.{◌≡◌, inl, inr, ℕ, ◌+◌, ◌<◌, Bool, true, false, Some, get_or, slice_get, length, sym, ◌∙◌}
+use Rattle.std.proofs.Common.{◌≡◌, inl, inr, ◌<◌, Bool, true, false, Some, get_or, slice_get, length, sym, ◌∙◌}
 use Rattle.std.proofs.Common.{subst, ap, arith}
 use Rattle.std.specs.Prelude.{Contains}
 use Rattle.std.proofs.Math.ListN.{set}
@@ -14,11 +14,9 @@ use Rattle.watched_line.proofs.ServedLaws.{served-refl, served-then}
 use Rattle.session_parts.specs.Laid.{AreServedDone}
 use Rattle.session_parts.proofs.ZipLaws.{zip-refl, zip-set}
 use Rattle.session_parts.proofs.DealLaws.{set-found, set-same}
+use Rattle.session_parts.proofs.PairLaws.{below-it}
 use Rattle.session_parts.proofs.lay.carry_all.Goals as goal
 use Rattle.session_parts.proofs.lay.carry_all.Goals.{then-not-carry_one, else-not-carry_one}
-
-below-it : (m n : ℕ) → m < n + 1 → (m ≡ n → ⊥) → m < n
-below-it m n low other = omega (arith, low, other)
 
 pub loop-worker-init : goal.loop-worker-init
 loop-worker-init g c = record {
@@ -72,37 +70,24 @@ loop-worker-preserved g c =
           ];
     }
 
-pub returns-clause-later : goal.returns-clause-later
-returns-clause-later g c =
+pub returns : goal.returns
+returns g c =
     let v = c.args.workers.now in
     let items = c.loop-worker.worker-items in
-    subst (AreServedLater v.items) (sym
-    (with_items_is v items (omega (
-      arith,
-      c.loop-worker.auto.worker-items,
-      ap (length {A = ServedLine}) c.deref_mut-worker-items.ensures.value,
-      v.ok.0,
-    )))) c.loop-worker.invariant.later
-
-pub returns-clause-done : goal.returns-clause-done
-returns-clause-done g c = (
-  λ yes. subst AreServedDone (c.loop-worker.invariant.same yes)
-      (λ m worker there. c.loop-worker.invariant.done yes m worker
-      (let inside = slice_get_within c.loop-worker.worker-items m worker there in omega
-      (arith, inside, c.loop-worker-test.false, c.loop-worker.auto.worker-items)) there),
-  λ all. by_done c.loop-worker.done (λ no. c.loop-worker.invariant.left no all),
-)
+    let before = c.loop-worker.invariant in
+    let size = ap (length {A = ServedLine}) c.deref_mut-worker-items.ensures.value in
+    let whole = with_items_is v items (omega (arith, c.loop-worker.auto.worker-items, size, v.ok.0)) in
+    record {
+      later = subst (AreServedLater v.items) (sym whole) before.later;
+      done = (
+        λ yes. subst AreServedDone (before.same yes)
+            (λ m worker there. before.done yes m worker
+            (let inside = slice_get_within items m worker there in
+            omega (arith, inside, c.loop-worker-test.false, c.loop-worker.auto.worker-items)) there),
+        λ all. by_done c.loop-worker.done (λ no. before.left no all),
+      );
+      stays = λ yes. whole ∙ before.same yes;
+    }
   where
     by_done : (done : Bool) → (done ≡ false → ⊥) → done ≡ true
     by_done done other = elim (cases_Bool done) [ inl is ↦ is | inr isnt ↦ absurd (other isnt) ]
-
-pub returns-clause-stays : goal.returns-clause-stays
-returns-clause-stays g c = λ yes.
-    let v = c.args.workers.now in
-    let items = c.loop-worker.worker-items in
-    with_items_is v items (omega (
-      arith,
-      c.loop-worker.auto.worker-items,
-      ap (length {A = ServedLine}) c.deref_mut-worker-items.ensures.value,
-      v.ok.0,
-    )) ∙ c.loop-worker.invariant.same yes

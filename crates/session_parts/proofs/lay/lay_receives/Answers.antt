@@ -1,8 +1,7 @@
 -- One pair more is laid beside each other.
-use Rattle.std.proofs.Common.{◌≡◌, ◌<◌, ℕ, arith, length, refl, sym, ◌∙◌, subst}
-use Rattle.std.proofs.lemmas.Option.{slice_get_read}
+use Rattle.std.proofs.Common.{◌≡◌, ℕ, arith, length, sym, subst}
 use Rattle.session_parts.specs.Laid.{PairsBelow, IsReceiveLaid}
-use Rattle.session_parts.proofs.PairLaws.{pairs-none, pairs-next}
+use Rattle.session_parts.proofs.PairLaws.{pairs-none, pairs-left, pairs-next}
 use Rattle.session_parts.proofs.lay.lay_receives.Goals as goal
 
 pub loop-m-init : goal.loop-m-init
@@ -10,67 +9,25 @@ loop-m-init c = pairs-none IsReceiveLaid c.args.workers.now.items c.args.rx.now.
 
 pub loop-m-preserved : goal.loop-m-preserved
 loop-m-preserved c =
-    let before = c.loop-m.invariant in
-    let low : c.loop-m.m < length c.loop-m.workers.items =
-    omega (
-      arith,
-      c.loop-m-test.true,
-      c.len-m-end.ensures,
-      c.args.workers.now.ok.0,
-      before.first_count,
-      before.second_count,
-      c.requires.count,
-    ) in
-    let low' : c.loop-m.m < length c.loop-m.rx.items =
-    omega (
-      arith,
-      c.loop-m-test.true,
-      c.len-m-end.ensures,
-      c.args.workers.now.ok.0,
-      before.first_count,
-      before.second_count,
-      c.requires.count,
-    ) in
     pairs-next IsReceiveLaid c.loop-m.m c.args.workers.now.items c.args.rx.now.items c.loop-m.workers.items
-    c.loop-m.rx.items
-    c.index_mut.result.now c.lay_receive.new.worker c.index_mut-in-loop-m.result.now c.lay_receive.new.into
-    low low' c.index_mut.ensures.value c.index_mut-in-loop-m.ensures.value c.lay_receive.ensures before
+    c.loop-m.rx.items c.index_mut.result.now c.index_mut-in-loop-m.result.now (sym c.requires.count)
+    (omega (arith, c.loop-m-test.true, c.len-m-end.ensures, c.args.workers.now.ok.0))
+    c.index_mut.ensures.value c.index_mut-in-loop-m.ensures.value c.loop-m.invariant
+    c.lay_receive.new.worker c.lay_receive.new.into c.lay_receive.ensures
 
 pub returns : goal.returns
 returns c =
-    let before = c.loop-m.invariant in
     let whole : c.loop-m.m ≡ length c.args.workers.now.items =
     omega (arith, c.loop-m-test.false, c.loop-m.auto.m-end, c.len-m-end.ensures, c.args.workers.now.ok.0) in
     subst (λ (n : ℕ). PairsBelow IsReceiveLaid n c.args.workers.now.items c.args.rx.now.items c.loop-m.workers.items
-    c.loop-m.rx.items) whole before
+    c.loop-m.rx.items) whole c.loop-m.invariant
 
 pub lay_receive-requires : goal.lay_receive-requires
 lay_receive-requires c =
-    let before = c.loop-m.invariant in
-    let low : c.loop-m.m < length c.loop-m.workers.items =
-    omega (
-      arith,
-      c.loop-m-test.true,
-      c.len-m-end.ensures,
-      c.args.workers.now.ok.0,
-      before.first_count,
-      before.second_count,
-      c.requires.count,
-    ) in
-    let low' : c.loop-m.m < length c.loop-m.rx.items =
-    omega (
-      arith,
-      c.loop-m-test.true,
-      c.len-m-end.ensures,
-      c.args.workers.now.ok.0,
-      before.first_count,
-      before.second_count,
-      c.requires.count,
-    ) in
-    c.requires.ends c.loop-m.m c.index_mut.result.now c.index_mut-in-loop-m.result.now
-    (sym (before.first_rest c.loop-m.m (omega arith))
-    ∙ slice_get_read c.loop-m.workers.items (length c.loop-m.workers.items) c.loop-m.m c.index_mut.result.now refl
-    low c.index_mut.ensures.value)
-    (sym (before.second_rest c.loop-m.m (omega arith))
-    ∙ slice_get_read c.loop-m.rx.items (length c.loop-m.rx.items) c.loop-m.m c.index_mut-in-loop-m.result.now refl
-    low' c.index_mut-in-loop-m.ensures.value)
+    let worker = c.index_mut.result.now in
+    let into = c.index_mut-in-loop-m.result.now in
+    let left = pairs-left IsReceiveLaid c.loop-m.m c.args.workers.now.items c.args.rx.now.items c.loop-m.workers.items
+    c.loop-m.rx.items worker into (sym c.requires.count)
+    (omega (arith, c.loop-m-test.true, c.len-m-end.ensures, c.args.workers.now.ok.0))
+    c.index_mut.ensures.value c.index_mut-in-loop-m.ensures.value c.loop-m.invariant in
+    c.requires.ends c.loop-m.m worker into left.0 left.1

@@ -28,26 +28,13 @@ loop-share-preserved g c = record {
       (c.loop-share.invariant.told flags told);
 }
 
-pub returns-clause-held : goal.returns-clause-held
-returns-clause-held g c = λ shares held.
+pub returns : goal.returns
+returns g c =
     let v = c.args.held.now in
     let items = c.loop-share.share-items in
-    subst (AreHeldOf shares) (sym (with_items_is v items
-    (omega (
-      arith,
-      c.loop-share.auto.share-items,
-      ap (length {A = Held}) c.deref_mut-share-items.ensures.value,
-      v.ok.0,
-    )))) (c.loop-share.invariant.held shares held)
-
-pub returns-clause-told : goal.returns-clause-told
-returns-clause-told g c = λ flags told.
-    let v = c.args.held.now in
-    let items = c.loop-share.share-items in
-    subst (AreToldBy flags) (sym (with_items_is v items
-    (omega (
-      arith,
-      c.loop-share.auto.share-items,
-      ap (length {A = Held}) c.deref_mut-share-items.ensures.value,
-      v.ok.0,
-    )))) (c.loop-share.invariant.told flags told)
+    let size = ap (length {A = Held}) c.deref_mut-share-items.ensures.value in
+    let whole = with_items_is v items (omega (arith, c.loop-share.auto.share-items, size, v.ok.0)) in
+    record {
+      held = λ shares held. subst (AreHeldOf shares) (sym whole) (c.loop-share.invariant.held shares held);
+      told = λ flags told. subst (AreToldBy flags) (sym whole) (c.loop-share.invariant.told flags told);
+    }

@@ -1,9 +1,7 @@
 -- The session is that of the script.
 use Rattle.std.proofs.Common.{ap}
 use Rattle.report_text.specs.Report.{got_texts}
-use Rattle.walk_law.specs.Delivered.{delivered_of}
-use Rattle.sink_core.specs.Given.{given_frames}
-use Rattle.sink_worker.specs.Worker.{cells_of, size_of, taken_of, has_failed}
+use Rattle.sink_worker.specs.Worker.{has_failed}
 use Rattle.session_run.proofs.EndLaws.{frames-ended, session-ended, group-ended}
 use Rattle.session_run.proofs.RunLaws.{writes-whole, writes-part}
 use Rattle.session_run.proofs.run.run_session.Goals as goal
@@ -17,21 +15,17 @@ returns-clause-group g c = group-ended c.args.script c.requires.script c.run_ope
     c.run_opened-left.result.ended.lines.items c.run_opened-left.result.ended.sink c.run_opened-left.ensures.end
 
 pub returns-clause-written : goal.returns-clause-written
-returns-clause-written g c = λ none.
-    let sink = c.run_opened-left.result.ended.sink in
-    writes-whole g.K.ByteSink.written g.K.ByteSink.faults (has_failed sink) c.args.out.now c.run_opened-left.new.out
-    (got_texts (given_frames (size_of sink) (cells_of sink) (taken_of sink)))
-    (got_texts (delivered_of c.args.script c.args.script.config.ticks))
-    (ap got_texts (frames-ended c.args.script c.requires.script c.run_opened-left.result.ended.group
-    c.run_opened-left.result.ended.lines.items c.run_opened-left.result.ended.sink c.run_opened-left.ensures.end))
-    c.run_opened-left.ensures.written none
+returns-clause-written g c =
+    let ended = c.run_opened-left.result.ended in
+    writes-whole g.K.ByteSink.written g.K.ByteSink.faults (has_failed ended.sink) c.args.out.now
+    c.run_opened-left.new.out _ _
+    (ap got_texts (frames-ended c.args.script c.requires.script ended.group ended.lines.items ended.sink
+    c.run_opened-left.ensures.end)) c.run_opened-left.ensures.written
 
 pub returns-clause-part : goal.returns-clause-part
-returns-clause-part g c = λ some.
-    let sink = c.run_opened-left.result.ended.sink in
-    writes-part g.K.ByteSink.written g.K.ByteSink.faults (has_failed sink) c.args.out.now c.run_opened-left.new.out
-    (got_texts (given_frames (size_of sink) (cells_of sink) (taken_of sink)))
-    (got_texts (delivered_of c.args.script c.args.script.config.ticks))
-    (ap got_texts (frames-ended c.args.script c.requires.script c.run_opened-left.result.ended.group
-    c.run_opened-left.result.ended.lines.items c.run_opened-left.result.ended.sink c.run_opened-left.ensures.end))
-    c.run_opened-left.ensures.written some
+returns-clause-part g c =
+    let ended = c.run_opened-left.result.ended in
+    writes-part g.K.ByteSink.written g.K.ByteSink.faults (has_failed ended.sink) c.args.out.now
+    c.run_opened-left.new.out _ _
+    (ap got_texts (frames-ended c.args.script c.requires.script ended.group ended.lines.items ended.sink
+    c.run_opened-left.ensures.end)) c.run_opened-left.ensures.written

@@ -1,25 +1,29 @@
 -- The ends of the rings are those of the opening, later; and the session has come to its end.
-use Rattle.std.proofs.Common.{rules, ℕ, ◌≤◌, vec_len, refl, sym, ◌∙◌, subst, arith, false}
+use Rattle.std.proofs.Common.{rules, ℕ, ◌≤◌, false, ◌∷◌, [], vec_len, refl, sym, ◌∙◌, subst, arith}
 use Rattle.std.specs.List.{AllZip}
 use Rattle.report_text.specs.Report.{got_texts}
 use Rattle.alarm_log.specs.Posts.{SamePost}
-use Rattle.watched_line.specs.Served.{posts_of, IsServedLater}
+use Rattle.watched_line.specs.Served.{posts_of, AreServedLater, IsServedLater}
 use Rattle.watched_line.proofs.ServedLaws.{served-then, posts-later}
 use Rattle.sink_core.specs.Given.{given_frames}
 use Rattle.sink_worker.specs.Told.{Writes}
 use Rattle.sink_worker.specs.Worker.{cells_of, size_of, taken_of, has_failed}
 use Rattle.group_lock.specs.declared.group.GroupState.{GroupState}
 use Rattle.group_lock.specs.Group.{ticks_of, total_of}
-use Rattle.session_parts.specs.Duty.{IsLogLater}
+use Rattle.group_lock.specs.Session.{IsBound}
+use Rattle.session_parts.specs.Duty.{Begun, IsLogLater}
+use Rattle.session_parts.specs.Lines.{AreLater}
 use Rattle.session_parts.proofs.LogLaws.{log-handed}
-use Rattle.session_parts.proofs.ZipLaws.{zip-then, zip-length}
-use Rattle.session_parts.proofs.RunLaws.{run-writes}
-use Rattle.session_run.proofs.RunLaws.{bound-own, run-begins, begun_of, handed-on, send-ends, receive-ends, return-ends}
-use Rattle.session_run.proofs.RunLaws.{counts, come-to-end, writes-laid}
+use Rattle.session_parts.proofs.ZipLaws.{zip-then}
+use Rattle.session_parts.proofs.RunLaws.{HasRunTo, StandsFor, run-writes}
+use Rattle.session_run.proofs.RunLaws.{bound-own, run-begins, begun_of, handed-on}
+use Rattle.session_run.proofs.RunLaws.{ends-later, come-to-end, writes-laid}
 use Rattle.session_run.specs.Room.{HasRoomFor}
-use Rattle.session_run.proofs.WatchLaws.{served-count, served-numbers, workers-end, done-workers, told-laid}
+use Rattle.session_run.proofs.WatchLaws.{served-count, served-numbers, served-few, workers-end, done-workers, told-laid}
 use Rattle.session_run.proofs.WatchLaws.{still-as-many}
+use Rattle.session_run.proofs.session.run_opened.Given as given
 use Rattle.session_run.proofs.session.run_opened.Goals as goal
+use Rattle.session_run.proofs.session.run_opened.Goals.{After-into_state}
 
 pub lines_beside-lines-requires-clause-numbers : goal.lines_beside-lines-requires-clause-numbers
 lines_beside-lines-requires-clause-numbers g c κs within k line there =
@@ -32,243 +36,115 @@ lines_beside-lines-requires-clause-room g c κs within =
     (sym (served-count c.args.opened.lines c.serve_lines-lines.result c.serve_lines-lines.ensures.workers))
     c.requires.room
 
-pub split_lines-lines-requires-clause-workers : goal.split_lines-lines-requires-clause-workers
-split_lines-lines-requires-clause-workers g c =
-    let lines = c.serve_lines-lines.result in
-    let count = served-count c.args.opened.lines lines c.serve_lines-lines.ensures.workers in
-    let later = zip-then IsServedLater served-then lines.items c.lines_beside-lines.result.0.items
-    c.finish.new.lines.items c.lines_beside-lines.ensures.lines c.finish.ensures.lines in
-    let long = zip-length IsServedLater lines.items c.finish.new.lines.items later in (
-      c.requires.places.workers.0,
-      omega
-          (arith, count, long, c.requires.places.workers.1, lines.ok.0, c.finish.new.lines.ok.0),
-    )
+pub split_lines-lines-requires : goal.split_lines-lines-requires
+split_lines-lines-requires g c =
+    let grown = zip-then IsServedLater served-then c.serve_lines-lines.result.items
+    c.lines_beside-lines.result.0.items c.finish.new.lines.items c.lines_beside-lines.ensures.lines
+    c.finish.ensures.lines in
+    let few = served-few c.args.opened.lines c.serve_lines-lines.result c.finish.new.lines
+    c.serve_lines-lines.ensures.workers grown in
+    let workers = c.requires.places.workers in
+    let posts = c.requires.places.posts in
+    record {
+      workers = (workers.0, omega (arith, few, workers.1));
+      posts = (posts.0, omega (arith, few, posts.1));
+    }
 
-pub split_lines-lines-requires-clause-posts : goal.split_lines-lines-requires-clause-posts
-split_lines-lines-requires-clause-posts g c =
-    let lines = c.serve_lines-lines.result in
-    let count = served-count c.args.opened.lines lines c.serve_lines-lines.ensures.workers in
-    let later = zip-then IsServedLater served-then lines.items c.lines_beside-lines.result.0.items
-    c.finish.new.lines.items c.lines_beside-lines.ensures.lines c.finish.ensures.lines in
-    let long = zip-length IsServedLater lines.items c.finish.new.lines.items later in (
-      c.requires.places.posts.0,
-      omega
-          (arith, count, long, c.requires.places.posts.1, lines.ok.0, c.finish.new.lines.ok.0),
-    )
+-- all have done what they had to do, and the group is no longer behind its lock
+module _ (g : given.Over) (c : After-into_state g) where
+  -- the group is bound to the script and to the ends of the opening
+  own : IsBound c.args.script.now c.args.opened.group.tx.items (c.args.opened.group.back ∷ []) c.into_state.result
+  own = bound-own _ _ _ c.args.script.now c.args.opened.group c.into_state.result c.requires.session
+      c.into_state.ensures.bound
 
-pub lay_beside-requires-clause-sends : goal.lay_beside-requires-clause-sends
-lay_beside-requires-clause-sends g c =
-    let own = bound-own _ _ _ c.args.script.now c.args.opened.group c.into_state.result c.requires.session
-    c.into_state.ensures.bound in
-    let written = g.K.ByteSink.written in
-    let faults = g.K.ByteSink.faults in
-    let first = begun_of written faults c.args.out.now c.new-duty.result.out.ghost_name c.args.opened.sink c.args.log in
-    let begins = run-begins c.args.script.now c.args.opened.sink first.first first.name first.log c.requires.open.sink
-    in
-    let beside = c.lines_beside-lines.ensures.duty first (
-      refl,
-      handed-on written faults first c.args.opened.sink c.new-duty.result.sink c.args.out.now
-          c.new-duty.result.out.now c.new-duty.ensures.sink c.new-duty.ensures.now begins,
-      log-handed c.args.log c.new-duty.result.log c.new-duty.ensures.log,
-    ) in
-    let run = c.finish.ensures.run first
-    (handed-on written faults first c.lines_beside-lines.result.1.sink c.into_parts-sink.result.0
-    c.lines_beside-lines.result.1.out.now c.into_parts-sink.result.1.now
-    c.into_parts-sink.ensures.sink c.into_parts-sink.ensures.now beside.1) in
-    let later = workers-end c.args.opened.lines.items c.split_lines-lines.result.0.items
-    c.serve_lines-lines.result.items c.finish.new.lines.items c.serve_lines-lines.ensures.workers
-    c.split_lines-lines.ensures.workers
-    (zip-then IsServedLater served-then c.serve_lines-lines.result.items c.lines_beside-lines.result.0.items
-    c.finish.new.lines.items c.lines_beside-lines.ensures.lines c.finish.ensures.lines) in
-    send-ends c.args.script.now c.args.opened.group c.args.opened.lines.items c.args.opened.sink c.requires.open
-    c.into_state.result c.split_lines-lines.result.0.items c.finish.new.sink own later run.later
+  -- how the session began
+  abbrev first : Begun
+  first = begun_of g.K.ByteSink.written g.K.ByteSink.faults c.args.out.now c.new-duty.result.out.ghost_name
+      c.args.opened.sink c.args.log
 
-pub lay_beside-requires-clause-receives : goal.lay_beside-requires-clause-receives
-lay_beside-requires-clause-receives g c =
-    let own = bound-own _ _ _ c.args.script.now c.args.opened.group c.into_state.result c.requires.session
-    c.into_state.ensures.bound in
-    let written = g.K.ByteSink.written in
-    let faults = g.K.ByteSink.faults in
-    let first = begun_of written faults c.args.out.now c.new-duty.result.out.ghost_name c.args.opened.sink c.args.log in
-    let begins = run-begins c.args.script.now c.args.opened.sink first.first first.name first.log c.requires.open.sink
-    in
-    let beside = c.lines_beside-lines.ensures.duty first (
-      refl,
-      handed-on written faults first c.args.opened.sink c.new-duty.result.sink c.args.out.now
-          c.new-duty.result.out.now c.new-duty.ensures.sink c.new-duty.ensures.now begins,
-      log-handed c.args.log c.new-duty.result.log c.new-duty.ensures.log,
-    ) in
-    let run = c.finish.ensures.run first
-    (handed-on written faults first c.lines_beside-lines.result.1.sink c.into_parts-sink.result.0
-    c.lines_beside-lines.result.1.out.now c.into_parts-sink.result.1.now
-    c.into_parts-sink.ensures.sink c.into_parts-sink.ensures.now beside.1) in
-    let later = workers-end c.args.opened.lines.items c.split_lines-lines.result.0.items
-    c.serve_lines-lines.result.items c.finish.new.lines.items c.serve_lines-lines.ensures.workers
-    c.split_lines-lines.ensures.workers
-    (zip-then IsServedLater served-then c.serve_lines-lines.result.items c.lines_beside-lines.result.0.items
-    c.finish.new.lines.items c.lines_beside-lines.ensures.lines c.finish.ensures.lines) in
-    receive-ends c.args.script.now c.args.opened.group c.args.opened.lines.items c.args.opened.sink c.requires.open
-    c.into_state.result c.split_lines-lines.result.0.items c.finish.new.sink own later run.later
+  -- the duty once the threads have ended
+  beside : StandsFor g.K.ByteSink.written g.K.ByteSink.faults first c.lines_beside-lines.result.1.out.ghost_name
+      c.lines_beside-lines.result.1.sink c.lines_beside-lines.result.1.out.now c.lines_beside-lines.result.1.log
+  beside =
+      let begins = run-begins c.args.script.now c.args.opened.sink first.first first.name first.log
+      c.requires.open.sink in
+      c.lines_beside-lines.ensures.duty first (
+        refl,
+        handed-on g.K.ByteSink.written g.K.ByteSink.faults first c.args.opened.sink c.new-duty.result.sink
+            c.args.out.now c.new-duty.result.out.now c.new-duty.ensures.sink c.new-duty.ensures.now begins,
+        log-handed c.args.log c.new-duty.result.log c.new-duty.ensures.log,
+      )
 
-pub lay_beside-requires-clause-returns : goal.lay_beside-requires-clause-returns
-lay_beside-requires-clause-returns g c =
-    let own = bound-own _ _ _ c.args.script.now c.args.opened.group c.into_state.result c.requires.session
-    c.into_state.ensures.bound in
-    let written = g.K.ByteSink.written in
-    let faults = g.K.ByteSink.faults in
-    let first = begun_of written faults c.args.out.now c.new-duty.result.out.ghost_name c.args.opened.sink c.args.log in
-    let begins = run-begins c.args.script.now c.args.opened.sink first.first first.name first.log c.requires.open.sink
-    in
-    let beside = c.lines_beside-lines.ensures.duty first (
-      refl,
-      handed-on written faults first c.args.opened.sink c.new-duty.result.sink c.args.out.now
-          c.new-duty.result.out.now c.new-duty.ensures.sink c.new-duty.ensures.now begins,
-      log-handed c.args.log c.new-duty.result.log c.new-duty.ensures.log,
-    ) in
-    let run = c.finish.ensures.run first
-    (handed-on written faults first c.lines_beside-lines.result.1.sink c.into_parts-sink.result.0
-    c.lines_beside-lines.result.1.out.now c.into_parts-sink.result.1.now
-    c.into_parts-sink.ensures.sink c.into_parts-sink.ensures.now beside.1) in
-    let later = workers-end c.args.opened.lines.items c.split_lines-lines.result.0.items
-    c.serve_lines-lines.result.items c.finish.new.lines.items c.serve_lines-lines.ensures.workers
-    c.split_lines-lines.ensures.workers
-    (zip-then IsServedLater served-then c.serve_lines-lines.result.items c.lines_beside-lines.result.0.items
-    c.finish.new.lines.items c.lines_beside-lines.ensures.lines c.finish.ensures.lines) in
-    return-ends c.args.script.now c.args.opened.group c.args.opened.lines.items c.args.opened.sink c.requires.open
-    c.into_state.result c.split_lines-lines.result.0.items c.finish.new.sink own later run.later
+  -- the worker of the sink once nothing is left
+  run : HasRunTo g.K.ByteSink.written g.K.ByteSink.faults first c.finish.new.sink c.finish.new.out
+  run = c.finish.ensures.run first
+      (handed-on g.K.ByteSink.written g.K.ByteSink.faults first c.lines_beside-lines.result.1.sink
+      c.into_parts-sink.result.0 c.lines_beside-lines.result.1.out.now c.into_parts-sink.result.1.now
+      c.into_parts-sink.ensures.sink c.into_parts-sink.ensures.now beside.1)
 
-pub lay_beside-requires-clause-count : goal.lay_beside-requires-clause-count
-lay_beside-requires-clause-count g c =
-    let own = bound-own _ _ _ c.args.script.now c.args.opened.group c.into_state.result c.requires.session
-    c.into_state.ensures.bound in
-    let written = g.K.ByteSink.written in
-    let faults = g.K.ByteSink.faults in
-    let first = begun_of written faults c.args.out.now c.new-duty.result.out.ghost_name c.args.opened.sink c.args.log in
-    let begins = run-begins c.args.script.now c.args.opened.sink first.first first.name first.log c.requires.open.sink
-    in
-    let beside = c.lines_beside-lines.ensures.duty first (
-      refl,
-      handed-on written faults first c.args.opened.sink c.new-duty.result.sink c.args.out.now
-          c.new-duty.result.out.now c.new-duty.ensures.sink c.new-duty.ensures.now begins,
-      log-handed c.args.log c.new-duty.result.log c.new-duty.ensures.log,
-    ) in
-    let run = c.finish.ensures.run first
-    (handed-on written faults first c.lines_beside-lines.result.1.sink c.into_parts-sink.result.0
-    c.lines_beside-lines.result.1.out.now c.into_parts-sink.result.1.now
-    c.into_parts-sink.ensures.sink c.into_parts-sink.ensures.now beside.1) in
-    let later = workers-end c.args.opened.lines.items c.split_lines-lines.result.0.items
-    c.serve_lines-lines.result.items c.finish.new.lines.items c.serve_lines-lines.ensures.workers
-    c.split_lines-lines.ensures.workers
-    (zip-then IsServedLater served-then c.serve_lines-lines.result.items c.lines_beside-lines.result.0.items
-    c.finish.new.lines.items c.lines_beside-lines.ensures.lines c.finish.ensures.lines) in
-    counts c.args.script.now c.args.opened.group c.args.opened.lines.items c.args.opened.sink c.requires.open
-    c.into_state.result c.split_lines-lines.result.0.items c.finish.new.sink own later run.later
+  -- the lines, their workers and their posts are those of the opening, later
+  grown : AreServedLater c.serve_lines-lines.result.items c.finish.new.lines.items
+  grown = zip-then IsServedLater served-then c.serve_lines-lines.result.items c.lines_beside-lines.result.0.items
+      c.finish.new.lines.items c.lines_beside-lines.ensures.lines c.finish.ensures.lines
+
+  later : AreLater c.args.opened.lines.items c.split_lines-lines.result.0.items
+  later = workers-end c.args.opened.lines.items c.split_lines-lines.result.0.items c.serve_lines-lines.result.items
+      c.finish.new.lines.items c.serve_lines-lines.ensures.workers c.split_lines-lines.ensures.workers grown
+
+  posts : AllZip SamePost c.args.posts.items c.split_lines-lines.result.1.items
+  posts = subst (λ l. AllZip SamePost l c.split_lines-lines.result.1.items) c.serve_lines-lines.ensures.posts
+      (subst (AllZip SamePost (posts_of c.serve_lines-lines.result.items)) (sym c.split_lines-lines.ensures.posts)
+      (posts-later c.serve_lines-lines.result.items c.finish.new.lines.items grown))
+
+pub lay_beside-requires : goal.lay_beside-requires
+lay_beside-requires g c =
+    let ends = ends-later c.args.script.now c.args.opened.group c.args.opened.lines.items c.args.opened.sink
+    c.requires.open c.into_state.result c.split_lines-lines.result.0.items c.finish.new.sink (own g c) (later g c)
+    (run g c).later in
+    record { sends = ends.sends; receives = ends.receives; returns = ends.returns; count = ends.count }
 
 pub returns-clause-end : goal.returns-clause-end
 returns-clause-end g c =
-    let own = bound-own _ _ _ c.args.script.now c.args.opened.group c.into_state.result c.requires.session
-    c.into_state.ensures.bound in
-    let written = g.K.ByteSink.written in
-    let faults = g.K.ByteSink.faults in
-    let first = begun_of written faults c.args.out.now c.new-duty.result.out.ghost_name c.args.opened.sink c.args.log in
-    let begins = run-begins c.args.script.now c.args.opened.sink first.first first.name first.log c.requires.open.sink
-    in
-    let beside = c.lines_beside-lines.ensures.duty first (
-      refl,
-      handed-on written faults first c.args.opened.sink c.new-duty.result.sink c.args.out.now
-          c.new-duty.result.out.now c.new-duty.ensures.sink c.new-duty.ensures.now begins,
-      log-handed c.args.log c.new-duty.result.log c.new-duty.ensures.log,
-    ) in
-    let run = c.finish.ensures.run first
-    (handed-on written faults first c.lines_beside-lines.result.1.sink c.into_parts-sink.result.0
-    c.lines_beside-lines.result.1.out.now c.into_parts-sink.result.1.now
-    c.into_parts-sink.ensures.sink c.into_parts-sink.ensures.now beside.1) in
-    let later = workers-end c.args.opened.lines.items c.split_lines-lines.result.0.items
-    c.serve_lines-lines.result.items c.finish.new.lines.items c.serve_lines-lines.ensures.workers
-    c.split_lines-lines.ensures.workers
-    (zip-then IsServedLater served-then c.serve_lines-lines.result.items c.lines_beside-lines.result.0.items
-    c.finish.new.lines.items c.lines_beside-lines.ensures.lines c.finish.ensures.lines) in
+    let at = (goal.at.returns-clause-end g c).After-into_state in
     come-to-end c.args.script.now c.args.opened.group c.args.opened.lines.items c.args.opened.sink c.requires.open
-    c.into_state.result c.split_lines-lines.result.0.items c.finish.new.sink own later run.later
+    c.into_state.result c.split_lines-lines.result.0.items c.finish.new.sink (own g at) (later g at) (run g at).later
     (subst (λ (group : GroupState). total_of group ≤ ticks_of group)
     (sym c.into_state.ensures.same) c.finish.ensures.done.made)
     (done-workers c.split_lines-lines.result.0.items c.finish.new.lines.items c.split_lines-lines.ensures.workers
-    c.finish.ensures.done.carried) c.finish.ensures.done.taken run.stands
+    c.finish.ensures.done.carried) c.finish.ensures.done.taken (run g at).stands
     c.lay_beside.result.group c.lay_beside.result.lines.items c.lay_beside.result.sink c.lay_beside.ensures
 
 pub returns-clause-written : goal.returns-clause-written
 returns-clause-written g c =
-    let own = bound-own _ _ _ c.args.script.now c.args.opened.group c.into_state.result c.requires.session
-    c.into_state.ensures.bound in
-    let written = g.K.ByteSink.written in
-    let faults = g.K.ByteSink.faults in
-    let first = begun_of written faults c.args.out.now c.new-duty.result.out.ghost_name c.args.opened.sink c.args.log in
-    let begins = run-begins c.args.script.now c.args.opened.sink first.first first.name first.log c.requires.open.sink
-    in
-    let beside = c.lines_beside-lines.ensures.duty first (
-      refl,
-      handed-on written faults first c.args.opened.sink c.new-duty.result.sink c.args.out.now
-          c.new-duty.result.out.now c.new-duty.ensures.sink c.new-duty.ensures.now begins,
-      log-handed c.args.log c.new-duty.result.log c.new-duty.ensures.log,
-    ) in
-    let run = c.finish.ensures.run first
-    (handed-on written faults first c.lines_beside-lines.result.1.sink c.into_parts-sink.result.0
-    c.lines_beside-lines.result.1.out.now c.into_parts-sink.result.1.now
-    c.into_parts-sink.ensures.sink c.into_parts-sink.ensures.now beside.1) in
-    let later = workers-end c.args.opened.lines.items c.split_lines-lines.result.0.items
-    c.serve_lines-lines.result.items c.finish.new.lines.items c.serve_lines-lines.ensures.workers
-    c.split_lines-lines.ensures.workers
-    (zip-then IsServedLater served-then c.serve_lines-lines.result.items c.lines_beside-lines.result.0.items
-    c.finish.new.lines.items c.lines_beside-lines.ensures.lines c.finish.ensures.lines) in
-    let ended = handed-on written faults first c.finish.new.sink c.finish.new.sink c.finish.new.out c.take_back.new.out
-    refl c.take_back.ensures run in
+    let at = (goal.at.returns-clause-written g c).After-into_state in
+    let ended = handed-on g.K.ByteSink.written g.K.ByteSink.faults (first g at) c.finish.new.sink c.finish.new.sink
+    c.finish.new.out c.take_back.new.out refl c.take_back.ensures (run g at) in
     let whole : Writes g.K.ByteSink.written g.K.ByteSink.faults false
     (has_failed c.lay_beside.result.sink) c.args.out.now c.take_back.new.out
     (got_texts (given_frames (size_of c.lay_beside.result.sink) (cells_of c.lay_beside.result.sink)
     (taken_of c.lay_beside.result.sink))) =
-    writes-laid written faults c.args.out.now c.take_back.new.out c.into_state.result c.lay_beside.result.group
-    c.split_lines-lines.result.0.items c.lay_beside.result.lines.items
+    writes-laid g.K.ByteSink.written g.K.ByteSink.faults c.args.out.now c.take_back.new.out c.into_state.result
+    c.lay_beside.result.group c.split_lines-lines.result.0.items c.lay_beside.result.lines.items
     c.finish.new.sink c.lay_beside.result.sink c.lay_beside.ensures
-    (run-writes written faults c.args.out.now c.take_back.new.out first c.finish.new.sink refl ended) in
-    let named = c.into_parts-sink.ensures.name ∙ beside.0 ∙ c.new-duty.ensures.name in
+    (run-writes g.K.ByteSink.written g.K.ByteSink.faults c.args.out.now c.take_back.new.out (first g at)
+    c.finish.new.sink refl ended) in
+    let named = c.into_parts-sink.ensures.name ∙ (beside g at).0 ∙ c.new-duty.ensures.name in
     search (rules, whole, named)
 
 pub returns-clause-posts : goal.returns-clause-posts
-returns-clause-posts g c =
-    let lines = c.serve_lines-lines.result.items in
-    let last = c.finish.new.lines.items in
-    let later = zip-then IsServedLater served-then lines c.lines_beside-lines.result.0.items last
-    c.lines_beside-lines.ensures.lines c.finish.ensures.lines in
-    subst (λ l. AllZip SamePost l c.split_lines-lines.result.1.items) c.serve_lines-lines.ensures.posts
-    (subst (AllZip SamePost (posts_of lines)) (sym c.split_lines-lines.ensures.posts) (posts-later lines last later))
+returns-clause-posts g c = posts g (goal.at.returns-clause-posts g c).After-into_state
 
 pub returns-clause-log : goal.returns-clause-log
 returns-clause-log g c =
-    let written = g.K.ByteSink.written in
-    let faults = g.K.ByteSink.faults in
-    let first = begun_of written faults c.args.out.now c.new-duty.result.out.ghost_name c.args.opened.sink c.args.log in
-    let begins = run-begins c.args.script.now c.args.opened.sink first.first first.name first.log c.requires.open.sink
-    in
-    let beside = c.lines_beside-lines.ensures.duty first (
-      refl,
-      handed-on written faults first c.args.opened.sink c.new-duty.result.sink c.args.out.now
-          c.new-duty.result.out.now c.new-duty.ensures.sink c.new-duty.ensures.now begins,
-      log-handed c.args.log c.new-duty.result.log c.new-duty.ensures.log,
-    ) in
-    subst (IsLogLater c.args.log) (sym c.into_parts-sink.ensures.log) beside.2
+    subst (IsLogLater c.args.log) (sym c.into_parts-sink.ensures.log)
+    (beside g (goal.at.returns-clause-log g c).After-into_state).2
 
 pub returns-clause-told : goal.returns-clause-told
 returns-clause-told g c = λ size.
-    let lines = c.serve_lines-lines.result.items in
-    let last = c.finish.new.lines.items in
+    let at = (goal.at.returns-clause-told g c).After-into_state in
     let own = c.split_lines-lines.result.0 in
     let through = c.split_lines-lines.result.1 in
-    let grown = zip-then IsServedLater served-then lines c.lines_beside-lines.result.0.items last
-    c.lines_beside-lines.ensures.lines c.finish.ensures.lines in
-    let later = workers-end c.args.opened.lines.items own.items lines last c.serve_lines-lines.ensures.workers
-    c.split_lines-lines.ensures.workers grown in
-    let posts = subst (λ l. AllZip SamePost l through.items) c.serve_lines-lines.ensures.posts
-    (subst (AllZip SamePost (posts_of lines)) (sym c.split_lines-lines.ensures.posts) (posts-later lines last grown)) in
     told-laid c.into_state.result c.lay_beside.result.group own.items c.lay_beside.result.lines.items c.finish.new.sink
     c.lay_beside.result.sink through.items c.lay_beside.ensures
-    (c.split_lines-lines.ensures.told (still-as-many c.args.opened.lines own c.args.posts through later posts size))
+    (c.split_lines-lines.ensures.told
+    (still-as-many c.args.opened.lines own c.args.posts through (later g at) (posts g at) size))

@@ -2,8 +2,8 @@
 use Rattle.std.proofs.Common.{rules, refl, ap, arith}
 use Rattle.walk_core.specs.Moved.{Walked}
 use Rattle.walk_core.proofs.CarryLaws.{frame-size, sent-places}
-use Rattle.walk_core.proofs.CarrySteps.{line-low, line-within, line-stays, line-runs, line-free, line-kept, line-counts}
-use Rattle.walk_core.proofs.CarrySteps.{line-moves}
+use Rattle.walk_core.proofs.CarrySteps.{line-low, line-within, line-stays, line-runs, line-free, line-kept}
+use Rattle.walk_core.proofs.CarrySteps.{line-carried}
 use Rattle.walk_core.proofs.walk.Walk.carry.Goals as goal
 
 pub index-requires : goal.index-requires
@@ -16,20 +16,12 @@ index-requires c =
 pub same-self : goal.same-self
 same-self c = refl
 
-pub returns-in-Some-clause-script : goal.returns-in-Some-clause-script
-returns-in-Some-clause-script c = refl
-
-pub returns-in-Some-clause-counts : goal.returns-in-Some-clause-counts
-returns-in-Some-clause-counts c =
-    (line-stays _ _ _ _ _ c.self.invariant _ c.self.view_is c.args.line c.from-m.result c.from-m.ensures c.requires
-    c.index.result.now c.index.ensures c.ticks.result c.ticks.ensures c.carry_stall.result c.carry_stall.ensures.cause
-    c.in-Some.cause c.in-Some.is).0
-
-pub returns-in-Some-clause-moved : goal.returns-in-Some-clause-moved
-returns-in-Some-clause-moved c =
-    (line-stays _ _ _ _ _ c.self.invariant _ c.self.view_is c.args.line c.from-m.result c.from-m.ensures c.requires
-    c.index.result.now c.index.ensures c.ticks.result c.ticks.ensures c.carry_stall.result c.carry_stall.ensures.cause
-    c.in-Some.cause c.in-Some.is).1
+pub returns-in-Some : goal.returns-in-Some
+returns-in-Some c =
+    let stays = line-stays _ _ _ _ _ c.self.invariant _ c.self.view_is c.args.line c.from-m.result c.from-m.ensures
+    c.requires c.index.result.now c.index.ensures c.ticks.result c.ticks.ensures c.carry_stall.result
+    c.carry_stall.ensures.cause c.in-Some.cause c.in-Some.is in
+    record { script = refl; counts = stays.0; moved = stays.1 }
 
 pub index_mut-requires : goal.index_mut-requires
 index_mut-requires c =
@@ -71,21 +63,12 @@ invariant_of-self c =
     c.self.inside.sent.items refl c.carry_on.new.own _
     (let on = c.carry_on.ensures in record { has = on.has; carried = on.carried; popped = on.popped; sent = on.sent })
 
-pub returns-in-None-clause-script : goal.returns-in-None-clause-script
-returns-in-None-clause-script c = ap (λ (w : Walked). w.script) c.self.view_is
-
-pub returns-in-None-clause-counts : goal.returns-in-None-clause-counts
-returns-in-None-clause-counts c =
-    line-counts _ _ _ _ _ c.self.invariant _ c.self.view_is c.args.line c.from-m.result c.from-m.ensures c.requires
-    c.index.result.now c.index.ensures c.ticks.result c.ticks.ensures c.carry_stall.result c.carry_stall.ensures.cause
-    c.in-None.is (c.carry_stall.ensures.can c.in-None.is) c.index_mut.result.now c.index_mut.ensures.value
-    c.self.inside.sent.items refl c.carry_on.new.own _
+pub returns-in-None : goal.returns-in-None
+returns-in-None c =
+    let carried = line-carried _ _ _ _ _ c.self.invariant _ c.self.view_is c.args.line c.from-m.result c.from-m.ensures
+    c.requires c.index.result.now c.index.ensures c.ticks.result c.ticks.ensures c.carry_stall.result
+    c.carry_stall.ensures.cause c.in-None.is (c.carry_stall.ensures.can c.in-None.is) c.index_mut.result.now
+    c.index_mut.ensures.value c.self.inside.sent.items refl c.carry_on.new.own _
     (let on = c.carry_on.ensures in record { has = on.has; carried = on.carried; popped = on.popped; sent = on.sent })
-
-pub returns-in-None-clause-moved : goal.returns-in-None-clause-moved
-returns-in-None-clause-moved c =
-    line-moves _ _ _ _ _ c.self.invariant _ c.self.view_is c.args.line c.from-m.result c.from-m.ensures c.requires
-    c.index.result.now c.index.ensures c.ticks.result c.ticks.ensures c.carry_stall.result c.carry_stall.ensures.cause
-    c.in-None.is (c.carry_stall.ensures.can c.in-None.is) c.index_mut.result.now c.index_mut.ensures.value
-    c.self.inside.sent.items refl c.carry_on.new.own _
-    (let on = c.carry_on.ensures in record { has = on.has; carried = on.carried; popped = on.popped; sent = on.sent })
+    in
+    record { script = ap (λ (w : Walked). w.script) c.self.view_is; counts = carried.0; moved = carried.1 }

@@ -1,55 +1,48 @@
 -- The next item of a kind lands, or stalls.
-use Rattle.std.proofs.Common.{◌≡◌, Some, sym, ◌∙◌, ap, subst, arith}
+use Rattle.std.proofs.Common.{◌≡◌, refl, sym, ◌∙◌, ap, subst, arith}
 use Rattle.session_model.specs.declared.walk.StallCause.TheVariants.{NotDue, Done as Stall_done}
 use Rattle.group_source.specs.Item.{kind_of}
 use Rattle.group_source.specs.Landed.{Landed, next_number, due_at}
 use Rattle.walk_core.specs.declared.moved.Moved.TheVariants.{Stalled}
 use Rattle.walk_core.specs.Landing.{landing_of}
 use Rattle.walk_core.specs.Moved.{Walked, moved_of, counts_after}
-use Rattle.walk_core.specs.Parts.{sent_frames}
-use Rattle.walk_core.proofs.LandSteps.{land-none, land-early, land-stays, land-kind, land-taken}
+use Rattle.walk_core.specs.Parts.{parts_of, counts_of, sent_frames}
+use Rattle.walk_core.proofs.LandLaws.{answer_of}
+use Rattle.walk_core.proofs.LandSteps.{Done, land-none, land-early, land-stays, land-kind, land-taken}
 use Rattle.walk_core.proofs.walk.Walk.land.Goals as goal
+use Rattle.walk_core.proofs.walk.Walk.land.Goals.{After-land}
 
-pub returns-in_default-clause-counts : goal.returns-in_default-clause-counts
-returns-in_default-clause-counts c =
+pub returns-in_default : goal.returns-in_default
+returns-in_default c =
     let none = sym (c.next.ensures ∙ ap (λ (l : Landed). next_number l c.args.client) c.landing.ensures)
     ∙ c.in_default.is in
     let stays = land-stays _ _ _ _ _ c.self.invariant c.args.client Stall_done
     (land-none _ _ _ _ _ c.self.invariant c.args.client none) in
-    subst (λ (w : Walked). w.counts ≡ counts_after w.script w.counts (landing_of c.args.client)) c.self.view_is stays.0
+    record {
+      script = refl;
+      counts = subst (λ (w : Walked). w.counts ≡ counts_after w.script w.counts (landing_of c.args.client))
+          c.self.view_is stays.0;
+      moved = subst (λ (w : Walked). Stalled Stall_done ≡ moved_of w.script w.counts (landing_of c.args.client))
+          c.self.view_is stays.1;
+    }
 
-pub returns-in_default-clause-moved : goal.returns-in_default-clause-moved
-returns-in_default-clause-moved c =
-    let none = sym (c.next.ensures ∙ ap (λ (l : Landed). next_number l c.args.client) c.landing.ensures)
-    ∙ c.in_default.is in
-    let stays = land-stays _ _ _ _ _ c.self.invariant c.args.client Stall_done
-    (land-none _ _ _ _ _ c.self.invariant c.args.client none) in
-    subst (λ (w : Walked). Stalled Stall_done ≡ moved_of w.script w.counts (landing_of c.args.client)) c.self.view_is
-    stays.1
-
-pub returns-then-ticks-due-clause-counts : goal.returns-then-ticks-due-clause-counts
-returns-then-ticks-due-clause-counts c =
+pub returns-then-ticks-due : goal.returns-then-ticks-due
+returns-then-ticks-due c =
     let next = sym (c.next.ensures ∙ ap (λ (l : Landed). next_number l c.args.client) c.landing.ensures)
     ∙ c.in-Some.is in
     let late = c.due-due.ensures ∙ ap (λ (l : Landed). due_at l.items c.in-Some.number) c.landing-2.ensures in
     let low = c.if-ticks-due.true in
-    let stays = land-stays _ _ _ _ _ c.self.invariant c.args.client (NotDue c.due-due.result)
+    let cause = NotDue c.due-due.result in
+    let stays = land-stays _ _ _ _ _ c.self.invariant c.args.client cause
     (land-early _ _ _ _ _ c.self.invariant c.args.client c.in-Some.number c.ticks.result c.due-due.result next
     c.ticks.ensures late (omega (arith, low))) in
-    subst (λ (w : Walked). w.counts ≡ counts_after w.script w.counts (landing_of c.args.client)) c.self.view_is stays.0
-
-pub returns-then-ticks-due-clause-moved : goal.returns-then-ticks-due-clause-moved
-returns-then-ticks-due-clause-moved c =
-    let next = sym (c.next.ensures ∙ ap (λ (l : Landed). next_number l c.args.client) c.landing.ensures)
-    ∙ c.in-Some.is in
-    let late = c.due-due.ensures ∙ ap (λ (l : Landed). due_at l.items c.in-Some.number) c.landing-2.ensures in
-    let low = c.if-ticks-due.true in
-    let stays = land-stays _ _ _ _ _ c.self.invariant c.args.client (NotDue c.due-due.result)
-    (land-early _ _ _ _ _ c.self.invariant c.args.client c.in-Some.number c.ticks.result c.due-due.result next
-    c.ticks.ensures late (omega (arith, low))) in
-    subst (λ (w : Walked). Stalled (NotDue c.due-due.result) ≡ moved_of w.script w.counts (landing_of c.args.client))
-    c.self.view_is
-    stays.1
+    record {
+      script = refl;
+      counts = subst (λ (w : Walked). w.counts ≡ counts_after w.script w.counts (landing_of c.args.client))
+          c.self.view_is stays.0;
+      moved = subst (λ (w : Walked). Stalled cause ≡ moved_of w.script w.counts (landing_of c.args.client))
+          c.self.view_is stays.1;
+    }
 
 pub land-requires : goal.land-requires
 land-requires c =
@@ -58,63 +51,45 @@ land-requires c =
     ap (next_number c.self.inside.source.landed) (land-kind _ _ _ _ _ c.self.invariant c.args.client c.in-Some.number
     (kind_of c.item_at.result) next c.item_at.ensures) ∙ next
 
+-- the walk after an item has landed
+abbrev IsDone : After-land → Type 0
+IsDone c =
+    let f = c.self.inside in
+    Done f.script
+    (counts_of (parts_of f.source (sent_frames f.sent) f.lines.items f.rows f.sink f.ring) f.source.landed)
+    (landing_of c.args.client)
+    (parts_of c.land.new.self (sent_frames f.sent) f.lines.items f.rows f.sink f.ring)
+    c.land.new.self.landed f.got f.last (answer_of c.land.result)
+
+done : (c : After-land) → IsDone c
+done c =
+    let f = c.self.inside in
+    let next = sym (c.next.ensures ∙ ap (λ (l : Landed). next_number l c.args.client) c.landing.ensures)
+    ∙ c.in-Some.is in
+    let late = c.due-due.ensures ∙ ap (λ (l : Landed). due_at l.items c.in-Some.number) c.landing-2.ensures in
+    let low = c.if-ticks-due.false in
+    let e = c.land.ensures in
+    land-taken f.script f.source c.land.new.self (sent_frames f.sent) f.lines.items f.rows f.sink f.ring
+    f.got f.last c.self.invariant c.args.client c.in-Some.number c.ticks.result c.due-due.result
+    (kind_of c.item_at.result) c.land.result next c.ticks.ensures late (omega (arith, low)) c.item_at.ensures
+    (record {
+      met = e.met;
+      given = record { stands = e.made; ticks = e.ticks; same = e.kind };
+      passed = e.passed;
+      placed = e.placed;
+      rest = e.rest;
+    })
+
 pub invariant_of-self : goal.invariant_of-self
-invariant_of-self c =
-    let f = c.self.inside in
-    let next = sym (c.next.ensures ∙ ap (λ (l : Landed). next_number l c.args.client) c.landing.ensures)
-    ∙ c.in-Some.is in
-    let late = c.due-due.ensures ∙ ap (λ (l : Landed). due_at l.items c.in-Some.number) c.landing-2.ensures in
-    let low = c.if-ticks-due.false in
-    let e = c.land.ensures in
-    let done = land-taken f.script f.source c.land.new.self (sent_frames f.sent) f.lines.items f.rows f.sink f.ring
-    f.got f.last c.self.invariant c.args.client c.in-Some.number c.ticks.result c.due-due.result
-    (kind_of c.item_at.result) c.land.result next c.ticks.ensures late (omega (arith, low)) c.item_at.ensures
-    (record {
-      met = e.met;
-      given = record { stands = e.made; ticks = e.ticks; same = e.kind };
-      passed = e.passed;
-      placed = e.placed;
-      rest = e.rest;
-    }) in
-    done.kept
+invariant_of-self c = (done (goal.at.invariant_of-self c).After-land).kept
 
-pub returns-clause-counts : goal.returns-clause-counts
-returns-clause-counts c =
-    let f = c.self.inside in
-    let next = sym (c.next.ensures ∙ ap (λ (l : Landed). next_number l c.args.client) c.landing.ensures)
-    ∙ c.in-Some.is in
-    let late = c.due-due.ensures ∙ ap (λ (l : Landed). due_at l.items c.in-Some.number) c.landing-2.ensures in
-    let low = c.if-ticks-due.false in
-    let e = c.land.ensures in
-    let done = land-taken f.script f.source c.land.new.self (sent_frames f.sent) f.lines.items f.rows f.sink f.ring
-    f.got f.last c.self.invariant c.args.client c.in-Some.number c.ticks.result c.due-due.result
-    (kind_of c.item_at.result) c.land.result next c.ticks.ensures late (omega (arith, low)) c.item_at.ensures
-    (record {
-      met = e.met;
-      given = record { stands = e.made; ticks = e.ticks; same = e.kind };
-      passed = e.passed;
-      placed = e.placed;
-      rest = e.rest;
-    }) in
-    done.counts ∙ ap (λ (w : Walked). counts_after w.script w.counts (landing_of c.args.client)) c.self.view_is
-
-pub returns-clause-moved : goal.returns-clause-moved
-returns-clause-moved c =
-    let f = c.self.inside in
-    let next = sym (c.next.ensures ∙ ap (λ (l : Landed). next_number l c.args.client) c.landing.ensures)
-    ∙ c.in-Some.is in
-    let late = c.due-due.ensures ∙ ap (λ (l : Landed). due_at l.items c.in-Some.number) c.landing-2.ensures in
-    let low = c.if-ticks-due.false in
-    let e = c.land.ensures in
-    let done = land-taken f.script f.source c.land.new.self (sent_frames f.sent) f.lines.items f.rows f.sink f.ring
-    f.got f.last c.self.invariant c.args.client c.in-Some.number c.ticks.result c.due-due.result
-    (kind_of c.item_at.result) c.land.result next c.ticks.ensures late (omega (arith, low)) c.item_at.ensures
-    (record {
-      met = e.met;
-      given = record { stands = e.made; ticks = e.ticks; same = e.kind };
-      passed = e.passed;
-      placed = e.placed;
-      rest = e.rest;
-    }) in
-    c.landed.ensures ∙ done.moved
-    ∙ ap (λ (w : Walked). moved_of w.script w.counts (landing_of c.args.client)) c.self.view_is
+pub returns : goal.returns
+returns c =
+    let now = done (goal.at.returns c).After-land in
+    record {
+      script = ap (λ (w : Walked). w.script) c.self.view_is;
+      counts = now.counts
+          ∙ ap (λ (w : Walked). counts_after w.script w.counts (landing_of c.args.client)) c.self.view_is;
+      moved = c.landed.ensures ∙ now.moved
+          ∙ ap (λ (w : Walked). moved_of w.script w.counts (landing_of c.args.client)) c.self.view_is;
+    }

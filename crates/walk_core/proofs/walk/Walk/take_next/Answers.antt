@@ -57,38 +57,27 @@ invariant_of-self-2 g c =
     (ap (λ (ring : List Packet). path_of ring c.self.inside.source.inbox) c.say.ensures) _
     (c.take_row-packet.ensures.counted _ can)
 
-pub returns-clause-counts : goal.returns-clause-counts
-returns-clause-counts g c =
+pub returns : goal.returns
+returns g c =
     let none = sym c.requires ∙ ap (λ (w : Walked). take_cause w.script.config.ticks w.counts) (sym c.self.view_is) in
     let popped = c.pop_lines.ensures.pops c.self.inside.script (can-pop _ _ _ _ _ c.self.invariant none) in
     let decided = sym c.in_default.is in
     let can = can-take _ _ _ _ _ c.self.invariant none _ _ _ c.pop_lines.ensures.rows c.pop_lines.ensures.lines popped
     decided in
-    taken-counts _ _ _ _ _ c.self.invariant none _ _ _ c.pop_lines.ensures.rows c.pop_lines.ensures.lines popped decided
-    _ _ c.take_row-packet.result.0 (c.take_row-packet.ensures.takes _ can)
-    (path_of c.say.new.self c.self.inside.source.inbox)
-    (ap (λ (ring : List Packet). path_of ring c.self.inside.source.inbox) c.say.ensures) _
-    (c.take_row-packet.ensures.counted _ can)
-    ∙ ap (λ (w : Walked). counts_after w.script w.counts Take) c.self.view_is
-
-pub returns-clause-moved : goal.returns-clause-moved
-returns-clause-moved g c =
-    let none = sym c.requires ∙ ap (λ (w : Walked). take_cause w.script.config.ticks w.counts) (sym c.self.view_is) in
-    let popped = c.pop_lines.ensures.pops c.self.inside.script (can-pop _ _ _ _ _ c.self.invariant none) in
-    let decided = sym c.in_default.is in
-    subst (λ (w : Walked). Yes ≡ moved_of w.script w.counts Take) c.self.view_is
-    (taken-moved _ _ _ _ _ c.self.invariant none _ _ _ c.pop_lines.ensures.rows c.pop_lines.ensures.lines popped
-    decided)
-
-pub returns-clause-gives : goal.returns-clause-gives
-returns-clause-gives g c =
-    let none = sym c.requires ∙ ap (λ (w : Walked). take_cause w.script.config.ticks w.counts) (sym c.self.view_is) in
-    let popped = c.pop_lines.ensures.pops c.self.inside.script (can-pop _ _ _ _ _ c.self.invariant none) in
-    let decided = sym c.in_default.is in
-    let can = can-take _ _ _ _ _ c.self.invariant none _ _ _ c.pop_lines.ensures.rows c.pop_lines.ensures.lines popped
-    decided in
-    subst (λ (w : Walked). GivesRows g.F.FrameOut.stands_for c.args.out.now c.take_row-packet.new.out w.script
-    w.counts.rows c.take_row-packet.new.sink.taken) c.self.view_is
-    (taken-gives _ _ _ _ _ c.self.invariant none _ _ _ c.pop_lines.ensures.rows c.pop_lines.ensures.lines popped decided
-    _ _ c.take_row-packet.result.0 (c.take_row-packet.ensures.takes _ can) g.F.FrameOut.stands_for c.args.out.now
-    c.take_row-packet.new.out (c.take_row-packet.ensures.gives _ can))
+    let row = c.take_row-packet.ensures.takes _ can in
+    record {
+      script = ap (λ (w : Walked). w.script) c.self.view_is;
+      counts = taken-counts _ _ _ _ _ c.self.invariant none _ _ _ c.pop_lines.ensures.rows c.pop_lines.ensures.lines
+          popped decided _ _ c.take_row-packet.result.0 row (path_of c.say.new.self c.self.inside.source.inbox)
+          (ap (λ (ring : List Packet). path_of ring c.self.inside.source.inbox) c.say.ensures) _
+          (c.take_row-packet.ensures.counted _ can)
+          ∙ ap (λ (w : Walked). counts_after w.script w.counts Take) c.self.view_is;
+      moved = subst (λ (w : Walked). Yes ≡ moved_of w.script w.counts Take) c.self.view_is
+          (taken-moved _ _ _ _ _ c.self.invariant none _ _ _ c.pop_lines.ensures.rows c.pop_lines.ensures.lines popped
+          decided);
+      gives = subst (λ (w : Walked). GivesRows g.F.FrameOut.stands_for c.args.out.now c.take_row-packet.new.out
+          w.script w.counts.rows c.take_row-packet.new.sink.taken) c.self.view_is
+          (taken-gives _ _ _ _ _ c.self.invariant none _ _ _ c.pop_lines.ensures.rows c.pop_lines.ensures.lines popped
+          decided _ _ c.take_row-packet.result.0 row g.F.FrameOut.stands_for c.args.out.now
+          c.take_row-packet.new.out (c.take_row-packet.ensures.gives _ can));
+    }

@@ -1,5 +1,5 @@
 -- A tick is made.
-use Rattle.std.proofs.Common.{◌≡◌, ℕ, [], ◌/◌, ◌%◌, ◌==◌, if◌then◌else◌, List, length, Some, None, refl, sym, ◌∙◌, ap}
+use Rattle.std.proofs.Common.{◌≡◌, ℕ, [], ◌/◌, ◌%◌, ◌==◌, if◌then◌else◌, List, length, Some, refl, sym, ◌∙◌, ap}
 use Rattle.std.proofs.Common.{subst}
 use Rattle.std.proofs.Common.{arith, Option}
 use Rattle.std.specs.Option.{is_some}

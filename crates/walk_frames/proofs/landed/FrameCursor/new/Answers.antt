@@ -1,5 +1,5 @@
 -- No item was passed.
-use Rattle.std.proofs.Common.{◌≡◌, ℕ, sym, ap, arith}
+use Rattle.std.proofs.Common.{sym, ap, arith}
 use Rattle.walk_law.specs.Landed.{landed_from, refusals_among}
 use Rattle.walk_frames.proofs.landed.FrameCursor.new.Goals as goal
 

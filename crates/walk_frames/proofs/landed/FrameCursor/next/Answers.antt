@@ -1,5 +1,5 @@
 -- No frame that has landed is left.
-use Rattle.std.proofs.Common.{◌≡◌, ◌⊎◌, inl, inr, arith, sym, ap, ◌∙◌, length}
+use Rattle.std.proofs.Common.{inl, inr, arith, ap, length}
 use Rattle.walk_frames.specs.Landed.{Cursor}
 use Rattle.walk_frames.proofs.LandedFrameLaws.{past-end, past-before}
 use Rattle.walk_frames.proofs.landed.FrameCursor.next.Goals as goal

@@ -1,5 +1,5 @@
 -- Only items were passed that are no frames which have landed.
-use Rattle.std.proofs.Common.{◌≡◌, ◌-◌, ◌+◌, length}
+use Rattle.std.proofs.Common.{◌-◌, length}
 use Rattle.walk_frames.specs.Landed.{IsAt, IsSkipped}
 use Rattle.walk_frames.proofs.landed.FrameCursor.next.Given as goal
 

@@ -1,6 +1,5 @@
 -- The next refusal is the item's, where its number is.
-use Rattle.std.proofs.Common.{◌≡◌, ◌+◌, Some, drop, slice_get, sym, ap, ◌∙◌, subst}
-use Rattle.walk_law.specs.Landed.{refused_by}
+use Rattle.std.proofs.Common.{drop, ap, ◌∙◌}
 use Rattle.walk_frames.specs.Landed.{Cursor}
 use Rattle.walk_frames.proofs.LandedFrameLaws.{get-refusal, found-refusal}
 use Rattle.walk_frames.proofs.landed.FrameCursor.take_refusal.Goals as goal

@@ -1,13 +1,13 @@
 -- The post has room for the alarms of one more burst.
-use Rattle.std.proofs.Common.{◌≡◌, ◌≢◌, ◌≤◌, ◌<◌, ◌++◌, length, refl, sym, ◌∙◌, ap, ap₂, subst, arith, rules}
+use Rattle.std.proofs.Common.{◌≡◌, ◌≢◌, ◌<◌, ◌++◌, length, refl, sym, ◌∙◌, ap, ap₂, arith, rules}
 use Rattle.std.proofs.Common.{length-append}
 use Rattle.session_model.specs.Damage.{carried}
 use Rattle.session_model.specs.Path.{cells}
-use Rattle.member_ring.specs.Ends.{in_passed, out_passed}
+use Rattle.member_ring.specs.Ends.{in_passed}
 use Rattle.member_ring.specs.declared.worker.Burst.TheVariants.{Done}
 use Rattle.member_ring.specs.Alarms.{alarms_of_line}
-use Rattle.member_ring.specs.Worker.{number_of, delay_of, windows_of, total_of, carries_of, raised_by, last_raised}
-use Rattle.alarm_log.specs.Posts.{posted_by, most_by}
+use Rattle.member_ring.specs.Worker.{number_of, delay_of, windows_of, total_of, carries_of, raised_by}
+use Rattle.alarm_log.specs.Posts.{posted_by}
 use Rattle.watched_line.proofs.served.ServedLine.burst.Goals as goal
 
 pub post_all-requires : goal.post_all-requires
