@@ -1,5 +1,6 @@
 -- What the octets of a type header say, and which of them is that of an Ethernet frame with a PFI and an EXI.
-use Rattle.std.proofs.Common.{◌≡◌, ◌≢◌, ℕ, ◌+◌, ◌*◌, ◌/◌, ◌%◌, ◌^◌, ◌<◌, ◌≤◌, Bool, true, false, List, [], ◌∷◌, length, Some}
+use Rattle.std.proofs.Common.{◌≡◌, ◌≢◌, ℕ, ◌+◌, ◌*◌, ◌/◌, ◌%◌, ◌^◌, ◌<◌, ◌≤◌, Bool, true, false, List, [], ◌∷◌}
+use Rattle.std.proofs.Common.{length, Some}
 use Rattle.std.proofs.Common.{None, get_or, refl, sym, ◌∙◌, ap, ap₂, arith, eq-eqb}
 use Rattle.std.specs.Prelude.{if◌then◌else◌, ◌==◌}
 use Rattle.std.proofs.lemmas.Bool.{ne_eqb, eqb-true}
@@ -96,7 +97,8 @@ field_with-none pfi exi p x =
     none_where (field_with pfi exi / 2 ^ 13 == 0) (field_with pfi exi / 2 ^ 12 % 2 == pfi)
     (field_with pfi exi / 2 ^ 8 % 2 ^ 4 == exi) (field_with pfi exi % 2 ^ 8 == 1) _ _ _ _
     (eq-eqb (field_with pfi exi / 2 ^ 13) 0 (omega arith)) (eq-eqb (field_with pfi exi / 2 ^ 12 % 2) pfi (omega arith))
-    (eq-eqb (field_with pfi exi / 2 ^ 8 % 2 ^ 4) exi (omega arith)) (eq-eqb (field_with pfi exi % 2 ^ 8) 1 (omega arith))
+    (eq-eqb (field_with pfi exi / 2 ^ 8 % 2 ^ 4) exi (omega arith))
+    (eq-eqb (field_with pfi exi % 2 ^ 8) 1 (omega arith))
 
 -- the only octets with no fault
 pub header_with-only : (pfi exi : ℕ) (octets : List ℕ) (field said found : ℕ) → length octets ≡ 4 →

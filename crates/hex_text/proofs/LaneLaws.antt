@@ -1,6 +1,7 @@
 -- Lanes of vectors that were computed lane by lane.
 use Rattle.std.proofs.Common.{◌≡◌, ◌⊎◌, inl, inr, ℕ, zero, suc, ◌+◌, ◌*◌, ◌<◌, ◌≤◌, ◌%◌, ◌^◌, List, [], ◌∷◌}
-use Rattle.std.proofs.Common.{Bool, true, false, cond, map, length, get_or, replicate, nat_eq, nat_lt, ltb, Option, Some, None}
+use Rattle.std.proofs.Common.{Bool, true, false, cond, map, length, get_or, replicate, nat_eq, nat_lt, ltb}
+use Rattle.std.proofs.Common.{Option, Some, None}
 use Rattle.std.proofs.Common.{if◌then◌else◌, refl, sym, ap, ◌∙◌, arith, bit_or, Fits, w8}
 use Rattle.std.proofs.lemmas.Bool.Decides.{nat_tests}
 use Rattle.std.specs.List.{range_with_len}

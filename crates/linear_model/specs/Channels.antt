@@ -1,5 +1,5 @@
--- The queues of channels that share a stream, and whose turn it is. That turns go round, and how many frames of a channel
--- may wait, is this project's own.
+-- The queues of channels that share a stream, and whose turn it is. That turns go round, and how many frames of a
+-- channel may wait, is this project's own.
 use Rattle.std.specs.Prelude.{ℕ, zero, suc, ◌+◌, nat_le, nat_lt, ◌||◌, if◌then◌else◌, List, [], ◌∷◌, ◌++◌, length}
 use Rattle.std.specs.Prelude.{take, drop, replicate, slice_index_or, Option, Some, None}
 use Rattle.session_model.specs.Limits.{shortest_frame, longest_frame}
@@ -62,7 +62,8 @@ served cid channels =
 abbrev pub channel_refusal : ℕ → List ℕ → Channels → Option ChannelFault
 channel_refusal cid frame channels =
     if nat_le (length channels.waiting) cid then Some (Unknown (length channels.waiting))
-    else if nat_lt (length frame) shortest_frame || nat_lt longest_frame (length frame) then Some (Length (length frame))
+    else if nat_lt (length frame) shortest_frame || nat_lt longest_frame (length frame) then
+    Some (Length (length frame))
     else if nat_le most_of_channel (length (waiting_of cid channels)) then Some (QueueFull most_of_channel)
     else None
 

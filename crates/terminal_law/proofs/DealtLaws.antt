@@ -54,7 +54,9 @@ rank-from (x ∷ lines) from zero line once here =
 rank-from (x ∷ lines) from (suc r) line once here =
     let there = times-there lines r line here in
     let most = once line in
-    let other : (x == line) ≡ false = ne_eqb x line (λ same. let first : one x line ≡ 1 = ap (λ l. one l line) same ∙ one-self line in omega arith) in
+    let other : (x == line) ≡ false =
+    ne_eqb x line (λ same.
+    let first : one x line ≡ 1 = ap (λ l. one l line) same ∙ one-self line in omega arith) in
     rw other (rank-from lines (from + 1) r line (λ l. let all = once l in omega arith) here
     ∙ ap Some (let e : from + 1 + r ≡ from + suc r = omega arith in e))
   where
@@ -169,9 +171,19 @@ module _ (scenario : Scenario) (a b : List (Option Told)) where
       let nibble = nibble-same line t agree in
       let lines = active-same t agree in
       let row = payload-same t agree in
-      ap (λ n. let c : Container = record { h4 = 16 * n + t % 16; payload = (container_of scenario a line t).payload } in c) nibble
-      ∙ ap (λ l. let c : Container = record { h4 = (container_of scenario b line t).h4; payload = payload_on l line scenario.size (payload_of scenario a t) } in c) lines
-      ∙ ap (λ r. let c : Container = record { h4 = (container_of scenario b line t).h4; payload = payload_on (active_at scenario b t) line scenario.size r } in c) row
+      ap (λ n.
+      let c : Container =
+      record { h4 = 16 * n + t % 16; payload = (container_of scenario a line t).payload } in c) nibble
+      ∙ ap (λ l.
+      let c : Container = record {
+        h4 = (container_of scenario b line t).h4;
+        payload = payload_on l line scenario.size (payload_of scenario a t);
+      } in c) lines
+      ∙ ap (λ r.
+      let c : Container = record {
+        h4 = (container_of scenario b line t).h4;
+        payload = payload_on (active_at scenario b t) line scenario.size r;
+      } in c) row
 
 pub container-same : (scenario : Scenario) (a b : List (Option Told)) (line t : ℕ) →
     AgreeBefore ((t + 8) / 16 - scenario.lag) a b →
