@@ -469,7 +469,7 @@ frames-next script s was now count more done found next come at is =
           ∙ sym (append_assoc done (own ∷ []) (ended_on script fate (frames_left script now) more.frames));
     }
 
-offers-few : (items : List Item) → length (offers_of items) ≤ length items
+pub offers-few : (items : List Item) → length (offers_of items) ≤ length items
 offers-few [] = omega arith
 offers-few (item ∷ items) =
     let all = length-append (offer_of item.due item.kind) (offers_of items) in

@@ -1,23 +1,22 @@
 -- What is seen of a walk: one packet more, and one row more.
 use Rattle.std.proofs.Common.{◌≡◌, ℕ, zero, suc, ◌+◌, ◌-◌, ◌^◌, ◌<◌, ◌≤◌, Bool, true, false, List, [], ◌∷◌, ◌++◌, map}
 use Rattle.std.proofs.Common.{length, All, Option, Some, None, is_none, is_some, not, slice_index_or, refl, sym, ◌∙◌}
-use Rattle.std.proofs.Common.{ap, ap₂, subst, arith, inl, inr, length-append}
+use Rattle.std.proofs.Common.{ap, subst, arith, inl, inr, length-append}
 use Rattle.std.specs.List.{range_with_len}
 use Rattle.std.specs.Option.{option_map, ForSome}
 use Rattle.std.proofs.lemmas.Bool.{cases_Bool, cases_lt}
 use Rattle.std.proofs.lemmas.List.FromFn.{map-range_with_len_more, length-map-range_with_len}
 use Rattle.session_model.specs.declared.script.Script.{Script}
-use Rattle.session_model.specs.Scenario.{Scenario, scenario_of, steps_in}
-use Rattle.session_model.specs.Table.{Table, Told, active}
+use Rattle.session_model.specs.Scenario.{scenario_of, steps_in}
+use Rattle.session_model.specs.Table.{Table, active}
 use Rattle.session_model.specs.Source.{after, table_of}
 use Rattle.session_model.specs.Damage.{AreWindows}
 use Rattle.session_model.specs.Hunt.{Confirmed, hunt}
-use Rattle.session_model.specs.Segment.{StreamRow, Segment, segments_of, octets_of_rows}
+use Rattle.session_model.specs.Segment.{segments_of, octets_of_rows}
 use Rattle.session_model.specs.SessionRows.{is_whole_row}
 use Rattle.session_model.specs.SessionStream.{rows_of, row_of}
 use Rattle.session_model.specs.Client.{place_of}
 use Rattle.session_model.specs.Counts.{Counts}
-use Rattle.session_model.specs.Loss.{confirmed_in}
 use Rattle.session_model.specs.Valid.{IsValid}
 use Rattle.loss_law.proofs.CutLaws.{Stands-all}
 use Rattle.loss_law.proofs.FoundLaws.{confirmed-within}
@@ -32,7 +31,7 @@ use Rattle.gfp_mark.specs.Marks.{first_place}
 use Rattle.fate_law.specs.declared.Cause.{Cause}
 use Rattle.fate_law.specs.Spoiled.{row_cause}
 use Rattle.fate_law.proofs.CauseLaws.{cause-whole}
-use Rattle.fate_core.specs.Packets.{PacketList, ArePackets}
+use Rattle.fate_core.specs.Packets.{PacketList}
 use Rattle.fate_core.specs.Segments.{Stands, Tells}
 use Rattle.fate_core.specs.Runs.{AreRuns}
 use Rattle.walk_fates.specs.Places.{Governs}

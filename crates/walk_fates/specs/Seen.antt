@@ -1,5 +1,5 @@
 -- What is seen of a walk turn by turn, as private clauses say it.
-use Rattle.std.specs.Prelude.{◌≡◌, ℕ, map}
+use Rattle.std.specs.Prelude.{ℕ, map}
 use Rattle.std.specs.List.{range_with_len}
 use Rattle.session_model.specs.declared.script.Script.{Script}
 use Rattle.session_model.specs.Scenario.{scenario_of}

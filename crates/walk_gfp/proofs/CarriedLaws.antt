@@ -1,8 +1,8 @@
 -- The frames that rows carry: by their fates, and one after another.
-use Rattle.std.proofs.Common.{◌≡◌, ℕ, zero, suc, ◌+◌, ◌-◌, ◌<◌, ◌≤◌, Bool, true, false, List, [], ◌∷◌, ◌++◌, length}
+use Rattle.std.proofs.Common.{◌≡◌, ℕ, zero, suc, ◌+◌, ◌-◌, Bool, true, false, List, [], ◌∷◌, ◌++◌, length}
 use Rattle.std.proofs.Common.{map}
-use Rattle.std.proofs.Common.{filter, take, drop, Option, Some, None, slice_get, refl, sym, ◌∙◌, ap, subst, arith}
-use Rattle.std.proofs.Common.{inl, inr, append-nil, append_assoc}
+use Rattle.std.proofs.Common.{filter, take, drop, Option, Some, None, slice_get, refl, sym, ◌∙◌, ap, arith}
+use Rattle.std.proofs.Common.{inl, inr, append-nil}
 use Rattle.std.specs.Prelude.{nat_le}
 use Rattle.std.specs.List.{list_any}
 use Rattle.std.proofs.lemmas.Bool.{cases_Bool}
@@ -17,7 +17,6 @@ use Rattle.fate_law.specs.Fates.{row_at, spoiled_after, is_settled_by, fate_afte
 use Rattle.fate_law.specs.Fates.{fate_of}
 use Rattle.fate_law.specs.SessionFates.{fate_at, fate_if}
 use Rattle.walk_frames.proofs.LandedFrameLaws.{take-one}
-use Rattle.capture_file.specs.Written.{RowFrame}
 use Rattle.walk_gfp.specs.Carried.{with_last_row, carried_among}
 use Rattle.walk_gfp.specs.Records.{last_row, frame_if}
 

@@ -15,7 +15,7 @@ use Rattle.session_model.specs.declared.script.Script.{Script}
 use Rattle.session_model.specs.declared.refusal.AcceptFault.TheVariants.{Length, QueueFull}
 use Rattle.session_model.specs.Limits.{shortest_frame, longest_frame, most_waiting}
 use Rattle.session_model.specs.Piece.{Piece, stream_of}
-use Rattle.session_model.specs.Scenario.{Scenario, scenario_of, offer_of, offers_of}
+use Rattle.session_model.specs.Scenario.{Scenario, scenario_of}
 use Rattle.session_model.specs.Table.{Told}
 use Rattle.session_model.specs.Client.{place_of, stream_before, frames_in, refusal_while}
 use Rattle.session_model.specs.Counts.{Counts}
@@ -42,6 +42,7 @@ use Rattle.walk_frames.specs.declared.landed.LandedFrame.{LandedFrame}
 use Rattle.walk_frames.specs.Landed.{Cursor, frames_before_item, frames_left, IsAt, IsNext, IsPast}
 use Rattle.walk_frames.specs.Places.{stream_in}
 use Rattle.walk_frames.proofs.NextLaws.{next-count, next-refusal}
+use Rattle.walk_fates.proofs.LineLaws.{offers-few}
 
 -- the accepted frames of the items that have landed
 abbrev pub landed_accepted : Script → Counts → List (List ℕ)
@@ -198,19 +199,6 @@ module _ (script : Script) where
             ∙ commands-none a (b - 1) (suc i) items
             ∙ sym (ap F (landed-other a 0 i item items other))
       ]
-
-offers-few : (items : List Item) → length (offers_of items) ≤ length items
-offers-few [] = omega arith
-offers-few (item ∷ items) =
-    let all = length-append (offer_of item.due item.kind) (offers_of items) in
-    let own = one item.kind in
-    let rest = offers-few items in
-    omega (arith, all, own, rest)
-  where
-    one : (kind : ItemKind) → length (offer_of item.due kind) ≤ 1
-    one (Frame octets) = omega arith
-    one (Add line) = omega arith
-    one (Remove line) = omega arith
 
 -- ---- the accepted frames so far
 pub record Accepted (script : Script) (s : Counts) (cursor : Cursor) (count : ℕ) : Type 0 where

@@ -12,8 +12,8 @@ use Rattle.fate_law.specs.SessionFates.{ended_of}
 use Rattle.fate_law.specs.FateText.{spoiled_text, fates_text}
 use Rattle.walk_fates.proofs.lines.write_fates.Goals as goal
 
-pub returns-clause-ok : goal.returns-clause-ok
-returns-clause-ok g c =
+pub returns : goal.returns
+returns g c =
     let script = c.args.walk.now.script in
     let s = c.args.walk.now.counts in
     let start : Start = start_at g.K.ByteSink.written g.K.ByteSink.faults c.args.out.now (name_of c.new-got.result) in
@@ -29,35 +29,16 @@ returns-clause-ok g c =
     let text = fates_text script s in
     let N : ℕ → Type 0 = λ n. HasText g.K.ByteSink.written g.K.ByteSink.faults c.write_end.new.got
     (start_at g.K.ByteSink.written g.K.ByteSink.faults c.args.out.now n) text in
-    let end = c.finish-back.ensures.ok c.args.out.now text (subst N (sym has.0) has) in
+    let own = subst N (sym has.0) has in
     let named = c.finish-back.ensures.name ∙ has.0 ∙ c.new-got.ensures.name in
-    let k : OnOk c.finish-back.result.1
+    let ok : OnOk c.finish-back.result.1
     (Appends g.K.ByteSink.written g.K.ByteSink.faults c.args.out.now c.take_back.new.out text) =
     subst (λ now. OnOk c.finish-back.result.1
-    (Appends g.K.ByteSink.written g.K.ByteSink.faults c.args.out.now now text)) (sym c.take_back.ensures) end in
-    search (rules, k, named)
-
-pub returns-clause-err : goal.returns-clause-err
-returns-clause-err g c =
-    let script = c.args.walk.now.script in
-    let s = c.args.walk.now.counts in
-    let start : Start = start_at g.K.ByteSink.written g.K.ByteSink.faults c.args.out.now (name_of c.new-got.result) in
-    let runs = c.runs.ensures (map (row_cause (scenario_of script) (session_of script)) (range_with_len 0 s.rows))
-    c.requires.rows.runs in
-    let P : List SpoiledRun → Type 0 =
-    λ runs. HasText g.K.ByteSink.written g.K.ByteSink.faults c.write_runs.new.got start
-    (flat_map spoiled_text runs) in
-    let one = subst P runs (c.write_runs.ensures start [] c.new-got.ensures.fresh) in
-    let two = c.write_segments.ensures start _ one in
-    let three = c.write_frames-ended.ensures.text start _ two in
-    let has = c.write_end.ensures (ended_of script s) c.write_frames-ended.ensures.counted start _ three in
-    let text = fates_text script s in
-    let N : ℕ → Type 0 = λ n. HasText g.K.ByteSink.written g.K.ByteSink.faults c.write_end.new.got
-    (start_at g.K.ByteSink.written g.K.ByteSink.faults c.args.out.now n) text in
-    let end = c.finish-back.ensures.err c.args.out.now text (subst N (sym has.0) has) in
-    let named = c.finish-back.ensures.name ∙ has.0 ∙ c.new-got.ensures.name in
-    let k : OnErr c.finish-back.result.1
+    (Appends g.K.ByteSink.written g.K.ByteSink.faults c.args.out.now now text)) (sym c.take_back.ensures)
+    (c.finish-back.ensures.ok c.args.out.now text own) in
+    let err : OnErr c.finish-back.result.1
     (AppendsPart g.K.ByteSink.written g.K.ByteSink.faults c.args.out.now c.take_back.new.out text) =
     subst (λ now. OnErr c.finish-back.result.1
-    (AppendsPart g.K.ByteSink.written g.K.ByteSink.faults c.args.out.now now text)) (sym c.take_back.ensures) end in
-    search (rules, k, named)
+    (AppendsPart g.K.ByteSink.written g.K.ByteSink.faults c.args.out.now now text)) (sym c.take_back.ensures)
+    (c.finish-back.ensures.err c.args.out.now text own) in
+    record { ok = search (rules, ok, named); err = search (rules, err, named) }

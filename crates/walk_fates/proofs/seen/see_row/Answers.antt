@@ -1,6 +1,6 @@
 -- One row more.
-use Rattle.std.proofs.Common.{◌≡◌, ℕ, suc, ◌+◌, ◌<◌, ◌≤◌, ◌∷◌, ◌++◌, [], Option, is_none, refl, sym, ◌∙◌, ap, subst}
-use Rattle.std.proofs.Common.{arith, OnOk}
+use Rattle.std.proofs.Common.{◌≡◌, ◌+◌, ◌≤◌, ◌∷◌, ◌++◌, [], Option, sym, ◌∙◌, ap, subst}
+use Rattle.std.proofs.Common.{arith}
 use Rattle.std.proofs.lemmas.Result.{on_ok_weaker}
 use Rattle.session_model.specs.declared.script.Script.{Script}
 use Rattle.session_model.specs.Scenario.{scenario_of}
@@ -8,13 +8,13 @@ use Rattle.session_model.specs.Client.{place_of}
 use Rattle.session_model.specs.SessionStream.{row_of}
 use Rattle.fate_law.specs.declared.Cause.{Cause}
 use Rattle.fate_law.specs.Spoiled.{row_cause}
-use Rattle.fate_core.specs.Segments.{Stands, Tells}
+use Rattle.fate_core.specs.Segments.{Tells}
 use Rattle.fate_core.specs.Runs.{AreRuns}
 use Rattle.std.proofs.Common.{map}
 use Rattle.std.specs.List.{range_with_len}
 use Rattle.walk_law.specs.Walk.{session_of}
 use Rattle.walk_law.specs.Delivered.{session_rows}
-use Rattle.walk_fates.proofs.SeenLaws.{few-rows, windows-apart, causes-size, rows-size, rows-next, row-tells}
+use Rattle.walk_fates.proofs.SeenLaws.{few-rows, causes-size, rows-size, rows-next, row-tells}
 use Rattle.walk_fates.proofs.SeenLaws.{whole-cause, none-is, place-low, mark-low, one-row}
 use Rattle.walk_fates.proofs.seen.see_row.Goals as goal
 

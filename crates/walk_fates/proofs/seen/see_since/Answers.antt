@@ -1,6 +1,5 @@
 -- One packet more, and one row more.
-use Rattle.std.proofs.Common.{◌≡◌, ℕ, ◌+◌, ◌<◌, ◌≤◌, length, refl, sym, ◌∙◌, ap, subst, arith}
-use Rattle.session_model.specs.declared.script.Script.{Script}
+use Rattle.std.proofs.Common.{◌≡◌, ◌+◌, sym, ◌∙◌, ap, subst, arith}
 use Rattle.session_model.specs.Scenario.{steps_in}
 use Rattle.session_model.specs.Table.{active}
 use Rattle.report_text.specs.declared.report.Totals.{Totals}

@@ -1,5 +1,5 @@
 -- A frame more; and all of them.
-use Rattle.std.proofs.Common.{◌≡◌, ◌+◌, ◌≤◌, ◌++◌, ℕ, List, length, take, not, refl, sym, ◌∙◌, ap, subst, arith}
+use Rattle.std.proofs.Common.{◌+◌, ◌≤◌, ℕ, List, length, take, not, refl, sym, ◌∙◌, ap, subst, arith}
 use Rattle.session_model.specs.Limits.{longest_frame}
 use Rattle.walk_law.specs.Delivered.{session_rows}
 use Rattle.walk_law.specs.Promise.{session_pieces, session_extents}
