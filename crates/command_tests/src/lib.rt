@@ -18,6 +18,8 @@ mod running;
 #[cfg(test)]
 mod scripts;
 #[cfg(test)]
+mod sharing;
+#[cfg(test)]
 mod walking;
 #[cfg(test)]
 mod words;

@@ -17,7 +17,7 @@ use Rattle.command_parts.specs.declared.stop.Stop.TheVariants.{Memory}
 use Rattle.command_parts.proofs.StopLaws.{made-beside, ends-no-memory}
 use Rattle.walk_command.specs.declared.command.WalkCommand.{WalkCommand}
 use Rattle.walk_command.specs.declared.command.WalkCommand.TheVariants.{Walk, Trace, Fates, Capture, Gfp, Frames}
-use Rattle.walk_command.specs.declared.command.WalkCommand.TheVariants.{Decode, Noise, Au4, Make, Stream}
+use Rattle.walk_command.specs.declared.command.WalkCommand.TheVariants.{Decode, Noise, Au4, Channels, Make, Stream}
 use Rattle.walk_command.specs.Walk.{word_at, is_word, walk_words}
 use Rattle.walk_command.specs.Trace.{trace_words}
 use Rattle.walk_command.specs.Fates.{fates_words}
@@ -27,6 +27,7 @@ use Rattle.walk_command.specs.Frames.{frames_words}
 use Rattle.walk_command.specs.Decode.{decode_words}
 use Rattle.walk_command.specs.Noise.{noise_words}
 use Rattle.walk_command.specs.Au4.{au4_words}
+use Rattle.walk_command.specs.Channels.{channels_words}
 use Rattle.walk_command.specs.Make.{load_of, make_words}
 use Rattle.walk_command.specs.Stream.{ticks_of, rate_of, numbers_in, stream_words}
 use Rattle.walk_command.specs.Commands.{command_of, task_at, command_in, task_for, task_of, usage}
@@ -43,6 +44,7 @@ Fits Frames = Unit {0}
 Fits Decode = Unit {0}
 Fits Noise = Unit {0}
 Fits Au4 = Unit {0}
+Fits Channels = Unit {0}
 Fits (Make number lines ticks) = IsWithin 1 64 lines × IsWithin 1 1000000 ticks
 Fits (Stream load) = IsRateLoad load
 
@@ -119,6 +121,9 @@ noise-fits words = if-fits (is_word (codes "noise") words) (Some Noise) tt
 au4-fits : (words : List (List ℕ)) → IfSome (au4_words words) Fits
 au4-fits words = if-fits (is_word (codes "au4") words) (Some Au4) tt
 
+channels-fits : (words : List (List ℕ)) → IfSome (channels_words words) Fits
+channels-fits words = if-fits (is_word (codes "channels") words) (Some Channels) tt
+
 decode-fits : (words : List (List ℕ)) → IfSome (decode_words words) Fits
 decode-fits words = if-fits (is_word (codes "decode") words) (Some Decode) tt
 
@@ -158,9 +163,11 @@ named-fits words =
     let decodes = option_or frames (decode_words words) in
     let noises = option_or decodes (noise_words words) in
     let links = option_or noises (au4_words words) in
-    let makes = option_or links (make_words words) in
+    let channels = option_or links (channels_words words) in
+    let makes = option_or channels (make_words words) in
     or-fits makes (stream_words words)
-    (or-fits links (make_words words)
+    (or-fits channels (make_words words)
+    (or-fits links (channels_words words)
     (or-fits noises (au4_words words)
     (or-fits decodes (noise_words words)
     (or-fits frames (decode_words words)
@@ -171,7 +178,8 @@ named-fits words =
     (or-fits walks (trace_words words) (walk-fits words) (trace-fits words)) (fates-fits words)) (capture-fits words))
     (gfp-fits words))
     (frames-fits words))
-    (decode-fits words)) (noise-fits words)) (au4-fits words)) (make-fits words)) (stream-fits words)
+    (decode-fits words)) (noise-fits words)) (au4-fits words))
+    (channels-fits words)) (make-fits words)) (stream-fits words)
 
 pub fits : (words : List (String Global)) (command : WalkCommand) → command_in words ≡ Some command → Fits command
 fits words command is =
@@ -204,6 +212,7 @@ is-command (Some Frames) some = tt
 is-command (Some Decode) some = tt
 is-command (Some Noise) some = tt
 is-command (Some Au4) some = tt
+is-command (Some Channels) some = tt
 is-command (Some (Make number lines ticks)) some = tt
 is-command (Some (Stream load)) some = tt
 

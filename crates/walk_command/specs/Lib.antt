@@ -8,6 +8,7 @@ pub mod Frames
 pub mod Decode
 pub mod Noise
 pub mod Au4
+pub mod Channels
 pub mod Make
 pub mod Stream
 pub mod Commands

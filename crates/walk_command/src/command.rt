@@ -1,6 +1,6 @@
 //! The commands of the program, a line for each.
 
-use crate::{au4, capture, decode, fates, frames, gfp, make, noise, stream, trace, walk};
+use crate::{au4, capture, channels, decode, fates, frames, gfp, make, noise, stream, trace, walk};
 use cmd_words::FromWords;
 use rate_load::RateLoad;
 
@@ -25,6 +25,8 @@ pub enum WalkCommand {
     Noise,
     /// `au4`: carry numbered VC-4s over a link of AU-4 frames.
     Au4,
+    /// `channels`: send frames of clients that share a stream by channel numbers, and write those that get through.
+    Channels,
     /// `make`: make the walk of the load of a number, of 1 to 64 lines and 1 to 1,000,000 ticks.
     Make { number: u64, lines: u8, ticks: u32 },
     /// `stream`: write the script lines of a client that sends at a rate.
@@ -46,6 +48,7 @@ impl FromWords for WalkCommand {
             .or(decode::words(words))
             .or(noise::words(words))
             .or(au4::words(words))
+            .or(channels::words(words))
             .or(make::words(words))
             .or(stream::words(words))
     }

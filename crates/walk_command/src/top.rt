@@ -8,6 +8,7 @@ ghost use Rattle.walk_command.specs.Commands.{command_in, task_of, usage, HandsB
 
 use crate::au4::au4;
 use crate::capture::capture;
+use crate::channels::channels;
 use crate::command::WalkCommand;
 use crate::decode::decode;
 use crate::end::{WalkEnd, stopped};
@@ -34,8 +35,10 @@ use std::alloc::Global;
 /// frame in it. `decode` reads the H4 octets of a line in hexadecimal digits and writes the control packets
 /// in them. `noise` reads frames and flips, and writes the frames with an FCS that get through when these
 /// bits of their stream are turned over, and the counts. `au4` reads what the pointers of AU-4 frames do, and
-/// writes a line of each numbered VC-4 that comes whole over them, and the counts. `stream` writes the script
-/// lines of a client that sends at a rate.
+/// writes a line of each numbered VC-4 that comes whole over them, and the counts. `channels` reads the frames
+/// of clients that share a stream by channel numbers, and which octets of it don't arrive, and writes the
+/// frames that get through with their channels, those that are refused, and the counts. `stream` writes the
+/// script lines of a client that sends at a rate.
 ///
 /// The status is 2 where the words are no command, 3 where the input can't be read, 8 where it or the text of
 /// `stream` has more than 67,108,864 octets, 5 where one of its lines is faulty, or of a capture its head or
@@ -79,6 +82,7 @@ pub fn walk_top<S: ByteSource, K: ByteSink, E: ByteSink>(
         Ok(WalkCommand::Decode) => decode(alloc, script, out, notes),
         Ok(WalkCommand::Noise) => noise(alloc, script, out, notes),
         Ok(WalkCommand::Au4) => au4(alloc, script, out, notes),
+        Ok(WalkCommand::Channels) => channels(alloc, script, out, notes),
         Ok(
             WalkCommand::Make {
                 number,
@@ -99,7 +103,7 @@ fn no_command<E: ByteSink>(notes: &mut E) -> WalkEnd
     ensures told { Tells E.written E.faults notes.old notes.new usage }
 {
     let text =
-        b"usage: vcat_walk walk, trace, fates, capture, gfp, frames, decode, noise, au4, make NUMBER LINES TICKS, or stream OCTETS MBITS FIRST END NUMBER\n";
+        b"usage: vcat_walk walk, trace, fates, capture, gfp, frames, decode, noise, au4, channels, make NUMBER LINES TICKS, or stream OCTETS MBITS FIRST END NUMBER\n";
     let status = tell_usage(text, notes);
     WalkEnd { status, walk: None }
 }
