@@ -100,6 +100,7 @@ module _ (script : Script) (g : GroupState) (of_script : IsOf script g) (ticks :
           of_size = sym of_script.size;
           no_offers = ap (λ n. take n (offers_of script.items)) frames;
           no_orders = ap (λ n. take n (orders_of script.items)) commands;
+          no_tells = refl;
         })) ∣₁;
   }
 
