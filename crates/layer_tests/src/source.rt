@@ -14,8 +14,8 @@ const EMPTY: Container = Container {
 };
 
 /// The return packet that says this member status and this RS-Ack.
-fn back(mst: u8, rs_ack: bool) -> BackCell {
-    let packet = Packet {
+fn saying(mst: u8, rs_ack: bool) -> Packet {
+    Packet {
         mst,
         rs_ack,
         chg: false,
@@ -24,8 +24,12 @@ fn back(mst: u8, rs_ack: bool) -> BackCell {
         ctrl: Ctrl::Idle,
         gid: false,
         act: 0,
-    };
-    BackCell::Packet(packet.nibbles())
+    }
+}
+
+/// Its return cell.
+fn back(mst: u8, rs_ack: bool) -> BackCell {
+    BackCell::Packet(saying(mst, rs_ack).nibbles())
 }
 
 /// Makes a frame, with the return cell that it needs.
@@ -119,6 +123,30 @@ fn beginning(alloc: Global) -> Option<([u8; 40], bool, [u8; 28])> {
 #[test]
 fn first_payload(rt: HostRuntime) {
     assert_eq!(rt; beginning(rt.alloc()), Some((H4, true, STREAM)));
+}
+
+/// The H4 octets of the packet of ADD that tells MST `a5` and RS-Ack 1, with the check over these.
+const TOLD: [u8; 16] = [
+    0xa8, 0x59, 0x1a, 0x1b, 0x0c, 0x0d, 0x0e, 0x0f, 0x00, 0x11, 0x12, 0x13, 0x04, 0x05, 0x16, 0xf7,
+];
+
+/// The H4 octets of the first forty frames, where the first packet alone has something to tell.
+fn telling_once(alloc: Global) -> Option<[u8; 40]> {
+    let mut core = one_line(alloc, 64)?;
+    core.tell(saying(0x5a, false));
+    core.tell(saying(0xa5, true));
+    let mut h4 = [0; 40];
+    let mut out = [EMPTY];
+    make(&mut core, &mut h4, &mut out);
+    Some(h4)
+}
+
+/// A packet tells what the last call before its step says, and the one after it tells nothing.
+#[test]
+fn told(rt: HostRuntime) {
+    let mut want = H4;
+    want[8..24].copy_from_slice(&TOLD);
+    assert_eq!(rt; telling_once(rt.alloc()), Some(want));
 }
 
 /// Four octets of frame 41 from a place on, after a frame of so many octets.
