@@ -3,7 +3,7 @@
 # capture of its frames apart, and has to find as many frames as come out, with times that rise, and each FCS good where the script has a
 # good one. Of that of its GFP frames it has to find those that fates doesn't tell to wait, with their rows, each core HEC and type HEC
 # good, and each FCS that the script has. A GFP frame with a payload FCS by this repository's definition has to be right to it, and one with another
-# FCS wrong. Captures that text2pcap and editcap wrote are read by frames, in each form that they write, and in the other order of octets. Nothing
+# FCS wrong; one with the headers of a channel has its CID. Captures that text2pcap and editcap wrote are read by frames, in each form that they write, and in the other order of octets. Nothing
 # is installed; what is missing is said. The status is 0 where all is well.
 cd "$(dirname "$0")/.." || exit 1
 program=$PWD/crates/vcat_walk/out/vcat_walk
@@ -92,6 +92,40 @@ for turned in 0 1; do
     [ "$found" = "1 1 $((1 - turned))" ] || complain "a payload FCS is to tshark: $found"
 done
 echo "payload FCS: 1 frame that is right, 1 that is wrong"
+
+# ---- channels
+# GFP frames of channels 0, 1 and 255, with the headers that `type_bytes_linear` and `extension_bytes` of gfp_headers have by their definitions: tshark
+# reads the channel and finds each check right. The first one begins as that of channel 0 is proved to on a stream (channel_law: worked_law), where
+# its core header is combined with a fixed word and its area is scrambled. With another eHEC tshark finds that one wrong alone.
+of_channel() {
+    perl -e '
+        my ($cid, $turned) = @ARGV;
+        sub check {
+            my $crc = 0;
+            for my $bit (split //, unpack("B*", $_[0])) {
+                my $top = $crc >> 15; $crc = ($crc << 1) & 0xffff; $crc ^= 0x1021 if $top ^ $bit;
+            }
+            return $crc;
+        }
+        my $frame = "\0" x 64;
+        my $pli = pack("n", length($frame) + 8);
+        my $core = $pli . pack("n", check($pli));
+        my $extension = pack("C2", $cid, 0);
+        $extension .= pack("n", check($extension) ^ $turned);
+        my $gfp = $core . pack("H*", "01012310") . $extension . $frame;
+        my $sent = unpack("H*", ($core ^ pack("H*", "b6ab31e0")) . substr($gfp, 4, 6));
+        die "channels: the first octets are $sent" if $cid == 0 && $turned == 0 && $sent ne "b6e3f82c010123100000";
+        print pack("VvvV4", 0xa1b2c3d4, 2, 4, 0, 0, 65535, 171), pack("V4", 0, 0, length $gfp, length $gfp), $gfp' "$1" "$2"
+}
+for cid in 0 1 255; do
+    for turned in 0 1; do
+        of_channel "$cid" "$turned" > "$work/linear.pcap" || complain "no GFP frame of channel $cid"
+        found=$(tshark -r "$work/linear.pcap" -T fields -e gfp.chec.status -e gfp.thec.status -e gfp.ehec.status -e gfp.cid 2> "$work/notes" |
+            sed 's/Good/1/g; s/Bad/0/g' | tr '\t' ' ')
+        [ "$found" = "1 1 $((1 - turned)) $(printf '0x%02x' "$cid")" ] || complain "a GFP frame of channel $cid is to tshark: $found"
+    done
+done
+echo "channels: 3 frames that are right, 3 with a wrong eHEC"
 
 # ---- frames
 # Three Ethernet frames without FCS, the second one 250 microseconds after the first, and the third a second after that.
