@@ -42,14 +42,14 @@ mod tests {
     #[test]
     fn extension_headers(rt: HostRuntime) {
         assert_eq!(rt; extension_bytes(0), [0, 0, 0, 0]);
-        assert_eq!(rt; extension_bytes(1), [1, 0, 0x12, 0x31]);
-        assert_eq!(rt; read_cid(&[1, 0, 0x12, 0x31]), Ok(1));
+        assert_eq!(rt; extension_bytes(1), [1, 0, 0x33, 0x31]);
+        assert_eq!(rt; read_cid(&[1, 0, 0x33, 0x31]), Ok(1));
         assert_eq!(rt; read_cid(&[0, 1, 0x10, 0x21]), Ok(0));
         assert_eq!(rt;
-            read_cid(&[1, 0, 0x12, 0x30]),
+            read_cid(&[1, 0, 0x33, 0x30]),
             Err(CidFault {
-                said: 0x1230,
-                found: 0x1231
+                said: 0x3330,
+                found: 0x3331
             })
         );
     }
