@@ -5,7 +5,7 @@ use Rattle.std.specs.List.{flat_map}
 use Rattle.std.proofs.lemmas.Bool.{cases_Bool}
 use Rattle.session_model.specs.declared.script.ItemKind.{ItemKind}
 use Rattle.session_model.specs.declared.script.ItemKind.TheVariants.{Frame, Add, Remove}
-use Rattle.session_model.specs.declared.script.Script.{Script}
+use Rattle.session_model.specs.Leg.{Leg}
 use Rattle.session_model.specs.Loss.{Extent}
 use Rattle.report_text.specs.declared.report.Refusal.{Refusal}
 use Rattle.loss_law.proofs.FilterLaws.{filter-none}
@@ -19,8 +19,8 @@ abbrev pub frames_of : List Extent → List (List ℕ)
 frames_of extents = map (λ (e : Extent). e.frame) extents
 
 -- the frame that an item is, where it is one and isn't refused
-abbrev pub accepts : Script → Numbered → List (List ℕ)
-accepts script item = frame_by (refusal_at script item) item.item.kind
+abbrev pub accepts : Leg → Numbered → List (List ℕ)
+accepts leg item = frame_by (refusal_at leg item) item.item.kind
 
 -- a place of a list is behind its end, or has an element
 abbrev Beyond : List Extent → ℕ → Type 0
@@ -41,7 +41,7 @@ where-at (e ∷ all) (suc i) =
       | inr within ↦ inr (record { extent = within.extent; there = within.there; parts = within.parts })
     ]
 
-module _ (script : Script) (fate : Extent → Fate) (all : List Extent) where
+module _ (leg : Leg) (fate : Extent → Fate) (all : List Extent) where
   abbrev pub gets : Extent → Bool
   gets e = is_got (fate e)
 
@@ -67,11 +67,11 @@ module _ (script : Script) (fate : Extent → Fate) (all : List Extent) where
 
   -- frames without a piece aren't got
   abbrev None-got : List Numbered → Type 0
-  None-got items = (i : ℕ) → length all ≤ i → got_frames (ended_on script nth items i) ≡ []
+  None-got items = (i : ℕ) → length all ≤ i → got_frames (ended_on leg nth items i) ≡ []
 
   then-none : (item : Numbered) (why : Option Refusal) (kind : ItemKind) (items : List Numbered) (i : ℕ) →
       length all ≤ i → None-got items →
-      got_frames (ended_then nth item why kind i (ended_on script nth items)) ≡ []
+      got_frames (ended_then nth item why kind i (ended_on leg nth items)) ≡ []
   then-none item (Some why) (Frame octets) items i late none = none i late
   then-none item None (Frame octets) items i late none = rw (beyond i late) (none (suc i) (omega (arith, late)))
   then-none item (Some why) (Add line) items i late none = none i late
@@ -82,7 +82,7 @@ module _ (script : Script) (fate : Extent → Fate) (all : List Extent) where
   none-got : (items : List Numbered) → None-got items
   unfolding ended_on
   none-got [] i late = refl
-  none-got (item ∷ items) i late = then-none item (refusal_at script item) item.item.kind items i late (none-got items)
+  none-got (item ∷ items) i late = then-none item (refusal_at leg item) item.item.kind items i late (none-got items)
 
   -- the frames of extents are accepted ones, then come those that wait, and of the extents behind the items' own none
   -- is got
@@ -102,18 +102,18 @@ module _ (script : Script) (fate : Extent → Fate) (all : List Extent) where
       ]
 
   abbrev Rest : List Numbered → Type 0
-  Rest items = (i : ℕ) → Fits (drop i all) (flat_map (accepts script) items) →
-      got_frames (ended_on script nth items i) ≡ frames_of (filter gets (drop i all))
+  Rest items = (i : ℕ) → Fits (drop i all) (flat_map (accepts leg) items) →
+      got_frames (ended_on leg nth items i) ≡ frames_of (filter gets (drop i all))
 
   next-got : (item : Numbered) (octets : List ℕ) (items : List Numbered) (i : ℕ) → Rest items →
       (within : Within all i) →
-      Fits (within.extent ∷ drop (suc i) all) (octets ∷ flat_map (accepts script) items) →
-      got_frames (ended_by item octets (accepted (nth i)) ∷ ended_on script nth items (suc i)) ≡ frames_of
+      Fits (within.extent ∷ drop (suc i) all) (octets ∷ flat_map (accepts leg) items) →
+      got_frames (ended_by item octets (accepted (nth i)) ∷ ended_on leg nth items (suc i)) ≡ frames_of
       (filter gets (within.extent ∷ drop (suc i) all))
   next-got item octets items i rest within fits =
-      ap (λ found. got_frames (ended_by item octets (accepted (fate_if fate found)) ∷ ended_on script nth items
+      ap (λ found. got_frames (ended_by item octets (accepted (fate_if fate found)) ∷ ended_on leg nth items
       (suc i))) within.there
-      ∙ front-got item octets within.extent (drop (suc i) all) (ended_on script nth items (suc i))
+      ∙ front-got item octets within.extent (drop (suc i) all) (ended_on leg nth items (suc i))
       (let same = fits.frames in cc)
       (rest (suc i) (record {
         waiting = fits.waiting;
@@ -123,20 +123,20 @@ module _ (script : Script) (fate : Extent → Fate) (all : List Extent) where
       }))
 
   then-got : (item : Numbered) (why : Option Refusal) (kind : ItemKind) (items : List Numbered) (i : ℕ) → Rest items →
-      Fits (drop i all) (frame_by why kind ++ flat_map (accepts script) items) →
-      got_frames (ended_then nth item why kind i (ended_on script nth items)) ≡ frames_of (filter gets (drop i all))
+      Fits (drop i all) (frame_by why kind ++ flat_map (accepts leg) items) →
+      got_frames (ended_then nth item why kind i (ended_on leg nth items)) ≡ frames_of (filter gets (drop i all))
   then-got item (Some why) (Frame octets) items i rest fits = rest i fits
   then-got item None (Frame octets) items i rest fits =
       elim (where-at all i) [
         | inl end ↦ (
-            let none : got_frames (ended_on script nth items (suc i)) ≡ [] =
+            let none : got_frames (ended_on leg nth items (suc i)) ≡ [] =
             none-got items (suc i) (omega (arith, end.0)) in
-            ap (λ found. got_frames (ended_by item octets (accepted (fate_if fate found)) ∷ ended_on script nth items
+            ap (λ found. got_frames (ended_by item octets (accepted (fate_if fate found)) ∷ ended_on leg nth items
             (suc i))) end.1
             ∙ none ∙ sym (ap (λ l. frames_of (filter gets l)) end.2))
         | inr within ↦
             next-got item octets items i rest within
-            (subst (λ l. Fits l (octets ∷ flat_map (accepts script) items)) within.parts fits)
+            (subst (λ l. Fits l (octets ∷ flat_map (accepts leg) items)) within.parts fits)
             ∙ sym (ap (λ l. frames_of (filter gets l)) within.parts)
       ]
   then-got item (Some why) (Add line) items i rest fits = rest i fits
@@ -147,4 +147,4 @@ module _ (script : Script) (fate : Extent → Fate) (all : List Extent) where
   pub got-ended : (items : List Numbered) → Rest items
   unfolding ended_on
   got-ended [] i fits = sym (ap frames_of (filter-none gets (drop i all) fits.none))
-  got-ended (item ∷ items) i fits = then-got item (refusal_at script item) item.item.kind items i (got-ended items) fits
+  got-ended (item ∷ items) i fits = then-got item (refusal_at leg item) item.item.kind items i (got-ended items) fits

@@ -5,16 +5,16 @@ use Rattle.std.proofs.lemmas.List.{length-map}
 use Rattle.std.proofs.lemmas.Bool.{lt-leb}
 use Rattle.std.proofs.lemmas.List.Elements.{All-tail, All-weaker}
 use Rattle.std.specs.List.{flat_map}
-use Rattle.session_model.specs.declared.script.Script.{Script}
+use Rattle.session_model.specs.Leg.{Leg}
 use Rattle.session_model.specs.Piece.{Piece, stream_of}
-use Rattle.session_model.specs.Scenario.{Scenario, scenario_of}
+use Rattle.session_model.specs.Scenario.{Scenario, scenario_by}
 use Rattle.session_model.specs.Table.{Told}
 use Rattle.session_model.specs.Back.{session_cells}
 use Rattle.session_model.specs.Client.{place_of, stream_before, frames_in}
 use Rattle.session_model.specs.Counts.{Counts}
 use Rattle.session_model.specs.Segment.{octets_of_rows}
 use Rattle.session_model.specs.Loss.{Extent, extents, is_carried}
-use Rattle.session_model.specs.Valid.{IsValid}
+use Rattle.session_model.specs.Valid.{IsSound}
 use Rattle.session_law.proofs.ClientLaws.{stream-reaches, stream_before-frames}
 use Rattle.loss_law.specs.Carried.{CarriesStream}
 use Rattle.loss_law.proofs.ExtentLaws.{IsBetween, extents-between, extents-append}
@@ -24,7 +24,7 @@ use Rattle.walk_law.specs.Walk.{IsWalked}
 use Rattle.walk_law.specs.Delivered.{session_rows, delivered_of}
 use Rattle.walk_law.specs.Landed.{landed_items}
 use Rattle.walk_law.specs.Promise.{session_pieces, session_extents, session_waiting, ConfirmsTrue}
-use Rattle.walk_law.proofs.PlanLaws.{valid-walks}
+use Rattle.walk_law.proofs.PlanLaws.{sound-walks}
 use Rattle.walk_law.proofs.EndLaws.{counts-within}
 use Rattle.walk_law.proofs.PromiseLaws.{frames-kept, frames-known}
 use Rattle.fate_law.specs.Fates.{fate_of, is_got}
@@ -37,33 +37,33 @@ use Rattle.fate_law.proofs.EndedLaws.{accepts, NotGot, Fits, got-ended}
 use Rattle.fate_law.proofs.LandedLaws.{landed-first, before-few}
 
 -- ---- marks
-module _ (script : Script) (s : Counts) (valid : IsValid script) (walked : IsWalked script s) where
-  rows-low : s.rows ≤ script.config.ticks
-  rows-low = let (low, high) = counts-within script s (valid-walks script valid) walked in omega arith
+module _ (leg : Leg) (s : Counts) (sound : IsSound leg) (walked : IsWalked leg s) where
+  rows-low : s.rows ≤ leg.config.ticks
+  rows-low = let (low, high) = counts-within leg s (sound-walks leg sound) walked in omega arith
 
-  carries : CarriesStream (session_rows script s.rows) (session_pieces script)
-  carries = rows-carry (scenario_of script) (session_cells (scenario_of script)) s.rows script.config.ticks rows-low
+  carries : CarriesStream (session_rows leg s.rows) (session_pieces leg)
+  carries = rows-carry (scenario_by leg) (session_cells (scenario_by leg)) s.rows leg.config.ticks rows-low
 
-  pub starts-decided : (are_true_marks (session_pieces script) (session_rows script s.rows) ≡ true →
-      ConfirmsTrue script s.rows) × (ConfirmsTrue script s.rows →
-      are_true_marks (session_pieces script) (session_rows script s.rows) ≡ true)
+  pub starts-decided : (are_true_marks (session_pieces leg) (session_rows leg s.rows) ≡ true →
+      ConfirmsTrue leg s.rows) × (ConfirmsTrue leg s.rows →
+      are_true_marks (session_pieces leg) (session_rows leg s.rows) ≡ true)
   starts-decided = (
-    marks-starts (session_pieces script) (session_rows script s.rows),
-    starts-marks (session_pieces script) (session_rows script s.rows) carries,
+    marks-starts (session_pieces leg) (session_rows leg s.rows),
+    starts-marks (session_pieces leg) (session_rows leg s.rows) carries,
   )
 
   -- ---- frames
   abbrev fate : Extent → Fate
-  fate e = fate_of (session_pieces script) (session_rows script s.rows) e
+  fate e = fate_of (session_pieces leg) (session_rows leg s.rows) e
 
   -- a frame that begins where the rows have ended isn't got
-  not-got : (e : Extent) → place_of (scenario_of script) (session_cells (scenario_of script)) s.rows ≤ e.from →
+  not-got : (e : Extent) → place_of (scenario_by leg) (session_cells (scenario_by leg)) s.rows ≤ e.from →
       e.from < e.to → is_got (fate e) ≡ false
   not-got e late some =
-      let size = rows-length (scenario_of script) (session_cells (scenario_of script)) s.rows script.config.ticks
+      let size = rows-length (scenario_by leg) (session_cells (scenario_by leg)) s.rows leg.config.ticks
       rows-low in
-      let past : is_carried (length (octets_of_rows (session_rows script s.rows))) e ≡ false =
-      lt-leb e.to (length (octets_of_rows (session_rows script s.rows))) (omega (arith, size, late, some)) in
+      let past : is_carried (length (octets_of_rows (session_rows leg s.rows))) e ≡ false =
+      lt-leb e.to (length (octets_of_rows (session_rows leg s.rows))) (omega (arith, size, late, some)) in
       rw past refl
 
   drop-over : {X : Type 0} (P : X → Type 0) (k : ℕ) (front back : List X) → length front ≤ k → All P back →
@@ -74,51 +74,51 @@ module _ (script : Script) (s : Counts) (valid : IsValid script) (walked : IsWal
   drop-over P zero (x ∷ front) back enough all = absurd (omega (arith, enough))
   drop-over P (suc k) (x ∷ front) back enough all = drop-over P k front back (omega (arith, enough)) all
 
-  none-behind : All (NotGot script fate (session_extents script))
-      (drop (length (flat_map (accepts script) (landed_items script s))) (session_extents script))
+  none-behind : All (NotGot leg fate (session_extents leg))
+      (drop (length (flat_map (accepts leg) (landed_items leg s))) (session_extents leg))
   none-behind =
-      let scenario : Scenario = scenario_of script in
-      let cells : List (Option Told) = session_cells (scenario_of script) in
+      let scenario : Scenario = scenario_by leg in
+      let cells : List (Option Told) = session_cells (scenario_by leg) in
       let front : List Piece = (stream_before scenario cells s.rows).pieces in
-      let begins = pieces-begin scenario cells s.rows script.config.ticks rows-low in
+      let begins = pieces-begin scenario cells s.rows leg.config.ticks rows-low in
       let start : ℕ = 0 + length (stream_of front) in
-      let parts : session_extents script ≡ extents 0 front ++ extents start begins.0 = ap (extents 0) begins.1
+      let parts : session_extents leg ≡ extents 0 front ++ extents start begins.0 = ap (extents 0) begins.1
       ∙ extents-append 0 front begins.0 in
       let reaches = stream-reaches scenario cells s.rows in
-      let within = counts-within script s (valid-walks script valid) walked in
+      let within = counts-within leg s (sound-walks leg sound) walked in
       let count : length (extents 0 front) ≡ length (frames_in front) =
       sym (length-map (extents 0 front) (λ (e : Extent). e.frame)) ∙ ap length (frames-extents 0 front) in
-      let few : length (extents 0 front) ≤ length (flat_map (accepts script) (landed_items script s)) =
+      let few : length (extents 0 front) ≤ length (flat_map (accepts leg) (landed_items leg s)) =
       omega (
         arith,
         count,
         ap length (stream_before-frames scenario cells s.rows),
         length-append (frames_in front) (stream_before scenario cells s.rows).waiting,
-        before-few script s s.rows valid walked within.0,
+        before-few leg s s.rows sound walked within.0,
       ) in
-      subst (λ l. All (NotGot script fate (session_extents script))
-      (drop (length (flat_map (accepts script) (landed_items script s))) l)) (sym parts)
-      (drop-over (NotGot script fate (session_extents script))
-      (length (flat_map (accepts script) (landed_items script s))) (extents 0 front) (extents start begins.0) few
-      (All-weaker (IsBetween start (start + length (stream_of begins.0))) (NotGot script fate (session_extents script))
+      subst (λ l. All (NotGot leg fate (session_extents leg))
+      (drop (length (flat_map (accepts leg) (landed_items leg s))) l)) (sym parts)
+      (drop-over (NotGot leg fate (session_extents leg))
+      (length (flat_map (accepts leg) (landed_items leg s))) (extents 0 front) (extents start begins.0) few
+      (All-weaker (IsBetween start (start + length (stream_of begins.0))) (NotGot leg fate (session_extents leg))
       (λ e is. not-got e (omega (arith, is.lower, reaches)) is.size) (extents start begins.0)
       (extents-between start begins.0)))
 
-  fits : Fits script fate (session_extents script) (session_extents script)
-      (flat_map (accepts script) (landed_items script s))
+  fits : Fits leg fate (session_extents leg) (session_extents leg)
+      (flat_map (accepts leg) (landed_items leg s))
   fits =
-      let first = landed-first script s.frames s.commands in
+      let first = landed-first leg s.frames s.commands in
       record {
-        waiting = session_waiting script;
+        waiting = session_waiting leg;
         later = first.0;
-        frames = frames-known script valid ∙ first.1;
+        frames = frames-known leg sound ∙ first.1;
         none =
             none-behind;
       }
 
-  pub got-delivered : are_true_marks (session_pieces script) (session_rows script s.rows) ≡ true →
-      got_frames (ended_of script s) ≡ delivered_of script s.rows
+  pub got-delivered : are_true_marks (session_pieces leg) (session_rows leg s.rows) ≡ true →
+      got_frames (ended_of leg s) ≡ delivered_of leg s.rows
   got-delivered marks =
-      got-ended script fate (session_extents script) (landed_items script s) 0 fits
-      ∙ got-kept (session_pieces script) (session_rows script s.rows)
-      ∙ sym (frames-kept script s.rows valid rows-low (starts-decided.0 marks))
+      got-ended leg fate (session_extents leg) (landed_items leg s) 0 fits
+      ∙ got-kept (session_pieces leg) (session_rows leg s.rows)
+      ∙ sym (frames-kept leg s.rows sound rows-low (starts-decided.0 marks))

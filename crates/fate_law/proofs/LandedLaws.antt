@@ -10,13 +10,13 @@ use Rattle.std.proofs.lemmas.List.Concat.{flat_map-append}
 use Rattle.session_model.specs.declared.script.Item.{Item}
 use Rattle.session_model.specs.declared.script.ItemKind.{ItemKind}
 use Rattle.session_model.specs.declared.script.ItemKind.TheVariants.{Frame, Add, Remove}
-use Rattle.session_model.specs.declared.script.Script.{Script}
-use Rattle.session_model.specs.Scenario.{Scenario, DueFrame, offer_of, offers_of, scenario_of}
+use Rattle.session_model.specs.Leg.{Leg}
+use Rattle.session_model.specs.Scenario.{Scenario, DueFrame, offer_of, offers_of, scenario_by}
 use Rattle.session_model.specs.Table.{Told}
 use Rattle.session_model.specs.Back.{session_cells}
 use Rattle.session_model.specs.Counts.{Counts}
 use Rattle.session_model.specs.Journal.{frames_before}
-use Rattle.session_model.specs.Valid.{IsValid}
+use Rattle.session_model.specs.Valid.{IsSound}
 use Rattle.session_law.specs.Landing.{is_come}
 use Rattle.session_law.proofs.LandingLaws.{offers_land}
 use Rattle.script_law.proofs.ItemLaws.{offers_rise}
@@ -47,24 +47,24 @@ no-frame why (Frame octets) is = absurd cc
 no-frame why (Add line) is = no-frame-add why line
 no-frame why (Remove line) is = no-frame-remove why line
 
-with-none : (there : Bool) (script : Script) (item : Numbered) (items : List Numbered) → accepts script item ≡ [] →
-    flat_map (accepts script) (with_if there item items) ≡ flat_map (accepts script) items
-with-none true script item items none = ap (λ l. l ++ flat_map (accepts script) items) none
-with-none false script item items none = refl
+with-none : (there : Bool) (leg : Leg) (item : Numbered) (items : List Numbered) → accepts leg item ≡ [] →
+    flat_map (accepts leg) (with_if there item items) ≡ flat_map (accepts leg) items
+with-none true leg item items none = ap (λ l. l ++ flat_map (accepts leg) items) none
+with-none false leg item items none = refl
 
-module _ (script : Script) where
+module _ (leg : Leg) where
   abbrev scenario : Scenario
-  scenario = scenario_of script
+  scenario = scenario_by leg
 
   abbrev cells : List (Option Told)
-  cells = session_cells (scenario_of script)
+  cells = session_cells (scenario_by leg)
 
   judged-nil : (before : List DueFrame) → judged scenario cells before [] ≡ []
   unfolding judged
   judged-nil before = refl
 
-  landed-accepts : (rest front : List Item) (a b : ℕ) → script.items ≡ front ++ rest →
-      flat_map (accepts script) (landed_from a b (length front) rest) ≡ judged scenario cells (offers_of front)
+  landed-accepts : (rest front : List Item) (a b : ℕ) → leg.items ≡ front ++ rest →
+      flat_map (accepts leg) (landed_from a b (length front) rest) ≡ judged scenario cells (offers_of front)
       (take a (offers_of rest))
   unfolding landed_from
   landed-accepts [] front a b parts =
@@ -74,22 +74,22 @@ module _ (script : Script) where
       nil zero = refl
       nil (suc a) = refl
   landed-accepts (item ∷ rest) front a b parts =
-      let longer : script.items ≡ (front ++ item ∷ []) ++ rest = parts ∙ sym (append_assoc front (item ∷ []) rest) in
+      let longer : leg.items ≡ (front ++ item ∷ []) ++ rest = parts ∙ sym (append_assoc front (item ∷ []) rest) in
       let size : length (front ++ item ∷ []) ≡ suc (length front) = let e = length-append front (item ∷ []) in omega arith in
       let offers : offers_of (front ++ item ∷ []) ≡ offers_of front ++ offers_by item =
       flat_map-append offers_by front (item ∷ [])
       ∙ ap (λ l. offers_of front ++ l) (append-nil (offers_by item)) in
-      let first : take (length front) script.items ≡ front = ap (take (length front)) parts
+      let first : take (length front) leg.items ≡ front = ap (take (length front)) parts
       ∙ take_at front (item ∷ rest) (length front) refl in
-      let next : (a b : ℕ) → flat_map (accepts script) (landed_from a b (suc (length front)) rest)
+      let next : (a b : ℕ) → flat_map (accepts leg) (landed_from a b (suc (length front)) rest)
       ≡ judged scenario cells (offers_of front ++ offers_by item) (take a (offers_of rest)) =
-      λ a b. ap (λ n. flat_map (accepts script) (landed_from a b n rest)) (sym size)
+      λ a b. ap (λ n. flat_map (accepts leg) (landed_from a b n rest)) (sym size)
       ∙ landed-accepts rest (front ++ item ∷ []) a b longer
       ∙ ap (λ before. judged scenario cells before (take a (offers_of rest))) offers in
       elim (cases_Bool (is_client item.kind)) [
         | inl e ↦ rw e (clients a first next e)
         | inr e ↦ rw e
-            (with-none (nat_lt 0 b) script (record { number = length front; item = item })
+            (with-none (nat_lt 0 b) leg (record { number = length front; item = item })
             (landed_from a (b - 1) (suc (length front)) rest) (no-frame _ item.kind e)
             ∙ next a (b - 1)
             ∙ ap (λ own. judged scenario cells (offers_of front ++ own) (take a (offers_of rest)))
@@ -98,41 +98,41 @@ module _ (script : Script) where
             (ap (λ own. own ++ offers_of rest) (sym (no-offer item.due item.kind e))))
       ]
     where
-      clients : (a : ℕ) → take (length front) script.items ≡ front →
-          ((a b : ℕ) → flat_map (accepts script) (landed_from a b (suc (length front)) rest) ≡ judged scenario cells
+      clients : (a : ℕ) → take (length front) leg.items ≡ front →
+          ((a b : ℕ) → flat_map (accepts leg) (landed_from a b (suc (length front)) rest) ≡ judged scenario cells
           (offers_of front ++ offers_by item) (take a (offers_of rest))) → is_client item.kind ≡ true →
-          flat_map (accepts script) (with_if (nat_lt 0 a) (record { number = length front; item = item })
+          flat_map (accepts leg) (with_if (nat_lt 0 a) (record { number = length front; item = item })
           (landed_from (a - 1) b (suc (length front)) rest))
           ≡ judged scenario cells (offers_of front) (take a (offers_by item ++ offers_of rest))
       clients zero first next e =
           let less : 0 - 1 ≡ 0 = omega arith in
-          ap (λ a. flat_map (accepts script) (landed_from a b (suc (length front)) rest)) less
+          ap (λ a. flat_map (accepts leg) (landed_from a b (suc (length front)) rest)) less
           ∙ next 0 b ∙ judged-nil (offers_of front ++ offers_by item) ∙ sym (judged-nil (offers_of front))
       clients (suc a) first next e =
           let less : suc a - 1 ≡ a = omega arith in
           let some : nat_lt 0 (suc a) ≡ true = lt-ltb 0 (suc a) (omega arith) in
-          ap (λ there. flat_map (accepts script)
+          ap (λ there. flat_map (accepts leg)
           (with_if there (record { number = length front; item = item })
           (landed_from (suc a - 1) b (suc (length front)) rest))) some
           ∙ ap₂ ◌++◌ (ap (λ earlier. frame_by (kind_refusal scenario cells item.due earlier item.kind) item.kind) first)
-          (ap (λ a. flat_map (accepts script) (landed_from a b (suc (length front)) rest)) less ∙ next a b)
+          (ap (λ a. flat_map (accepts leg) (landed_from a b (suc (length front)) rest)) less ∙ next a b)
           ∙ kind-judged scenario cells item.due front item.kind (take a (offers_of rest))
           ∙ ap (judged scenario cells (offers_of front)) (sym (take-client a item.due item.kind (offers_of rest) e))
 
-  all-accepts : accepted_frames script ≡ judged scenario cells [] (offers_of script.items)
+  all-accepts : accepted_frames leg ≡ judged scenario cells [] (offers_of leg.items)
   unfolding numbered
-  all-accepts = items-judged script script.items [] refl
+  all-accepts = items-judged leg leg.items [] refl
 
   -- ---- they are the first ones of all
   pub landed-first : (a b : ℕ) → (later : List (List ℕ)) ×
-      (accepted_frames script ≡ flat_map (accepts script) (landed_from a b 0 script.items) ++ later)
+      (accepted_frames leg ≡ flat_map (accepts leg) (landed_from a b 0 leg.items) ++ later)
   landed-first a b =
-      let offers : List DueFrame = offers_of script.items in (
+      let offers : List DueFrame = offers_of leg.items in (
         judged scenario cells (take a offers) (drop a offers),
         all-accepts ∙ ap (judged scenario cells []) (sym (take-append-drop a offers))
             ∙ judged-append scenario cells [] (take a offers) (drop a offers)
             ∙ ap (λ l. l ++ judged scenario cells (take a offers) (drop a offers))
-            (sym (landed-accepts script.items [] a b refl)),
+            (sym (landed-accepts leg.items [] a b refl)),
       )
 
 -- ---- offers that come before a tick are the first ones
@@ -179,36 +179,36 @@ take-over (suc a) (x ∷ front) more enough =
     let rest = take-over a front more (omega (arith, enough)) in (rest.0, ap (λ l. x ∷ l) rest.1)
 
 -- ---- the frames that are accepted before a tick that is made are those of items that have landed
-pub before-few : (script : Script) (s : Counts) (t : ℕ) → IsValid script → IsWalked script s → t ≤ s.ticks →
-    length (frames_before (scenario_of script) (session_cells (scenario_of script)) t) ≤ length
-    (flat_map (accepts script) (landed_items script s))
-before-few script s t valid walked low =
-    let offers : List DueFrame = offers_of script.items in
+pub before-few : (leg : Leg) (s : Counts) (t : ℕ) → IsSound leg → IsWalked leg s → t ≤ s.ticks →
+    length (frames_before (scenario_by leg) (session_cells (scenario_by leg)) t) ≤ length
+    (flat_map (accepts leg) (landed_items leg s))
+before-few leg s t sound walked low =
+    let offers : List DueFrame = offers_of leg.items in
     let come : List DueFrame = filter (is_come t) offers in
-    let sorted = offers_rise script.items valid.items.frames in
-    let before : frames_before (scenario_of script) (session_cells (scenario_of script)) t ≡ judged (scenario_of script)
-    (session_cells (scenario_of script)) [] come =
-    sym (landed-judged (scenario_of script) (session_cells (scenario_of script)) t)
-    ∙ ap (judged (scenario_of script) (session_cells (scenario_of script)) []) (offers_land offers t sorted) in
+    let sorted = offers_rise leg.items sound.items.frames in
+    let before : frames_before (scenario_by leg) (session_cells (scenario_by leg)) t ≡ judged (scenario_by leg)
+    (session_cells (scenario_by leg)) [] come =
+    sym (landed-judged (scenario_by leg) (session_cells (scenario_by leg)) t)
+    ∙ ap (judged (scenario_by leg) (session_cells (scenario_by leg)) []) (offers_land offers t sorted) in
     let same : filter (is_come t) (take s.frames offers) ≡ come =
     filter-first (is_come t) s.frames offers
-    (λ k offer waits there. let late = frame-waits script s k offer walked waits there in
+    (λ k offer waits there. let late = frame-waits leg s k offer walked waits there in
     le-ltb offer.due t (omega (arith, late, low))) in
     let few : length come ≤ s.frames =
     omega (arith, ap length same, filter-few (is_come t) (take s.frames offers), take-few s.frames offers) in
     let first = come-first t offers sorted in
     let over = take-over s.frames come first.0 few in
-    let own : flat_map (accepts script) (landed_items script s) ≡ judged (scenario_of script)
-    (session_cells (scenario_of script)) [] come ++ judged (scenario_of script)
-    (session_cells (scenario_of script)) come over.0 =
-    landed-accepts script script.items [] s.frames s.commands refl
-    ∙ ap (λ l. judged (scenario_of script) (session_cells (scenario_of script)) [] (take s.frames l)) first.1
-    ∙ ap (judged (scenario_of script) (session_cells (scenario_of script)) []) over.1
-    ∙ judged-append (scenario_of script) (session_cells (scenario_of script)) [] come over.0 in
+    let own : flat_map (accepts leg) (landed_items leg s) ≡ judged (scenario_by leg)
+    (session_cells (scenario_by leg)) [] come ++ judged (scenario_by leg)
+    (session_cells (scenario_by leg)) come over.0 =
+    landed-accepts leg leg.items [] s.frames s.commands refl
+    ∙ ap (λ l. judged (scenario_by leg) (session_cells (scenario_by leg)) [] (take s.frames l)) first.1
+    ∙ ap (judged (scenario_by leg) (session_cells (scenario_by leg)) []) over.1
+    ∙ judged-append (scenario_by leg) (session_cells (scenario_by leg)) [] come over.0 in
     omega (
       arith,
       ap length before,
       ap length own,
-      length-append (judged (scenario_of script) (session_cells (scenario_of script)) [] come)
-          (judged (scenario_of script) (session_cells (scenario_of script)) come over.0),
+      length-append (judged (scenario_by leg) (session_cells (scenario_by leg)) [] come)
+          (judged (scenario_by leg) (session_cells (scenario_by leg)) come over.0),
     )

@@ -3,9 +3,9 @@
 -- item that has landed, and a line of totals. These texts are this project's own.
 use Rattle.std.specs.Prelude.{ℕ, ◌-◌, ◌+◌, Bool, true, false, List, ◌++◌, length, Option, Some, None, codes, decimal}
 use Rattle.std.specs.List.{flat_map}
-use Rattle.session_model.specs.declared.script.Script.{Script}
+use Rattle.session_model.specs.Leg.{Leg}
 use Rattle.session_model.specs.Piece.{Piece}
-use Rattle.session_model.specs.Scenario.{scenario_of}
+use Rattle.session_model.specs.Scenario.{scenario_by}
 use Rattle.session_model.specs.Segment.{StreamRow}
 use Rattle.session_model.specs.Counts.{Counts}
 use Rattle.report_text.specs.Report.{refusal_text}
@@ -82,11 +82,11 @@ fates_end ticks rows all starts =
     ++ codes " starts " ++ truth_text starts ++ codes "\n"
 
 -- ---- the text by the counts of a walk
-abbrev pub fates_text : Script → Counts → List ℕ
-fates_text script s =
-    flat_map spoiled_text (spoiled_of (scenario_of script) (session_of script) s.rows)
-    ++ flat_map (segment_text (session_pieces script) (session_rows script s.rows))
-    (later_segments (session_rows script s.rows))
-    ++ flat_map ended_text (ended_of script s)
-    ++ fates_end s.ticks s.rows (ended_of script s)
-    (are_true_marks (session_pieces script) (session_rows script s.rows))
+abbrev pub fates_text : Leg → Counts → List ℕ
+fates_text leg s =
+    flat_map spoiled_text (spoiled_of (scenario_by leg) (session_of leg) s.rows)
+    ++ flat_map (segment_text (session_pieces leg) (session_rows leg s.rows))
+    (later_segments (session_rows leg s.rows))
+    ++ flat_map ended_text (ended_of leg s)
+    ++ fates_end s.ticks s.rows (ended_of leg s)
+    (are_true_marks (session_pieces leg) (session_rows leg s.rows))

@@ -1,9 +1,9 @@
--- What became of each client item of a script that has landed.
+-- What became of each client item of a leg that has landed.
 use Rattle.std.specs.Prelude.{ℕ, suc, Bool, true, false, List, [], ◌∷◌, length, map, filter, Option, Some, None}
 use Rattle.std.specs.Prelude.{slice_get}
 use Rattle.session_model.specs.declared.script.ItemKind.{ItemKind}
 use Rattle.session_model.specs.declared.script.ItemKind.TheVariants.{Frame, Add, Remove}
-use Rattle.session_model.specs.declared.script.Script.{Script}
+use Rattle.session_model.specs.Leg.{Leg}
 use Rattle.session_model.specs.Piece.{Piece}
 use Rattle.session_model.specs.Segment.{StreamRow}
 use Rattle.session_model.specs.Loss.{Extent, extents}
@@ -49,18 +49,18 @@ ended_then fate item why (Add line) i others = others i
 ended_then fate item why (Remove line) i others = others i
 
 -- of items those of the client, by the fates of accepted frames
-unfoldable pub ended_on : Script → (ℕ → Fate) → List Numbered → ℕ → List Ended
-ended_on script fate [] i = []
-ended_on script fate (item ∷ items) i =
-    ended_then fate item (refusal_at script item) item.item.kind i (ended_on script fate items)
+unfoldable pub ended_on : Leg → (ℕ → Fate) → List Numbered → ℕ → List Ended
+ended_on leg fate [] i = []
+ended_on leg fate (item ∷ items) i =
+    ended_then fate item (refusal_at leg item) item.item.kind i (ended_on leg fate items)
 
 -- after some rows, of items in their order
-abbrev pub ended_among : Script → ℕ → List Numbered → List Ended
-ended_among script rows items = ended_on script (fate_at (session_pieces script) (session_rows script rows)) items 0
+abbrev pub ended_among : Leg → ℕ → List Numbered → List Ended
+ended_among leg rows items = ended_on leg (fate_at (session_pieces leg) (session_rows leg rows)) items 0
 
 -- by the counts of a walk
-abbrev pub ended_of : Script → Counts → List Ended
-ended_of script s = ended_among script s.rows (landed_items script s)
+abbrev pub ended_of : Leg → Counts → List Ended
+ended_of leg s = ended_among leg s.rows (landed_items leg s)
 
 -- ---- how many of each end there are
 abbrev pub is_refused : End → Bool

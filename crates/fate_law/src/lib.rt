@@ -21,12 +21,12 @@ ghost use Rattle.fate_law.specs.Worked.{worked_fates, worked_segments, worked_ca
 ghost use Rattle.fate_law.specs.FateText.{fates_text};
 ghost use Rattle.fate_law.specs.SessionFates.{fate_at, ended_of, got_frames};
 ghost use Rattle.fate_law.specs.Spoiled.{row_cause, spoiled_runs};
-ghost use Rattle.session_model.specs.declared.script.Script.{Script};
+ghost use Rattle.session_model.specs.Leg.{Leg};
 ghost use Rattle.session_model.specs.Counts.{Counts};
 ghost use Rattle.session_model.specs.Scenario.{Scenario};
 ghost use Rattle.session_model.specs.SessionRows.{is_whole_row};
 ghost use Rattle.session_model.specs.Table.{Told};
-ghost use Rattle.session_model.specs.Valid.{IsValid};
+ghost use Rattle.session_model.specs.Valid.{IsSound};
 ghost use Rattle.walk_law.specs.Walk.{IsWalked};
 ghost use Rattle.walk_law.specs.Delivered.{session_rows, delivered_of};
 ghost use Rattle.walk_law.specs.Promise.{session_pieces, ConfirmsTrue};
@@ -186,12 +186,12 @@ pub fn cause_law()
 /// After a walk: `starts true` comes exactly where what is confirmed first after each break is the place of a
 /// piece, and then the frames that are got are those that are delivered, in order and each once.
 pub fn fate_law()
-    ensures starts { (script : Script) (s : Counts) → IsValid script → IsWalked script s →
-        (are_true_marks (session_pieces script) (session_rows script s.rows) ≡ true)
-        ↔ ConfirmsTrue script s.rows }
-    ensures got { (script : Script) (s : Counts) → IsValid script → IsWalked script s →
-        are_true_marks (session_pieces script) (session_rows script s.rows) ≡ true →
-        got_frames (ended_of script s) ≡ delivered_of script s.rows }
+    ensures starts { (leg : Leg) (s : Counts) → IsSound leg → IsWalked leg s →
+        (are_true_marks (session_pieces leg) (session_rows leg s.rows) ≡ true)
+        ↔ ConfirmsTrue leg s.rows }
+    ensures got { (leg : Leg) (s : Counts) → IsSound leg → IsWalked leg s →
+        are_true_marks (session_pieces leg) (session_rows leg s.rows) ≡ true →
+        got_frames (ended_of leg s) ≡ delivered_of leg s.rows }
 {}
 
 /// Worked streams, computed: what became of four frames of which the second row, which isn't whole, cuts one,

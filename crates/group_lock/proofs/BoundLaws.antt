@@ -10,9 +10,9 @@ use Rattle.std.proofs.lemmas.List.{take-take, get_or-drop, length-drop}
 use Rattle.std.proofs.lemmas.Option.{slice_get_within, slice_get-map, slice_get-get_or}
 use Rattle.vc_cell.specs.declared.Container.{Container}
 use Rattle.vc_cell.specs.declared.BackCell.{BackCell}
-use Rattle.session_model.specs.declared.script.Script.{Script}
+use Rattle.session_model.specs.Leg.{Leg}
 use Rattle.session_model.specs.declared.script.Item.{Item}
-use Rattle.session_model.specs.Scenario.{Scenario, DueCommand, DueFrame, scenario_of, orders_of, offers_of, steps_in}
+use Rattle.session_model.specs.Scenario.{Scenario, DueCommand, DueFrame, scenario_by, orders_of, offers_of, steps_in}
 use Rattle.session_model.specs.Journal.{with_items}
 use Rattle.session_model.specs.Sent.{container_of, containers_of}
 use Rattle.session_model.specs.Counts.{dues_of, frame_dues, command_dues, used_in}
@@ -59,9 +59,9 @@ same-filter p q (item ∷ items) each =
     ap (λ b. if b then item ∷ filter p items else filter p items) (each 0 item refl)
     ∙ ap (λ l. if q item then item ∷ l else l) (same-filter p q items (λ i other there. each (suc i) other there))
 
--- ---- the same script, and the same ends
-pub of-then : (script : Script) (a b : GroupState) → IsOf script a → SameScript a b → IsOf script b
-of-then script a b is same = record {
+-- ---- the same leg, and the same ends
+pub of-then : (leg : Leg) (a b : GroupState) → IsOf leg a → SameScript a b → IsOf leg b
+of-then leg a b is same = record {
   lines = same.lines ∙ is.lines;
   lag = same.lag ∙ is.lag;
   size = same.size ∙ is.size;
@@ -97,18 +97,18 @@ ticked-is (TxFull line) e = absurd cc
 ticked-is (BackMissing packet) e = absurd cc
 ticked-is Done e = absurd cc
 
-module _ (script : Script) (a b : GroupState) (answer : TickAnswer) (of_script : IsOf script a)
-    (has : HasLandedOf script a) (call : Ticks a b answer) where
+module _ (leg : Leg) (a b : GroupState) (answer : TickAnswer) (of_script : IsOf leg a)
+    (has : HasLandedOf leg a) (call : Ticks a b answer) where
   abbrev session : Scenario
-  session = scenario_of script
+  session = scenario_by leg
 
-  agree : AgreeBefore (steps_in (ticks_of a) - script.config.lag) (taken_of a) (taken_of b)
+  agree : AgreeBefore (steps_in (ticks_of a) - leg.config.lag) (taken_of a) (taken_of b)
   agree =
       let ticks = call.ticks in
       let lag = call.script.lag in
       let u : ℕ = used_in (lag_of a) (ticks_of a) in
       let more : used_in (lag_of a) (ticks_of a) ≤ used_in (lag_of b) (ticks_of b) = omega arith in
-      let n : steps_in (ticks_of a) - script.config.lag ≡ used_in (lag_of a) (ticks_of a) =
+      let n : steps_in (ticks_of a) - leg.config.lag ≡ used_in (lag_of a) (ticks_of a) =
       ap (λ l. steps_in (ticks_of a) - l) (sym of_script.lag) in
       let first : take u (taken_of a) ≡ taken_of a =
       take-take u u (told_from (lost_of a) (in_passed a.back)) (omega arith) in
@@ -123,58 +123,58 @@ module _ (script : Script) (a b : GroupState) (answer : TickAnswer) (of_script :
   alike = alike-cells session (taken_of a) (taken_of b) (ticks_of a) agree
 
   refusal-same : (item : Numbered) → item.item.due ≤ ticks_of a →
-      refusal_by script (taken_of a) item ≡ refusal_by script (taken_of b) item
+      refusal_by leg (taken_of a) item ≡ refusal_by leg (taken_of b) item
   refusal-same item low = refusal-alike session (taken_of a) session (taken_of b) (ticks_of a) item.item.due
-      (take item.number script.items) item.item.kind alike low
+      (take item.number leg.items) item.item.kind alike low
 
-  landed-same : landed_items script (counts_of b) ≡ landed_items script (counts_of a)
-  landed-same = ap (λ n. landed_from n (commands_of b) 0 script.items) call.landed.frames
-      ∙ ap (λ n. landed_from (frames_of a) n 0 script.items) call.landed.commands
+  landed-same : landed_items leg (counts_of b) ≡ landed_items leg (counts_of a)
+  landed-same = ap (λ n. landed_from n (commands_of b) 0 leg.items) call.landed.frames
+      ∙ ap (λ n. landed_from (frames_of a) n 0 leg.items) call.landed.commands
 
-  scenario-same : landed_scenario script (counts_of b) ≡ landed_scenario script (counts_of a)
+  scenario-same : landed_scenario leg (counts_of b) ≡ landed_scenario leg (counts_of a)
   scenario-same =
-      ap (λ n. with_items session (take (commands_of b) (orders_of script.items)) (take n (offers_of script.items)))
+      ap (λ n. with_items session (take (commands_of b) (orders_of leg.items)) (take n (offers_of leg.items)))
       call.landed.frames
-      ∙ ap (λ n. with_items session (take n (orders_of script.items)) (take (frames_of a) (offers_of script.items)))
+      ∙ ap (λ n. with_items session (take n (orders_of leg.items)) (take (frames_of a) (offers_of leg.items)))
       call.landed.commands
 
-  windows : lines_of a ≡ length script.config.windows
+  windows : lines_of a ≡ length leg.config.windows
   windows = ∥∥₁_elim has.made (hlevel props) (λ made. made.lines)
 
-  -- the session of what has landed is the script's, up to the ticks made
-  offers-late : All (λ (offer : DueFrame). ticks_of b ≤ offer.due) (drop (frames_of a) (offers_of script.items))
+  -- the session of what has landed is the leg's, up to the ticks made
+  offers-late : All (λ (offer : DueFrame). ticks_of b ≤ offer.due) (drop (frames_of a) (offers_of leg.items))
   offers-late k d inside =
       let n : ℕ = frames_of a + k in
-      let size = length-drop (frames_of a) (offers_of script.items) in
+      let size = length-drop (frames_of a) (offers_of leg.items) in
       let frames = call.landed.frames in
-      let here : slice_get (frame_dues (dues_of (items_of b))) n ≡ Some (get_or (offers_of script.items) n d).due =
+      let here : slice_get (frame_dues (dues_of (items_of b))) n ≡ Some (get_or (offers_of leg.items) n d).due =
       ap (λ (l : List Item). slice_get (frame_dues (dues_of l)) n) (call.script.items ∙ of_script.items)
-      ∙ ap (λ l. slice_get (frame_dues l) n) (bare-dues script.items)
-      ∙ ap (λ l. slice_get l n) (frame-dues script.items)
-      ∙ slice_get-map (λ (offer : DueFrame). offer.due) (offers_of script.items) n
-      ∙ ap (option_map (λ (offer : DueFrame). offer.due)) (slice_get-get_or (offers_of script.items) n d (omega arith))
+      ∙ ap (λ l. slice_get (frame_dues l) n) (bare-dues leg.items)
+      ∙ ap (λ l. slice_get l n) (frame-dues leg.items)
+      ∙ slice_get-map (λ (offer : DueFrame). offer.due) (offers_of leg.items) n
+      ∙ ap (option_map (λ (offer : DueFrame). offer.due)) (slice_get-get_or (offers_of leg.items) n d (omega arith))
       in
-      let late = b.keeps.ahead.of_frames n (get_or (offers_of script.items) n d).due (omega arith) here in
+      let late = b.keeps.ahead.of_frames n (get_or (offers_of leg.items) n d).due (omega arith) here in
       subst (λ (offer : DueFrame). ticks_of b ≤ offer.due)
-      (sym (get_or-drop (frames_of a) (offers_of script.items) k d)) late
+      (sym (get_or-drop (frames_of a) (offers_of leg.items) k d)) late
 
-  orders-late : All (λ (order : DueCommand). ticks_of b ≤ order.due) (drop (commands_of a) (orders_of script.items))
+  orders-late : All (λ (order : DueCommand). ticks_of b ≤ order.due) (drop (commands_of a) (orders_of leg.items))
   orders-late k d inside =
       let n : ℕ = commands_of a + k in
-      let size = length-drop (commands_of a) (orders_of script.items) in
+      let size = length-drop (commands_of a) (orders_of leg.items) in
       let commands = call.landed.commands in
-      let here : slice_get (command_dues (dues_of (items_of b))) n ≡ Some (get_or (orders_of script.items) n d).due =
+      let here : slice_get (command_dues (dues_of (items_of b))) n ≡ Some (get_or (orders_of leg.items) n d).due =
       ap (λ (l : List Item). slice_get (command_dues (dues_of l)) n) (call.script.items ∙ of_script.items)
-      ∙ ap (λ l. slice_get (command_dues l) n) (bare-dues script.items)
-      ∙ ap (λ l. slice_get l n) (command-dues script.items)
-      ∙ slice_get-map (λ (order : DueCommand). order.due) (orders_of script.items) n
+      ∙ ap (λ l. slice_get (command_dues l) n) (bare-dues leg.items)
+      ∙ ap (λ l. slice_get l n) (command-dues leg.items)
+      ∙ slice_get-map (λ (order : DueCommand). order.due) (orders_of leg.items) n
       ∙ ap (option_map (λ (order : DueCommand). order.due))
-      (slice_get-get_or (orders_of script.items) n d (omega arith)) in
-      let late = b.keeps.ahead.of_commands n (get_or (orders_of script.items) n d).due (omega arith) here in
+      (slice_get-get_or (orders_of leg.items) n d (omega arith)) in
+      let late = b.keeps.ahead.of_commands n (get_or (orders_of leg.items) n d).due (omega arith) here in
       subst (λ (order : DueCommand). ticks_of b ≤ order.due)
-      (sym (get_or-drop (commands_of a) (orders_of script.items) k d)) late
+      (sym (get_or-drop (commands_of a) (orders_of leg.items) k d)) late
 
-  comes : ComesAlike (landed_scenario script (counts_of a)) session (ticks_of b)
+  comes : ComesAlike (landed_scenario leg (counts_of a)) session (ticks_of b)
   comes = first-alike session (commands_of a) (frames_of a) (ticks_of b) orders-late offers-late
 
   before : (m : ℕ) (old : RingOut Container) → slice_get a.tx.items m ≡ Some old →
@@ -204,55 +204,55 @@ module _ (script : Script) (a b : GroupState) (answer : TickAnswer) (of_script :
       let rings = a.keeps.rings in
       let lines = windows in
       let ticks : ticks_of b ≡ ticks_of a + 1 = call.ticks ∙ ap (λ b_. ticks_of a + (if b_ then 1 else 0)) went in
-      let pushed : out_passed new ≡ out_passed old ++ container_of (landed_scenario script (counts_of a)) (taken_of b) m
+      let pushed : out_passed new ≡ out_passed old ++ container_of (landed_scenario leg (counts_of a)) (taken_of b) m
       (ticks_of a) ∷ [] =
       ∥∥₁_elim has.made (hlevel props)
-      (λ made. call.alike (landed_scenario script (counts_of a)) (ticked-is answer went) made m old new was there)
+      (λ made. call.alike (landed_scenario leg (counts_of a)) (ticked-is answer went) made m old new was there)
       in
-      let landed = alike-landed (landed_scenario script (counts_of a)) session (taken_of b) (taken_of b)
+      let landed = alike-landed (landed_scenario leg (counts_of a)) session (taken_of b) (taken_of b)
       (ticks_of b) comes refl in
-      let same = container-alike (landed_scenario script (counts_of a)) (taken_of b) session (taken_of b) (ticks_of b) m
+      let same = container-alike (landed_scenario leg (counts_of a)) (taken_of b) session (taken_of b) (ticks_of b) m
       (ticks_of a) landed (omega arith) (omega arith) in
-      pushed ∙ ap (λ (l : List Container). l ++ container_of (landed_scenario script (counts_of a)) (taken_of b) m
+      pushed ∙ ap (λ (l : List Container). l ++ container_of (landed_scenario leg (counts_of a)) (taken_of b) m
       (ticks_of a) ∷ []) (before m old was)
       ∙ ap (λ (c : Container). containers_of session (taken_of b) m (ticks_of a) ++ c ∷ []) same
       ∙ sym (ap (containers_of session (taken_of b) m) ticks ∙ sent-next session (taken_of b) m (ticks_of a))
 
-  pub landed-ticks : HasLandedOf script b
+  pub landed-ticks : HasLandedOf leg b
   landed-ticks =
-      let items : List Numbered = landed_items script (counts_of a) in
+      let items : List Numbered = landed_items leg (counts_of a) in
       record {
-        entries = subst (AreItemsOf script) (sym call.landed.journal) has.entries;
+        entries = subst (AreItemsOf leg) (sym call.landed.journal) has.entries;
         most_frames = omega (arith, has.most_frames, call.landed.frames);
         most_commands = omega (arith, has.most_commands, call.landed.commands);
         past = subst (ArePast (ticks_of b)) (sym landed-same)
             (λ i item there. let low = has.past i item there in let ticks = call.ticks in omega arith);
         refusals = call.landed.refusals ∙ has.refusals
-            ∙ same-each (λ item. refused_by item.number (refusal_by script (taken_of a) item))
-            (λ item. refused_by item.number (refusal_by script (taken_of b) item)) items
+            ∙ same-each (λ item. refused_by item.number (refusal_by leg (taken_of a) item))
+            (λ item. refused_by item.number (refusal_by leg (taken_of b) item)) items
             (λ i item there. ap (refused_by item.number) (refusal-same item (has.past i item there)))
-            ∙ sym (ap (refusals_by script (taken_of b)) landed-same);
+            ∙ sym (ap (refusals_by leg (taken_of b)) landed-same);
         frames = ap (λ (l : List Numbered). length (offers_of (items_in l))) call.landed.journal ∙ has.frames
-            ∙ ap length (same-filter (λ item. is_client item.item.kind && is_none (refusal_by script (taken_of a) item))
-            (λ item. is_client item.item.kind && is_none (refusal_by script (taken_of b) item)) items
+            ∙ ap length (same-filter (λ item. is_client item.item.kind && is_none (refusal_by leg (taken_of a) item))
+            (λ item. is_client item.item.kind && is_none (refusal_by leg (taken_of b) item)) items
             (λ i item there. ap (λ (why : Option Refusal). is_client item.item.kind && is_none why)
             (refusal-same item (has.past i item there))))
-            ∙ sym (ap (λ (l : List Numbered). length (accepted_frames_by script (taken_of b) l)) landed-same);
+            ∙ sym (ap (λ (l : List Numbered). length (accepted_frames_by leg (taken_of b) l)) landed-same);
         commands = ap (λ (l : List Numbered). length (orders_of (items_in l))) call.landed.journal ∙ has.commands
             ∙ ap length (same-filter (λ item. not (is_client item.item.kind) && is_none
-            (refusal_by script (taken_of a) item))
-            (λ item. not (is_client item.item.kind) && is_none (refusal_by script (taken_of b) item)) items
+            (refusal_by leg (taken_of a) item))
+            (λ item. not (is_client item.item.kind) && is_none (refusal_by leg (taken_of b) item)) items
             (λ i item there. ap (λ (why : Option Refusal). not (is_client item.item.kind) && is_none why)
             (refusal-same item (has.past i item there))))
-            ∙ sym (ap (λ (l : List Numbered). length (accepted_commands_by script (taken_of b) l)) landed-same);
+            ∙ sym (ap (λ (l : List Numbered). length (accepted_commands_by leg (taken_of b) l)) landed-same);
         sent = elim (cases_Bool (is_ticked answer)) [ inl e ↦ sent-on e | inr e ↦ sent-still e ];
         made = ∥∥₁_map has.made (λ made. subst (λ (s : Scenario). HasMade (source_of b) s (taken_of b))
-            (sym scenario-same) (call.made (landed_scenario script (counts_of a)) made));
+            (sym scenario-same) (call.made (landed_scenario leg (counts_of a)) made));
       }
 
-pub bound-ticks : (script : Script) (tx : List (RingOut Container)) (back : List (RingIn BackCell)) (a b : GroupState)
-    (answer : TickAnswer) → IsBound script tx back a → Ticks a b answer → IsBound script tx back b
-bound-ticks script tx back a b answer is call =
+pub bound-ticks : (leg : Leg) (tx : List (RingOut Container)) (back : List (RingIn BackCell)) (a b : GroupState)
+    (answer : TickAnswer) → IsBound leg tx back a → Ticks a b answer → IsBound leg tx back b
+bound-ticks leg tx back a b answer is call =
     let frames = call.landed.frames in
     let commands = call.landed.commands in
     let slots = call.landed.slots in
@@ -260,15 +260,15 @@ bound-ticks script tx back a b answer is call =
     let entries = is.room.entries in
     let octets = is.room.octets in
     record {
-      of_script = of-then script a b is.of_script call.script;
+      of_script = of-then leg a b is.of_script call.script;
       sends = outs-then tx a.tx.items b.tx.items is.sends call.sends;
       returns = ins-then back a.back b.back is.returns call.returns;
       room = record {
-        entries = subst (λ n. length (drop n (offers_of script.items)) + length
-            (drop (commands_of b) (orders_of script.items)) ≤ slots_of b) (sym frames)
-            (subst (λ n. length (drop (frames_of a) (offers_of script.items)) + length
-            (drop n (orders_of script.items)) ≤ slots_of b) (sym commands) (omega arith));
-        octets = subst (λ n. octets_in (drop n (offers_of script.items)) ≤ bytes_of b) (sym frames) (omega arith);
+        entries = subst (λ n. length (drop n (offers_of leg.items)) + length
+            (drop (commands_of b) (orders_of leg.items)) ≤ slots_of b) (sym frames)
+            (subst (λ n. length (drop (frames_of a) (offers_of leg.items)) + length
+            (drop n (orders_of leg.items)) ≤ slots_of b) (sym commands) (omega arith));
+        octets = subst (λ n. octets_in (drop n (offers_of leg.items)) ≤ bytes_of b) (sym frames) (omega arith);
       };
-      landed = landed-ticks script a b answer is.of_script is.landed call;
+      landed = landed-ticks leg a b answer is.of_script is.landed call;
     }

@@ -4,8 +4,8 @@ use Rattle.std.specs.Global.{Vec}
 use Rattle.std.proofs.lemmas.Option.{slice_get_within}
 use Rattle.vc_cell.specs.declared.Container.{Container}
 use Rattle.vc_cell.specs.declared.BackCell.{BackCell}
-use Rattle.session_model.specs.declared.script.Script.{Script}
-use Rattle.session_model.specs.Scenario.{scenario_of}
+use Rattle.session_model.specs.Leg.{Leg}
+use Rattle.session_model.specs.Scenario.{scenario_by}
 use Rattle.session_model.specs.Sent.{containers_of}
 use Rattle.session_model.specs.Counts.{used_in}
 use Rattle.member_ring.specs.declared.ends.RingOut.{RingOut}
@@ -61,34 +61,34 @@ keeps-laid at size tx back k still popped =
           at.landed.refusals) (sym told) k.refused;
     }
 
-module _ (script : Script) (g : GroupState) (tx : Vec (RingOut Container)) (back : RingIn BackCell)
+module _ (leg : Leg) (g : GroupState) (tx : Vec (RingOut Container)) (back : RingIn BackCell)
     (keeps : Keeps (parts g.source.core g.source.total g.source.landed g.journal g.source.inbox tx.items back)
     (length g.frame.items)) (still : AreStill g.tx.items tx.items) (same : SameIn g.back back)
     (popped : in_passed back ≡ in_passed g.back) where
   told : taken_of (record g { tx = tx; back = back; keeps = keeps }) ≡ taken_of g
   told = ap (told_taken (lost_of g) (lag_of g) (ticks_of g)) popped
 
-  landed-laid : HasLandedOf script g → HasLandedOf script (record g { tx = tx; back = back; keeps = keeps })
+  landed-laid : HasLandedOf leg g → HasLandedOf leg (record g { tx = tx; back = back; keeps = keeps })
   landed-laid has = record {
     entries = has.entries;
     past = has.past;
     most_frames = has.most_frames;
     most_commands = has.most_commands;
-    refusals = has.refusals ∙ ap (λ cells. refusals_by script cells (landed_items script (counts_of g))) (sym told);
-    frames = has.frames ∙ ap (λ cells. length (accepted_frames_by script cells (landed_items script (counts_of g))))
+    refusals = has.refusals ∙ ap (λ cells. refusals_by leg cells (landed_items leg (counts_of g))) (sym told);
+    frames = has.frames ∙ ap (λ cells. length (accepted_frames_by leg cells (landed_items leg (counts_of g))))
         (sym told);
     commands = has.commands ∙ ap (λ cells. length
-        (accepted_commands_by script cells (landed_items script (counts_of g)))) (sym told);
+        (accepted_commands_by leg cells (landed_items leg (counts_of g)))) (sym told);
     sent = λ m out there.
         let inside = slice_get_within tx.items m out there in
         let (old, was) = there-at g.tx.items m (omega (arith, inside, still.same.count)) in
         still.passed m old out was there ∙ has.sent m old was
-        ∙ ap (λ cells. containers_of (scenario_of script) cells m (ticks_of g)) (sym told);
-    made = subst (λ cells. ∥ HasMade (source_of g) (landed_scenario script (counts_of g)) cells ∥₁) (sym told) has.made;
+        ∙ ap (λ cells. containers_of (scenario_by leg) cells m (ticks_of g)) (sym told);
+    made = subst (λ cells. ∥ HasMade (source_of g) (landed_scenario leg (counts_of g)) cells ∥₁) (sym told) has.made;
   }
 
-  pub bound-laid : (ends : List (RingOut Container)) (ins : List (RingIn BackCell)) → IsBound script ends ins g →
-      IsBound script ends ins (record g { tx = tx; back = back; keeps = keeps })
+  pub bound-laid : (ends : List (RingOut Container)) (ins : List (RingIn BackCell)) → IsBound leg ends ins g →
+      IsBound leg ends ins (record g { tx = tx; back = back; keeps = keeps })
   bound-laid ends ins is = record {
     of_script = record {
       lines = is.of_script.lines;

@@ -1,7 +1,7 @@
--- No more lands of a script than there is.
+-- No more lands of a leg than there is.
 use Rattle.std.proofs.Common.{◌≡◌, ℕ, ◌+◌, ◌-◌, ◌≤◌, not, Bool, true, false, drop, length, refl, arith}
 use Rattle.std.proofs.lemmas.List.{length-drop}
-use Rattle.session_model.specs.declared.script.Script.{Script}
+use Rattle.session_model.specs.Leg.{Leg}
 use Rattle.session_model.specs.declared.script.ItemKind.{ItemKind}
 use Rattle.session_model.specs.Scenario.{offers_of, orders_of}
 use Rattle.walk_law.specs.Landed.{is_client}
@@ -21,18 +21,18 @@ most-by offers orders frames commands frames' commands' one other sum more more'
     (omega arith, omega arith)
 
 -- an item has landed, and one less is left
-pub most-next : (script : Script) (a b : GroupState) (kind : ItemKind) → HasLandedOf script a →
+pub most-next : (leg : Leg) (a b : GroupState) (kind : ItemKind) → HasLandedOf leg a →
     HasCounted a b kind true →
-    length (drop (frames_of a) (offers_of script.items)) + length (drop (commands_of a) (orders_of script.items))
-    ≡ length (drop (frames_of b) (offers_of script.items)) + length (drop (commands_of b) (orders_of script.items)) + 1
+    length (drop (frames_of a) (offers_of leg.items)) + length (drop (commands_of a) (orders_of leg.items))
+    ≡ length (drop (frames_of b) (offers_of leg.items)) + length (drop (commands_of b) (orders_of leg.items)) + 1
     →
-    (frames_of b ≤ length (offers_of script.items)) × (commands_of b ≤ length (orders_of script.items))
-most-next script a b kind has counted less =
-    let offers = length-drop (frames_of a) (offers_of script.items) in
-    let offers' = length-drop (frames_of b) (offers_of script.items) in
-    let orders = length-drop (commands_of a) (orders_of script.items) in
-    let orders' = length-drop (commands_of b) (orders_of script.items) in
-    most-by (length (offers_of script.items)) (length (orders_of script.items)) (frames_of a) (commands_of a)
+    (frames_of b ≤ length (offers_of leg.items)) × (commands_of b ≤ length (orders_of leg.items))
+most-next leg a b kind has counted less =
+    let offers = length-drop (frames_of a) (offers_of leg.items) in
+    let offers' = length-drop (frames_of b) (offers_of leg.items) in
+    let orders = length-drop (commands_of a) (orders_of leg.items) in
+    let orders' = length-drop (commands_of b) (orders_of leg.items) in
+    most-by (length (offers_of leg.items)) (length (orders_of leg.items)) (frames_of a) (commands_of a)
     (frames_of b) (commands_of b)
     (counted_by (is_client kind) true) (counted_by (not (is_client kind)) true)
     (one-counted (is_client kind)) counted.frames counted.commands (omega arith) has.most_frames has.most_commands

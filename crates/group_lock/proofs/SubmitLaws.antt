@@ -10,7 +10,7 @@ use Rattle.std.proofs.lemmas.Bool.Decides.{nat_tests}
 use Rattle.std.proofs.lemmas.List.Elements.{All-cons, All-append}
 use Rattle.std.proofs.lemmas.Option.{slice_get_within}
 use Rattle.report_text.specs.declared.report.Refusal.{Refusal}
-use Rattle.session_model.specs.declared.script.Script.{Script}
+use Rattle.session_model.specs.Leg.{Leg}
 use Rattle.walk_law.specs.Landed.{Numbered, is_client, refused_by, IsPlaced}
 use Rattle.group_lock.specs.declared.answer.SubmitFault.{SubmitFault}
 use Rattle.group_lock.specs.declared.answer.SubmitFault.TheVariants.{NotNext, Early, Frame as Frame_fault}
@@ -28,7 +28,7 @@ use Rattle.session_model.specs.declared.script.ItemKind.{ItemKind}
 use Rattle.session_model.specs.declared.script.ItemKind.TheVariants.{Frame, Add, Remove}
 use Rattle.session_model.specs.declared.table.Command.TheVariants.{Add as add, Remove as remove}
 use Rattle.session_model.specs.Scenario.{Scenario, DueCommand, DueFrame, order_of, offer_of, orders_of, offers_of}
-use Rattle.session_model.specs.Scenario.{scenario_of}
+use Rattle.session_model.specs.Scenario.{scenario_by}
 use Rattle.session_model.specs.Counts.{Counts}
 use Rattle.report_text.specs.declared.report.Refusal.TheVariants.{Frame as frame_refused, Command as command_refused}
 use Rattle.source_core.specs.Given.{Stands as HasMade}
@@ -73,120 +73,120 @@ inserted-all P item was now put all here =
     (All-cons P item put.back here (all-right P put.front put.back parts)))
 
 -- ---- the item that lands
--- it is the script's, and is due
-pub item-here : (script : Script) (g : GroupState) (number : ℕ) (kind : ItemKind) → IsOf script g →
-    next_of g kind ≡ Some number → due_at (items_of g) number ≤ ticks_of g → IsItemOf script number kind →
-    slice_get script.items number ≡ Some (record { due = ticks_of g; kind = kind })
-item-here script g number kind of_script next due is_item =
-    due-now script.items g.source.landed of_script.items (is_client kind) number (ticks_of g) kind next due
+-- it is the leg's, and is due
+pub item-here : (leg : Leg) (g : GroupState) (number : ℕ) (kind : ItemKind) → IsOf leg g →
+    next_of g kind ≡ Some number → due_at (items_of g) number ≤ ticks_of g → IsItemOf leg number kind →
+    slice_get leg.items number ≡ Some (record { due = ticks_of g; kind = kind })
+item-here leg g number kind of_script next due is_item =
+    due-now leg.items g.source.landed of_script.items (is_client kind) number (ticks_of g) kind next due
     g.keeps.ahead is_item
 
-pub offer-next : (script : Script) (g : GroupState) (number : ℕ) (octets : List ℕ) → IsOf script g →
+pub offer-next : (leg : Leg) (g : GroupState) (number : ℕ) (octets : List ℕ) → IsOf leg g →
     next_number g.source.landed true ≡ Some number →
-    slice_get script.items number ≡ Some (record { due = ticks_of g; kind = Frame octets }) →
-    IsOfferAt script.items (frames_of g) (entry_of number (ticks_of g) (Frame octets))
+    slice_get leg.items number ≡ Some (record { due = ticks_of g; kind = Frame octets }) →
+    IsOfferAt leg.items (frames_of g) (entry_of number (ticks_of g) (Frame octets))
     (record { due = ticks_of g; frame = octets })
-offer-next script g number octets of_script next here =
-    offer-here script.items (frames_of g) number (ticks_of g) octets
-    (next-there script.items g.source.landed of_script.items true number next).0 here
+offer-next leg g number octets of_script next here =
+    offer-here leg.items (frames_of g) number (ticks_of g) octets
+    (next-there leg.items g.source.landed of_script.items true number next).0 here
 
-pub order-next : (script : Script) (g : GroupState) (number : ℕ) (kind : ItemKind) (order : DueCommand) →
-    IsOf script g → next_number g.source.landed false ≡ Some number →
-    order_of (ticks_of g) kind ≡ order ∷ [] → slice_get script.items number ≡ Some
+pub order-next : (leg : Leg) (g : GroupState) (number : ℕ) (kind : ItemKind) (order : DueCommand) →
+    IsOf leg g → next_number g.source.landed false ≡ Some number →
+    order_of (ticks_of g) kind ≡ order ∷ [] → slice_get leg.items number ≡ Some
     (record { due = ticks_of g; kind = kind }) →
-    IsOrderAt script.items (commands_of g) (entry_of number (ticks_of g) kind) order
-order-next script g number kind order of_script next is here =
-    order-here script.items (commands_of g) number (ticks_of g) kind order
-    (next-there script.items g.source.landed of_script.items false number next).0 is here
+    IsOrderAt leg.items (commands_of g) (entry_of number (ticks_of g) kind) order
+order-next leg g number kind order of_script next is here =
+    order-here leg.items (commands_of g) number (ticks_of g) kind order
+    (next-there leg.items g.source.landed of_script.items false number next).0 is here
 
 -- ---- why it is refused
-pub refusal-item : (script : Script) (g : GroupState) (number : ℕ) (kind : ItemKind) → IsOf script g →
-    HasLandedOf script g → next_of g kind ≡ Some number →
-    slice_get script.items number ≡ Some (record { due = ticks_of g; kind = kind }) →
-    refusal_of g kind ≡ refusal_by script (taken_of g) (entry_of number (ticks_of g) kind)
-refusal-item script g number kind of_script has next here =
+pub refusal-item : (leg : Leg) (g : GroupState) (number : ℕ) (kind : ItemKind) → IsOf leg g →
+    HasLandedOf leg g → next_of g kind ≡ Some number →
+    slice_get leg.items number ≡ Some (record { due = ticks_of g; kind = kind }) →
+    refusal_of g kind ≡ refusal_by leg (taken_of g) (entry_of number (ticks_of g) kind)
+refusal-item leg g number kind of_script has next here =
     sym (refused-is g kind) ∙ ∥∥₁_elim has.made (hlevel props)
-    (λ made. met-item script (counts_of g) g.source.landed (source_of g) (taken_of g) number kind of_script.items
+    (λ made. met-item leg (counts_of g) g.source.landed (source_of g) (taken_of g) number kind of_script.items
     g.keeps.ahead made next here)
 
 -- ---- what has landed with it, and what is left
-pub record Next (script : Script) (a b : GroupState) (number : ℕ) (kind : ItemKind) : Type 0 where
-  pub inserted : IsInserted (entry_of number (ticks_of a) kind) (landed_items script (counts_of a))
-      (landed_items script (counts_of b))
-  pub scenario : with_kind (landed_scenario script (counts_of a)) (ticks_of a) kind ≡ landed_scenario script
+pub record Next (leg : Leg) (a b : GroupState) (number : ℕ) (kind : ItemKind) : Type 0 where
+  pub inserted : IsInserted (entry_of number (ticks_of a) kind) (landed_items leg (counts_of a))
+      (landed_items leg (counts_of b))
+  pub scenario : with_kind (landed_scenario leg (counts_of a)) (ticks_of a) kind ≡ landed_scenario leg
       (counts_of b)
-  pub octets : octets_in (drop (frames_of a) (offers_of script.items)) ≡ octet_count kind + octets_in
-      (drop (frames_of b) (offers_of script.items))
-  pub entries : length (drop (frames_of a) (offers_of script.items)) + length
-      (drop (commands_of a) (orders_of script.items))
-      ≡ length (drop (frames_of b) (offers_of script.items)) + length
-      (drop (commands_of b) (orders_of script.items)) + 1
+  pub octets : octets_in (drop (frames_of a) (offers_of leg.items)) ≡ octet_count kind + octets_in
+      (drop (frames_of b) (offers_of leg.items))
+  pub entries : length (drop (frames_of a) (offers_of leg.items)) + length
+      (drop (commands_of a) (orders_of leg.items))
+      ≡ length (drop (frames_of b) (offers_of leg.items)) + length
+      (drop (commands_of b) (orders_of leg.items)) + 1
 
 less-by : (n m size : ℕ) → n < size → m ≡ n + 1 → size - n ≡ size - m + 1
 less-by n m size low e = omega arith
 
 -- the octets and the items that are left
-abbrev Left : Script → GroupState → GroupState → ItemKind → Type 0
-Left script a b kind =
-    (octets_in (drop (frames_of a) (offers_of script.items)) ≡ octet_count kind + octets_in
-    (drop (frames_of b) (offers_of script.items)))
-    × (length (drop (frames_of a) (offers_of script.items)) + length (drop (commands_of a) (orders_of script.items))
-    ≡ length (drop (frames_of b) (offers_of script.items)) + length
-    (drop (commands_of b) (orders_of script.items)) + 1)
+abbrev Left : Leg → GroupState → GroupState → ItemKind → Type 0
+Left leg a b kind =
+    (octets_in (drop (frames_of a) (offers_of leg.items)) ≡ octet_count kind + octets_in
+    (drop (frames_of b) (offers_of leg.items)))
+    × (length (drop (frames_of a) (offers_of leg.items)) + length (drop (commands_of a) (orders_of leg.items))
+    ≡ length (drop (frames_of b) (offers_of leg.items)) + length
+    (drop (commands_of b) (orders_of leg.items)) + 1)
 
-left-frame : (script : Script) (a b : GroupState) (octets : List ℕ) →
-    slice_get (offers_of script.items) (frames_of a) ≡ Some (record { due = ticks_of a; frame = octets }) →
-    frames_of b ≡ frames_of a + 1 → commands_of b ≡ commands_of a → Left script a b (Frame octets)
-left-frame script a b octets there frames commands =
+left-frame : (leg : Leg) (a b : GroupState) (octets : List ℕ) →
+    slice_get (offers_of leg.items) (frames_of a) ≡ Some (record { due = ticks_of a; frame = octets }) →
+    frames_of b ≡ frames_of a + 1 → commands_of b ≡ commands_of a → Left leg a b (Frame octets)
+left-frame leg a b octets there frames commands =
     let offer : DueFrame = record { due = ticks_of a; frame = octets } in
-    let inside = slice_get_within (offers_of script.items) (frames_of a) offer there in
-    let one = length-drop (frames_of a) (offers_of script.items) in
-    let two = length-drop (frames_of b) (offers_of script.items) in
-    let step = less-by (frames_of a) (frames_of b) (length (offers_of script.items)) inside frames in
-    let same : length (drop (commands_of a) (orders_of script.items)) ≡ length
-    (drop (commands_of b) (orders_of script.items)) = ap (λ n. length (drop n (orders_of script.items)))
+    let inside = slice_get_within (offers_of leg.items) (frames_of a) offer there in
+    let one = length-drop (frames_of a) (offers_of leg.items) in
+    let two = length-drop (frames_of b) (offers_of leg.items) in
+    let step = less-by (frames_of a) (frames_of b) (length (offers_of leg.items)) inside frames in
+    let same : length (drop (commands_of a) (orders_of leg.items)) ≡ length
+    (drop (commands_of b) (orders_of leg.items)) = ap (λ n. length (drop n (orders_of leg.items)))
     (sym commands) in (
-      sum_by-drop_more (λ (o : DueFrame). length o.frame) (offers_of script.items) (frames_of a) offer inside
-          ∙ ap (λ (o : DueFrame). length o.frame + octets_in (drop (frames_of a + 1) (offers_of script.items)))
-          (get_or_from_slice_get (offers_of script.items) (frames_of a) offer offer there)
-          ∙ ap (λ n. length octets + octets_in (drop n (offers_of script.items))) (sym frames),
+      sum_by-drop_more (λ (o : DueFrame). length o.frame) (offers_of leg.items) (frames_of a) offer inside
+          ∙ ap (λ (o : DueFrame). length o.frame + octets_in (drop (frames_of a + 1) (offers_of leg.items)))
+          (get_or_from_slice_get (offers_of leg.items) (frames_of a) offer offer there)
+          ∙ ap (λ n. length octets + octets_in (drop n (offers_of leg.items))) (sym frames),
       omega arith,
     )
 
-left-command : (script : Script) (a b : GroupState) (kind : ItemKind) (order : DueCommand) →
-    slice_get (orders_of script.items) (commands_of a) ≡ Some order → octet_count kind ≡ 0 →
-    frames_of b ≡ frames_of a → commands_of b ≡ commands_of a + 1 → Left script a b kind
-left-command script a b kind order there none frames commands =
-    let inside = slice_get_within (orders_of script.items) (commands_of a) order there in
-    let one = length-drop (commands_of a) (orders_of script.items) in
-    let two = length-drop (commands_of b) (orders_of script.items) in
-    let step = less-by (commands_of a) (commands_of b) (length (orders_of script.items)) inside commands in
-    let same : length (drop (frames_of a) (offers_of script.items)) ≡ length
-    (drop (frames_of b) (offers_of script.items)) = ap (λ n. length (drop n (offers_of script.items))) (sym frames) in
-    let octets : octets_in (drop (frames_of a) (offers_of script.items)) ≡ octets_in
-    (drop (frames_of b) (offers_of script.items)) = ap (λ n. octets_in (drop n (offers_of script.items)))
+left-command : (leg : Leg) (a b : GroupState) (kind : ItemKind) (order : DueCommand) →
+    slice_get (orders_of leg.items) (commands_of a) ≡ Some order → octet_count kind ≡ 0 →
+    frames_of b ≡ frames_of a → commands_of b ≡ commands_of a + 1 → Left leg a b kind
+left-command leg a b kind order there none frames commands =
+    let inside = slice_get_within (orders_of leg.items) (commands_of a) order there in
+    let one = length-drop (commands_of a) (orders_of leg.items) in
+    let two = length-drop (commands_of b) (orders_of leg.items) in
+    let step = less-by (commands_of a) (commands_of b) (length (orders_of leg.items)) inside commands in
+    let same : length (drop (frames_of a) (offers_of leg.items)) ≡ length
+    (drop (frames_of b) (offers_of leg.items)) = ap (λ n. length (drop n (offers_of leg.items))) (sym frames) in
+    let octets : octets_in (drop (frames_of a) (offers_of leg.items)) ≡ octets_in
+    (drop (frames_of b) (offers_of leg.items)) = ap (λ n. octets_in (drop n (offers_of leg.items)))
     (sym frames) in
     (let h = octets in omega arith, omega arith)
 
-left-next : (script : Script) (a b : GroupState) (number : ℕ) (kind : ItemKind) → IsOf script a →
-    next_of a kind ≡ Some number → slice_get script.items number ≡ Some (record { due = ticks_of a; kind = kind }) →
-    HasCounted a b kind true → Left script a b kind
-left-next script a b number (Frame octets) of_script next here counted =
-    left-frame script a b octets
-    (offer-at script.items (frames_of a) (entry_of number (ticks_of a) (Frame octets))
-    (record { due = ticks_of a; frame = octets }) (offer-next script a number octets of_script next here)).0
+left-next : (leg : Leg) (a b : GroupState) (number : ℕ) (kind : ItemKind) → IsOf leg a →
+    next_of a kind ≡ Some number → slice_get leg.items number ≡ Some (record { due = ticks_of a; kind = kind }) →
+    HasCounted a b kind true → Left leg a b kind
+left-next leg a b number (Frame octets) of_script next here counted =
+    left-frame leg a b octets
+    (offer-at leg.items (frames_of a) (entry_of number (ticks_of a) (Frame octets))
+    (record { due = ticks_of a; frame = octets }) (offer-next leg a number octets of_script next here)).0
     counted.frames (counted.commands ∙ (let e : commands_of a + 0 ≡ commands_of a = omega arith in e))
-left-next script a b number (Add line) of_script next here counted =
+left-next leg a b number (Add line) of_script next here counted =
     let order : DueCommand = record { due = ticks_of a; command = add line } in
-    left-command script a b (Add line) order
-    (order-at script.items (commands_of a) (entry_of number (ticks_of a) (Add line)) order
-    (order-next script a number (Add line) order of_script next refl here)).0 refl
+    left-command leg a b (Add line) order
+    (order-at leg.items (commands_of a) (entry_of number (ticks_of a) (Add line)) order
+    (order-next leg a number (Add line) order of_script next refl here)).0 refl
     (counted.frames ∙ (let e : frames_of a + 0 ≡ frames_of a = omega arith in e)) counted.commands
-left-next script a b number (Remove line) of_script next here counted =
+left-next leg a b number (Remove line) of_script next here counted =
     let order : DueCommand = record { due = ticks_of a; command = remove line } in
-    left-command script a b (Remove line) order
-    (order-at script.items (commands_of a) (entry_of number (ticks_of a) (Remove line)) order
-    (order-next script a number (Remove line) order of_script next refl here)).0 refl
+    left-command leg a b (Remove line) order
+    (order-at leg.items (commands_of a) (entry_of number (ticks_of a) (Remove line)) order
+    (order-next leg a number (Remove line) order of_script next refl here)).0 refl
     (counted.frames ∙ (let e : frames_of a + 0 ≡ frames_of a = omega arith in e)) counted.commands
 
 counted-one : (client : Bool) → counted_by client true ≡ (if client then 1 else 0)
@@ -197,20 +197,20 @@ counted-other : (client : Bool) → counted_by (not client) true ≡ (if client 
 counted-other true = refl
 counted-other false = refl
 
-pub next-of : (script : Script) (a b : GroupState) (number : ℕ) (kind : ItemKind) → IsOf script a →
-    next_of a kind ≡ Some number → slice_get script.items number ≡ Some (record { due = ticks_of a; kind = kind }) →
-    HasCounted a b kind true → Next script a b number kind
-next-of script a b number kind of_script next here counted =
-    let at = (next-there script.items a.source.landed of_script.items (is_client kind) number next).0 in
-    let with_it = leaves script (counts_of a) a.source.landed number (ticks_of a) kind at here in
+pub next-of : (leg : Leg) (a b : GroupState) (number : ℕ) (kind : ItemKind) → IsOf leg a →
+    next_of a kind ≡ Some number → slice_get leg.items number ≡ Some (record { due = ticks_of a; kind = kind }) →
+    HasCounted a b kind true → Next leg a b number kind
+next-of leg a b number kind of_script next here counted =
+    let at = (next-there leg.items a.source.landed of_script.items (is_client kind) number next).0 in
+    let with_it = leaves leg (counts_of a) a.source.landed number (ticks_of a) kind at here in
     let same = next-counts (is_client kind) (counts_of a) a.source.landed (frames_of b) (commands_of b)
     (counted.frames ∙ ap (λ n. frames_of a + n) (counted-one (is_client kind)))
     (counted.commands ∙ ap (λ n. commands_of a + n) (counted-other (is_client kind))) in
-    let less = left-next script a b number kind of_script next here counted in
+    let less = left-next leg a b number kind of_script next here counted in
     record {
       inserted = subst (λ (c : Counts). IsInserted (entry_of number (ticks_of a) kind)
-          (landed_items script (counts_of a)) (landed_items script c)) same with_it.inserted;
-      scenario = with_it.scenario ∙ ap (landed_scenario script) same;
+          (landed_items leg (counts_of a)) (landed_items leg c)) same with_it.inserted;
+      scenario = with_it.scenario ∙ ap (landed_scenario leg) same;
       octets = less.0;
       entries = less.1;
     }
@@ -262,51 +262,51 @@ told-rest (Some (frame_refused fault)) = refl
 told-rest (Some (command_refused fault)) = refl
 
 -- ---- the journal has room
-room-first : (script : Script) (g : GroupState) (number : ℕ) (kind : ItemKind) → IsOf script g →
-    next_of g kind ≡ Some number → slice_get script.items number ≡ Some (record { due = ticks_of g; kind = kind }) →
-    HasRoom script g →
+room-first : (leg : Leg) (g : GroupState) (number : ℕ) (kind : ItemKind) → IsOf leg g →
+    next_of g kind ≡ Some number → slice_get leg.items number ≡ Some (record { due = ticks_of g; kind = kind }) →
+    HasRoom leg g →
     (0 < slots_of g) × (octet_count kind ≤ bytes_of g)
-room-first script g number (Frame octets) of_script next here room =
+room-first leg g number (Frame octets) of_script next here room =
     let offer : DueFrame = record { due = ticks_of g; frame = octets } in
-    let there = (offer-at script.items (frames_of g) (entry_of number (ticks_of g) (Frame octets)) offer
-    (offer-next script g number octets of_script next here)).0 in
-    let inside = slice_get_within (offers_of script.items) (frames_of g) offer there in
-    let long = length-drop (frames_of g) (offers_of script.items) in
+    let there = (offer-at leg.items (frames_of g) (entry_of number (ticks_of g) (Frame octets)) offer
+    (offer-next leg g number octets of_script next here)).0 in
+    let inside = slice_get_within (offers_of leg.items) (frames_of g) offer there in
+    let long = length-drop (frames_of g) (offers_of leg.items) in
     let entries = room.entries in
     let bytes = room.octets in
-    let first = sum_by-drop_more (λ (o : DueFrame). length o.frame) (offers_of script.items) (frames_of g) offer inside
-    ∙ ap (λ (o : DueFrame). length o.frame + octets_in (drop (frames_of g + 1) (offers_of script.items)))
-    (get_or_from_slice_get (offers_of script.items) (frames_of g) offer offer there) in
+    let first = sum_by-drop_more (λ (o : DueFrame). length o.frame) (offers_of leg.items) (frames_of g) offer inside
+    ∙ ap (λ (o : DueFrame). length o.frame + octets_in (drop (frames_of g + 1) (offers_of leg.items)))
+    (get_or_from_slice_get (offers_of leg.items) (frames_of g) offer offer there) in
     (omega arith, omega arith)
-room-first script g number (Add line) of_script next here room =
+room-first leg g number (Add line) of_script next here room =
     let order : DueCommand = record { due = ticks_of g; command = add line } in
-    let there = (order-at script.items (commands_of g) (entry_of number (ticks_of g) (Add line)) order
-    (order-next script g number (Add line) order of_script next refl here)).0 in
-    let inside = slice_get_within (orders_of script.items) (commands_of g) order there in
-    let long = length-drop (commands_of g) (orders_of script.items) in
+    let there = (order-at leg.items (commands_of g) (entry_of number (ticks_of g) (Add line)) order
+    (order-next leg g number (Add line) order of_script next refl here)).0 in
+    let inside = slice_get_within (orders_of leg.items) (commands_of g) order there in
+    let long = length-drop (commands_of g) (orders_of leg.items) in
     let entries = room.entries in
     (omega arith, omega arith)
-room-first script g number (Remove line) of_script next here room =
+room-first leg g number (Remove line) of_script next here room =
     let order : DueCommand = record { due = ticks_of g; command = remove line } in
-    let there = (order-at script.items (commands_of g) (entry_of number (ticks_of g) (Remove line)) order
-    (order-next script g number (Remove line) order of_script next refl here)).0 in
-    let inside = slice_get_within (orders_of script.items) (commands_of g) order there in
-    let long = length-drop (commands_of g) (orders_of script.items) in
+    let there = (order-at leg.items (commands_of g) (entry_of number (ticks_of g) (Remove line)) order
+    (order-next leg g number (Remove line) order of_script next refl here)).0 in
+    let inside = slice_get_within (orders_of leg.items) (commands_of g) order there in
+    let long = length-drop (commands_of g) (orders_of leg.items) in
     let entries = room.entries in
     (omega arith, omega arith)
 
-pub not-full : (script : Script) (g : GroupState) (number : ℕ) (kind : ItemKind) (answer : Option SubmitFault) →
-    IsOf script g → HasRoom script g → IsItemOf script number kind → answer ≡ fault_in g number kind →
+pub not-full : (leg : Leg) (g : GroupState) (number : ℕ) (kind : ItemKind) (answer : Option SubmitFault) →
+    IsOf leg g → HasRoom leg g → IsItemOf leg number kind → answer ≡ fault_in g number kind →
     is_full answer ≡ false
-not-full script g number kind answer of_script room is_item is =
+not-full leg g number kind answer of_script room is_item is =
     elim (cases_Bool (is_full answer)) [
       | inr none ↦ none
       | inl full ↦
           let (next, due, none) = full-by (next_of g kind) number (ticks_of g) (due_at (items_of g) number)
           (met_in g kind) (sym (ap is_full is) ∙ full) in
           let few = full-met (refusal_of g kind) (fits (parts_of g).journal kind) (slots_of g) (bytes_of g) none in
-          let here = item-here script g number kind of_script next due is_item in
-          let (slots, bytes) = room-first script g number kind of_script next here room in
+          let here = item-here leg g number kind of_script next due is_item in
+          let (slots, bytes) = room-first leg g number kind of_script next here room in
           absurd (let f = fits-room (slots_of g) (bytes_of g) (octet_count kind) slots bytes in
           let e : true ≡ false = sym f ∙ few in cc)
     ]
@@ -315,15 +315,15 @@ not-full script g number kind answer of_script room is_item is =
     fits-room slots bytes size low high = grind (arith, nat_tests, low, high)
 
 -- ---- what is bound after it
-entries-next : (answer : Option SubmitFault) (script : Script) (was now : List Numbered) (number ticks : ℕ)
-    (kind : ItemKind) → now ≡ was ++ entries_by answer number ticks kind → AreItemsOf script was →
-    slice_get script.items number ≡ Some (record { due = ticks; kind = kind }) → AreItemsOf script now
-entries-next None script was now number ticks kind same each here =
-    subst (AreItemsOf script) (sym same)
-    (push-cases (λ i (entry : Numbered). slice_get script.items entry.number ≡ Some entry.item) was
+entries-next : (answer : Option SubmitFault) (leg : Leg) (was now : List Numbered) (number ticks : ℕ)
+    (kind : ItemKind) → now ≡ was ++ entries_by answer number ticks kind → AreItemsOf leg was →
+    slice_get leg.items number ≡ Some (record { due = ticks; kind = kind }) → AreItemsOf leg now
+entries-next None leg was now number ticks kind same each here =
+    subst (AreItemsOf leg) (sym same)
+    (push-cases (λ i (entry : Numbered). slice_get leg.items entry.number ≡ Some entry.item) was
     (entry_of number ticks kind) each here)
-entries-next (Some fault) script was now number ticks kind same each here =
-    subst (AreItemsOf script) (sym (same ∙ append-nil was)) each
+entries-next (Some fault) leg was now number ticks kind same each here =
+    subst (AreItemsOf leg) (sym (same ∙ append-nil was)) each
 
 -- how many of the entries are frames, and commands
 kind-size : (kind : ItemKind) (ticks : ℕ) → (length (offer_of ticks kind) ≡ (if is_client kind && true then 1 else 0))
@@ -381,10 +381,10 @@ all-past ticks items all i item there =
     subst (λ (one : Numbered). one.item.due ≤ ticks) (get_or_from_slice_get items i item item there)
     (all i item (slice_get_within items i item there))
 
-module _ (script : Script) (a b : GroupState) (number : ℕ) (kind : ItemKind) (answer : Option SubmitFault)
-    (of_script : IsOf script a) (has : HasLandedOf script a)
+module _ (leg : Leg) (a b : GroupState) (number : ℕ) (kind : ItemKind) (answer : Option SubmitFault)
+    (of_script : IsOf leg a) (has : HasLandedOf leg a)
     (call : Submits a b number kind answer) (landed : has_landed answer ≡ true)
-    (is_item : IsItemOf script number kind) where
+    (is_item : IsItemOf leg number kind) where
   abbrev entry : Numbered
   entry = entry_of number (ticks_of a) kind
 
@@ -400,15 +400,15 @@ module _ (script : Script) (a b : GroupState) (number : ℕ) (kind : ItemKind) (
             (sym (ap has_landed met) ∙ landed),
       )
 
-  here : slice_get script.items number ≡ Some (record { due = ticks_of a; kind = kind })
-  here = item-here script a number kind of_script asks.0 asks.1 is_item
+  here : slice_get leg.items number ≡ Some (record { due = ticks_of a; kind = kind })
+  here = item-here leg a number kind of_script asks.0 asks.1 is_item
 
-  told : refusal_told answer ≡ refusal_by script (taken_of a) (entry_of number (ticks_of a) kind)
+  told : refusal_told answer ≡ refusal_by leg (taken_of a) (entry_of number (ticks_of a) kind)
   told = ap refusal_told asks.2 ∙ told-rest (refusal_of a kind)
-      ∙ refusal-item script a number kind of_script has asks.0 here
+      ∙ refusal-item leg a number kind of_script has asks.0 here
 
-  pub next-is : Next script a b number kind
-  next-is = next-of script a b number kind of_script asks.0 here (subst (HasCounted a b kind) landed call.landed)
+  pub next-is : Next leg a b number kind
+  next-is = next-of leg a b number kind of_script asks.0 here (subst (HasCounted a b kind) landed call.landed)
 
   taken : taken_of b ≡ taken_of a
   taken =
@@ -417,72 +417,72 @@ module _ (script : Script) (a b : GroupState) (number : ℕ) (kind : ItemKind) (
       ∙ ap (λ n. told_taken (lost_of a) (lag_of a) n (in_passed b.back)) call.rings.ticks
       ∙ ap (λ (end_ : RingIn BackCell). told_taken (lost_of a) (lag_of a) (ticks_of a) (in_passed end_)) call.rings.back
 
-  pub landed-submits : HasLandedOf script b
+  pub landed-submits : HasLandedOf leg b
   landed-submits =
       let put = next-is.inserted in
-      let most = most-next script a b kind has (subst (HasCounted a b kind) landed call.landed) next-is.entries in
+      let most = most-next leg a b kind has (subst (HasCounted a b kind) landed call.landed) next-is.entries in
       let cells : List (Option Told) = taken_of a in
       let sizes = offers-next answer (journal_of a) (journal_of b) number (ticks_of a) kind landed call.journal in
-      let frames = one-more (λ item. is_client item.item.kind && is_none (refusal_by script cells item)) entry
-      (landed_items script (counts_of a)) (landed_items script (counts_of b)) put in
-      let commands = one-more (λ item. not (is_client item.item.kind) && is_none (refusal_by script cells item)) entry
-      (landed_items script (counts_of a)) (landed_items script (counts_of b)) put in
+      let frames = one-more (λ item. is_client item.item.kind && is_none (refusal_by leg cells item)) entry
+      (landed_items leg (counts_of a)) (landed_items leg (counts_of b)) put in
+      let commands = one-more (λ item. not (is_client item.item.kind) && is_none (refusal_by leg cells item)) entry
+      (landed_items leg (counts_of a)) (landed_items leg (counts_of b)) put in
       record {
-        entries = entries-next answer script (journal_of a) (journal_of b) number
+        entries = entries-next answer leg (journal_of a) (journal_of b) number
             (ticks_of a) kind call.journal has.entries here;
-        past = subst (λ n. ArePast n (landed_items script (counts_of b))) (sym call.rings.ticks)
-            (all-past (ticks_of a) (landed_items script (counts_of b))
-            (inserted-all (λ (item : Numbered). item.item.due ≤ ticks_of a) entry (landed_items script (counts_of a))
-            (landed_items script (counts_of b)) put
-            (past-all (ticks_of a) (landed_items script (counts_of a)) has.past) (omega arith)));
+        past = subst (λ n. ArePast n (landed_items leg (counts_of b))) (sym call.rings.ticks)
+            (all-past (ticks_of a) (landed_items leg (counts_of b))
+            (inserted-all (λ (item : Numbered). item.item.due ≤ ticks_of a) entry (landed_items leg (counts_of a))
+            (landed_items leg (counts_of b)) put
+            (past-all (ticks_of a) (landed_items leg (counts_of a)) has.past) (omega arith)));
         most_frames = most.0;
         most_commands = most.1;
         refusals = placed-same number (refused_by number (refusal_told answer)) (refusals_of a) (refusals_of b)
-            (refusals_by script cells (landed_items script (counts_of b))) (call.refusals landed)
+            (refusals_by leg cells (landed_items leg (counts_of b))) (call.refusals landed)
             (subst (λ (l : List (ℕ × Refusal)). IsPlaced number (refused_by number (refusal_told answer)) l
-            (refusals_by script cells (landed_items script (counts_of b)))) (sym has.refusals)
+            (refusals_by leg cells (landed_items leg (counts_of b)))) (sym has.refusals)
             (subst (λ (w : Option Refusal). IsPlaced number (refused_by number w)
-            (refusals_by script cells (landed_items script (counts_of a)))
-            (refusals_by script cells (landed_items script (counts_of b)))) (sym told)
-            (placed (refusal_by script cells) entry (landed_items script (counts_of a))
-            (landed_items script (counts_of b)) put)))
-            ∙ sym (ap (λ c. refusals_by script c (landed_items script (counts_of b))) taken);
+            (refusals_by leg cells (landed_items leg (counts_of a)))
+            (refusals_by leg cells (landed_items leg (counts_of b)))) (sym told)
+            (placed (refusal_by leg cells) entry (landed_items leg (counts_of a))
+            (landed_items leg (counts_of b)) put)))
+            ∙ sym (ap (λ c. refusals_by leg c (landed_items leg (counts_of b))) taken);
         frames = sizes.0 ∙ ap (λ n. n + (if is_client kind && is_none (refusal_told answer) then 1 else 0)) has.frames
-            ∙ ap (λ (w : Option Refusal). length (accepted_frames_by script cells (landed_items script (counts_of a))) +
+            ∙ ap (λ (w : Option Refusal). length (accepted_frames_by leg cells (landed_items leg (counts_of a))) +
             (if is_client kind && is_none w then 1 else 0)) told
             ∙ sym frames ∙ sym (ap
-            (λ c. length (accepted_frames_by script c (landed_items script (counts_of b)))) taken);
+            (λ c. length (accepted_frames_by leg c (landed_items leg (counts_of b)))) taken);
         commands = sizes.1 ∙ ap
             (λ n. n + (if not (is_client kind) && is_none (refusal_told answer) then 1 else 0)) has.commands
             ∙ ap (λ (w : Option Refusal). length
-            (accepted_commands_by script cells (landed_items script (counts_of a))) +
+            (accepted_commands_by leg cells (landed_items leg (counts_of a))) +
             (if not (is_client kind) && is_none w then 1 else 0)) told
             ∙ sym commands ∙ sym
-            (ap (λ c. length (accepted_commands_by script c (landed_items script (counts_of b)))) taken);
-        sent = subst (λ (v : Vec (RingOut Container)). AreSent (scenario_of script) (taken_of b) (ticks_of b) v.items)
+            (ap (λ c. length (accepted_commands_by leg c (landed_items leg (counts_of b)))) taken);
+        sent = subst (λ (v : Vec (RingOut Container)). AreSent (scenario_by leg) (taken_of b) (ticks_of b) v.items)
             (sym call.rings.tx)
-            (subst (λ n. AreSent (scenario_of script) (taken_of b) n a.tx.items) (sym call.rings.ticks)
-            (subst (λ c. AreSent (scenario_of script) c (ticks_of a) a.tx.items) (sym taken) has.sent));
+            (subst (λ n. AreSent (scenario_by leg) (taken_of b) n a.tx.items) (sym call.rings.ticks)
+            (subst (λ c. AreSent (scenario_by leg) c (ticks_of a) a.tx.items) (sym taken) has.sent));
         made = ∥∥₁_map has.made
-            (λ made. subst (HasMade (source_of b) (landed_scenario script (counts_of b))) (sym taken)
+            (λ made. subst (HasMade (source_of b) (landed_scenario leg (counts_of b))) (sym taken)
             (subst (λ (s : Scenario). HasMade (source_of b) s cells)
-            (ap (λ b_. with_landed (landed_scenario script (counts_of a)) (ticks_of a) kind b_) landed
+            (ap (λ b_. with_landed (landed_scenario leg (counts_of a)) (ticks_of a) kind b_) landed
             ∙ next-is.scenario)
-            (call.made (landed_scenario script (counts_of a)) cells made)));
+            (call.made (landed_scenario leg (counts_of a)) cells made)));
       }
 
 room-taken : (answer : Option SubmitFault) (n m size : ℕ) → m + room_for answer size ≡ n → n ≤ m + size
 room-taken None n m size e = omega arith
 room-taken (Some fault) n m size e = omega arith
 
-pub bound-submits : (script : Script) (tx : List (RingOut Container)) (back : List (RingIn BackCell)) (a b : GroupState)
+pub bound-submits : (leg : Leg) (tx : List (RingOut Container)) (back : List (RingIn BackCell)) (a b : GroupState)
     (number : ℕ) (kind : ItemKind) (answer : Option SubmitFault) →
-    IsBound script tx back a → Submits a b number kind answer → IsItemOf script number kind → IsBound script tx back b
-bound-submits script tx back a b number kind answer is call is_item =
+    IsBound leg tx back a → Submits a b number kind answer → IsItemOf leg number kind → IsBound leg tx back b
+bound-submits leg tx back a b number kind answer is call is_item =
     elim (cases_Bool (has_landed answer)) [
-      | inr none ↦ subst (IsBound script tx back) (sym (call.unchanged none)) is
+      | inr none ↦ subst (IsBound leg tx back) (sym (call.unchanged none)) is
       | inl landed ↦
-          let next = next-is script a b number kind answer is.of_script is.landed call landed is_item in
+          let next = next-is leg a b number kind answer is.of_script is.landed call landed is_item in
           let slots = room-taken answer (slots_of a) (slots_of b) 1 call.room.slots in
           let bytes = room-taken answer (bytes_of a) (bytes_of b) (octet_count kind) call.room.bytes in
           let entries = is.room.entries in
@@ -490,10 +490,10 @@ bound-submits script tx back a b number kind answer is call is_item =
           let less = next.entries in
           let fewer = next.octets in
           record {
-            of_script = of-then script a b is.of_script call.script;
+            of_script = of-then leg a b is.of_script call.script;
             sends = subst (λ (v : Vec (RingOut Container)). SameOuts tx v.items) (sym call.rings.tx) is.sends;
             returns = subst (λ (end_ : RingIn BackCell). SameIns back (end_ ∷ [])) (sym call.rings.back) is.returns;
             room = record { entries = omega arith; octets = omega arith };
-            landed = landed-submits script a b number kind answer is.of_script is.landed call landed is_item;
+            landed = landed-submits leg a b number kind answer is.of_script is.landed call landed is_item;
           }
     ]

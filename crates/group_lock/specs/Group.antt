@@ -6,7 +6,7 @@ use Rattle.vc_cell.specs.declared.Container.{Container}
 use Rattle.vc_cell.specs.declared.BackCell.{BackCell}
 use Rattle.session_model.specs.declared.script.Item.{Item}
 use Rattle.session_model.specs.declared.script.ItemKind.{ItemKind}
-use Rattle.session_model.specs.declared.script.Script.{Script}
+use Rattle.session_model.specs.Leg.{Leg}
 use Rattle.session_model.specs.Scenario.{Scenario, offers_of, orders_of}
 use Rattle.session_model.specs.Table.{Told}
 use Rattle.session_model.specs.Sent.{container_of}
@@ -61,14 +61,14 @@ lost_of g = (parts_of g).inbox.lost
 abbrev pub items_of : GroupState → List Item
 items_of g = (parts_of g).landed.items
 
--- all that it keeps of its script is as in this script
-pub record IsOf (script : Script) (g : GroupState) : Type 0 where
-  pub lines : lines_of g ≡ script.config.lines
-  pub lag : lag_of g ≡ script.config.lag
-  pub size : size_of g ≡ script.config.size
-  pub total : total_of g ≡ script.config.ticks
-  pub lost : lost_of g ≡ script.config.lost
-  pub items : items_of g ≡ bare_items script.items
+-- all that it keeps of its script is as in this leg
+pub record IsOf (leg : Leg) (g : GroupState) : Type 0 where
+  pub lines : lines_of g ≡ leg.config.lines
+  pub lag : lag_of g ≡ leg.config.lag
+  pub size : size_of g ≡ leg.config.size
+  pub total : total_of g ≡ leg.config.ticks
+  pub lost : lost_of g ≡ leg.config.lost
+  pub items : items_of g ≡ bare_items leg.items
 
 -- both are of the same script
 pub record SameScript (a b : GroupState) : Type 0 where

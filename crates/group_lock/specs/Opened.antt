@@ -1,6 +1,6 @@
 -- What a group begins with.
 use Rattle.std.specs.Prelude.{◌≡◌, [], length}
-use Rattle.session_model.specs.declared.script.Script.{Script}
+use Rattle.session_model.specs.Leg.{Leg}
 use Rattle.session_model.specs.Scenario.{Scenario}
 use Rattle.source_core.specs.Given.{IsFresh, Stands as HasMade}
 use Rattle.group_lock.specs.declared.opening.Opened.{Opened}
@@ -9,15 +9,15 @@ use Rattle.group_source.specs.Source.{IsUnused}
 use Rattle.group_lock.specs.Group.{IsOf, lines_of, lag_of, size_of, ticks_of, frames_of, commands_of, journal_of}
 use Rattle.group_lock.specs.Group.{refusals_of, inbox_of, source_of}
 
--- the source of the script, an empty journal, and a box for each line
-pub record IsOpened (script : Script) (opened : Opened) : Type 0 where
-  pub source : IsUnused script opened.source
+-- the source of the leg, an empty journal, and a box for each line
+pub record IsOpened (leg : Leg) (opened : Opened) : Type 0 where
+  pub source : IsUnused leg opened.source
   pub journal : opened.journal.entries ≡ []
-  pub places : length opened.frame.items ≡ script.config.lines
+  pub places : length opened.frame.items ≡ leg.config.lines
 
--- a group of a script of which nothing has come
-pub record IsBegun (of_script : Script) (g : GroupState) : Type 0 where
-  pub script : IsOf of_script g
+-- a group of a leg of which nothing has come
+pub record IsBegun (leg : Leg) (g : GroupState) : Type 0 where
+  pub of_script : IsOf leg g
   pub ticks : ticks_of g ≡ 0
   pub landed : (frames_of g ≡ 0) × (commands_of g ≡ 0)
   pub journal : journal_of g ≡ []

@@ -1,6 +1,7 @@
 //! A group whose type says which session it belongs to.
 
 ghost use Rattle.std.specs.Prelude.{◌≡◌};
+ghost use Rattle.session_model.specs.Leg.{leg_of};
 ghost use Rattle.group_lock.specs.Session.{IsBound};
 
 use crate::answer::{SubmitFault, TickAnswer};
@@ -44,7 +45,7 @@ impl Session for Brand {
 pub struct BoundGroup<Y: Session> {
     state: GroupState,
     of: PhantomData<Y>,
-    ghost bound: { IsBound Y.script Y.tx Y.back state },
+    ghost bound: { IsBound (leg_of Y.script) Y.tx Y.back state },
 }
 
 impl<Y: Session> BoundGroup<Y> {
@@ -57,7 +58,7 @@ impl<Y: Session> BoundGroup<Y> {
 
     /// Binds a group to its session.
     pub fn new(state: GroupState) -> BoundGroup<Y>
-        requires { IsBound Y.script Y.tx Y.back state }
+        requires { IsBound (leg_of Y.script) Y.tx Y.back state }
         ensures { result.state ≡ state }
     {
         BoundGroup {
@@ -69,7 +70,7 @@ impl<Y: Session> BoundGroup<Y> {
     /// Lands an item, which is the one of this number in the session's script, as `GroupState::submit` does.
     /// The journal has room for it.
     pub fn submit(&mut self, number: u32, item: ItemRef) -> Result<(), SubmitFault>
-        requires { IsItemOf Y.script number (kind_of item) }
+        requires { IsItemOf (leg_of Y.script) number (kind_of item) }
         ensures submits { Submits self.old.state self.new.state number (kind_of item.entry)
             (refusal_in result) }
         ensures room { is_full (refusal_in result) ≡ false }
@@ -87,7 +88,7 @@ impl<Y: Session> BoundGroup<Y> {
     /// Gives back the group.
     pub fn into_state(self) -> GroupState
         ensures same { result ≡ self.state }
-        ensures bound { IsBound Y.script Y.tx Y.back result }
+        ensures bound { IsBound (leg_of Y.script) Y.tx Y.back result }
     {
         let BoundGroup { state, of: _ } = self;
         state

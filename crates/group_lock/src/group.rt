@@ -2,6 +2,7 @@
 
 ghost use Rattle.std.specs.Prelude.{◌≡◌, ◌↔◌, ◌+◌, ◌<◌, if◌then◌else◌, List, Option, None, length, drop, slice_get};
 ghost use Rattle.std.specs.Prelude.{IsSome, IfOk};
+ghost use Rattle.session_model.specs.Leg.{leg_of};
 ghost use Rattle.session_model.specs.Scenario.{Scenario};
 ghost use Rattle.source_core.specs.Given.{Stands as HasMade};
 ghost use Rattle.group_source.specs.Item.{kind_of};
@@ -66,7 +67,7 @@ impl GroupState {
         requires rings { length tx.items ≡ script.now.config.lines }
         requires sends { AreUnused tx.items }
         requires returns { in_passed back ≡ [] }
-        ensures script { IfOk result (λ g. IsOf script.now g) }
+        ensures script { IfOk result (λ g. IsOf (leg_of script.now) g) }
         ensures ticks { IfOk result (λ g. ticks_of g ≡ 0) }
         ensures landed { IfOk result (λ g. (frames_of g ≡ 0) × (commands_of g ≡ 0)) }
         ensures journal { IfOk result (λ g. journal_of g ≡ []) }
@@ -157,8 +158,8 @@ impl GroupState {
         requires rings { length tx.items ≡ script.now.config.lines }
         requires sends { AreUnused tx.items }
         requires returns { in_passed back ≡ [] }
-        requires opened { IsOpened script.now opened }
-        ensures begun { IsBegun script.now result }
+        requires opened { IsOpened (leg_of script.now) opened }
+        ensures begun { IsBegun (leg_of script.now) result }
         ensures room { (slots_of result ≡ opened.journal.slots)
             × (bytes_of result ≡ opened.journal.bytes) }
         ensures ends { (result.tx ≡ tx) × (result.back ≡ back) }

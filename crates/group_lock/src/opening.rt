@@ -1,6 +1,7 @@
 //! What a group begins with, but its ends of the rings.
 
 ghost use Rattle.std.specs.Prelude.{◌≡◌, length, IfOk};
+ghost use Rattle.session_model.specs.Leg.{leg_of};
 ghost use Rattle.session_model.specs.Valid.{IsValid};
 ghost use Rattle.group_lock.specs.Opened.{IsOpened};
 
@@ -27,7 +28,7 @@ pub(crate) fn open(
     bytes: u64,
 ) -> Result<Opened, AllocError>
     requires { IsValid script.now }
-    ensures opened { IfOk result (λ opened. IsOpened script.now opened) }
+    ensures opened { IfOk result (λ opened. IsOpened (leg_of script.now) opened) }
     ensures slots { IfOk result (λ opened. opened.journal.slots ≡ entries) }
     ensures bytes { IfOk result (λ opened. opened.journal.bytes ≡ bytes) }
 {

@@ -1,4 +1,4 @@
--- An item that lands: which item of its script it is, why it is refused, and what has landed with it.
+-- An item that lands: which item of its leg it is, why it is refused, and what has landed with it.
 use Rattle.std.proofs.Common.{◌≡◌, ℕ, suc, ◌+◌, ◌<◌, ◌≤◌, Bool, true, false, if◌then◌else◌, List, [], ◌∷◌}
 use Rattle.std.proofs.Common.{map, filter, fold, take, drop, length, slice_get, get_or, All, Option, Some, option_map}
 use Rattle.std.proofs.Common.{refl, sym, ◌∙◌, ap, subst, arith}
@@ -8,11 +8,11 @@ use Rattle.line_law.proofs.ListLaws.{take-next}
 use Rattle.session_model.specs.declared.script.Item.{Item}
 use Rattle.session_model.specs.declared.script.ItemKind.{ItemKind}
 use Rattle.session_model.specs.declared.script.ItemKind.TheVariants.{Frame, Add, Remove}
-use Rattle.session_model.specs.declared.script.Script.{Script}
+use Rattle.session_model.specs.Leg.{Leg}
 use Rattle.session_model.specs.declared.table.Command.{Command}
 use Rattle.session_model.specs.declared.table.Command.TheVariants.{Add as add, Remove as remove}
 use Rattle.session_model.specs.Scenario.{DueCommand, DueFrame, order_of, orders_of, offers_of}
-use Rattle.session_model.specs.Scenario.{scenario_of, steps_in, lands_at, comes_at}
+use Rattle.session_model.specs.Scenario.{scenario_by, steps_in, lands_at, comes_at}
 use Rattle.session_model.specs.Source.{Source, asked_all, refusal}
 use Rattle.session_model.specs.Client.{Stream, stream_before, frame_refusal, refusal_while, offered}
 use Rattle.session_model.specs.Course.{Course}
@@ -70,7 +70,7 @@ next-counts false s landed frames commands same more =
     ap (counts_with s landed.frames) (sym more)
     ∙ ap (λ n. counts_with s n commands) (let e : landed.frames ≡ frames = omega (arith, same) in e)
 
--- ---- the next item without its octets is the script's
+-- ---- the next item without its octets is the leg's
 module _ (items : List Item) (landed : Landed) (bared : landed.items ≡ bare_items items) where
   pub next-place : (client : Bool) → next_place landed client ≡ place_by client landed items
   next-place true =
@@ -134,166 +134,166 @@ order-here items commands number ticks kind order at is here =
       before = orders-size (take number items) ∙ ap (λ n. count_of is_command (take n items)) at ∙ found.1;
     }
 
--- ---- what has landed is the script's, up to the ticks made
-module _ (script : Script) (s : Counts) (ticks : ℕ)
-    (ahead : AreAhead (dues_of script.items) ticks s.frames s.commands) where
-  offers-after : All (λ (offer : DueFrame). ticks ≤ offer.due) (drop s.frames (offers_of script.items))
+-- ---- what has landed is the leg's, up to the ticks made
+module _ (leg : Leg) (s : Counts) (ticks : ℕ)
+    (ahead : AreAhead (dues_of leg.items) ticks s.frames s.commands) where
+  offers-after : All (λ (offer : DueFrame). ticks ≤ offer.due) (drop s.frames (offers_of leg.items))
   offers-after k d inside =
       let n : ℕ = s.frames + k in
-      let size = length-drop s.frames (offers_of script.items) in
-      let here : slice_get (frame_dues (dues_of script.items)) n ≡ Some (get_or (offers_of script.items) n d).due =
-      ap (λ l. slice_get l n) (frame-dues script.items) ∙ slice_get-map (λ (offer : DueFrame). offer.due)
-      (offers_of script.items) n
+      let size = length-drop s.frames (offers_of leg.items) in
+      let here : slice_get (frame_dues (dues_of leg.items)) n ≡ Some (get_or (offers_of leg.items) n d).due =
+      ap (λ l. slice_get l n) (frame-dues leg.items) ∙ slice_get-map (λ (offer : DueFrame). offer.due)
+      (offers_of leg.items) n
       ∙ ap (option_map (λ (offer : DueFrame). offer.due))
-      (slice_get-get_or (offers_of script.items) n d (omega arith)) in
-      let late = ahead.of_frames n (get_or (offers_of script.items) n d).due (omega arith) here in
-      subst (λ (offer : DueFrame). ticks ≤ offer.due) (sym (get_or-drop s.frames (offers_of script.items) k d)) late
+      (slice_get-get_or (offers_of leg.items) n d (omega arith)) in
+      let late = ahead.of_frames n (get_or (offers_of leg.items) n d).due (omega arith) here in
+      subst (λ (offer : DueFrame). ticks ≤ offer.due) (sym (get_or-drop s.frames (offers_of leg.items) k d)) late
 
-  orders-after : All (λ (order : DueCommand). ticks ≤ order.due) (drop s.commands (orders_of script.items))
+  orders-after : All (λ (order : DueCommand). ticks ≤ order.due) (drop s.commands (orders_of leg.items))
   orders-after k d inside =
       let n : ℕ = s.commands + k in
-      let size = length-drop s.commands (orders_of script.items) in
-      let here : slice_get (command_dues (dues_of script.items)) n ≡ Some (get_or (orders_of script.items) n d).due =
-      ap (λ l. slice_get l n) (command-dues script.items) ∙ slice_get-map (λ (order : DueCommand). order.due)
-      (orders_of script.items) n
+      let size = length-drop s.commands (orders_of leg.items) in
+      let here : slice_get (command_dues (dues_of leg.items)) n ≡ Some (get_or (orders_of leg.items) n d).due =
+      ap (λ l. slice_get l n) (command-dues leg.items) ∙ slice_get-map (λ (order : DueCommand). order.due)
+      (orders_of leg.items) n
       ∙ ap (option_map (λ (order : DueCommand). order.due))
-      (slice_get-get_or (orders_of script.items) n d (omega arith)) in
-      let late = ahead.of_commands n (get_or (orders_of script.items) n d).due (omega arith) here in
-      subst (λ (order : DueCommand). ticks ≤ order.due) (sym (get_or-drop s.commands (orders_of script.items) k d)) late
+      (slice_get-get_or (orders_of leg.items) n d (omega arith)) in
+      let late = ahead.of_commands n (get_or (orders_of leg.items) n d).due (omega arith) here in
+      subst (λ (order : DueCommand). ticks ≤ order.due) (sym (get_or-drop s.commands (orders_of leg.items) k d)) late
 
   pub landed-alike : (cells : List (Option Told)) →
-      Alike (landed_scenario script s) cells (scenario_of script) cells ticks
+      Alike (landed_scenario leg s) cells (scenario_by leg) cells ticks
   landed-alike cells =
-      alike-landed (landed_scenario script s) (scenario_of script) cells cells ticks
-      (first-alike (scenario_of script) s.commands s.frames ticks orders-after offers-after) refl
+      alike-landed (landed_scenario leg s) (scenario_by leg) cells cells ticks
+      (first-alike (scenario_by leg) s.commands s.frames ticks orders-after offers-after) refl
 
--- ---- what the source says of it is what the script says
-met-frame : (core : Terminal) (script : Script) (s : Counts) (cells : List (Option Told)) (number : ℕ)
-    (octets : List ℕ) → HasMade core (landed_scenario script s) cells →
-    Alike (landed_scenario script s) cells (scenario_of script) cells core.ticks → offers_of (take number script.items)
-    ≡ take s.frames (offers_of script.items) →
-    met_by core (Frame octets) ≡ kind_refusal (scenario_of script) cells core.ticks (take number script.items)
+-- ---- what the source says of it is what the leg says
+met-frame : (core : Terminal) (leg : Leg) (s : Counts) (cells : List (Option Told)) (number : ℕ)
+    (octets : List ℕ) → HasMade core (landed_scenario leg s) cells →
+    Alike (landed_scenario leg s) cells (scenario_by leg) cells core.ticks → offers_of (take number leg.items)
+    ≡ take s.frames (offers_of leg.items) →
+    met_by core (Frame octets) ≡ kind_refusal (scenario_by leg) cells core.ticks (take number leg.items)
     (Frame octets)
-met-frame core script s cells number octets made alike earlier =
+met-frame core leg s cells number octets made alike earlier =
     ap (λ (waiting : List (List ℕ)). option_map frame_refused (refusal_while waiting octets)) made.stream.waits
     ∙ ap (λ (stream : Stream). option_map frame_refused
     (frame_refusal octets
     (fold offered stream
-    (map (λ (offer : DueFrame). offer.frame) (filter (comes_at core.ticks) (take s.frames (offers_of script.items)))))))
-    (alike-stream (landed_scenario script s) cells (scenario_of script) cells core.ticks alike)
+    (map (λ (offer : DueFrame). offer.frame) (filter (comes_at core.ticks) (take s.frames (offers_of leg.items)))))))
+    (alike-stream (landed_scenario leg s) cells (scenario_by leg) cells core.ticks alike)
     ∙ ap (λ (offers : List DueFrame). kind_met offers) (sym earlier)
   where
     kind_met : List DueFrame → Option Refusal
     kind_met offers =
         option_map frame_refused (frame_refusal octets
-        (fold offered (stream_before (scenario_of script) cells core.ticks)
+        (fold offered (stream_before (scenario_by leg) cells core.ticks)
         (map (λ (offer : DueFrame). offer.frame) (filter (comes_at core.ticks) offers))))
 
-met-command : (core : Terminal) (script : Script) (s : Counts) (cells : List (Option Told)) (number : ℕ)
-    (command : Command) → HasMade core (landed_scenario script s) cells →
-    Alike (landed_scenario script s) cells (scenario_of script) cells core.ticks → orders_of (take number script.items)
-    ≡ take s.commands (orders_of script.items) →
+met-command : (core : Terminal) (leg : Leg) (s : Counts) (cells : List (Option Told)) (number : ℕ)
+    (command : Command) → HasMade core (landed_scenario leg s) cells →
+    Alike (landed_scenario leg s) cells (scenario_by leg) cells core.ticks → orders_of (take number leg.items)
+    ≡ take s.commands (orders_of leg.items) →
     option_map command_refused (refusal core.lines command core.table.source)
     ≡ option_map command_refused
-    (refusal (length script.config.windows) command
-    (source_met (scenario_of script) cells core.ticks (orders_of (take number script.items))))
-met-command core script s cells number command made alike earlier =
+    (refusal (length leg.config.windows) command
+    (source_met (scenario_by leg) cells core.ticks (orders_of (take number leg.items))))
+met-command core leg s cells number command made alike earlier =
     ap (λ n. option_map command_refused (refusal n command core.table.source)) made.lines
     ∙ ap (λ (course : Course). option_map command_refused
-    (refusal (length script.config.windows) command course.source)) made.table
+    (refusal (length leg.config.windows) command course.source)) made.table
     ∙ ap (λ (source : Source). option_map command_refused
-    (refusal (length script.config.windows) command
-    (asked_all (length script.config.windows)
+    (refusal (length leg.config.windows) command
+    (asked_all (length leg.config.windows)
     (map (λ (order : DueCommand). order.command)
-    (filter (lands_at (steps_in core.ticks)) (take s.commands (orders_of script.items)))) source)))
-    (alike-after (landed_scenario script s) cells (scenario_of script) cells core.ticks (steps_in core.ticks) alike
+    (filter (lands_at (steps_in core.ticks)) (take s.commands (orders_of leg.items)))) source)))
+    (alike-after (landed_scenario leg s) cells (scenario_by leg) cells core.ticks (steps_in core.ticks) alike
     (omega arith))
     ∙ ap (λ (orders : List DueCommand). option_map command_refused
-    (refusal (length script.config.windows) command (source_met (scenario_of script) cells core.ticks orders)))
+    (refusal (length leg.config.windows) command (source_met (scenario_by leg) cells core.ticks orders)))
     (sym earlier)
 
 -- why it is refused, whatever return cells were taken
-pub met-item : (script : Script) (s : Counts) (landed : Landed) (core : Terminal) (cells : List (Option Told))
-    (number : ℕ) (kind : ItemKind) → landed.items ≡ bare_items script.items →
+pub met-item : (leg : Leg) (s : Counts) (landed : Landed) (core : Terminal) (cells : List (Option Told))
+    (number : ℕ) (kind : ItemKind) → landed.items ≡ bare_items leg.items →
     AreAhead (dues_of landed.items) core.ticks landed.frames landed.commands →
-    HasMade core (landed_scenario script (counts_by s landed)) cells →
+    HasMade core (landed_scenario leg (counts_by s landed)) cells →
     next_number landed (is_client kind) ≡ Some number →
-    slice_get script.items number ≡ Some (record { due = core.ticks; kind = kind }) →
-    met_by core kind ≡ kind_refusal (scenario_of script) cells core.ticks (take number script.items) kind
-met-item script s landed core cells number kind bared ahead made next here =
-    by-kind kind (next-there script.items landed bared (is_client kind) number next).0 here
+    slice_get leg.items number ≡ Some (record { due = core.ticks; kind = kind }) →
+    met_by core kind ≡ kind_refusal (scenario_by leg) cells core.ticks (take number leg.items) kind
+met-item leg s landed core cells number kind bared ahead made next here =
+    by-kind kind (next-there leg.items landed bared (is_client kind) number next).0 here
   where
-    alike : Alike (landed_scenario script (counts_by s landed)) cells (scenario_of script) cells core.ticks
-    alike = landed-alike script (counts_by s landed) core.ticks
+    alike : Alike (landed_scenario leg (counts_by s landed)) cells (scenario_by leg) cells core.ticks
+    alike = landed-alike leg (counts_by s landed) core.ticks
         (subst (λ dues. AreAhead dues core.ticks landed.frames landed.commands)
-        (ap dues_of bared ∙ bare-dues script.items) ahead) cells
+        (ap dues_of bared ∙ bare-dues leg.items) ahead) cells
 
-    by-command : (kind : ItemKind) (command : Command) → number ≡ place_by false landed script.items →
+    by-command : (kind : ItemKind) (command : Command) → number ≡ place_by false landed leg.items →
         order_of core.ticks kind ≡ record { due = core.ticks; command = command } ∷ [] →
-        slice_get script.items number ≡ Some (record { due = core.ticks; kind = kind }) →
+        slice_get leg.items number ≡ Some (record { due = core.ticks; kind = kind }) →
         option_map command_refused (refusal core.lines command core.table.source)
-        ≡ option_map command_refused (refusal (length script.config.windows) command
-        (source_met (scenario_of script) cells core.ticks (orders_of (take number script.items))))
+        ≡ option_map command_refused (refusal (length leg.config.windows) command
+        (source_met (scenario_by leg) cells core.ticks (orders_of (take number leg.items))))
     by-command kind command at is here =
         let order : DueCommand = record { due = core.ticks; command = command } in
-        let found = order-at script.items landed.commands (numbered number core.ticks kind) order
-        (order-here script.items landed.commands number core.ticks kind order at is here) in
-        met-command core script (counts_by s landed) cells number command made alike found.1
+        let found = order-at leg.items landed.commands (numbered number core.ticks kind) order
+        (order-here leg.items landed.commands number core.ticks kind order at is here) in
+        met-command core leg (counts_by s landed) cells number command made alike found.1
 
-    by-kind : (kind : ItemKind) → number ≡ place_by (is_client kind) landed script.items →
-        slice_get script.items number ≡ Some (record { due = core.ticks; kind = kind }) →
-        met_by core kind ≡ kind_refusal (scenario_of script) cells core.ticks (take number script.items) kind
+    by-kind : (kind : ItemKind) → number ≡ place_by (is_client kind) landed leg.items →
+        slice_get leg.items number ≡ Some (record { due = core.ticks; kind = kind }) →
+        met_by core kind ≡ kind_refusal (scenario_by leg) cells core.ticks (take number leg.items) kind
     by-kind (Frame octets) at here =
-        let found = offer-at script.items landed.frames (numbered number core.ticks (Frame octets))
+        let found = offer-at leg.items landed.frames (numbered number core.ticks (Frame octets))
         (record { due = core.ticks; frame = octets })
-        (offer-here script.items landed.frames number core.ticks octets at here) in
-        met-frame core script (counts_by s landed) cells number octets made alike found.1
+        (offer-here leg.items landed.frames number core.ticks octets at here) in
+        met-frame core leg (counts_by s landed) cells number octets made alike found.1
     by-kind (Add line) at here = by-command (Add line) (add line) at refl here
     by-kind (Remove line) at here = by-command (Remove line) (remove line) at refl here
 
 -- ---- what has landed with it: the item is put among the others, and the session has one offer, or one order, more
-pub record Leaves (script : Script) (was now : Counts) (item : Numbered) : Type 0 where
-  pub inserted : IsInserted item (landed_items script was) (landed_items script now)
-  pub scenario : with_kind (landed_scenario script was) item.item.due item.item.kind ≡ landed_scenario script now
+pub record Leaves (leg : Leg) (was now : Counts) (item : Numbered) : Type 0 where
+  pub inserted : IsInserted item (landed_items leg was) (landed_items leg now)
+  pub scenario : with_kind (landed_scenario leg was) item.item.due item.item.kind ≡ landed_scenario leg now
 
-leaves-command : (script : Script) (s : Counts) (landed : Landed) (number ticks : ℕ) (kind : ItemKind)
-    (command : Command) → number ≡ place_by false landed script.items →
+leaves-command : (leg : Leg) (s : Counts) (landed : Landed) (number ticks : ℕ) (kind : ItemKind)
+    (command : Command) → number ≡ place_by false landed leg.items →
     order_of ticks kind ≡ record { due = ticks; command = command } ∷ [] →
-    slice_get script.items number ≡ Some (record { due = ticks; kind = kind }) →
-    IsInserted (numbered number ticks kind) (landed_items script (counts_by s landed))
-    (landed_items script (next_by false s landed))
-    × (with_command (landed_scenario script (counts_by s landed)) ticks command
-    ≡ landed_scenario script (next_by false s landed))
-leaves-command script s landed number ticks kind command at is here =
+    slice_get leg.items number ≡ Some (record { due = ticks; kind = kind }) →
+    IsInserted (numbered number ticks kind) (landed_items leg (counts_by s landed))
+    (landed_items leg (next_by false s landed))
+    × (with_command (landed_scenario leg (counts_by s landed)) ticks command
+    ≡ landed_scenario leg (next_by false s landed))
+leaves-command leg s landed number ticks kind command at is here =
     let order : DueCommand = record { due = ticks; command = command } in
-    let there = order-here script.items landed.commands number ticks kind order at is here in
-    let found = (order-at script.items landed.commands (numbered number ticks kind) order there).0 in
+    let there = order-here leg.items landed.commands number ticks kind order at is here in
+    let found = (order-at leg.items landed.commands (numbered number ticks kind) order there).0 in
     let up : suc landed.commands ≡ landed.commands + 1 = omega arith in (
-      landed-command script (counts_by s landed) (numbered number ticks kind) order there,
-      ap (λ (l : List DueCommand). with_items (scenario_of script) l (take landed.frames (offers_of script.items)))
-          (sym (take-next (orders_of script.items) landed.commands order found)
-          ∙ ap (λ n. take n (orders_of script.items)) up),
+      landed-command leg (counts_by s landed) (numbered number ticks kind) order there,
+      ap (λ (l : List DueCommand). with_items (scenario_by leg) l (take landed.frames (offers_of leg.items)))
+          (sym (take-next (orders_of leg.items) landed.commands order found)
+          ∙ ap (λ n. take n (orders_of leg.items)) up),
     )
 
-pub leaves : (script : Script) (s : Counts) (landed : Landed) (number ticks : ℕ) (kind : ItemKind) →
-    number ≡ place_by (is_client kind) landed script.items →
-    slice_get script.items number ≡ Some (record { due = ticks; kind = kind }) →
-    Leaves script (counts_by s landed) (next_by (is_client kind) s landed) (numbered number ticks kind)
-leaves script s landed number ticks (Frame octets) at here =
+pub leaves : (leg : Leg) (s : Counts) (landed : Landed) (number ticks : ℕ) (kind : ItemKind) →
+    number ≡ place_by (is_client kind) landed leg.items →
+    slice_get leg.items number ≡ Some (record { due = ticks; kind = kind }) →
+    Leaves leg (counts_by s landed) (next_by (is_client kind) s landed) (numbered number ticks kind)
+leaves leg s landed number ticks (Frame octets) at here =
     let offer : DueFrame = record { due = ticks; frame = octets } in
-    let is = offer-here script.items landed.frames number ticks octets at here in
-    let there = (offer-at script.items landed.frames (numbered number ticks (Frame octets)) offer is).0 in
+    let is = offer-here leg.items landed.frames number ticks octets at here in
+    let there = (offer-at leg.items landed.frames (numbered number ticks (Frame octets)) offer is).0 in
     let up : suc landed.frames ≡ landed.frames + 1 = omega arith in
     record {
-      inserted = landed-frame script (counts_by s landed) (numbered number ticks (Frame octets)) offer is;
-      scenario = ap (λ (l : List DueFrame). with_items (scenario_of script)
-          (take landed.commands (orders_of script.items)) l)
-          (sym (take-next (offers_of script.items) landed.frames offer there)
-          ∙ ap (λ n. take n (offers_of script.items)) up);
+      inserted = landed-frame leg (counts_by s landed) (numbered number ticks (Frame octets)) offer is;
+      scenario = ap (λ (l : List DueFrame). with_items (scenario_by leg)
+          (take landed.commands (orders_of leg.items)) l)
+          (sym (take-next (offers_of leg.items) landed.frames offer there)
+          ∙ ap (λ n. take n (offers_of leg.items)) up);
     }
-leaves script s landed number ticks (Add line) at here =
-    let (put, told) = leaves-command script s landed number ticks (Add line) (add line) at refl here in
+leaves leg s landed number ticks (Add line) at here =
+    let (put, told) = leaves-command leg s landed number ticks (Add line) (add line) at refl here in
     record { inserted = put; scenario = told }
-leaves script s landed number ticks (Remove line) at here =
-    let (put, told) = leaves-command script s landed number ticks (Remove line) (remove line) at refl here in
+leaves leg s landed number ticks (Remove line) at here =
+    let (put, told) = leaves-command leg s landed number ticks (Remove line) (remove line) at refl here in
     record { inserted = put; scenario = told }

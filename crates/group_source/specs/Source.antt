@@ -2,7 +2,7 @@
 use Rattle.std.specs.Prelude.{◌≡◌, ℕ, nat_le, if◌then◌else◌, List, [], ◌∷◌, Option, Some, None, option_map}
 use Rattle.vc_cell.specs.declared.BackCell.{BackCell}
 use Rattle.session_model.specs.declared.script.Config.{Config}
-use Rattle.session_model.specs.declared.script.Script.{Script}
+use Rattle.session_model.specs.Leg.{Leg}
 use Rattle.session_model.specs.Scenario.{Scenario}
 use Rattle.session_model.specs.Counts.{dues_of, held}
 use Rattle.source_core.specs.Terminal.{Terminal, needed}
@@ -28,12 +28,12 @@ pub record IsUnusedCore (config : Config) (core : Terminal) : Type 0 where
   pub ticks : core.ticks ≡ 0
   pub made : (scenario : Scenario) → IsFresh scenario config.lines config.lag config.size → HasMade core scenario []
 
--- the source side of a script, of which nothing has come
-pub record IsUnused (script : Script) (source : Source) : Type 0 where
-  pub core : IsUnusedCore script.config source.core
-  pub total : source.total ≡ script.config.ticks
-  pub landed : source.landed ≡ none_landed (bare_items script.items)
-  pub inbox : source.inbox ≡ empty_inbox script.config.lost script.config.lag
+-- the source side of a leg, of which nothing has come
+pub record IsUnused (leg : Leg) (source : Source) : Type 0 where
+  pub core : IsUnusedCore leg.config source.core
+  pub total : source.total ≡ leg.config.ticks
+  pub landed : source.landed ≡ none_landed (bare_items leg.items)
+  pub inbox : source.inbox ≡ empty_inbox leg.config.lost leg.config.lag
 
 -- ---- why no frame is made
 -- the least item that is due now and hasn't landed

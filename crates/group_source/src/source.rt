@@ -4,6 +4,7 @@ ghost use Rattle.std.specs.Prelude.{◌≡◌, ◌+◌, ◌<◌, ◌≤◌, ◌&
 ghost use Rattle.std.specs.Prelude.{slice_get, IsSome, IfOk};
 ghost use Rattle.std.specs.Option.{is_some};
 ghost use Rattle.vc_cell.specs.Held.{held};
+ghost use Rattle.session_model.specs.Leg.{leg_of};
 ghost use Rattle.session_model.specs.Scenario.{Scenario, steps_in};
 ghost use Rattle.session_model.specs.Table.{Told};
 ghost use Rattle.session_model.specs.Sent.{frame_of};
@@ -67,7 +68,7 @@ impl GroupSource {
     /// The source side of a script, of which nothing has landed.
     pub fn new(alloc: Global, script: &Script) -> Result<GroupSource, AllocError>
         requires { IsValid script.now }
-        ensures { IfOk result (λ source. IsUnused script.now source) }
+        ensures { IfOk result (λ source. IsUnused (leg_of script.now) source) }
     {
         Ok(GroupSource {
             inbox: Inbox::new(alloc, lost_of(script), script.config.lag)?,

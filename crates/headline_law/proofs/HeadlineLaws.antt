@@ -5,6 +5,7 @@ use Rattle.outside_io.specs.Transfer.{Appends}
 use Rattle.session_model.specs.declared.script.Script.{Script}
 use Rattle.session_model.specs.Counts.{begin, walked}
 use Rattle.session_model.specs.Valid.{IsValid}
+use Rattle.session_model.specs.Leg.{leg_of}
 use Rattle.script_read.specs.Script.{script_of}
 use Rattle.script_read.proofs.ReadLaws.{valid_text}
 use Rattle.progress_law.proofs.ReachLaws.{walked-reached}
@@ -12,7 +13,7 @@ use Rattle.walk_law.specs.Walk.{walk_plan}
 use Rattle.walk_law.specs.Landed.{landed_items}
 use Rattle.walk_law.specs.Promise.{numbered}
 use Rattle.walk_law.specs.Report.{report_of, final_report}
-use Rattle.walk_law.proofs.PlanLaws.{valid-walks}
+use Rattle.walk_law.proofs.PlanLaws.{sound-walks}
 use Rattle.walk_law.proofs.WalkLaws.{begins-walked}
 use Rattle.walk_law.proofs.EndLaws.{counts-within, drained-report}
 use Rattle.headline_law.specs.Texts.{counts_in, walk_text}
@@ -22,23 +23,27 @@ use Rattle.headline_law.proofs.ReportLaws.{is_headline}
 -- a walk takes no row beyond the ticks
 few-rows : (script : Script) → IsValid script → (counts_in script).rows ≤ script.config.ticks
 few-rows script valid =
-    let within = counts-within script (counts_in script) (valid-walks script valid)
-    (walked-reached (walk_plan script) script.events) in
+    let within = counts-within (leg_of script) (counts_in script) (sound-walks (leg_of script) valid.sound)
+    (walked-reached (walk_plan (leg_of script)) script.events) in
     omega (arith, within.0, within.1)
 
 pub walk_headline : (text : List ℕ) (script : Script) → length text ≤ 67108864 → script_of text ≡ Ok script →
     IsWalkHeadline text (walk_text script)
 walk_headline text script short said =
     let valid = valid_text text script short said in
-    let s = counts_in script in
-    (script, said, is_headline script s.ticks s.rows (landed_items script s) valid (few-rows script valid))
+    let s = counts_in script in (
+      script,
+      said,
+      is_headline (leg_of script) s.ticks s.rows (landed_items (leg_of script) s) valid.sound
+          (few-rows script valid),
+    )
 
 pub run_headline : (text : List ℕ) (script : Script) → length text ≤ 67108864 → script_of text ≡ Ok script →
-    IsRunHeadline text (final_report script)
+    IsRunHeadline text (final_report (leg_of script))
 run_headline text script short said =
     let valid = valid_text text script short said in
     let all = script.config.ticks in
-    (script, said, is_headline script all all (numbered 0 script.items) valid (omega arith))
+    (script, said, is_headline (leg_of script) all all (numbered 0 script.items) valid.sound (omega arith))
 
 -- ---- from what a command has appended
 pub walk_written : {K : Type 0} (written : K → Option (List ℕ)) (faults : K → ℕ) (old new : K) (text : List ℕ) →
@@ -50,15 +55,16 @@ walk_written written faults old new text short is =
 
 pub run_written : {K : Type 0} (written : K → Option (List ℕ)) (faults : K → ℕ) (old new : K) (text : List ℕ) →
     length text ≤ 67108864 →
-    (script : Script) × (script_of text ≡ Ok script) × Appends written faults old new (final_report script) →
+    (script : Script) × (script_of text ≡ Ok script) × Appends written faults old new (final_report (leg_of script)) →
     WritesHeadline IsRunHeadline written faults old new text
 run_written written faults old new text short is =
-    record { report = final_report is.0; is = run_headline text is.0 short is.1; appended = is.2 }
+    record { report = final_report (leg_of is.0); is = run_headline text is.0 short is.1; appended = is.2 }
 
 -- ---- without event lines
 pub walk-same : (text : List ℕ) (script : Script) → length text ≤ 67108864 → script_of text ≡ Ok script →
     script.events ≡ [] →
-    walk_text script ≡ final_report script
+    walk_text script ≡ final_report (leg_of script)
 walk-same text script short said none =
-    ap (λ events. report_of script (walked (walk_plan script) events)) none
-    ∙ drained-report script (begin (walk_plan script)) (valid_text text script short said) (begins-walked script)
+    ap (λ events. report_of (leg_of script) (walked (walk_plan (leg_of script)) events)) none
+    ∙ drained-report (leg_of script) (begin (walk_plan (leg_of script))) (valid_text text script short said).sound
+    (begins-walked (leg_of script))

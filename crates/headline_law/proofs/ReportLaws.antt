@@ -3,13 +3,13 @@ use Rattle.std.proofs.Common.{◌≡◌, ◌⊎◌, ℕ, ◌+◌, ◌<◌, ◌�
 use Rattle.std.proofs.Common.{slice_index_or, All, refl, sym, ◌∙◌, ap, arith, inl, inr}
 use Rattle.std.specs.Prelude.{◌&&◌, ◌||◌}
 use Rattle.std.proofs.lemmas.Bool.{cases_Bool, and_parts, not-true, leb-true, le-leb}
-use Rattle.session_model.specs.declared.script.Script.{Script}
-use Rattle.session_model.specs.Scenario.{Scenario, scenario_of}
+use Rattle.session_model.specs.Leg.{Leg}
+use Rattle.session_model.specs.Scenario.{Scenario, scenario_by}
 use Rattle.session_model.specs.Back.{session_cells}
 use Rattle.session_model.specs.Segment.{StreamRow, Segment, segments, octets_of_rows}
 use Rattle.session_model.specs.SessionStream.{rows_of}
 use Rattle.session_model.specs.Loss.{Extent, is_carried, lies_in, is_frame_lost}
-use Rattle.session_model.specs.Valid.{IsValid}
+use Rattle.session_model.specs.Valid.{IsSound}
 use Rattle.report_text.specs.Report.{got_texts, total_text}
 use Rattle.loss_law.specs.Carried.{IsUndamaged}
 use Rattle.loss_law.proofs.CutLaws.{Stands-all}
@@ -23,72 +23,72 @@ use Rattle.walk_law.specs.Landed.{Numbered, refusals_among, totals_among}
 use Rattle.walk_law.specs.Promise.{session_pieces, session_extents, place_after, HasNoFailure, AreWholeBefore}
 use Rattle.walk_law.specs.Promise.{ConfirmsTrue}
 use Rattle.walk_law.specs.Report.{refused_texts, report_among}
-use Rattle.walk_law.proofs.PlanLaws.{valid-walks}
+use Rattle.walk_law.proofs.PlanLaws.{sound-walks}
 use Rattle.walk_law.proofs.PromiseLaws.{frames-kept, frames-known}
 use Rattle.walk_law.proofs.WholeLaws.{whole-starts}
 use Rattle.headline_law.specs.Headline.{ComesThrough, ArePicked, Reports, IsHeadline}
 
 -- ---- which frames come through
-module _ (script : Script) (rows : ℕ) (low : rows ≤ script.config.ticks) where
+module _ (leg : Leg) (rows : ℕ) (low : rows ≤ leg.config.ticks) where
   abbrev parts : List Segment
-  parts = segments (session_rows script rows)
+  parts = segments (session_rows leg rows)
 
   abbrev octets : List ℕ
-  octets = octets_of_rows (session_rows script rows)
+  octets = octets_of_rows (session_rows leg rows)
 
   -- the test by which frames are kept
   abbrev is_kept : Extent → Bool
-  is_kept e = is_carried (length octets) e && not (is_frame_lost parts (session_extents script) e)
+  is_kept e = is_carried (length octets) e && not (is_frame_lost parts (session_extents leg) e)
 
-  ends : length octets ≡ place_after script rows
-  ends = rows-length (scenario_of script) (session_cells (scenario_of script)) rows script.config.ticks low
+  ends : length octets ≡ place_after leg rows
+  ends = rows-length (scenario_by leg) (session_cells (scenario_by leg)) rows leg.config.ticks low
 
-  comes : (e : Extent) → e.from < e.to → e.to ≤ place_after script rows →
-      is_frame_lost parts (session_extents script) e ≡ false →
-      ComesThrough script rows e
+  comes : (e : Extent) → e.from < e.to → e.to ≤ place_after leg rows →
+      is_frame_lost parts (session_extents leg) e ≡ false →
+      ComesThrough leg rows e
   comes e long carried kept =
-      let order = (Stands-all (session_rows script rows)).order in
+      let order = (Stands-all (session_rows leg rows)).order in
       record {
         carried = carried;
-        kept = λ lost. (let wrong : true ≡ false = sym (lost_of (session_extents script) e parts long order lost)
+        kept = λ lost. (let wrong : true ≡ false = sym (lost_of (session_extents leg) e parts long order lost)
             ∙ kept in cc);
       }
 
-  through : (e : Extent) → e.from < e.to → is_kept e ≡ true → ComesThrough script rows e
+  through : (e : Extent) → e.from < e.to → is_kept e ≡ true → ComesThrough leg rows e
   through e long is =
-      let halves = and_parts (is_carried (length octets) e) (not (is_frame_lost parts (session_extents script) e)) is in
+      let halves = and_parts (is_carried (length octets) e) (not (is_frame_lost parts (session_extents leg) e)) is in
       let carried = leb-true e.to (length octets) halves.0 in
-      comes e long (omega (arith, carried, ends)) (not-true (is_frame_lost parts (session_extents script) e) halves.1)
+      comes e long (omega (arith, carried, ends)) (not-true (is_frame_lost parts (session_extents leg) e) halves.1)
 
-  back : (e : Extent) → ComesThrough script rows e → is_kept e ≡ true
+  back : (e : Extent) → ComesThrough leg rows e → is_kept e ≡ true
   back e is =
       let fits = is.carried in
       let carried : is_carried (length octets) e ≡ true = le-leb e.to (length octets) (omega (arith, fits, ends)) in
-      elim (cases_Bool (is_frame_lost parts (session_extents script) e)) [
-        | inl lost ↦ absurd (is.kept (way_of (session_extents script) e parts lost))
+      elim (cases_Bool (is_frame_lost parts (session_extents leg) e)) [
+        | inl lost ↦ absurd (is.kept (way_of (session_extents leg) e parts lost))
         | inr kept ↦ rw (carried, kept) refl
       ]
 
-  kept-picked : ArePicked (ComesThrough script rows) (session_extents script) (filter is_kept (session_extents script))
+  kept-picked : ArePicked (ComesThrough leg rows) (session_extents leg) (filter is_kept (session_extents leg))
   kept-picked = record {
     test = is_kept;
     decides = λ i d inside. (
-      through (slice_index_or (session_extents script) i d) (extents-between 0 (session_pieces script) i d inside).size,
-      back (slice_index_or (session_extents script) i d),
+      through (slice_index_or (session_extents leg) i d) (extents-between 0 (session_pieces leg) i d inside).size,
+      back (slice_index_or (session_extents leg) i d),
     );
     are = refl;
   }
 
-  reports : (ticks : ℕ) (items : List Numbered) → IsValid script → ConfirmsTrue script rows →
-      Reports script ticks rows items (report_among script ticks rows items)
-  reports ticks items valid starts = record {
-    accepted = sym (frames-known script valid);
-    through = filter is_kept (session_extents script);
+  reports : (ticks : ℕ) (items : List Numbered) → IsSound leg → ConfirmsTrue leg rows →
+      Reports leg ticks rows items (report_among leg ticks rows items)
+  reports ticks items sound starts = record {
+    accepted = sym (frames-known leg sound);
+    through = filter is_kept (session_extents leg);
     picked = kept-picked;
     lines = ap
-        (λ frames. got_texts frames ++ refused_texts (refusals_among script items)
-        ++ total_text (totals_among script ticks rows items))
-        (frames-kept script rows valid low starts);
+        (λ frames. got_texts frames ++ refused_texts (refusals_among leg items)
+        ++ total_text (totals_among leg ticks rows items))
+        (frames-kept leg rows sound low starts);
   }
 
 -- ---- where each row is whole, no frame is lost that they carry
@@ -102,39 +102,39 @@ whole-kept rows all e whole fits =
     ap (λ (parts : List Segment). is_frame_lost parts all e) (only_segment rows whole)
     ∙ ap (λ b. not ((b && true) || false)) lies
 
-module _ (script : Script) (valid : IsValid script) (none : HasNoFailure script) where
+module _ (leg : Leg) (sound : IsSound leg) (none : HasNoFailure leg) where
   abbrev scenario : Scenario
-  scenario = scenario_of script
+  scenario = scenario_by leg
 
   fine : IsUndamaged scenario
-  fine = record { some_line = (valid-walks script valid).some; none = none }
+  fine = record { some_line = (sound-walks leg sound).some; none = none }
 
-  whole : (rows : ℕ) → AreWholeBefore script rows
+  whole : (rows : ℕ) → AreWholeBefore leg rows
   whole rows t inside = undamaged-whole scenario (session_cells scenario) t fine
 
   each-whole : (rows : ℕ) → All IsWhole (rows_of scenario (session_cells scenario) rows)
   each-whole rows = rows-whole scenario (session_cells scenario) rows (whole rows)
 
-  none-starts : (rows : ℕ) → ConfirmsTrue script rows
-  none-starts rows = whole-starts script rows (whole rows)
+  none-starts : (rows : ℕ) → ConfirmsTrue leg rows
+  none-starts rows = whole-starts leg rows (whole rows)
 
-  none-lost : (rows : ℕ) → rows ≤ script.config.ticks →
-      All (λ (frame : Extent). frame.to ≤ place_after script rows → ComesThrough script rows frame)
-      (session_extents script)
+  none-lost : (rows : ℕ) → rows ≤ leg.config.ticks →
+      All (λ (frame : Extent). frame.to ≤ place_after leg rows → ComesThrough leg rows frame)
+      (session_extents leg)
   none-lost rows low i d inside carried =
-      let e : Extent = slice_index_or (session_extents script) i d in
-      comes script rows low e (extents-between 0 (session_pieces script) i d inside).size carried
-      (whole-kept (session_rows script rows) (session_extents script) e (each-whole rows)
-      (omega (arith, carried, ends script rows low)))
+      let e : Extent = slice_index_or (session_extents leg) i d in
+      comes leg rows low e (extents-between 0 (session_pieces leg) i d inside).size carried
+      (whole-kept (session_rows leg rows) (session_extents leg) e (each-whole rows)
+      (omega (arith, carried, ends leg rows low)))
 
 -- ---- the headline
-pub is_headline : (script : Script) (ticks rows : ℕ) (items : List Numbered) → IsValid script →
-    rows ≤ script.config.ticks →
-    IsHeadline script ticks rows items (report_among script ticks rows items)
-is_headline script ticks rows items valid low =
-    let starts-true : HasNoFailure script ⊎ ConfirmsTrue script rows → ConfirmsTrue script rows = λ premise.
-    elim premise [ inl none ↦ none-starts script valid none rows | inr starts ↦ starts ] in
+pub is_headline : (leg : Leg) (ticks rows : ℕ) (items : List Numbered) → IsSound leg →
+    rows ≤ leg.config.ticks →
+    IsHeadline leg ticks rows items (report_among leg ticks rows items)
+is_headline leg ticks rows items sound low =
+    let starts-true : HasNoFailure leg ⊎ ConfirmsTrue leg rows → ConfirmsTrue leg rows = λ premise.
+    elim premise [ inl none ↦ none-starts leg sound none rows | inr starts ↦ starts ] in
     record {
-      tells = λ premise. reports script rows low ticks items valid (starts-true premise);
-      hitless = λ none. none-lost script valid none rows low;
+      tells = λ premise. reports leg rows low ticks items sound (starts-true premise);
+      hitless = λ none. none-lost leg sound none rows low;
     }

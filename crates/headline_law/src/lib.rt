@@ -9,6 +9,7 @@ ghost use Rattle.walk_law.specs.Report.{final_report};
 ghost use Rattle.headline_law.specs.Texts.{walk_text};
 ghost use Rattle.headline_law.specs.Headline.{IsWalkHeadline, IsRunHeadline};
 ghost use Rattle.session_model.specs.Limits.{longest_input};
+ghost use Rattle.session_model.specs.Leg.{leg_of};
 
 /// Of each text of at most 67,108,864 octets that is a script, `walk` writes the got lines of just those
 /// accepted frames that the taken rows carry whole and that aren't lost to a failure, in item order and each
@@ -19,8 +20,8 @@ pub fn headline_law()
     ensures walk { (text : List ℕ) (script : Script) → length text ≤ longest_input →
         script_of text ≡ Ok script → IsWalkHeadline text (walk_text script) }
     ensures run { (text : List ℕ) (script : Script) → length text ≤ longest_input →
-        script_of text ≡ Ok script → IsRunHeadline text (final_report script) }
+        script_of text ≡ Ok script → IsRunHeadline text (final_report (leg_of script)) }
     ensures same { (text : List ℕ) (script : Script) → length text ≤ longest_input →
         script_of text ≡ Ok script → script.events ≡ [] →
-        walk_text script ≡ final_report script }
+        walk_text script ≡ final_report (leg_of script) }
 {}

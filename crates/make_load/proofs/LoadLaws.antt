@@ -214,26 +214,28 @@ valid_load number lines ticks few time =
     let most = greatest_most (draws lines 41 number) 40 (low (draws lines 41 number) delays) in
     let slips = no_slip lines in
     record {
-      network = record {
-        lines = (few.0, omega (arith, few.1));
-        delay_each = length-draws lines 41 number;
-        delays = higher (draws lines 41 number) delays;
-        windows_each = length-replicate lines [];
-        windows = All-replicate (HasFailures ticks) lines [] (no_windows ticks);
-        lost = no_losses;
-        ring = (omega arith, omega arith);
-        lag = (omega arith, omega arith);
-        ticks = time;
-        size = inr refl;
-        fits_ring = omega (arith, most, slips);
-        fits_lag = omega (arith, most, slips);
+      sound = record {
+        network = record {
+          lines = (few.0, omega (arith, few.1));
+          delay_each = length-draws lines 41 number;
+          delays = higher (draws lines 41 number) delays;
+          windows_each = length-replicate lines [];
+          windows = All-replicate (HasFailures ticks) lines [] (no_windows ticks);
+          lost = no_losses;
+          ring = (omega arith, omega arith);
+          lag = (omega arith, omega arith);
+          ticks = time;
+          size = inr refl;
+          fits_ring = omega (arith, most, slips);
+          fits_lag = omega (arith, most, slips);
+        };
+        items = are_items number lines ticks few.1 time.0;
+        few =
+            (let size = length-append (additions lines) (frames (frame_count ticks) 0 (after_draws lines number)) in
+            let added = length-map-range_with_len addition 0 lines in
+            let framed = length-frames (frame_count ticks) 0 (after_draws lines number) in
+            omega (arith, size, added, framed, few.1, time.1));
       };
-      items = are_items number lines ticks few.1 time.0;
-      few =
-          (let size = length-append (additions lines) (frames (frame_count ticks) 0 (after_draws lines number)) in
-          let added = length-map-range_with_len addition 0 lines in
-          let framed = length-frames (frame_count ticks) 0 (after_draws lines number) in
-          omega (arith, size, added, framed, few.1, time.1));
       events = All-none _;
     }
 

@@ -4,6 +4,7 @@ use Rattle.std.proofs.Common.{sym, ap, subst, append_assoc}
 use Rattle.outside_io.specs.Transfer.{Appends, AppendsPart}
 use Rattle.outside_io.proofs.Parts.{Appends-then, AppendsPart-then, AppendsPart-longer}
 use Rattle.session_model.specs.declared.script.Script.{Script}
+use Rattle.session_model.specs.Leg.{leg_of}
 use Rattle.script_read.specs.Script.{script_of}
 use Rattle.report_text.specs.declared.report.Refusal.{Refusal}
 use Rattle.report_text.specs.declared.report.Totals.{Totals}
@@ -27,8 +28,8 @@ use Rattle.run_command.specs.Ended.{end_text}
 -- what follows the got lines, of the session's own numbers
 pub end-written : {K : Type 0} (written : K → Option (List ℕ)) (faults : K → ℕ) (first last : GotLines K)
     (start : Start) (refusals : List (ℕ × Refusal)) (totals : Totals) (script : Script)
-    → refusals ≡ refusals_among script (numbered 0 script.items)
-    → totals ≡ totals_among script script.config.ticks script.config.ticks (numbered 0 script.items)
+    → refusals ≡ refusals_among (leg_of script) (numbered 0 script.items)
+    → totals ≡ totals_among (leg_of script) script.config.ticks script.config.ticks (numbered 0 script.items)
     → HasText written faults first start []
     → ((start : Start) (before : List ℕ) → HasText written faults first start before
     → HasText written faults last start (before ++ refused_texts refusals ++ total_text totals))
@@ -37,46 +38,47 @@ end-written written faults first last start refusals totals script refused count
     let P : List (ℕ × Refusal) → Type 0 =
     λ refusals. HasText written faults last start (refused_texts refusals ++ total_text totals) in
     let Q : Totals → Type 0 = λ totals. HasText written faults last start
-    (refused_texts (refusals_among script (numbered 0 script.items)) ++ total_text totals) in
+    (refused_texts (refusals_among (leg_of script) (numbered 0 script.items)) ++ total_text totals) in
     subst Q counted (subst P refused (rest start [] fresh))
 
 -- the got lines and what follows them are the whole report
 whole-report : (script : Script) →
-    got_texts (delivered_of script script.config.ticks) ++ end_text script ≡ final_report script
+    got_texts (delivered_of (leg_of script) script.config.ticks) ++ end_text script ≡ final_report (leg_of script)
 whole-report script =
-    sym (append_assoc (got_texts (delivered_of script script.config.ticks))
-    (refused_texts (refusals_among script (numbered 0 script.items)))
-    (total_text (totals_among script script.config.ticks script.config.ticks (numbered 0 script.items))))
+    sym (append_assoc (got_texts (delivered_of (leg_of script) script.config.ticks))
+    (refused_texts (refusals_among (leg_of script) (numbered 0 script.items)))
+    (total_text (totals_among (leg_of script) script.config.ticks script.config.ticks (numbered 0 script.items))))
 
 module _ {K : Type 0} (written : K → Option (List ℕ)) (faults : K → ℕ) (script : Script) where
   abbrev got : List ℕ
-  got = got_texts (delivered_of script script.config.ticks)
+  got = got_texts (delivered_of (leg_of script) script.config.ticks)
 
   -- the got lines, and then the rest
   pub run-all : (old middle new : K) →
-      Appends written faults old middle (got_texts (delivered_of script script.config.ticks)) →
+      Appends written faults old middle (got_texts (delivered_of (leg_of script) script.config.ticks)) →
       Appends written faults middle new (end_text script)
-      → Appends written faults old new (final_report script)
+      → Appends written faults old new (final_report (leg_of script))
   run-all old middle new before then =
       let P : List ℕ → Type 0 = λ text. Appends written faults old new text in
       subst P (whole-report script) (Appends-then written faults old middle new got (end_text script) before then)
 
   run-part : (old new : K) → AppendsPart written faults old new (got ++ end_text script) →
-      AppendsPart written faults old new (final_report script)
+      AppendsPart written faults old new (final_report (leg_of script))
   run-part old new stops = let P : List ℕ → Type 0 = λ text. AppendsPart written faults old new text in
       subst P (whole-report script) stops
 
   -- a fault comes in the rest
   pub run-got : (old middle new : K) →
-      Appends written faults old middle (got_texts (delivered_of script script.config.ticks)) →
+      Appends written faults old middle (got_texts (delivered_of (leg_of script) script.config.ticks)) →
       AppendsPart written faults middle new (end_text script)
-      → AppendsPart written faults old new (final_report script)
+      → AppendsPart written faults old new (final_report (leg_of script))
   run-got old middle new before stops =
       run-part old new (AppendsPart-then written faults old middle new got (end_text script) before stops)
 
   -- a fault comes in the got lines
-  pub run-cut : (old new : K) → AppendsPart written faults old new (got_texts (delivered_of script script.config.ticks))
-      → AppendsPart written faults old new (final_report script)
+  pub run-cut : (old new : K) →
+      AppendsPart written faults old new (got_texts (delivered_of (leg_of script) script.config.ticks))
+      → AppendsPart written faults old new (final_report (leg_of script))
   run-cut old new stops = run-part old new (AppendsPart-longer written faults old new got (end_text script) stops)
 
 -- ---- the headline
@@ -86,12 +88,13 @@ module _ {S K E : Type 0} (source : Lent S) (out : Lent K) (notes : Lent E) (sta
 
   -- whatever else is written, the report is
   abbrev HasReport : (Script → Answer) → Type 0
-  HasReport answer = (script : Script) → WritesAll out notes (answer script) → Takes out (final_report script)
+  HasReport answer = (script : Script) → WritesAll out notes (answer script) → Takes out (final_report (leg_of script))
 
-  told-by : (answer : Script → Answer) → HasReport answer → (text : List ℕ) (of : Result Script ScriptFault) → script_of text ≡ of → length text ≤ 67108864
+  told-by : (answer : Script → Answer) → HasReport answer → (text : List ℕ) (of : Result Script ScriptFault) →
+      script_of text ≡ of → length text ≤ 67108864
       → WritesAll out notes (answer_of answer of) → IsHead text
   told-by answer has text (Ok script) is few all =
-      (final_report script, has script all, run_headline text script few is)
+      (final_report (leg_of script), has script all, run_headline text script few is)
   told-by answer has text (Err fault) is few all = absurd all
 
   pub tells-headline : (answer : Script → Answer) → HasReport answer →

@@ -7,6 +7,7 @@ use Rattle.outside_io.specs.Transfer.{Appends}
 use Rattle.outside_io.proofs.Parts.{Appends-none}
 use Rattle.got_lines.specs.Told.{AppendsSome}
 use Rattle.session_model.specs.declared.script.Script.{Script}
+use Rattle.session_model.specs.Leg.{leg_of}
 use Rattle.member_ring.specs.declared.alarm.Alarm.{Alarm}
 use Rattle.member_ring.specs.Alarms.{alarms_of_line}
 use Rattle.alarm_log.specs.Alarms.{of_line}
@@ -25,10 +26,10 @@ texts-same f g (suc n) same =
     (texts_more f n ∙ ap₂ (λ a b. a ++ b) rest (same n (omega arith)) ∙ sym (texts_more g n))
 
 pub told-text : (script : Script) (list : List Alarm) →
-    ((m : ℕ) → m < script.config.lines → of_line m list ≡ alarms_of_line m (line_cells script m)) →
+    ((m : ℕ) → m < script.config.lines → of_line m list ≡ alarms_of_line m (line_cells (leg_of script) m)) →
     lines_text script.config.lines list ≡ alarms_text script
 told-text script list same =
-    texts-same (λ m. alarm_texts (of_line m list)) (λ m. alarm_texts (alarms_of_line m (line_cells script m)))
+    texts-same (λ m. alarm_texts (of_line m list)) (λ m. alarm_texts (alarms_of_line m (line_cells (leg_of script) m)))
     script.config.lines (λ m low. ap alarm_texts (same m low))
 
 module _ {K : Type 0} (written : K → Option (List ℕ)) (faults : K → ℕ) where

@@ -1,6 +1,7 @@
 -- The session that is handed back, and the end of its report.
 use Rattle.std.specs.Prelude.{ℕ, List, ◌++◌, Option, Some, None}
 use Rattle.session_model.specs.declared.script.Script.{Script}
+use Rattle.session_model.specs.Leg.{leg_of}
 use Rattle.report_text.specs.Report.{total_text}
 use Rattle.walk_law.specs.Landed.{refusals_among, totals_among}
 use Rattle.walk_law.specs.Promise.{numbered}
@@ -24,5 +25,5 @@ HandsSession source (Some ended) = (script : Script) × HasScript source script 
 -- the lines of refused items, and the line of totals
 abbrev pub end_text : Script → List ℕ
 end_text script =
-    refused_texts (refusals_among script (numbered 0 script.items))
-    ++ total_text (totals_among script script.config.ticks script.config.ticks (numbered 0 script.items))
+    refused_texts (refusals_among (leg_of script) (numbered 0 script.items))
+    ++ total_text (totals_among (leg_of script) script.config.ticks script.config.ticks (numbered 0 script.items))

@@ -1,6 +1,7 @@
 -- `run`: a script's session, and its report.
 use Rattle.std.specs.Prelude.{ℕ, ◌==◌, ◌&&◌, List, [], length, bytes_eq, slice_index_or, codes, Option, Some, None}
 use Rattle.std.specs.Prelude.{if◌then◌else◌}
+use Rattle.session_model.specs.Leg.{leg_of}
 use Rattle.walk_law.specs.Report.{final_report}
 use Rattle.cmd_words.specs.Words.{number_in}
 use Rattle.command_parts.specs.Task.{Answer, writes}
@@ -19,4 +20,4 @@ run_words words =
     (number_in 1 64 (slice_index_or words 1 [])) else None
 
 abbrev pub run_answer : List ℕ → Answer
-run_answer = script_answer (λ script. writes (final_report script))
+run_answer = script_answer (λ script. writes (final_report (leg_of script)))

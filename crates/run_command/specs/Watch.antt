@@ -3,6 +3,7 @@ use Rattle.std.specs.Prelude.{ℕ, ◌==◌, ◌&&◌, List, [], length, bytes_e
 use Rattle.std.specs.Prelude.{if◌then◌else◌}
 use Rattle.std.specs.List.{flat_map, range_with_len}
 use Rattle.session_model.specs.declared.script.Script.{Script}
+use Rattle.session_model.specs.Leg.{leg_of}
 use Rattle.member_ring.specs.Alarms.{alarms_of_line}
 use Rattle.alarm_text.specs.Text.{alarm_texts}
 use Rattle.walk_law.specs.Rings.{line_cells}
@@ -25,8 +26,8 @@ watch_words words =
 
 -- the alarms of each line over all cells of its path, line by line from 0 and by place
 abbrev pub alarms_text : Script → List ℕ
-alarms_text script = flat_map (λ m. alarm_texts (alarms_of_line m (line_cells script m)))
+alarms_text script = flat_map (λ m. alarm_texts (alarms_of_line m (line_cells (leg_of script) m)))
     (range_with_len 0 script.config.lines)
 
 abbrev pub watch_answer : List ℕ → Answer
-watch_answer = script_answer (λ script. writes_both (final_report script) (alarms_text script))
+watch_answer = script_answer (λ script. writes_both (final_report (leg_of script)) (alarms_text script))

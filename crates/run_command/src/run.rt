@@ -2,6 +2,7 @@
 ghost use Rattle.std.specs.Prelude.{◌≡◌, ◌≢◌, ◌≤◌, None, OnOk, OnErr, map, string_bytes};
 ghost use Rattle.outside_io.specs.Transfer.{Appends, AppendsPart};
 ghost use Rattle.session_model.specs.declared.script.Script.{Script};
+ghost use Rattle.session_model.specs.Leg.{leg_of};
 ghost use Rattle.walk_law.specs.Landed.{totals_among};
 ghost use Rattle.walk_law.specs.Promise.{numbered};
 ghost use Rattle.cmd_words.specs.Words.{number_in};
@@ -45,7 +46,8 @@ pub fn words(words: &[String]) -> Option<RunCommand>
 /// The numbers of a session.
 fn totals(ended: &Ended) -> Totals
     ensures { (script : Script) → HasEnded script ended.now → result
-        ≡ totals_among script script.config.ticks script.config.ticks (numbered 0 script.items) }
+        ≡ totals_among (leg_of script) script.config.ticks script.config.ticks
+        (numbered 0 script.items) }
 {
     Totals {
         taken: ended.sink.taken(),

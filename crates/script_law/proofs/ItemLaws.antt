@@ -7,10 +7,10 @@ use Rattle.std.proofs.lemmas.List.Elements.{All-append, All-cons}
 use Rattle.session_model.specs.declared.script.Item.{Item}
 use Rattle.session_model.specs.declared.script.ItemKind.{ItemKind}
 use Rattle.session_model.specs.declared.script.ItemKind.TheVariants.{Frame, Add, Remove}
-use Rattle.session_model.specs.declared.script.Script.{Script}
-use Rattle.session_model.specs.Scenario.{DueCommand, DueFrame, order_of, offer_of, orders_of, offers_of, scenario_of}
+use Rattle.session_model.specs.Leg.{Leg}
+use Rattle.session_model.specs.Scenario.{DueCommand, DueFrame, order_of, offer_of, orders_of, offers_of, scenario_by}
 use Rattle.session_model.specs.Counts.{due_of, dues_of, frame_dues, command_dues}
-use Rattle.session_model.specs.Valid.{IsKind, IsItem, IsValid}
+use Rattle.session_model.specs.Valid.{IsKind, IsItem, IsSound}
 use Rattle.loss_law.specs.Carried.{AreOctets}
 
 -- ---- due ticks
@@ -79,5 +79,5 @@ offers_octets ticks (item ∷ items) are =
     (one_frame item.due item.kind (are zero item (omega arith)).1)
     (offers_octets ticks items (λ i d within. are (suc i) d (omega arith)))
 
-pub are_octets : (script : Script) → IsValid script → AreOctets (scenario_of script)
-are_octets script valid = offers_octets script.config.ticks script.items valid.items.each
+pub are_octets : (leg : Leg) → IsSound leg → AreOctets (scenario_by leg)
+are_octets leg sound = offers_octets leg.config.ticks leg.items sound.items.each

@@ -112,21 +112,23 @@ IsValid-draft d is whole few none =
     let rings = none_later (slip_fault 0 d.config.windows) (fault_or (spread_fault d.config) (lag_fault d.config)) none
     in
     record {
-      network = record {
-        lines = (lines.0, has.few);
-        delay_each = has.delay_each (omega (arith, whole));
-        delays = has.delays;
-        windows_each = lines.1;
-        windows = failures d.config.ticks 0 d.config.windows has.windows slips;
-        lost = has.lost;
-        ring = has.ring (omega (arith, whole));
-        lag = has.lag (omega (arith, whole));
-        ticks = has.ticks whole;
-        size = has.size;
-        fits_ring = ring_fits d.config (none_first (spread_fault d.config) (lag_fault d.config) rings);
-        fits_lag = lag_fits d.config (none_later (spread_fault d.config) (lag_fault d.config) rings);
+      sound = record {
+        network = record {
+          lines = (lines.0, has.few);
+          delay_each = has.delay_each (omega (arith, whole));
+          delays = has.delays;
+          windows_each = lines.1;
+          windows = failures d.config.ticks 0 d.config.windows has.windows slips;
+          lost = has.lost;
+          ring = has.ring (omega (arith, whole));
+          lag = has.lag (omega (arith, whole));
+          ticks = has.ticks whole;
+          size = has.size;
+          fits_ring = ring_fits d.config (none_first (spread_fault d.config) (lag_fault d.config) rings);
+          fits_lag = lag_fits d.config (none_later (spread_fault d.config) (lag_fault d.config) rings);
+        };
+        items = is.items;
+        few = few;
       };
-      items = is.items;
-      few = few;
       events = is.events;
     }

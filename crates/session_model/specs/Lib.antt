@@ -11,6 +11,7 @@ pub mod Packet
 pub mod Damage
 pub mod Path
 pub mod Number
+pub mod Leg
 pub mod Scenario
 pub mod Table
 pub mod Told

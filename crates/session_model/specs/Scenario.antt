@@ -1,5 +1,5 @@
--- A scenario: what the network, the operator and the client of a group do, as plain lists. It is what a script says of
--- them.
+-- A scenario: what the network, the operator and the client of a group do, as plain lists. It is what a leg, and so a
+-- script, says of them.
 use Rattle.std.specs.Prelude.{ℕ, ◌+◌, ◌*◌, ◌-◌, ◌/◌, nat_le, nat_lt, ◌&&◌, Bool, List, [], ◌∷◌, map, filter}
 use Rattle.std.specs.Prelude.{slice_index_or}
 use Rattle.std.specs.List.{list_any, flat_map}
@@ -13,6 +13,7 @@ use Rattle.session_model.specs.declared.script.ItemKind.{ItemKind}
 use Rattle.session_model.specs.declared.script.ItemKind.TheVariants.{Frame, Add, Remove}
 use Rattle.session_model.specs.Damage.{carried, is_readable}
 use Rattle.session_model.specs.Table.{Told}
+use Rattle.session_model.specs.Leg.{Leg, leg_of}
 
 -- a command, and how many ticks are made when it lands
 pub record DueCommand : Type 0 where
@@ -38,7 +39,7 @@ pub record Scenario : Type 0 where
   pub offers : List DueFrame
   pub tells : List Told
 
--- ---- the scenario of a script, which has no other way: its packets have nothing to tell
+-- ---- the scenario of a leg
 abbrev pub order_of : ℕ → ItemKind → List DueCommand
 order_of due (Frame octets) = []
 order_of due (Add line) = record { due = due; command = add line } ∷ []
@@ -55,17 +56,21 @@ orders_of items = flat_map (λ (item : Item). order_of item.due item.kind) items
 abbrev pub offers_of : List Item → List DueFrame
 offers_of items = flat_map (λ (item : Item). offer_of item.due item.kind) items
 
-abbrev pub scenario_of : Script → Scenario
-scenario_of script = record {
-  lag = script.config.lag;
-  ticks = script.config.ticks;
-  size = script.config.size;
-  windows = script.config.windows;
-  lost = script.config.lost;
-  orders = orders_of script.items;
-  offers = offers_of script.items;
-  tells = [];
+abbrev pub scenario_by : Leg → Scenario
+scenario_by leg = record {
+  lag = leg.config.lag;
+  ticks = leg.config.ticks;
+  size = leg.config.size;
+  windows = leg.config.windows;
+  lost = leg.config.lost;
+  orders = orders_of leg.items;
+  offers = offers_of leg.items;
+  tells = leg.tells;
 }
+
+-- and of a script
+abbrev pub scenario_of : Script → Scenario
+scenario_of script = scenario_by (leg_of script)
 
 -- ---- what is damaged
 -- what comes of container n of a line. A line that isn't configured has no window

@@ -12,6 +12,7 @@ use Rattle.session_model.specs.declared.script.EventLine.{EventLine}
 use Rattle.session_model.specs.declared.script.EventLine.TheVariants.{Client, Operator, Tick, Carry, Back, Take, Round}
 use Rattle.session_model.specs.declared.script.EventLine.TheVariants.{Drain}
 use Rattle.session_model.specs.declared.script.Script.{Script}
+use Rattle.session_model.specs.Leg.{Leg, leg_of}
 use Rattle.session_model.specs.Damage.{AreWindows}
 use Rattle.session_model.specs.Counts.{dues_of, frame_dues, command_dues}
 use Rattle.session_model.specs.Plan.{FitsRing, FitsLag}
@@ -85,10 +86,14 @@ IsEvent lines (Round n) = IsCount n
 IsEvent lines Drain = Unit {0}
 
 -- ---- the script
+-- its leg, and so that of any direction
+pub record IsSound (leg : Leg) : Type 0 where
+  pub network : IsNetwork leg.config
+  pub items : AreItems leg.config.ticks leg.items
+  pub few : length leg.items ≤ longest_input
+
 pub record IsValid (script : Script) : Type 0 where
-  pub network : IsNetwork script.config
-  pub items : AreItems script.config.ticks script.items
-  pub few : length script.items ≤ longest_input
+  pub sound : IsSound (leg_of script)
   pub events : All (IsEvent script.config.lines) script.events
 
 -- how many return windows the text of a script has at most: a session may have any number of them

@@ -10,6 +10,7 @@ use Rattle.vc_cell.specs.declared.BackCell.TheVariants.{Packet as Nibbles}
 use Rattle.session_model.specs.Packet.{packet_nibbles}
 use Rattle.session_model.specs.declared.window.Window.{Window}
 use Rattle.session_model.specs.declared.script.Script.{Script}
+use Rattle.session_model.specs.Leg.{leg_of}
 use Rattle.session_model.specs.Valid.{IsValid}
 use Rattle.session_model.specs.Damage.{carried}
 use Rattle.session_model.specs.Path.{cells}
@@ -28,7 +29,7 @@ use Rattle.terminal_law.proofs.LoopLaws.{course-containers, course-rows, course-
 use Rattle.walk_law.specs.Walk.{CanWalk, sent_on}
 use Rattle.walk_law.specs.Rings.{delay_on, said_packet}
 use Rattle.walk_law.specs.Delivered.{delivered_of}
-use Rattle.walk_law.proofs.PlanLaws.{has-lines, valid-walks}
+use Rattle.walk_law.proofs.PlanLaws.{has-lines, sound-walks}
 use Rattle.walk_law.proofs.ReturnLaws.{packet-is}
 use Rattle.sink_core.specs.Given.{given_frames}
 use Rattle.sink_core.proofs.SessionLaws.{session-frames}
@@ -58,8 +59,9 @@ module _ (script : Script) (returns : List (Option Told)) (tx : List (RingOut Co
   -- line m has received all that was made, and sent the cells of its path
   pub line-ended : (m : ℕ) (worker : LineWorker) → slice_get workers m ≡ Some worker →
       (in_passed worker.consumer ≡ containers_of (scenario_of script) returns m script.config.ticks)
-      × (out_passed worker.producer ≡ given (scenario_of script) returns m script.config.ticks (delay_on script m)
-      (script.config.ticks + delay_on script m + 1))
+      × (out_passed worker.producer
+      ≡ given (scenario_of script) returns m script.config.ticks (delay_on (leg_of script) m)
+      (script.config.ticks + delay_on (leg_of script) m + 1))
   line-ended m worker there =
       let inside = slice_get_within workers m worker there in
       let (out, other) = slice_get-inside tx m (omega (arith, inside, gathered.tx_count, gathered.workers_count)) in
@@ -71,7 +73,8 @@ module _ (script : Script) (returns : List (Option Told)) (tx : List (RingOut Co
       let all : in_passed worker.consumer ≡ sent =
       whole-prefix (in_passed worker.consumer) (in_items worker.consumer) sent fifo
       (carried'.received ∙ line.total ∙ sym (made-size m)) in
-      let carries : length (in_passed worker.consumer) + worker.core.flushed ≡ script.config.ticks + delay_on script m +
+      let carries : length (in_passed worker.consumer) + worker.core.flushed
+      ≡ script.config.ticks + delay_on (leg_of script) m +
       1 =
       omega (arith, carried'.received, carried'.flushed, line.total, line.delay) in (
         all,
@@ -79,13 +82,13 @@ module _ (script : Script) (returns : List (Option Told)) (tx : List (RingOut Co
             ∙ ap (λ (i : ℕ). cells (carried worker.core.windows) worker.core.delay worker.core.total
             (in_passed worker.consumer) i) carries
             ∙ ap (λ (own : List Container). cells (carried worker.core.windows) worker.core.delay worker.core.total own
-            (script.config.ticks + delay_on script m + 1)) all
+            (script.config.ticks + delay_on (leg_of script) m + 1)) all
             ∙ ap (λ (windows : List Window). cells (carried windows) worker.core.delay worker.core.total sent
-            (script.config.ticks + delay_on script m + 1)) line.windows
+            (script.config.ticks + delay_on (leg_of script) m + 1)) line.windows
             ∙ ap (λ (delay : ℕ). cells (carried (slice_index_or script.config.windows m [])) delay worker.core.total
-            sent (script.config.ticks + delay_on script m + 1)) line.delay
+            sent (script.config.ticks + delay_on (leg_of script) m + 1)) line.delay
             ∙ ap (λ (total : ℕ). cells (carried (slice_index_or script.config.windows m []))
-            (delay_on script m) total sent (script.config.ticks + delay_on script m + 1)) line.total,
+            (delay_on (leg_of script) m) total sent (script.config.ticks + delay_on (leg_of script) m + 1)) line.total,
       )
 
   comes : (m : ℕ) (own : List Cell) → slice_get (received rx) m ≡ Some own →
@@ -97,8 +100,8 @@ module _ (script : Script) (returns : List (Option Told)) (tx : List (RingOut Co
       (omega (arith, inside, gathered.rx_count, gathered.workers_count)) in
       let ended = line-ended m worker other in
       record {
-        delay = delay_on script m;
-        carries = script.config.ticks + delay_on script m + 1;
+        delay = delay_on (leg_of script) m;
+        carries = script.config.ticks + delay_on (leg_of script) m + 1;
         later = in_items into;
         taken = omega arith;
         first = sym ended.1 ∙ sym (gathered.receives m worker into other at)
@@ -116,24 +119,25 @@ module _ (script : Script) (returns : List (Option Told)) (tx : List (RingOut Co
 -- ---- the sink, where the source was told what it said
 module _ (script : Script) (valid : IsValid script) (n : ℕ) (own : List (List Cell))
     (course : IsCourse (scenario_of script) script.config.ticks n own) where
-  can : CanWalk script
-  can = valid-walks script valid
+  can : CanWalk (leg_of script)
+  can = sound-walks (leg_of script) valid.sound
 
   lag : 0 < script.config.lag
-  lag = let within = valid.network.lag in omega (arith, within.0)
+  lag = let within = valid.sound.network.lag in omega (arith, within.0)
 
   pub made-session : (m : ℕ) → containers_of (scenario_of script)
       (told_of (scenario_of script) own n) m script.config.ticks ≡ sent_on (scenario_of script) m
   made-session m =
       same-range (container_of (scenario_of script) (told_of (scenario_of script) own n) m)
       (container_of (scenario_of script) (session_cells (scenario_of script)) m) script.config.ticks
-      (course-containers (scenario_of script) script.config.ticks n own (has-lines script can) lag course m)
+      (course-containers (scenario_of script) script.config.ticks n own (has-lines (leg_of script) can) lag course m)
 
   pub frames-session : ((t : ℕ) → t < script.config.ticks → AreDecidedAt own t) →
-      given_frames script.config.size own script.config.ticks ≡ delivered_of script script.config.ticks
+      given_frames script.config.size own script.config.ticks ≡ delivered_of (leg_of script) script.config.ticks
   frames-session decided =
       session-frames (scenario_of script) (session_cells (scenario_of script)) own script.config.ticks
-      (λ t low. course-rows (scenario_of script) script.config.ticks n own (has-lines script can) lag course t low
+      (λ t low. course-rows (scenario_of script) script.config.ticks n own
+      (has-lines (leg_of script) can) lag course t low
       (decided t low))
 
   packet-low : (ticks k : ℕ) → k < (ticks - 8) / 16 → 16 * k + 23 < ticks
@@ -144,9 +148,9 @@ module _ (script : Script) (valid : IsValid script) (n : ℕ) (own : List (List 
   backs-session decided =
       backs-are own script.config.ticks
       ∙ same-range (λ k. Nibbles (packet_nibbles (return_at own k)))
-      (λ k. Nibbles (packet_nibbles (said_packet script k))) (packets_in script.config.ticks)
+      (λ k. Nibbles (packet_nibbles (said_packet (leg_of script) k))) (packets_in script.config.ticks)
       (λ k low.
       let last = packet-low script.config.ticks k low in
       ap (λ packet. Nibbles (packet_nibbles packet))
-      (course-packet (scenario_of script) script.config.ticks n own (has-lines script can) lag course k last
-      (decided (16 * k + 23) last) ∙ sym (packet-is script can k last)))
+      (course-packet (scenario_of script) script.config.ticks n own (has-lines (leg_of script) can) lag course k last
+      (decided (16 * k + 23) last) ∙ sym (packet-is (leg_of script) can k last)))

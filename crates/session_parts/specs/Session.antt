@@ -7,6 +7,7 @@ use Rattle.vc_cell.specs.declared.BackCell.{BackCell}
 use Rattle.vc_cell.specs.declared.BackCell.TheVariants.{Packet as Nibbles}
 use Rattle.session_model.specs.Packet.{packet_nibbles}
 use Rattle.session_model.specs.declared.script.Script.{Script}
+use Rattle.session_model.specs.Leg.{leg_of}
 use Rattle.session_model.specs.Scenario.{scenario_of, packets_in}
 use Rattle.session_model.specs.Table.{Told}
 use Rattle.session_model.specs.Sent.{containers_of}
@@ -44,14 +45,14 @@ pub record IsGathered (script : Script) (returns : List (Option Told)) (tx : Lis
 -- ---- the session of a script has ended
 -- the return cells that its sink sends
 abbrev pub session_backs : Script → List BackCell
-session_backs script = map (λ k. Nibbles (packet_nibbles (said_packet script k)))
+session_backs script = map (λ k. Nibbles (packet_nibbles (said_packet (leg_of script) k)))
     (range_with_len 0 (packets_in script.config.ticks))
 
 -- the worker of line m received all containers of the session on that line, and sent all cells of its path
 pub record IsLineEnded (script : Script) (m : ℕ) (worker : LineWorker) : Type 0 where
   pub line : IsLineOf script.config m worker
   pub received : in_passed worker.consumer ≡ sent_on (scenario_of script) m
-  pub sent : out_passed worker.producer ≡ line_cells script m
+  pub sent : out_passed worker.producer ≡ line_cells (leg_of script) m
 
 -- the two ends of each ring are here; the send rings passed the containers of the session; so did the workers of the
 -- lines, in their order; what the sink received decides all
@@ -67,9 +68,9 @@ pub record IsEnded (script : Script) (tx : List (RingOut Container)) (back : Rin
       out_passed out ≡ sent_on (scenario_of script) m
   pub lines : (m : ℕ) (worker : LineWorker) → slice_get workers m ≡ Some worker → IsLineEnded script m worker
   pub cells : (m : ℕ) (into : RingIn Cell) → slice_get sink.rx.items m ≡ Some into →
-      in_passed into ++ in_items into ≡ line_cells script m
+      in_passed into ++ in_items into ≡ line_cells (leg_of script) m
   pub decided : (t : ℕ) → t < script.config.ticks → AreDecidedAt (cells_of sink) t
   pub backs : out_passed sink.back ≡ session_backs script
   pub returns : in_passed back ++ in_items back ≡ session_backs script
   pub taken : taken_of sink ≡ script.config.ticks
-  pub got : got_of sink ≡ length (delivered_of script script.config.ticks)
+  pub got : got_of sink ≡ length (delivered_of (leg_of script) script.config.ticks)

@@ -3,6 +3,7 @@ ghost use Rattle.std.specs.Prelude.{◌≡◌, ℕ, ◌+◌, ◌<◌, List, slic
 ghost use Rattle.vc_cell.specs.declared.Container.{Container};
 ghost use Rattle.vc_cell.specs.declared.Cell.{Cell};
 ghost use Rattle.session_model.specs.declared.script.Script.{Script};
+ghost use Rattle.session_model.specs.Leg.{leg_of};
 ghost use Rattle.session_model.specs.Valid.{IsValid};
 ghost use Rattle.session_model.specs.Scenario.{scenario_of};
 ghost use Rattle.session_model.specs.Table.{Told};
@@ -30,7 +31,7 @@ pub fn gathered_law()
         slice_get workers m ≡ Some worker → (in_passed worker.consumer
         ≡ containers_of (scenario_of script) returns m script.config.ticks)
         × (out_passed worker.producer ≡ given (scenario_of script) returns m script.config.ticks
-        (delay_on script m) (script.config.ticks + delay_on script m + 1)) }
+        (delay_on (leg_of script) m) (script.config.ticks + delay_on (leg_of script) m + 1)) }
     ensures come { (script : Script) (returns : List (Option Told)) (tx : List (RingOut Container))
         (workers : List LineWorker) (rx : List (RingIn Cell)) →
         IsGathered script returns tx workers rx →
@@ -49,7 +50,7 @@ pub fn ended_law()
         IsCourse (scenario_of script) script.config.ticks n own →
         ((t : ℕ) → t < script.config.ticks → AreDecidedAt own t) →
         given_frames script.config.size own script.config.ticks
-        ≡ delivered_of script script.config.ticks }
+        ≡ delivered_of (leg_of script) script.config.ticks }
     ensures backs { (script : Script) → IsValid script → (n : ℕ) (own : List (List Cell)) →
         IsCourse (scenario_of script) script.config.ticks n own →
         ((t : ℕ) → t < script.config.ticks → AreDecidedAt own t) →

@@ -12,6 +12,7 @@ use Rattle.vc_cell.specs.declared.BackCell.{BackCell}
 use Rattle.vc_cell.specs.declared.Container.{Container}
 use Rattle.session_model.specs.declared.script.Item.{Item}
 use Rattle.session_model.specs.declared.script.Script.{Script}
+use Rattle.session_model.specs.Leg.{leg_of}
 use Rattle.session_model.specs.Scenario.{Scenario, scenario_of, offers_of, orders_of}
 use Rattle.session_model.specs.Counts.{used_in}
 use Rattle.session_model.specs.Sent.{containers_of}
@@ -56,9 +57,9 @@ none-landed (item ∷ items) i = elim (is_client item.kind)
     [ true ↦ none-landed items (suc i) | false ↦ none-landed items (suc i) ]
 
 -- ---- before anything has moved
-module _ (script : Script) (g : GroupState) (of_script : IsOf script g) (ticks : ticks_of g ≡ 0)
+module _ (script : Script) (g : GroupState) (of_script : IsOf (leg_of script) g) (ticks : ticks_of g ≡ 0)
     (frames : frames_of g ≡ 0) (commands : commands_of g ≡ 0) (journal : journal_of g ≡ []) where
-  landed-none : landed_items script (counts_of g) ≡ []
+  landed-none : landed_items (leg_of script) (counts_of g) ≡ []
   landed-none = ap (λ n. landed_from n (commands_of g) 0 script.items) frames
       ∙ ap (λ n. landed_from 0 n 0 script.items) commands ∙ none-landed script.items 0
 
@@ -68,7 +69,7 @@ module _ (script : Script) (g : GroupState) (of_script : IsOf script g) (ticks :
       ap (λ n. take n (told_from (lost_of g) (in_passed g.back))) none
 
   pub room-begins : slots_of g ≡ length script.items → bytes_of g ≡ octets_in (offers_of script.items) →
-      HasRoom script g
+      HasRoom (leg_of script) g
   room-begins slots bytes =
       let all = all-kinds script.items in
       record {
@@ -81,20 +82,20 @@ module _ (script : Script) (g : GroupState) (of_script : IsOf script g) (ticks :
 
   pub landed-begins : refusals_of g ≡ [] → AreUnused g.tx.items → length script.config.windows ≡ script.config.lines →
       ((scenario : Scenario) → IsFresh scenario (lines_of g) (lag_of g) (size_of g) → HasMade (source_of g) scenario [])
-      → HasLandedOf script g
+      → HasLandedOf (leg_of script) g
   landed-begins refusals unused windows made = record {
-    entries = subst (AreItemsOf script) (sym journal) (λ i entry there. absurd cc);
+    entries = subst (AreItemsOf (leg_of script)) (sym journal) (λ i entry there. absurd cc);
     past = subst (ArePast (ticks_of g)) (sym landed-none) (λ i entry there. absurd cc);
     most_frames = omega (arith, frames);
     most_commands = omega (arith, commands);
-    refusals = refusals ∙ sym (ap (refusals_by script (taken_of g)) landed-none);
+    refusals = refusals ∙ sym (ap (refusals_by (leg_of script) (taken_of g)) landed-none);
     frames = ap (λ (l : List Numbered). length (offers_of (items_in l))) journal
-        ∙ sym (ap (λ (l : List Numbered). length (accepted_frames_by script (taken_of g) l)) landed-none);
+        ∙ sym (ap (λ (l : List Numbered). length (accepted_frames_by (leg_of script) (taken_of g) l)) landed-none);
     commands = ap (λ (l : List Numbered). length (orders_of (items_in l))) journal
-        ∙ sym (ap (λ (l : List Numbered). length (accepted_commands_by script (taken_of g) l)) landed-none);
+        ∙ sym (ap (λ (l : List Numbered). length (accepted_commands_by (leg_of script) (taken_of g) l)) landed-none);
     sent = λ m out there. unused m out there ∙ sym (ap (containers_of (scenario_of script) (taken_of g) m) ticks);
-    made = ∣ subst (HasMade (source_of g) (landed_scenario script (counts_of g))) (sym taken-none)
-        (made (landed_scenario script (counts_of g)) (record {
+    made = ∣ subst (HasMade (source_of g) (landed_scenario (leg_of script) (counts_of g))) (sym taken-none)
+        (made (landed_scenario (leg_of script) (counts_of g)) (record {
           of_lines = windows ∙ sym of_script.lines;
           of_lag = sym of_script.lag;
           of_size = sym of_script.size;
@@ -104,7 +105,8 @@ module _ (script : Script) (g : GroupState) (of_script : IsOf script g) (ticks :
         })) ∣₁;
   }
 
-  pub bound-begins : HasRoom script g → HasLandedOf script g → IsBound script g.tx.items (g.back ∷ []) g
+  pub bound-begins : HasRoom (leg_of script) g → HasLandedOf (leg_of script) g →
+      IsBound (leg_of script) g.tx.items (g.back ∷ []) g
   bound-begins room landed = record {
     of_script = of_script;
     sends = outs-self g.tx.items;
@@ -118,19 +120,19 @@ module _ {E : Type 0} (script : Script) (valid : IsValid script) where
   pub group-opened : (entries bytes : ℕ) (tx : Vec (RingOut Container)) (back : RingIn BackCell)
       (r : Result GroupState E) → entries ≡ length script.items →
       bytes ≡ octets_in (offers_of script.items) → AreUnused tx.items →
-      IfOk r (λ g. IsOf script g) → IfOk r (λ g. ticks_of g ≡ 0) →
+      IfOk r (λ g. IsOf (leg_of script) g) → IfOk r (λ g. ticks_of g ≡ 0) →
       IfOk r (λ g. (frames_of g ≡ 0) × (commands_of g ≡ 0)) → IfOk r (λ g. journal_of g ≡ []) →
       IfOk r (λ g. (slots_of g ≡ entries) × (bytes_of g ≡ bytes)) → IfOk r (λ g. refusals_of g ≡ []) →
       IfOk r (λ g. (g.tx ≡ tx) × (g.back ≡ back)) →
       IfOk r (λ g. (scenario : Scenario) → IsFresh scenario (lines_of g) (lag_of g) (size_of g) →
       HasMade (source_of g) scenario []) →
-      IfOk r (λ g. IsBound script g.tx.items (g.back ∷ []) g)
+      IfOk r (λ g. IsBound (leg_of script) g.tx.items (g.back ∷ []) g)
   group-opened entries bytes tx back (Ok g) count size unused of_script ticks landed journal room refusals ends made =
       bound-begins script g of_script ticks landed.0 landed.1 journal
       (room-begins script g of_script ticks landed.0 landed.1 journal (room.0 ∙ count) (room.1 ∙ size))
       (landed-begins script g of_script ticks landed.0 landed.1 journal refusals
       (subst (λ (v : Vec (RingOut Container)). AreUnused v.items) (sym ends.0) unused)
-      valid.network.windows_each made)
+      valid.sound.network.windows_each made)
   group-opened entries bytes tx back (Err e) count size unused of_script ticks landed journal room refusals ends made =
       tt
 

@@ -7,6 +7,7 @@ use Rattle.vc_cell.specs.declared.Container.{Container}
 use Rattle.vc_cell.specs.declared.BackCell.TheVariants.{Packet as Nibbles}
 use Rattle.session_model.specs.Packet.{packet_nibbles}
 use Rattle.session_model.specs.declared.script.Script.{Script}
+use Rattle.session_model.specs.Leg.{leg_of}
 use Rattle.session_model.specs.Valid.{IsValid}
 use Rattle.session_model.specs.Path.{cells}
 use Rattle.session_model.specs.Scenario.{scenario_of, carried_by, packets_in, steps_in, offers_of, orders_of}
@@ -29,7 +30,7 @@ use Rattle.walk_law.specs.Delivered.{delivered_of}
 use Rattle.walk_law.specs.Landed.{Numbered, is_client, landed_items, refusal_at, refused_by, is_accepted_frame}
 use Rattle.walk_law.specs.Landed.{is_accepted_command, refusals_among}
 use Rattle.walk_law.specs.Promise.{numbered}
-use Rattle.walk_law.proofs.PlanLaws.{has-lines, valid-walks}
+use Rattle.walk_law.proofs.PlanLaws.{has-lines, sound-walks}
 use Rattle.walk_law.proofs.LandLaws.{Ahead}
 use Rattle.walk_law.proofs.EndLaws.{ended-landed}
 use Rattle.walk_law.proofs.CountLaws.{delivered-few}
@@ -81,7 +82,7 @@ module _ (script : Script) (valid : IsValid script) (group : GroupState) (worker
   }
 
   windows : length script.config.windows ≡ script.config.lines
-  windows = valid.network.windows_each
+  windows = valid.sound.network.windows_each
 
   -- ---- what the source was told
   said : in_passed group.back ++ in_items group.back ≡ map (λ k. Nibbles (packet_nibbles (return_at (cells_of sink) k)))
@@ -130,9 +131,9 @@ module _ (script : Script) (valid : IsValid script) (group : GroupState) (worker
       ∙ made-session script valid (used_in script.config.lag script.config.ticks) (cells_of sink) course m
 
   line-sent : (m : ℕ) (worker : LineWorker) → slice_get workers m ≡ Some worker →
-      out_passed worker.producer ≡ line_cells script m
+      out_passed worker.producer ≡ line_cells (leg_of script) m
   line-sent m worker there =
-      let delay : ℕ = delay_on script m in
+      let delay : ℕ = delay_on (leg_of script) m in
       let all : List Container = sent_on (scenario_of script) m in
       (line-ended script (taken_of group) group.tx.items workers sink.rx.items gathered m worker there).1
       ∙ ap (λ (own : List Container). cells (carried_by (scenario_of script) m) delay script.config.ticks own
@@ -146,7 +147,7 @@ module _ (script : Script) (valid : IsValid script) (group : GroupState) (worker
       ∙ backs-session script valid (used_in script.config.lag script.config.ticks) (cells_of sink) course decided
 
   pub frames-ended : given_frames (size_of sink) (cells_of sink) (rows_taken sink)
-      ≡ delivered_of script script.config.ticks
+      ≡ delivered_of (leg_of script) script.config.ticks
   frames-ended =
       ap (λ size. given_frames size (cells_of sink) (rows_taken sink)) end.size
       ∙ ap (given_frames script.config.size (cells_of sink)) end.taken
@@ -174,7 +175,7 @@ module _ (script : Script) (valid : IsValid script) (group : GroupState) (worker
     returns = end.returns ∙ backs-all;
     taken = end.taken;
     got = end.stands.counted ∙ ap count_of frames-ended
-        ∙ (let few = delivered-few script script.config.ticks valid (omega arith) in omega (arith, few));
+        ∙ (let few = delivered-few (leg_of script) script.config.ticks valid.sound (omega arith) in omega (arith, few));
   }
 
 -- ---- the group
@@ -187,16 +188,16 @@ module _ (script : Script) (valid : IsValid script) (group : GroupState) (worker
   agree : AgreeBefore (steps_in script.config.ticks - script.config.lag) (taken_of group)
       (session_cells (scenario_of script))
   agree =
-      let can = valid-walks script valid in
-      let lag : 0 < script.config.lag = (let within = valid.network.lag in omega (arith, within.0)) in
+      let can = sound-walks (leg_of script) valid.sound in
+      let lag : 0 < script.config.lag = (let within = valid.sound.network.lag in omega (arith, within.0)) in
       let n : ℕ = used_in script.config.lag script.config.ticks in
       ap (take n) (told script valid group workers sink end
-      ∙ course-returns (scenario_of script) script.config.ticks n (cells_of sink) (has-lines script can) lag
+      ∙ course-returns (scenario_of script) script.config.ticks n (cells_of sink) (has-lines (leg_of script) can) lag
       (course script valid group workers sink end))
       ∙ session-agree (scenario_of script) n n (most script valid group workers sink end) (omega arith)
 
   refusal-is : (item : Numbered) → item.item.due ≤ script.config.ticks →
-      refusal_by script (taken_of group) item ≡ refusal_at script item
+      refusal_by (leg_of script) (taken_of group) item ≡ refusal_at (leg_of script) item
   refusal-is item low =
       refusal-alike (scenario_of script) (taken_of group) (scenario_of script)
       (session_cells (scenario_of script)) script.config.ticks item.item.due
@@ -211,8 +212,8 @@ module _ (script : Script) (valid : IsValid script) (group : GroupState) (worker
       (subst (λ ticks. Ahead (dues_of (items_of group)) ticks (frames_of group) (commands_of group)) ticks-all
       (record { of_frames = group.keeps.ahead.of_frames; of_commands = group.keeps.ahead.of_commands }))
 
-  all-landed : landed_items script (counts_of group) ≡ numbered 0 script.items
-  all-landed = (ended-landed script valid (frames_of group) (commands_of group) ahead).2
+  all-landed : landed_items (leg_of script) (counts_of group) ≡ numbered 0 script.items
+  all-landed = (ended-landed (leg_of script) valid.sound (frames_of group) (commands_of group) ahead).2
 
   due : (i : ℕ) (item : Numbered) → slice_get (numbered 0 script.items) i ≡ Some item →
       item.item.due ≤ script.config.ticks
@@ -220,30 +221,34 @@ module _ (script : Script) (valid : IsValid script) (group : GroupState) (worker
       subst (λ ticks. item.item.due ≤ ticks) ticks-all
       (end.landed.past i item (ap (λ (items : List Numbered). slice_get items i) all-landed ∙ there))
 
-  refusals-all : refusals_of group ≡ refusals_among script (numbered 0 script.items)
+  refusals-all : refusals_of group ≡ refusals_among (leg_of script) (numbered 0 script.items)
   refusals-all =
-      end.landed.refusals ∙ ap (refusals_by script (taken_of group)) all-landed
-      ∙ same-each (λ item. refused_by item.number (refusal_by script (taken_of group) item))
-      (λ item. refused_by item.number (refusal_at script item)) (numbered 0 script.items)
+      end.landed.refusals ∙ ap (refusals_by (leg_of script) (taken_of group)) all-landed
+      ∙ same-each (λ item. refused_by item.number (refusal_by (leg_of script) (taken_of group) item))
+      (λ item. refused_by item.number (refusal_at (leg_of script) item)) (numbered 0 script.items)
       (λ i item there. ap (refused_by item.number) (refusal-is item (due i item there)))
 
   frames-all : length (offers_of (items_in (journal_of group))) ≡ length
-      (filter (is_accepted_frame script) (numbered 0 script.items))
+      (filter (is_accepted_frame (leg_of script)) (numbered 0 script.items))
   frames-all =
-      end.landed.frames ∙ ap (λ (items : List Numbered). length (accepted_frames_by script (taken_of group) items))
+      end.landed.frames
+      ∙ ap (λ (items : List Numbered). length (accepted_frames_by (leg_of script) (taken_of group) items))
       all-landed
-      ∙ ap length (same-filter (λ item. is_client item.item.kind && is_none (refusal_by script (taken_of group) item))
-      (is_accepted_frame script) (numbered 0 script.items)
+      ∙ ap length
+      (same-filter (λ item. is_client item.item.kind && is_none (refusal_by (leg_of script) (taken_of group) item))
+      (is_accepted_frame (leg_of script)) (numbered 0 script.items)
       (λ i item there. ap (λ (why : Option Refusal). is_client item.item.kind && is_none why)
       (refusal-is item (due i item there))))
 
   commands-all : length (orders_of (items_in (journal_of group))) ≡ length
-      (filter (is_accepted_command script) (numbered 0 script.items))
+      (filter (is_accepted_command (leg_of script)) (numbered 0 script.items))
   commands-all =
-      end.landed.commands ∙ ap (λ (items : List Numbered). length (accepted_commands_by script (taken_of group) items))
+      end.landed.commands
+      ∙ ap (λ (items : List Numbered). length (accepted_commands_by (leg_of script) (taken_of group) items))
       all-landed
       ∙ ap length (same-filter (λ item. not (is_client item.item.kind) && is_none
-      (refusal_by script (taken_of group) item)) (is_accepted_command script) (numbered 0 script.items)
+      (refusal_by (leg_of script) (taken_of group) item)) (is_accepted_command (leg_of script))
+      (numbered 0 script.items)
       (λ i item there. ap (λ (why : Option Refusal). not (is_client item.item.kind) && is_none why)
       (refusal-is item (due i item there))))
 
@@ -255,14 +260,15 @@ module _ (script : Script) (valid : IsValid script) (group : GroupState) (worker
       let items : List Numbered = numbered 0 script.items in
       ap (λ n. totals_by n frames commands refused) ticks-all
       ∙ ap (λ n. totals_by script.config.ticks n commands refused) frames-all
-      ∙ ap (λ n. totals_by script.config.ticks (length (filter (is_accepted_frame script) items)) n refused)
+      ∙ ap (λ n. totals_by script.config.ticks (length (filter (is_accepted_frame (leg_of script)) items)) n refused)
       commands-all
-      ∙ ap (λ (l : List (ℕ × Refusal)). totals_by script.config.ticks (length (filter (is_accepted_frame script) items))
-      (length (filter (is_accepted_command script) items)) (length l)) refusals-all
+      ∙ ap (λ (l : List (ℕ × Refusal)). totals_by script.config.ticks
+      (length (filter (is_accepted_frame (leg_of script)) items))
+      (length (filter (is_accepted_command (leg_of script)) items)) (length l)) refusals-all
 
   pub group-ended : IsGroupEnded script group
   group-ended =
-      let landed = ended-landed script valid (frames_of group) (commands_of group) ahead in
+      let landed = ended-landed (leg_of script) valid.sound (frames_of group) (commands_of group) ahead in
       record {
         ticks = ticks-all;
         frames = omega (arith, landed.0, end.landed.most_frames);

@@ -11,6 +11,7 @@ use Rattle.outside_io.specs.Transfer.{Appends, AppendsPart}
 use Rattle.outside_io.proofs.Parts.{Appends-none}
 use Rattle.line_law.proofs.ListLaws.{slice_get-inside}
 use Rattle.session_model.specs.declared.script.Script.{Script}
+use Rattle.session_model.specs.Leg.{leg_of}
 use Rattle.report_text.specs.Report.{got_texts}
 use Rattle.member_ring.specs.declared.ends.RingOut.{RingOut}
 use Rattle.member_ring.specs.declared.ends.RingIn.{RingIn}
@@ -42,10 +43,11 @@ use Rattle.session_run.specs.Session.{IsSinkOf, IsOpen, HasComeToEnd}
 -- the members of a session are its script, and the ends of its group as they were made
 pub bound-own : (named : Script) (tx : List (RingOut Container)) (back : List (RingIn BackCell)) (script : Script)
     (first group : GroupState) → IsSessionOf named tx back script first →
-    IsBound named tx back group → IsBound script first.tx.items (first.back ∷ []) group
+    IsBound (leg_of named) tx back group → IsBound (leg_of script) first.tx.items (first.back ∷ []) group
 bound-own named tx back script first group is bound =
-    subst (λ l. IsBound script first.tx.items l group) is.returns
-    (subst (λ l. IsBound script l back group) is.sends (subst (λ s. IsBound s tx back group) is.script bound))
+    subst (λ l. IsBound (leg_of script) first.tx.items l group) is.returns
+    (subst (λ l. IsBound (leg_of script) l back group) is.sends
+    (subst (λ s. IsBound (leg_of s) tx back group) is.script bound))
 
 -- the worker of a sink where a session begins
 pub run-begins : (script : Script) (sink : SinkWorker) (first : Seen) (name : ℕ) (log : Option AlarmLog) →
@@ -96,7 +98,7 @@ pub record AreEndsLater (group : GroupState) (lines : List LineWorker) (sink : S
 module _ (script : Script) (first : GroupState) (begun : List LineWorker) (taker : SinkWorker)
     (open' : IsOpen script first begun taker)
     (group : GroupState) (lines : List LineWorker) (sink : SinkWorker)
-    (bound : IsBound script first.tx.items (first.back ∷ []) group) (later : AreLater begun lines)
+    (bound : IsBound (leg_of script) first.tx.items (first.back ∷ []) group) (later : AreLater begun lines)
     (after : IsSinkLater taker sink) where
   as-many : length lines ≡ length begun
   as-many = zip-length IsLater begun lines later
@@ -143,7 +145,7 @@ module _ (script : Script) (first : GroupState) (begun : List LineWorker) (taker
 module _ (script : Script) (first : GroupState) (begun : List LineWorker) (taker : SinkWorker)
     (open' : IsOpen script first begun taker)
     (group : GroupState) (lines : List LineWorker) (sink : SinkWorker)
-    (bound : IsBound script first.tx.items (first.back ∷ []) group) (later : AreLater begun lines)
+    (bound : IsBound (leg_of script) first.tx.items (first.back ∷ []) group) (later : AreLater begun lines)
     (after : IsSinkLater taker sink)
     (made : total_of group ≤ ticks_of group) (done : AreDone lines) (taken : taken_of sink ≡ rows_of sink)
     (stands : Stands sink)

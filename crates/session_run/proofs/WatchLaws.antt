@@ -38,6 +38,7 @@ use Rattle.session_parts.specs.Laid.{AreDone, AreServedDone}
 use Rattle.session_parts.specs.Opened.{AreOpened}
 use Rattle.session_parts.specs.Session.{IsEnded}
 use Rattle.session_model.specs.declared.script.Script.{Script}
+use Rattle.session_model.specs.Leg.{leg_of}
 use Rattle.walk_law.specs.Rings.{line_cells}
 use Rattle.session_parts.proofs.DealLaws.{some-is, zip-at}
 use Rattle.session_parts.proofs.ZipLaws.{zip-length}
@@ -188,7 +189,7 @@ module _ (script : Script) (group : GroupState) (workers : List LineWorker) (sin
     (posts : List AlarmPost) (told : AreTold workers posts) (count : length posts ≡ length workers) where
   -- what was posted through a post
   posted-at : (m : ℕ) (post : AlarmPost) → slice_get posts m ≡ Some post →
-      posted_by post ≡ alarms_of_line m (line_cells script m)
+      posted_by post ≡ alarms_of_line m (line_cells (leg_of script) m)
   posted-at m post here =
       let inside = slice_get_within posts m post here in
       let (worker, there) = slice_get-inside workers m (omega (arith, inside, count)) in
@@ -197,13 +198,13 @@ module _ (script : Script) (group : GroupState) (workers : List LineWorker) (sin
 
   pub are-alone : (m : ℕ) → IsAlone m m posts
   are-alone m j post here other = ap (of_line m) (posted-at j post here)
-      ∙ other-from m j 0 false (line_cells script j) other
+      ∙ other-from m j 0 false (line_cells (leg_of script) j) other
 
   pub all-alarms : (list : List Alarm) →
       ((m i : ℕ) (post : AlarmPost) → slice_get posts i ≡ Some post → IsAlone m i posts →
       of_line m list ≡ of_line m (posted_by post)) →
-      (m : ℕ) → m < script.config.lines → of_line m list ≡ alarms_of_line m (line_cells script m)
+      (m : ℕ) → m < script.config.lines → of_line m list ≡ alarms_of_line m (line_cells (leg_of script) m)
   all-alarms list lines m low =
       let (post, here) = slice_get-inside posts m (omega (arith, low, count, ended.count)) in
       lines m m post here (are-alone m) ∙ ap (of_line m) (posted-at m post here)
-      ∙ own-from m 0 false (line_cells script m)
+      ∙ own-from m 0 false (line_cells (leg_of script) m)

@@ -4,6 +4,7 @@ use Rattle.vc_cell.specs.declared.Container.{Container}
 use Rattle.vc_cell.specs.declared.Cell.{Cell}
 use Rattle.vc_cell.specs.declared.BackCell.{BackCell}
 use Rattle.session_model.specs.declared.script.Script.{Script}
+use Rattle.session_model.specs.Leg.{leg_of}
 use Rattle.member_ring.specs.declared.ends.RingOut.{RingOut}
 use Rattle.member_ring.specs.declared.ends.RingIn.{RingIn}
 use Rattle.member_ring.specs.Ends.{out_passed, in_passed, in_items, AreEnds}
@@ -37,7 +38,7 @@ pub record HasLookedLine (old new : LineWorker) : Type 0 where
 pub record AreLaid (group : GroupState) (lines : List LineWorker) (sink : SinkWorker) (group' : GroupState)
     (lines' : List LineWorker) (sink' : SinkWorker) : Type 0 where
   pub landed : (script : Script) (tx : List (RingOut Container)) (back : List (RingIn BackCell)) →
-      IsBound script tx back group → IsBound script tx back group'
+      IsBound (leg_of script) tx back group → IsBound (leg_of script) tx back group'
   pub ticks : ticks_of group' ≡ ticks_of group
   pub tx_count : length group'.tx.items ≡ length group.tx.items
   pub count : length lines' ≡ length lines

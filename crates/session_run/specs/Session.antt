@@ -3,6 +3,7 @@ use Rattle.std.specs.Prelude.{◌≡◌, ℕ, ◌≤◌, List, [], ◌∷◌, �
 use Rattle.vc_cell.specs.declared.Container.{Container}
 use Rattle.vc_cell.specs.declared.Cell.{Cell}
 use Rattle.session_model.specs.declared.script.Script.{Script}
+use Rattle.session_model.specs.Leg.{leg_of}
 use Rattle.session_model.specs.Scenario.{offers_of, orders_of}
 use Rattle.report_text.specs.declared.report.Totals.{Totals}
 use Rattle.member_ring.specs.declared.ends.RingOut.{RingOut}
@@ -34,7 +35,7 @@ pub record IsSinkOf (script : Script) (sink : SinkWorker) : Type 0 where
 -- has moved
 pub record IsOpen (script : Script) (group : GroupState) (workers : List LineWorker)
     (worker : SinkWorker) : Type 0 where
-  pub bound : IsBound script group.tx.items (group.back ∷ []) group
+  pub bound : IsBound (leg_of script) group.tx.items (group.back ∷ []) group
   pub lines : AreOpened script.config script.config.lines group.tx.items workers worker.rx.items
   pub returns : AreEnds worker.back group.back
   pub sink : IsSinkOf script worker
@@ -49,8 +50,8 @@ pub record IsAllDone (group : GroupState) (lines : List ServedLine) (sink : Sink
 -- the same, and the two ends of each ring say the same
 pub record HasComeToEnd (script : Script) (group : GroupState) (workers : List LineWorker)
     (sink : SinkWorker) : Type 0 where
-  pub of_script : IsOf script group
-  pub landed : HasLandedOf script group
+  pub of_script : IsOf (leg_of script) group
+  pub landed : HasLandedOf (leg_of script) group
   pub made : total_of group ≤ ticks_of group
   pub tx_count : length group.tx.items ≡ script.config.lines
   pub workers_count : length workers ≡ script.config.lines
@@ -76,7 +77,7 @@ pub record HasComeToEnd (script : Script) (group : GroupState) (workers : List L
 -- the numbers of its ticks, its accepted frames and commands and its refused items; rows and delivered frames are
 -- counted elsewhere
 abbrev pub group_totals : Script → Totals
-group_totals script = record (totals_among script script.config.ticks 0 (numbered 0 script.items)) { got = 0 }
+group_totals script = record (totals_among (leg_of script) script.config.ticks 0 (numbered 0 script.items)) { got = 0 }
 
 -- the group has made all frames and landed all items; each that it accepted is an item of the script, and those that it
 -- refused are the
@@ -85,6 +86,6 @@ pub record IsGroupEnded (script : Script) (group : GroupState) : Type 0 where
   pub ticks : ticks_of group ≡ script.config.ticks
   pub frames : frames_of group ≡ length (offers_of script.items)
   pub commands : commands_of group ≡ length (orders_of script.items)
-  pub journal : AreItemsOf script (journal_of group)
-  pub refusals : refusals_of group ≡ refusals_among script (numbered 0 script.items)
+  pub journal : AreItemsOf (leg_of script) (journal_of group)
+  pub refusals : refusals_of group ≡ refusals_among (leg_of script) (numbered 0 script.items)
   pub totals : totals_of group ≡ group_totals script

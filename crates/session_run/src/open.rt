@@ -2,6 +2,7 @@
 ghost use Rattle.std.specs.Prelude.{◌≡◌, ◌<◌, ◌≤◌, IfOk, All, [], ◌∷◌, length, replicate, vec_len};
 ghost use Rattle.session_model.specs.Scenario.{offers_of};
 ghost use Rattle.session_model.specs.declared.script.Item.{Item};
+ghost use Rattle.session_model.specs.Leg.{leg_of};
 ghost use Rattle.session_model.specs.Valid.{IsValid, IsKind};
 ghost use Rattle.member_ring.specs.Ends.{AreEnds, out_passed, in_passed};
 ghost use Rattle.sink_worker.specs.Received.{received};
@@ -68,7 +69,7 @@ fn open_group(
     requires rings { length tx.items ≡ script.now.config.lines }
     requires sends { AreUnused tx.items }
     requires returns { in_passed back ≡ [] }
-    ensures bound { IfOk result (λ g. IsBound script.now g.tx.items (g.back ∷ []) g) }
+    ensures bound { IfOk result (λ g. IsBound (leg_of script.now) g.tx.items (g.back ∷ []) g) }
     ensures ends { IfOk result (λ g. (g.tx ≡ tx) × (g.back ≡ back)) }
 {
     let items = items_of(script);
@@ -112,7 +113,8 @@ fn open_ends(
     requires unused { AreUnused tx.items }
     requires receives { length rx.items ≡ script.now.config.lines }
     requires fresh { received rx.items ≡ replicate script.now.config.lines [] }
-    ensures bound { IfOk result (λ e. IsBound script.now e.0.tx.items (e.0.back ∷ []) e.0) }
+    ensures bound { IfOk result
+        (λ e. IsBound (leg_of script.now) e.0.tx.items (e.0.back ∷ []) e.0) }
     ensures sink { IfOk result (λ e. IsSinkOf script.now e.1) }
     ensures returns { IfOk result (λ e. AreEnds e.1.back e.0.back) }
     ensures ends { IfOk result (λ e. (e.0.tx ≡ tx) × (e.1.rx ≡ rx)) }

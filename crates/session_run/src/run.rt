@@ -1,5 +1,6 @@
 //! The call that runs a session.
 ghost use Rattle.std.specs.Prelude.{◌≡◌, ◌≤◌, true, false, IfOk, IfErr};
+ghost use Rattle.session_model.specs.Leg.{leg_of};
 ghost use Rattle.outside_io.specs.Transfer.{Appends, AppendsPart};
 ghost use Rattle.report_text.specs.Report.{got_texts};
 ghost use Rattle.session_model.specs.Valid.{IsValid};
@@ -39,10 +40,10 @@ pub fn run_session<R: Threads + Wait + Sync, K: ByteSink, G: Gate>(
     ensures group { IfOk result (λ e. IsGroupEnded script e.group) }
     ensures written { IfOk result (λ e. has_failed e.sink ≡ false →
         Appends K.written K.faults out.old out.new
-        (got_texts (delivered_of script script.config.ticks))) }
+        (got_texts (delivered_of (leg_of script) script.config.ticks))) }
     ensures part { IfOk result (λ e. has_failed e.sink ≡ true →
         AppendsPart K.written K.faults out.old out.new
-        (got_texts (delivered_of script script.config.ticks))) }
+        (got_texts (delivered_of (leg_of script) script.config.ticks))) }
     ensures nothing { IfErr result (λ _. out.new ≡ out.old) }
 {
     let opened = open(alloc, &script, workers)?;

@@ -1,5 +1,6 @@
 //! The turns at the group: each takes the lock, makes one call of the group and gives the lock back.
 ghost use Rattle.std.specs.Prelude.{◌≡◌, IfSome};
+ghost use Rattle.session_model.specs.Leg.{leg_of};
 ghost use Rattle.group_source.specs.Item.{kind_of};
 ghost use Rattle.group_lock.specs.Group.{HasCounted};
 ghost use Rattle.group_lock.specs.Session.{IsItemOf};
@@ -40,7 +41,7 @@ pub(crate) fn who_brings(kind: &ItemKind) -> Who
 
 /// Hands in an item, and says whether it has landed.
 pub(crate) fn hand_in<Y: Session>(group: &mut BoundGroup<Y>, number: u32, kind: &ItemKind) -> bool
-    requires { IsItemOf Y.script number kind.now }
+    requires { IsItemOf (leg_of Y.script) number kind.now }
     ensures { HasCounted group.old.state group.new.state kind.now result }
 {
     match group.submit(number, as_handed(kind)) {
@@ -68,7 +69,7 @@ fn land<'s, Y: Session, R: Wait, G: Gate>(
     number: u32,
     kind: &ItemKind,
 ) -> Option<OnceToken<'s, ()>>
-    requires { IsItemOf Y.script number kind.now }
+    requires { IsItemOf (leg_of Y.script) number kind.now }
     ensures { IfSome result (λ told. told.of ≡ heeded stop.entry) }
 {
     let who = who_brings(kind);

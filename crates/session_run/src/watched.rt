@@ -1,5 +1,6 @@
 //! The call that runs a session of which each line is watched.
 ghost use Rattle.std.specs.Prelude.{◌≡◌, ℕ, ◌<◌, ◌≤◌, true, false, IfOk, IfErr};
+ghost use Rattle.session_model.specs.Leg.{leg_of};
 ghost use Rattle.outside_io.specs.Transfer.{Appends, AppendsPart};
 ghost use Rattle.report_text.specs.Report.{got_texts};
 ghost use Rattle.session_model.specs.Valid.{IsValid};
@@ -48,12 +49,12 @@ pub fn run_watched<R: Threads + Wait + Sync, K: ByteSink, G: Gate>(
     ensures group { IfOk result (λ w. IsGroupEnded script w.0.group) }
     ensures written { IfOk result (λ w. has_failed w.0.sink ≡ false →
         Appends K.written K.faults out.old out.new
-        (got_texts (delivered_of script script.config.ticks))) }
+        (got_texts (delivered_of (leg_of script) script.config.ticks))) }
     ensures part { IfOk result (λ w. has_failed w.0.sink ≡ true →
         AppendsPart K.written K.faults out.old out.new
-        (got_texts (delivered_of script script.config.ticks))) }
+        (got_texts (delivered_of (leg_of script) script.config.ticks))) }
     ensures alarms { IfOk result (λ w. (m : ℕ) → m < script.config.lines →
-        of_line m (alarms_in w.1) ≡ alarms_of_line m (line_cells script m)) }
+        of_line m (alarms_in w.1) ≡ alarms_of_line m (line_cells (leg_of script) m)) }
     ensures nothing { IfErr result (λ _. out.new ≡ out.old) }
 {
     let opened = open(alloc, &script, workers)?;

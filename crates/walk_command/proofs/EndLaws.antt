@@ -3,6 +3,7 @@ use Rattle.std.proofs.Common.{◌≡◌, ℕ, false, not, List, [], ◌++◌, Op
 use Rattle.outside_io.specs.Transfer.{Appends}
 use Rattle.outside_io.proofs.Parts.{Appends-none}
 use Rattle.session_model.specs.declared.script.Script.{Script}
+use Rattle.session_model.specs.Leg.{leg_of}
 use Rattle.session_model.specs.Counts.{Counts, begin}
 use Rattle.report_text.specs.Report.{got_texts, total_text}
 use Rattle.outside_io.specs.Start.{Start}
@@ -29,15 +30,15 @@ module _ {K E : Type 0} (k_written : K → Option (List ℕ)) (k_faults : K → 
   -- nothing is told before any event
   pub begun-told : (got : GotLines K) (walk : Walked) → has_failed got ≡ false →
       HasText k_written k_faults got (start_at k_written k_faults out (name_of got)) [] →
-      walk.counts ≡ begin (walk_plan walk.script)
+      walk.counts ≡ begin (walk_plan (leg_of walk.script))
       → TellsAll lines_of has_failed e_written e_faults (start_at k_written k_faults out (name_of got)) first got first
       walk
   begun-told got walk whole fresh begun =
       let P : List ℕ → Type 0 = λ text. HasText k_written k_faults got (start_at k_written k_faults out (name_of got))
       text in
       let Q : List ℕ → Type 0 = λ text. Appends e_written e_faults first first text in
-      let none : got_texts (delivered_of walk.script walk.counts.rows) ≡ [] =
-      ap (λ (s : Counts). got_texts (delivered_of walk.script s.rows)) begun
+      let none : got_texts (delivered_of (leg_of walk.script) walk.counts.rows) ≡ [] =
+      ap (λ (s : Counts). got_texts (delivered_of (leg_of walk.script) s.rows)) begun
       ∙ ap got_texts (none-delivered walk.script) in
       let quiet : decisions_text walk.script walk.counts.ticks ≡ [] =
       ap (λ (s : Counts). decisions_text walk.script s.ticks) begun in
@@ -60,10 +61,10 @@ module _ {K E : Type 0} (k_written : K → Option (List ℕ)) (k_faults : K → 
         → StopsBoth k_written k_faults out new (walk_text script) e_written e_faults first notes (trace_text script)
     part-told new told gives_up =
         let P : Script → Type 0 = λ s. GivesUp (has_failed got) k_written k_faults out new
-        (got_texts (delivered_of s told.rows)) in
+        (got_texts (delivered_of (leg_of s) told.rows)) in
         let Q : List ℕ → Type 0 = λ text. GivesUp (not (has_failed got)) e_written e_faults first notes text in
         let N : ℕ → Type 0 = λ n. HasText k_written k_faults got (start_at k_written k_faults out n)
-        (got_texts (delivered_of walk.script told.rows)) in
+        (got_texts (delivered_of (leg_of walk.script) told.rows)) in
         let end : walk.counts.rows ≡ (counts_in script).rows = ap (λ (s : Counts). s.rows) counts in
         let low = told.low in
         let trace : decisions_text walk.script walk.counts.ticks ≡ trace_text script =
@@ -71,7 +72,7 @@ module _ {K E : Type 0} (k_written : K → Option (List ℕ)) (k_faults : K → 
         stops-both (has_failed got) k_written k_faults out new (walk_text script) e_written e_faults first notes
         (trace_text script)
         (walk-given_up (has_failed got) k_written k_faults out new script told.rows (omega (arith, low, end))
-        (subst P same (gives_up out (got_texts (delivered_of walk.script told.rows))
+        (subst P same (gives_up out (got_texts (delivered_of (leg_of walk.script) told.rows))
         (subst N (sym told.gives.0) told.gives))))
         (subst Q trace told.lines)
 
@@ -81,16 +82,17 @@ module _ {K E : Type 0} (k_written : K → Option (List ℕ)) (k_faults : K → 
         walk
         → ((at : Start) (before : List ℕ) → HasText k_written k_faults got at before
         → HasText k_written k_faults last at
-        (before ++ refused_texts (refusals_of walk.script walk.counts) ++ total_text
-        (totals_of walk.script walk.counts)))
+        (before ++ refused_texts (refusals_of (leg_of walk.script) walk.counts) ++ total_text
+        (totals_of (leg_of walk.script) walk.counts)))
         → HasText k_written k_faults last (start_at k_written k_faults out (name_of last)) (walk_text script)
     whole-told last told rest =
         let T : List ℕ → Type 0 = λ text. HasText k_written k_faults last
         (start_at k_written k_faults out (name_of was)) text in
-        let all : report_of walk.script walk.counts ≡ walk_text script = ap (λ s. report_of s walk.counts) same
-        ∙ ap (report_of script) counts in
+        let all : report_of (leg_of walk.script) walk.counts ≡ walk_text script =
+        ap (λ s. report_of (leg_of s) walk.counts) same
+        ∙ ap (report_of (leg_of script)) counts in
         let text = subst T all (rest (start_at k_written k_faults out (name_of was))
-        (got_texts (delivered_of walk.script walk.counts.rows)) told.gives) in
+        (got_texts (delivered_of (leg_of walk.script) walk.counts.rows)) told.gives) in
         let N : ℕ → Type 0 = λ n. HasText k_written k_faults last (start_at k_written k_faults out n)
         (walk_text script) in
         subst N (sym text.0) text

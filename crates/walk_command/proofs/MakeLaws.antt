@@ -5,6 +5,7 @@ use Rattle.std.proofs.lemmas.List.Sums.{sum_by_push}
 use Rattle.std.proofs.lemmas.List.{length-take-le}
 use borrow.Rule.Slice.PartMut.{put_mid, post_of}
 use Rattle.session_model.specs.declared.script.Script.{Script}
+use Rattle.session_model.specs.Leg.{leg_of}
 use Rattle.session_model.specs.Counts.{Counts, begin, drain, bound}
 use Rattle.session_model.specs.Valid.{IsValid}
 use Rattle.session_model.specs.SessionStream.{rows_of}
@@ -49,50 +50,57 @@ drop-none : {X : Type 0} (xs : List X) → drop 0 xs ≡ xs
 drop-none [] = refl
 drop-none (x ∷ xs) = refl
 
-pub none-delivered : (script : Script) → delivered_of script 0 ≡ []
+pub none-delivered : (script : Script) → delivered_of (leg_of script) 0 ≡ []
 unfolding rows_of segments_on delineate_within hunt_within
 none-delivered script = refl
 
-pub since-begin : (script : Script) (rows : ℕ) → delivered_since script 0 rows ≡ delivered_of script rows
-since-begin script rows = ap (λ (frames : List (List ℕ)). drop (length frames) (delivered_of script rows))
-    (none-delivered script) ∙ drop-none (delivered_of script rows)
+pub since-begin : (script : Script) (rows : ℕ) → delivered_since (leg_of script) 0 rows
+    ≡ delivered_of (leg_of script) rows
+since-begin script rows = ap (λ (frames : List (List ℕ)). drop (length frames) (delivered_of (leg_of script) rows))
+    (none-delivered script) ∙ drop-none (delivered_of (leg_of script) rows)
 
 -- the sums of what a valid script delivers are told exactly
 module _ (script : Script) (rows octets total : ℕ) (valid : IsValid script) (low : rows ≤ script.config.ticks)
-    (so : HasSummed octets total (delivered_of script rows)) where
-  pub count-exact : octets ≡ octet_count (delivered_of script rows)
-  count-exact = let few = delivered-few script rows valid low in let is = so.octets in let most = so.few in
+    (so : HasSummed octets total (delivered_of (leg_of script) rows)) where
+  pub count-exact : octets ≡ octet_count (delivered_of (leg_of script) rows)
+  count-exact = let few = delivered-few (leg_of script) rows valid.sound low in let is = so.octets in let most =
+      so.few in
       omega (arith, few, is, most)
 
-  pub sum-exact : total ≡ octet_sum (delivered_of script rows)
-  sum-exact = let few = delivered-few script rows valid low in let is = so.total in let most = so.small in
+  pub sum-exact : total ≡ octet_sum (delivered_of (leg_of script) rows)
+  sum-exact = let few = delivered-few (leg_of script) rows valid.sound low in let is = so.total in let most =
+      so.small in
       omega (arith, few, is, most)
 
 -- the lines of a walk that drained
 module _ (number lines ticks : ℕ) (was now : Walked) (script : was.script ≡ load number lines ticks)
-    (begun : was.counts ≡ begin (walk_plan was.script)) (same : now.script ≡ was.script)
-    (drained : now.counts ≡ drain (bound (walk_plan was.script)) (walk_plan was.script) was.counts) where
-  counts-are : now.counts ≡ counts_in (load number lines ticks)
-  counts-are =
-      drained ∙ ap (drain (bound (walk_plan was.script)) (walk_plan was.script)) begun
-      ∙ ap (λ (s : Script). drain (bound (walk_plan s)) (walk_plan s) (begin (walk_plan s))) script
+    (begun : was.counts ≡ begin (walk_plan (leg_of was.script))) (same : now.script ≡ was.script)
+    (drained : now.counts ≡ drain (bound (walk_plan (leg_of was.script))) (walk_plan (leg_of was.script)) was.counts)
+  where
+    counts-are : now.counts ≡ counts_in (load number lines ticks)
+    counts-are =
+        drained ∙ ap (drain (bound (walk_plan (leg_of was.script))) (walk_plan (leg_of was.script))) begun
+        ∙ ap (λ (s : Script). drain (bound (walk_plan (leg_of s))) (walk_plan (leg_of s)) (begin (walk_plan (leg_of s))))
+        script
 
-  pub lines-are : (octets total : ℕ) (totals : Totals) → totals ≡ totals_of now.script now.counts →
-      octets ≡ octet_count (delivered_of was.script now.counts.rows)
-      → total ≡ octet_sum (delivered_of was.script now.counts.rows) →
-      lines_text lines ticks totals octets total ≡ make_text number lines ticks
-  lines-are octets total totals is_totals is_octets is_total =
-      let all : Script = load number lines ticks in
-      let end : Counts = counts_in (load number lines ticks) in
-      let a : totals ≡ totals_of all end = is_totals ∙ ap (λ (s : Script). totals_of s now.counts) (same ∙ script)
-      ∙ ap (totals_of all) counts-are in
-      let rows : delivered_of was.script now.counts.rows ≡ delivered_of all end.rows =
-      ap (λ (s : Script). delivered_of s now.counts.rows) script
-      ∙ ap (λ (s : Counts). delivered_of all s.rows) counts-are in
-      let b : octets ≡ octet_count (delivered_of all end.rows) = is_octets ∙ ap octet_count rows in
-      let d : total ≡ octet_sum (delivered_of all end.rows) = is_total ∙ ap octet_sum rows in
-      ap (λ t. lines_text lines ticks t octets total) a ∙ ap (λ n. lines_text lines ticks (totals_of all end) n total) b
-      ∙ ap (lines_text lines ticks (totals_of all end) (octet_count (delivered_of all end.rows))) d
+    pub lines-are : (octets total : ℕ) (totals : Totals) → totals ≡ totals_of (leg_of now.script) now.counts →
+        octets ≡ octet_count (delivered_of (leg_of was.script) now.counts.rows)
+        → total ≡ octet_sum (delivered_of (leg_of was.script) now.counts.rows) →
+        lines_text lines ticks totals octets total ≡ make_text number lines ticks
+    lines-are octets total totals is_totals is_octets is_total =
+        let all : Script = load number lines ticks in
+        let end : Counts = counts_in (load number lines ticks) in
+        let a : totals ≡ totals_of (leg_of all) end = is_totals
+        ∙ ap (λ (s : Script). totals_of (leg_of s) now.counts) (same ∙ script)
+        ∙ ap (totals_of (leg_of all)) counts-are in
+        let rows : delivered_of (leg_of was.script) now.counts.rows ≡ delivered_of (leg_of all) end.rows =
+        ap (λ (s : Script). delivered_of (leg_of s) now.counts.rows) script
+        ∙ ap (λ (s : Counts). delivered_of (leg_of all) s.rows) counts-are in
+        let b : octets ≡ octet_count (delivered_of (leg_of all) end.rows) = is_octets ∙ ap octet_count rows in
+        let d : total ≡ octet_sum (delivered_of (leg_of all) end.rows) = is_total ∙ ap octet_sum rows in
+        ap (λ t. lines_text lines ticks t octets total) a
+        ∙ ap (λ n. lines_text lines ticks (totals_of (leg_of all) end) n total) b
+        ∙ ap (lines_text lines ticks (totals_of (leg_of all) end) (octet_count (delivered_of (leg_of all) end.rows))) d
 
 -- what stands behind a front that a line was put behind
 pub room-behind : (len n k : ℕ) (octets out : List ℕ) → len ≤ length octets → n ≤ length out →

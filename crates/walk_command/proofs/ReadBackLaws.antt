@@ -9,6 +9,7 @@ use Rattle.std.proofs.lemmas.List.Concat.{flat_map-append}
 use Rattle.std.proofs.lemmas.List.Elements.{All-nil, All-cons, All-head, All-tail, All-append, All-drop, All-weaker}
 use Rattle.session_model.specs.declared.script.Script.{Script}
 use Rattle.session_model.specs.declared.TypeFault.{TypeFault}
+use Rattle.session_model.specs.Leg.{leg_of}
 use Rattle.session_model.specs.Limits.{longest_frame}
 use Rattle.session_model.specs.TypeHeader.{type_fault}
 use Rattle.session_model.specs.Delivery.{frame_in}
@@ -19,7 +20,7 @@ use Rattle.session_model.specs.Run.{Run, runs_with}
 use Rattle.session_model.specs.Segment.{Segment, segments, segment_frames}
 use Rattle.session_model.specs.Valid.{IsValid}
 use Rattle.walk_law.specs.Delivered.{session_rows, delivered_of}
-use Rattle.walk_law.proofs.PlanLaws.{valid-walks}
+use Rattle.walk_law.proofs.PlanLaws.{sound-walks}
 use Rattle.walk_law.proofs.EndLaws.{counts-within}
 use Rattle.headline_law.specs.Texts.{counts_in}
 use Rattle.walk_core.specs.Moved.{delivered_since}
@@ -85,9 +86,9 @@ runs-short (run ∷ runs) =
     (All-append Short (flat_map frame_in own) (flat_map frame_in rest)
     (after-short run.settled 0 (descrambled_areas run.areas)) (runs-short runs))
 
-delivered-short : (script : Script) (rows : ℕ) → All Short (delivered_of script rows)
+delivered-short : (script : Script) (rows : ℕ) → All Short (delivered_of (leg_of script) rows)
 delivered-short script rows =
-    all-flat (segment_frames longest_frame) (segments (session_rows script rows))
+    all-flat (segment_frames longest_frame) (segments (session_rows (leg_of script) rows))
     (λ (segment : Segment). runs-short (runs_with head head segment.first segment.octets))
 
 -- ---- rows don't fall
@@ -130,7 +131,7 @@ taken-by script (suc rows) =
     (All-weaker (IsBy rows) (IsBy (suc rows)) (λ own low. omega (arith, low))
     (taken_frames script rows ++ frames_of_row script rows)
     (All-append (IsBy rows) (taken_frames script rows) (frames_of_row script rows) (taken-by script rows)
-    (at-by rows (delivered_since script rows (rows + 1))))))
+    (at-by rows (delivered_since (leg_of script) rows (rows + 1))))))
 
 none-rises : AreRising 0 []
 unfolding AreRising
@@ -142,9 +143,9 @@ taken-rises script (suc rows) high =
     let e : rows + 1 ≡ suc rows = omega arith in
     subst (λ n. AreRising 0 (taken_frames script n)) e
     (subst (AreRising 0) (sym (taken-more script rows))
-    (more-rises 0 rows (taken_frames script rows) (delivered_since script rows (rows + 1)) (omega arith)
+    (more-rises 0 rows (taken_frames script rows) (delivered_since (leg_of script) rows (rows + 1)) (omega arith)
     (omega (arith, high)) (taken-by script rows)
-    (All-drop Short (length (delivered_of script rows)) (delivered_of script (rows + 1))
+    (All-drop Short (length (delivered_of (leg_of script) rows)) (delivered_of (leg_of script) (rows + 1))
     (delivered-short script (rows + 1)))
     (taken-rises script rows (omega (arith, high)))))
 
@@ -152,7 +153,8 @@ taken-rises script (suc rows) high =
 pub capture-read : (script : Script) → IsValid script →
     capture_said (capture_octets script) ≡ Ok (due_frames (taken_frames script (counts_in script).rows))
 capture-read script valid =
-    let within = counts-within script (counts_in script) (valid-walks script valid) (counts-walked script) in
-    let most = valid.network.ticks.1 in
+    let within =
+    counts-within (leg_of script) (counts_in script) (sound-walks (leg_of script) valid.sound) (counts-walked script) in
+    let most = valid.sound.network.ticks.1 in
     read-back (taken_frames script (counts_in script).rows)
     (taken-rises script (counts_in script).rows (omega (arith, within.0, within.1, most)))

@@ -4,20 +4,21 @@ use Rattle.session_model.specs.declared.script.Script.{Script}
 use Rattle.session_model.specs.declared.walk.Event.{Event}
 use Rattle.session_model.specs.declared.script.EventLine.{EventLine}
 use Rattle.session_model.specs.declared.script.EventLine.TheVariants.{Drain}
+use Rattle.session_model.specs.Leg.{leg_of}
 use Rattle.session_model.specs.Counts.{Counts, run, run_lines, walked}
 use Rattle.walk_law.specs.Walk.{walk_plan, IsWalked}
 use Rattle.headline_law.specs.Texts.{counts_in}
 use Rattle.walk_command.proofs.TraceLaws.{turn-walked, lines-walked}
 
-pub walked-on : (was now : Script) (s next : Counts) (events : List Event) → IsWalked was s → now ≡ was →
-    next ≡ run (walk_plan was) s events → IsWalked now next
+pub walked-on : (was now : Script) (s next : Counts) (events : List Event) → IsWalked (leg_of was) s → now ≡ was →
+    next ≡ run (walk_plan (leg_of was)) s events → IsWalked (leg_of now) next
 walked-on was now s next events walked same made =
-    subst (λ (x : Script). IsWalked x next) (sym same) (turn-walked was s next events walked made)
+    subst (λ (x : Script). IsWalked (leg_of x) next) (sym same) (turn-walked was s next events walked made)
 
-pub counts-walked : (script : Script) → IsWalked script (counts_in script)
+pub counts-walked : (script : Script) → IsWalked (leg_of script) (counts_in script)
 unfolding run_lines
 counts-walked script = of script.events
   where
-    of : (lines : List EventLine) → IsWalked script (walked (walk_plan script) lines)
+    of : (lines : List EventLine) → IsWalked (leg_of script) (walked (walk_plan (leg_of script)) lines)
     of [] = lines-walked script (Drain ∷ [])
     of (line ∷ lines) = lines-walked script (line ∷ lines)

@@ -7,6 +7,7 @@ use Rattle.std.proofs.lemmas.List.Concat.{flat_map-append}
 use Rattle.std.proofs.lemmas.List.FromFn.{map-range_with_len_more}
 use Rattle.outside_io.specs.Start.{Start}
 use Rattle.session_model.specs.declared.script.Script.{Script}
+use Rattle.session_model.specs.Leg.{leg_of}
 use Rattle.session_model.specs.Counts.{Counts, begin}
 use Rattle.walk_law.specs.Walk.{walk_plan}
 use Rattle.walk_law.specs.Delivered.{delivered_of}
@@ -36,20 +37,22 @@ taken-more script row =
     ∙ ap (λ l. flat_map (frames_of_row script) (range_with_len 0 row) ++ l) (append-nil (frames_of_row script row))
 
 taken-by : (script : Script) (row more : ℕ) → more ≤ 1 →
-    taken_frames script row ++ at_row row (delivered_since script row (row + more)) ≡ taken_frames script (row + more)
+    taken_frames script row ++ at_row row (delivered_since (leg_of script) row (row + more))
+    ≡ taken_frames script (row + more)
 taken-by script row zero one =
     let e : row + 0 ≡ row = omega arith in
-    ap (λ n. taken_frames script row ++ at_row row (delivered_since script row n)) e
-    ∙ ap (λ l. taken_frames script row ++ at_row row l) (since-none script row) ∙ append-nil (taken_frames script row)
+    ap (λ n. taken_frames script row ++ at_row row (delivered_since (leg_of script) row n)) e
+    ∙ ap (λ l. taken_frames script row ++ at_row row l) (since-none (leg_of script) row)
+    ∙ append-nil (taken_frames script row)
     ∙ ap (taken_frames script) (sym e)
 taken-by script row (suc zero) one = sym (taken-more script row)
 taken-by script row (suc (suc more)) one = absurd (omega (arith, one))
 
 -- those of a row more, or of none
 pub taken-next : (script : Script) (row next : ℕ) → row ≤ next → next ≤ row + 1
-    → taken_frames script row ++ at_row row (delivered_since script row next) ≡ taken_frames script next
+    → taken_frames script row ++ at_row row (delivered_since (leg_of script) row next) ≡ taken_frames script next
 taken-next script row next low one =
-    let P : ℕ → Type 0 = λ n. taken_frames script row ++ at_row row (delivered_since script row n)
+    let P : ℕ → Type 0 = λ n. taken_frames script row ++ at_row row (delivered_since (leg_of script) row n)
     ≡ taken_frames script n in
     subst P (let e : row + (next - row) ≡ next = omega (arith, low) in e)
     (taken-by script row (next - row) (omega (arith, one)))
@@ -60,7 +63,7 @@ frames-at row [] = refl
 frames-at row (frame ∷ frames) = ap (λ l. frame ∷ l) (frames-at row frames)
 
 pub taken-delivered : (script : Script) (rows : ℕ) →
-    map (λ (own : RowFrame). own.frame) (taken_frames script rows) ≡ delivered_of script rows
+    map (λ (own : RowFrame). own.frame) (taken_frames script rows) ≡ delivered_of (leg_of script) rows
 taken-delivered script zero = ap (map (λ (own : RowFrame). own.frame)) (taken-none script) ∙ sym (none-delivered script)
 taken-delivered script (suc rows) =
     let e : suc rows ≡ rows + 1 = omega arith in
@@ -68,8 +71,9 @@ taken-delivered script (suc rows) =
     ∙ ap (map (λ (own : RowFrame). own.frame)) (taken-more script rows)
     ∙ map-append (λ (own : RowFrame). own.frame) (taken_frames script rows) (frames_of_row script rows)
     ∙ ap (λ l. l ++ map (λ (own : RowFrame). own.frame) (frames_of_row script rows)) (taken-delivered script rows)
-    ∙ ap (λ l. delivered_of script rows ++ l) (frames-at rows (delivered_since script rows (rows + 1)))
-    ∙ since script rows (rows + 1) (omega arith) ∙ ap (delivered_of script) (sym e)
+    ∙ ap (λ l. delivered_of (leg_of script) rows ++ l)
+    (frames-at rows (delivered_since (leg_of script) rows (rows + 1)))
+    ∙ since script rows (rows + 1) (omega arith) ∙ ap (delivered_of (leg_of script)) (sym e)
 
 -- ---- a capture that is written
 module _ {K : Type 0} (written : K → Option (List ℕ)) (faults : K → ℕ) where
@@ -79,20 +83,20 @@ module _ {K : Type 0} (written : K → Option (List ℕ)) (faults : K → ℕ) w
       → new.counts.rows ≤ old.counts.rows + 1 → between.row ≡ old.counts.rows
       → ((start : Start) (frames : List RowFrame) → HasCapture written faults was start frames →
       HasCapture written faults between start frames)
-      → GivesRows (AddsRow written faults) between now old.script old.counts.rows new.counts.rows
+      → GivesRows (AddsRow written faults) between now (leg_of old.script) old.counts.rows new.counts.rows
       → HasTaken written faults was start old → HasTaken written faults now start new
   turn-taken was between now start old new same low one row keeps gives has =
       let more = row-more written faults between now start (taken_frames old.script old.counts.rows)
-      (delivered_since old.script old.counts.rows new.counts.rows)
+      (delivered_since (leg_of old.script) old.counts.rows new.counts.rows)
       (keeps start (taken_frames old.script old.counts.rows) has) gives in
       subst (HasCapture written faults now start)
       (ap (λ r. taken_frames old.script old.counts.rows ++ at_row r
-      (delivered_since old.script old.counts.rows new.counts.rows)) row
+      (delivered_since (leg_of old.script) old.counts.rows new.counts.rows)) row
       ∙ taken-next old.script old.counts.rows new.counts.rows low one
       ∙ ap (λ s. taken_frames s new.counts.rows) (sym same)) more
 
   pub begun-taken : (out : CaptureOut K) (start : Start) (walk : Walked) → HasCapture written faults out start [] →
-      walk.counts ≡ begin (walk_plan walk.script)
+      walk.counts ≡ begin (walk_plan (leg_of walk.script))
       → HasTaken written faults out start walk
   begun-taken out start walk has begun =
       subst (HasCapture written faults out start)

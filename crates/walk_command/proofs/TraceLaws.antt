@@ -10,6 +10,7 @@ use Rattle.outside_io.proofs.Parts.{AppendsPart-longer}
 use Rattle.session_model.specs.declared.script.Script.{Script}
 use Rattle.session_model.specs.declared.script.EventLine.{EventLine}
 use Rattle.session_model.specs.declared.walk.Event.{Event}
+use Rattle.session_model.specs.Leg.{leg_of}
 use Rattle.session_model.specs.Valid.{IsValid}
 use Rattle.session_model.specs.Scenario.{scenario_of, steps_in}
 use Rattle.session_model.specs.Table.{Table}
@@ -26,7 +27,7 @@ use Rattle.walk_law.specs.Step.{last_packet, cell_taken, table_in}
 use Rattle.walk_law.specs.Landed.{refusals_of, totals_of}
 use Rattle.walk_law.specs.Report.{refused_texts}
 use Rattle.walk_law.proofs.FrameLaws.{frames-grow}
-use Rattle.walk_law.proofs.PlanLaws.{has-paths, valid-walks}
+use Rattle.walk_law.proofs.PlanLaws.{has-paths, sound-walks}
 use Rattle.walk_law.proofs.WalkLaws.{begins-walked}
 use Rattle.walk_core.specs.Moved.{Walked, GivesRows, delivered_since}
 use Rattle.walk_core.specs.Parts.{note_of}
@@ -80,27 +81,27 @@ lines-more script a b low =
 
 -- the line of the last step, by the note and the table as they are told
 pub note-some : (script : Script) (ticks : ℕ) → 0 < steps_in ticks →
-    note_of script (last_packet ticks) ≡ Some
-    (record { packet = steps_in ticks - 1; back = cell_taken script (steps_in ticks - 1) })
+    note_of (leg_of script) (last_packet ticks) ≡ Some
+    (record { packet = steps_in ticks - 1; back = cell_taken (leg_of script) (steps_in ticks - 1) })
 note-some script ticks some = let yes : nat_lt 0 (steps_in ticks) ≡ true = lt-ltb 0 (steps_in ticks) some in rw yes refl
 
 same-some : {X : Type 0} (x y : X) → Some x ≡ Some y → x ≡ y
 same-some x y e = cc
 
 pub last-line : (script : Script) (ticks lines : ℕ) (note : StepNote) (table : Table) → 0 < steps_in ticks →
-    Some note ≡ note_of script (last_packet ticks) → table ≡ table_in script ticks
+    Some note ≡ note_of (leg_of script) (last_packet ticks) → table ≡ table_in (leg_of script) ticks
     → lines ≡ script.config.lines →
     step_text note.packet note.back table lines ≡ decision_text script (steps_in ticks - 1)
 last-line script ticks lines note table some is_note is_table is_lines =
     let j : ℕ = steps_in ticks - 1 in
-    let last : StepNote = record { packet = j; back = cell_taken script j } in
+    let last : StepNote = record { packet = j; back = cell_taken (leg_of script) j } in
     let e : note ≡ last = same-some note last (is_note ∙ note-some script ticks some) in
     let same : steps_in ticks ≡ steps_in (16 * j + 9) = omega (arith, some) in
-    let at : table_in script ticks ≡ table_in script (16 * j + 9) =
-    ap (λ n. (after (scenario_of script) (session_of script) n).table) same in
+    let at : table_in (leg_of script) ticks ≡ table_in (leg_of script) (16 * j + 9) =
+    ap (λ n. (after (scenario_of script) (session_of (leg_of script)) n).table) same in
     ap (λ (n : StepNote). step_text n.packet n.back table lines) e
-    ∙ ap (λ t. step_text j (cell_taken script j) t lines) (is_table ∙ at)
-    ∙ ap (step_text j (cell_taken script j) (table_in script (16 * j + 9))) is_lines
+    ∙ ap (λ t. step_text j (cell_taken (leg_of script) j) t lines) (is_table ∙ at)
+    ∙ ap (step_text j (cell_taken (leg_of script) j) (table_in (leg_of script) (16 * j + 9))) is_lines
 
 -- ---- a text that is given up
 pub given_up-longer : {K : Type 0} (failed : Bool) (written : K → Option (List ℕ)) (faults : K → ℕ) (old new : K)
@@ -127,11 +128,12 @@ appends-some written faults old new text more all = record {
 
 -- ---- more rows
 pub since : (script : Script) (a b : ℕ) → a ≤ b →
-    delivered_of script a ++ delivered_since script a b ≡ delivered_of script b
+    delivered_of (leg_of script) a ++ delivered_since (leg_of script) a b ≡ delivered_of (leg_of script) b
 since script a b low =
     let e : a + (b - a) ≡ b = omega (arith, low) in
-    ap (λ n. delivered_of script a ++ delivered_since script a n) (sym e) ∙ sym (frames-grow script a (b - a))
-    ∙ ap (delivered_of script) e
+    ap (λ n. delivered_of (leg_of script) a ++ delivered_since (leg_of script) a n) (sym e)
+    ∙ sym (frames-grow (leg_of script) a (b - a))
+    ∙ ap (delivered_of (leg_of script)) e
 
 module _ {Out E : Type 0} (stands_for : Out → Start → List (List ℕ) → Type 0) (has_failed : Out → Bool)
     (written : E → Option (List ℕ)) (faults : E → ℕ) (start : Start) (first : E) where
@@ -149,7 +151,7 @@ module _ {Out E : Type 0} (stands_for : Out → Start → List (List ℕ) → Ty
         rows = told.rows;
         low = omega (arith, low, rows);
         gives = (let G : Script → Type 0 =
-            λ s. stands_for out start (delivered_of s told.rows) in subst G (sym script) told.gives);
+            λ s. stands_for out start (delivered_of (leg_of s) told.rows) in subst G (sym script) told.gives);
         lines = subst P (sym (ap (λ s. decisions_text s now.counts.ticks) script ∙ longer))
             (given_up-longer (not (has_failed out)) written faults first notes
             (decisions_text was.script was.counts.ticks) more told.lines);
@@ -158,20 +160,21 @@ module _ {Out E : Type 0} (stands_for : Out → Start → List (List ℕ) → Ty
   -- a turn gives the frames of the rows that it takes
   pub gives-on : (out_was out_now : Out) (was now : Walked) → now.script ≡ was.script →
       was.counts.rows ≤ now.counts.rows
-      → GivesRows stands_for out_was out_now was.script was.counts.rows now.counts.rows →
-      stands_for out_was start (delivered_of was.script was.counts.rows)
-      → stands_for out_now start (delivered_of now.script now.counts.rows)
+      → GivesRows stands_for out_was out_now (leg_of was.script) was.counts.rows now.counts.rows →
+      stands_for out_was start (delivered_of (leg_of was.script) was.counts.rows)
+      → stands_for out_now start (delivered_of (leg_of now.script) now.counts.rows)
   gives-on out_was out_now was now script rows gives stands =
       let G : List (List ℕ) → Type 0 = λ frames. stands_for out_now start frames in
       subst G (since was.script was.counts.rows now.counts.rows rows
-      ∙ ap (λ s. delivered_of s now.counts.rows) (sym script))
-      (gives start (delivered_of was.script was.counts.rows) stands)
+      ∙ ap (λ s. delivered_of (leg_of s) now.counts.rows) (sym script))
+      (gives start (delivered_of (leg_of was.script) was.counts.rows) stands)
 
   pub turn-told : (over : Bool) (out_was out_now : Out) (notes : E) (was now : Walked) (ticks : ℕ) → over ≡ false →
       now.script ≡ was.script → was.counts.rows ≤ now.counts.rows
-      → GivesRows stands_for out_was out_now was.script was.counts.rows now.counts.rows → ticks ≡ was.counts.ticks →
+      → GivesRows stands_for out_was out_now (leg_of was.script) was.counts.rows now.counts.rows → ticks
+      ≡ was.counts.ticks →
       IsTold stands_for has_failed written faults over start first out_was notes was
-      → stands_for out_now start (delivered_of now.script now.counts.rows) ×
+      → stands_for out_now start (delivered_of (leg_of now.script) now.counts.rows) ×
       Appends written faults first notes (decisions_text now.script ticks)
   turn-told true out_was out_now notes was now ticks is script rows gives at told = absurd cc
   turn-told false out_was out_now notes was now ticks is script rows gives at told =
@@ -182,7 +185,7 @@ module _ {Out E : Type 0} (stands_for : Out → Start → List (List ℕ) → Ty
 
   -- a write on `out` has failed in the turn
   pub told-out : (out : Out) (notes : E) (walk : Walked) (ticks : ℕ) → has_failed out ≡ true →
-      ticks ≤ walk.counts.ticks → stands_for out start (delivered_of walk.script walk.counts.rows)
+      ticks ≤ walk.counts.ticks → stands_for out start (delivered_of (leg_of walk.script) walk.counts.rows)
       → Appends written faults first notes (decisions_text walk.script ticks) →
       TellsPart stands_for has_failed written faults start first out notes walk
   told-out out notes walk ticks failed low stands lines =
@@ -200,7 +203,7 @@ module _ {Out E : Type 0} (stands_for : Out → Start → List (List ℕ) → Ty
 
   -- or one on the notes
   pub told-notes : (out : Out) (notes : E) (walk : Walked) → has_failed out ≡ false →
-      stands_for out start (delivered_of walk.script walk.counts.rows)
+      stands_for out start (delivered_of (leg_of walk.script) walk.counts.rows)
       → AppendsPart written faults first notes (decisions_text walk.script walk.counts.ticks) →
       TellsPart stands_for has_failed written faults start first out notes walk
   told-notes out notes walk whole stands lines =
@@ -242,25 +245,25 @@ pub run-one : (plan : Plan) (s : Counts) (event : Event) → run plan s (event �
 unfolding run
 run-one plan s event = refl
 
-pub turn-walked : (script : Script) (s next : Counts) (events : List Event) → IsWalked script s →
-    next ≡ run (walk_plan script) s events → IsWalked script next
+pub turn-walked : (script : Script) (s next : Counts) (events : List Event) → IsWalked (leg_of script) s →
+    next ≡ run (walk_plan (leg_of script)) s events → IsWalked (leg_of script) next
 turn-walked script s next events walked is = (
   walked.0 ++ events,
-  is ∙ ap (λ s. run (walk_plan script) s events) walked.1
-      ∙ sym (run-append (walk_plan script) (begin (walk_plan script)) walked.0 events),
+  is ∙ ap (λ s. run (walk_plan (leg_of script)) s events) walked.1
+      ∙ sym (run-append (walk_plan (leg_of script)) (begin (walk_plan (leg_of script))) walked.0 events),
 )
 
 -- there is a path for each line
-pub paths-many : (script : Script) → IsValid script → script.config.lines ≤ length (walk_plan script).paths
-paths-many script valid = let paths = has-paths script (valid-walks script valid) in
-    let each = valid.network.windows_each in omega (arith, paths, each)
+pub paths-many : (script : Script) → IsValid script → script.config.lines ≤ length (walk_plan (leg_of script)).paths
+paths-many script valid = let paths = has-paths (leg_of script) (sound-walks (leg_of script) valid.sound) in
+    let each = valid.sound.network.windows_each in omega (arith, paths, each)
 
 -- ---- event lines
 pub lines-walked : (script : Script) (lines : List EventLine) →
-    IsWalked script (run_lines (walk_plan script) (begin (walk_plan script)) lines)
+    IsWalked (leg_of script) (run_lines (walk_plan (leg_of script)) (begin (walk_plan (leg_of script))) lines)
 unfolding run_lines
-lines-walked script [] = begins-walked script
-lines-walked script (line ∷ lines) = walked-reached (walk_plan script) (line ∷ lines)
+lines-walked script [] = begins-walked (leg_of script)
+lines-walked script (line ∷ lines) = walked-reached (walk_plan (leg_of script)) (line ∷ lines)
 
 -- ---- the end
 pub stops-both : {K E : Type 0} (failed : Bool) (k_written : K → Option (List ℕ)) (k_faults : K → ℕ) (k_old k_new : K)
@@ -274,20 +277,21 @@ stops-both false k_written k_faults k_old k_new text e_written e_faults e_old e_
 -- the lines of the frames of some first rows are a front of a walk's text
 pub walk-given_up : {K : Type 0} (failed : Bool) (written : K → Option (List ℕ)) (faults : K → ℕ) (old new : K)
     (script : Script) (rows : ℕ) → rows ≤ (counts_in script).rows
-    → GivesUp failed written faults old new (got_texts (delivered_of script rows)) →
+    → GivesUp failed written faults old new (got_texts (delivered_of (leg_of script) rows)) →
     GivesUp failed written faults old new (walk_text script)
 walk-given_up failed written faults old new script rows low part =
     let end : Counts = counts_in script in
-    let a : List ℕ = got_texts (delivered_of script rows) in
-    let all : List ℕ = got_texts (delivered_of script end.rows) in
-    let refused : List ℕ = refused_texts (refusals_of script end) in
+    let a : List ℕ = got_texts (delivered_of (leg_of script) rows) in
+    let all : List ℕ = got_texts (delivered_of (leg_of script) end.rows) in
+    let refused : List ℕ = refused_texts (refusals_of (leg_of script) end) in
     let P : List ℕ → Type 0 = λ text. GivesUp failed written faults old new text in
-    let more : a ++ got_texts (delivered_since script rows end.rows) ≡ all =
-    sym (flat_map-append got_text (delivered_of script rows) (delivered_since script rows end.rows))
+    let more : a ++ got_texts (delivered_since (leg_of script) rows end.rows) ≡ all =
+    sym (flat_map-append got_text (delivered_of (leg_of script) rows) (delivered_since (leg_of script) rows end.rows))
     ∙ ap got_texts (since script rows end.rows low) in
-    given_up-longer failed written faults old new (all ++ refused) (total_text (totals_of script end))
+    given_up-longer failed written faults old new (all ++ refused) (total_text (totals_of (leg_of script) end))
     (given_up-longer failed written faults old new all refused
-    (subst P more (given_up-longer failed written faults old new a (got_texts (delivered_since script rows end.rows))
+    (subst P more
+    (given_up-longer failed written faults old new a (got_texts (delivered_since (leg_of script) rows end.rows))
     part)))
 
 pub appends-all : {K : Type 0} (written : K → Option (List ℕ)) (faults : K → ℕ) (old new : K) (text : List ℕ) →

@@ -3,6 +3,7 @@ use Rattle.std.specs.Prelude.{ℕ, ◌+◌, List, codes, Option, Some, None, if�
 use Rattle.std.specs.List.{flat_map, range_with_len}
 use Rattle.outside_io.specs.Start.{Start}
 use Rattle.session_model.specs.declared.script.Script.{Script}
+use Rattle.session_model.specs.Leg.{leg_of}
 use Rattle.headline_law.specs.Texts.{counts_in}
 use Rattle.walk_core.specs.Moved.{Walked, delivered_since}
 use Rattle.capture_file.specs.Written.{RowFrame, ethernet_capture}
@@ -19,7 +20,7 @@ capture_words words = if is_word (codes "capture") words then Some Capture else 
 
 -- the frames that a row gives beside those of the rows before it
 abbrev pub frames_of_row : Script → ℕ → List RowFrame
-frames_of_row script row = at_row row (delivered_since script row (row + 1))
+frames_of_row script row = at_row row (delivered_since (leg_of script) row (row + 1))
 
 -- the frames that the first rows give, each with the row that gives it
 unfoldable pub taken_frames : Script → ℕ → List RowFrame

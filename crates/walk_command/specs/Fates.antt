@@ -1,5 +1,6 @@
 -- `fates`: a script's walk, and what became of each of its frames.
 use Rattle.std.specs.Prelude.{ℕ, List, codes, Option, Some, None, if◌then◌else◌}
+use Rattle.session_model.specs.Leg.{leg_of}
 use Rattle.fate_law.specs.FateText.{fates_text}
 use Rattle.headline_law.specs.Texts.{counts_in}
 use Rattle.command_parts.specs.Task.{Answer, writes}
@@ -12,4 +13,4 @@ abbrev pub fates_words : List (List ℕ) → Option WalkCommand
 fates_words words = if is_word (codes "fates") words then Some Fates else None
 
 abbrev pub fates_answer : List ℕ → Answer
-fates_answer = script_answer (λ script. writes (fates_text script (counts_in script)))
+fates_answer = script_answer (λ script. writes (fates_text (leg_of script) (counts_in script)))

@@ -1,5 +1,6 @@
 -- `gfp`: a script's walk, and the capture of the GFP frames that its source sent and the taken rows carry.
 use Rattle.std.specs.Prelude.{ℕ, List, codes, Option, Some, None, if◌then◌else◌}
+use Rattle.session_model.specs.Leg.{leg_of}
 use Rattle.headline_law.specs.Texts.{counts_in}
 use Rattle.walk_gfp.specs.Carried.{sent_capture}
 use Rattle.command_parts.specs.Task.{Answer, writes}
@@ -12,4 +13,4 @@ abbrev pub gfp_words : List (List ℕ) → Option WalkCommand
 gfp_words words = if is_word (codes "gfp") words then Some Gfp else None
 
 abbrev pub gfp_answer : List ℕ → Answer
-gfp_answer = script_answer (λ script. writes (sent_capture script (counts_in script)))
+gfp_answer = script_answer (λ script. writes (sent_capture (leg_of script) (counts_in script)))

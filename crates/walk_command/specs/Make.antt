@@ -3,6 +3,7 @@ use Rattle.std.specs.Prelude.{◌≡◌, ℕ, ◌*◌, ◌≤◌, ◌==◌, ◌&
 use Rattle.std.specs.Prelude.{Option, Some, None, if◌then◌else◌}
 use Rattle.std.specs.List.{sum_by}
 use Rattle.session_model.specs.declared.script.Script.{Script}
+use Rattle.session_model.specs.Leg.{leg_of}
 use Rattle.session_model.specs.Counts.{Counts}
 use Rattle.report_text.specs.declared.report.Totals.{Totals}
 use Rattle.report_text.specs.Report.{total_text}
@@ -52,8 +53,9 @@ lines_text lines ticks totals octets total = made_text lines ticks ++ total_text
 -- those of a script after some counts
 abbrev pub sums_text : Script → Counts → List ℕ
 sums_text script s =
-    lines_text script.config.lines script.config.ticks (totals_of script s) (octet_count (delivered_of script s.rows))
-    (octet_sum (delivered_of script s.rows))
+    lines_text script.config.lines script.config.ticks (totals_of (leg_of script) s)
+    (octet_count (delivered_of (leg_of script) s.rows))
+    (octet_sum (delivered_of (leg_of script) s.rows))
 
 -- those of the load of a number, whose walk drains
 abbrev pub make_text : ℕ → ℕ → ℕ → List ℕ

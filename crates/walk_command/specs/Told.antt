@@ -2,6 +2,7 @@
 use Rattle.std.specs.Prelude.{◌≡◌, ℕ, ◌≤◌, Bool, true, false, not, List, [], ◌∷◌, Option}
 use Rattle.outside_io.specs.Transfer.{Appends}
 use Rattle.session_model.specs.declared.walk.Event.{Event}
+use Rattle.session_model.specs.Leg.{leg_of}
 use Rattle.session_model.specs.Counts.{Plan, round}
 use Rattle.progress_law.specs.Progress.{HasLine}
 use Rattle.outside_io.specs.Start.{Start}
@@ -29,7 +30,7 @@ pub record TellsAll {Out E : Type 0} (stands_for : Out → Start → List (List 
     (written : E → Option (List ℕ))
     (faults : E → ℕ) (start : Start) (first : E) (out : Out) (notes : E) (walk : Walked) : Type 0 where
   pub whole : has_failed out ≡ false
-  pub gives : stands_for out start (delivered_of walk.script walk.counts.rows)
+  pub gives : stands_for out start (delivered_of (leg_of walk.script) walk.counts.rows)
   pub lines : Appends written faults first notes (decisions_text walk.script walk.counts.ticks)
 
 -- a write failed, on `out` or on the notes: `out` has the frames of some first rows, and the notes have a prefix of the
@@ -39,7 +40,7 @@ pub record TellsPart {Out E : Type 0} (stands_for : Out → Start → List (List
     (faults : E → ℕ) (start : Start) (first : E) (out : Out) (notes : E) (walk : Walked) : Type 0 where
   pub rows : ℕ
   pub low : rows ≤ walk.counts.rows
-  pub gives : stands_for out start (delivered_of walk.script rows)
+  pub gives : stands_for out start (delivered_of (leg_of walk.script) rows)
   pub lines : GivesUp (not (has_failed out)) written faults first notes (decisions_text walk.script walk.counts.ticks)
 
 -- by whether a write has failed

@@ -2,6 +2,7 @@
 use Rattle.std.specs.Prelude.{ℕ, ◌+◌, ◌*◌, List, codes, Option, Some, None, if◌then◌else◌}
 use Rattle.std.specs.List.{flat_map, range_with_len}
 use Rattle.session_model.specs.declared.script.Script.{Script}
+use Rattle.session_model.specs.Leg.{leg_of}
 use Rattle.session_model.specs.Scenario.{steps_in}
 use Rattle.walk_law.specs.Step.{cell_taken, table_in}
 use Rattle.headline_law.specs.Texts.{counts_in, walk_text}
@@ -17,7 +18,8 @@ trace_words words = if is_word (codes "trace") words then Some Trace else None
 
 -- the line of decision step j
 abbrev pub decision_text : Script → ℕ → List ℕ
-decision_text script j = step_text j (cell_taken script j) (table_in script (16 * j + 9)) script.config.lines
+decision_text script j =
+    step_text j (cell_taken (leg_of script) j) (table_in (leg_of script) (16 * j + 9)) script.config.lines
 
 -- the lines of the decision steps that some ticks make
 abbrev pub decisions_text : Script → ℕ → List ℕ

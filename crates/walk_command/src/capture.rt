@@ -5,6 +5,7 @@ ghost use Rattle.outside_io.specs.Start.{Start};
 ghost use Rattle.outside_io.specs.Transfer.{Appends, AppendsPart};
 ghost use Rattle.session_model.specs.declared.script.Script.{Script};
 ghost use Rattle.session_model.specs.declared.walk.Event.{Event};
+ghost use Rattle.session_model.specs.Leg.{leg_of};
 ghost use Rattle.session_model.specs.Valid.{IsValid, IsEvent};
 ghost use Rattle.session_model.specs.Counts.{begin, run, run_line, drain, bound};
 ghost use Rattle.walk_law.specs.Walk.{walk_plan, IsWalked};
@@ -42,9 +43,9 @@ pub fn words(words: &[String]) -> Option<WalkCommand>
 
 /// Makes a turn. A row that it takes is the next one.
 fn capture_turn<K: ByteSink>(walk: &mut Walk, turn: Turn, out: &mut CaptureOut<K>)
-    requires { IsTurn (walk_plan walk.old.script) turn }
+    requires { IsTurn (walk_plan (leg_of walk.old.script)) turn }
     ensures script { walk.new.script ≡ walk.old.script }
-    ensures counts { let plan = walk_plan walk.old.script in
+    ensures counts { let plan = walk_plan (leg_of walk.old.script) in
         walk.new.counts ≡ run plan walk.old.counts (events_of plan turn) }
     ensures taken { (start : Start) → HasTaken K.written K.faults out.old start walk.old →
         HasTaken K.written K.faults out.new start walk.new }
@@ -55,9 +56,9 @@ fn capture_turn<K: ByteSink>(walk: &mut Walk, turn: Turn, out: &mut CaptureOut<K
 
 /// Makes a turn a number of times.
 fn capture_turns<K: ByteSink>(walk: &mut Walk, turn: Turn, count: u32, out: &mut CaptureOut<K>)
-    requires { IsTurn (walk_plan walk.old.script) turn }
+    requires { IsTurn (walk_plan (leg_of walk.old.script)) turn }
     ensures script { walk.new.script ≡ walk.old.script }
-    ensures counts { let plan = walk_plan walk.old.script in
+    ensures counts { let plan = walk_plan (leg_of walk.old.script) in
         walk.new.counts ≡ run plan walk.old.counts
         (flat_map (λ (tries : List Event). tries) (replicate count (events_of plan turn))) }
     ensures taken { (start : Start) → HasTaken K.written K.faults out.old start walk.old →
@@ -71,10 +72,10 @@ fn capture_turns<K: ByteSink>(walk: &mut Walk, turn: Turn, count: u32, out: &mut
 /// Makes rounds until all rows are taken.
 fn capture_drain<K: ByteSink>(walk: &mut Walk, ticks: u32, out: &mut CaptureOut<K>)
     requires valid { IsValid walk.old.script }
-    requires walked { IsWalked walk.old.script walk.old.counts }
+    requires walked { IsWalked (leg_of walk.old.script) walk.old.counts }
     requires ticks { ticks ≡ walk.old.script.config.ticks }
     ensures script { walk.new.script ≡ walk.old.script }
-    ensures counts { let plan = walk_plan walk.old.script in
+    ensures counts { let plan = walk_plan (leg_of walk.old.script) in
         walk.new.counts ≡ drain (bound plan) plan walk.old.counts }
     ensures taken { (start : Start) → HasTaken K.written K.faults out.old start walk.old →
         HasTaken K.written K.faults out.new start walk.new }
@@ -87,12 +88,12 @@ fn capture_drain<K: ByteSink>(walk: &mut Walk, ticks: u32, out: &mut CaptureOut<
 /// Makes what an event line says.
 fn capture_line<K: ByteSink>(walk: &mut Walk, line: EventLine, ticks: u32, out: &mut CaptureOut<K>)
     requires valid { IsValid walk.old.script }
-    requires walked { IsWalked walk.old.script walk.old.counts }
+    requires walked { IsWalked (leg_of walk.old.script) walk.old.counts }
     requires event { IsEvent walk.old.script.config.lines line }
     requires ticks { ticks ≡ walk.old.script.config.ticks }
     ensures script { walk.new.script ≡ walk.old.script }
     ensures counts { walk.new.counts
-        ≡ run_line (walk_plan walk.old.script) walk.old.counts line }
+        ≡ run_line (walk_plan (leg_of walk.old.script)) walk.old.counts line }
     ensures taken { (start : Start) → HasTaken K.written K.faults out.old start walk.old →
         HasTaken K.written K.faults out.new start walk.new }
 {
@@ -111,7 +112,7 @@ fn capture_lines<K: ByteSink>(
 )
     requires valid { IsValid walk.old.script }
     requires events { lines.now ≡ walk.old.script.events }
-    requires begun { walk.old.counts ≡ begin (walk_plan walk.old.script) }
+    requires begun { walk.old.counts ≡ begin (walk_plan (leg_of walk.old.script)) }
     requires ticks { ticks ≡ walk.old.script.config.ticks }
     ensures script { walk.new.script ≡ walk.old.script }
     ensures counts { walk.new.counts ≡ counts_in walk.old.script }
@@ -135,7 +136,7 @@ fn write_capture<K: ByteSink>(
 ) -> Result<(), Failed>
     requires valid { IsValid walk.old.script }
     requires events { lines.now ≡ walk.old.script.events }
-    requires begun { walk.old.counts ≡ begin (walk_plan walk.old.script) }
+    requires begun { walk.old.counts ≡ begin (walk_plan (leg_of walk.old.script)) }
     requires ticks { ticks ≡ walk.old.script.config.ticks }
     ensures script { walk.new.script ≡ walk.old.script }
     ensures counts { walk.new.counts ≡ counts_in walk.old.script }
@@ -179,7 +180,8 @@ pub fn capture<S: ByteSource, K: ByteSink, E: ByteSink>(
 /// The frames of a capture are exactly those that the rows deliver, in order and each once.
 pub fn capture_law()
     ensures { (script : Script) (rows : ℕ) →
-        map (λ (own : RowFrame). own.frame) (taken_frames script rows) ≡ delivered_of script rows }
+        map (λ (own : RowFrame). own.frame) (taken_frames script rows)
+        ≡ delivered_of (leg_of script) rows }
 {}
 
 /// The capture of a valid script's walk is read as the frames in it, each due as many ticks after the first

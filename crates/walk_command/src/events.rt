@@ -5,6 +5,7 @@ ghost use Rattle.std.specs.Prelude.{IfNone, OnOk, OnErr};
 ghost use Rattle.std.specs.List.{flat_map};
 ghost use Rattle.outside_io.specs.Transfer.{Appends, AppendsPart};
 ghost use Rattle.session_model.specs.declared.walk.Event.{Event};
+ghost use Rattle.session_model.specs.Leg.{leg_of};
 ghost use Rattle.session_model.specs.Valid.{IsValid, IsEvent};
 ghost use Rattle.session_model.specs.Scenario.{steps_in};
 ghost use Rattle.session_model.specs.Counts.{Plan, Counts, begin, run, run_line, drain, bound};
@@ -105,7 +106,7 @@ fn tell_turn<F: MayFail, E: ByteSink>(
     requires least { ticks ≤ walk.now.counts.ticks }
     requires most { walk.now.counts.ticks ≤ ticks + 1 }
     ensures { (start : Start) (first : E) →
-        F.stands_for out.now start (delivered_of walk.now.script walk.now.counts.rows) →
+        F.stands_for out.now start (delivered_of (leg_of walk.now.script) walk.now.counts.rows) →
         Appends E.written E.faults first notes.old (decisions_text walk.now.script ticks) →
         IsTold F.stands_for F.has_failed E.written E.faults result start first
         out.now notes.new walk.now }
@@ -121,11 +122,11 @@ fn tell_turn<F: MayFail, E: ByteSink>(
 
 /// Makes a turn.
 pub fn make_turn<F: FrameOut>(walk: &mut Walk, turn: Turn, out: &mut F)
-    requires { IsTurn (walk_plan walk.old.script) turn }
+    requires { IsTurn (walk_plan (leg_of walk.old.script)) turn }
     ensures script { walk.new.script ≡ walk.old.script }
-    ensures counts { let plan = walk_plan walk.old.script in
+    ensures counts { let plan = walk_plan (leg_of walk.old.script) in
         walk.new.counts ≡ run plan walk.old.counts (events_of plan turn) }
-    ensures gives { GivesRows F.stands_for out.old out.new walk.old.script
+    ensures gives { GivesRows F.stands_for out.old out.new (leg_of walk.old.script)
         walk.old.counts.rows walk.new.counts.rows }
     ensures rows { walk.old.counts.rows ≤ walk.new.counts.rows }
     ensures one { walk.new.counts.rows ≤ walk.old.counts.rows + 1 }
@@ -142,9 +143,9 @@ pub fn make_turn<F: FrameOut>(walk: &mut Walk, turn: Turn, out: &mut F)
 
 /// Makes a turn, of which nothing is told.
 pub fn silent_turn(walk: &mut Walk, turn: Turn)
-    requires { IsTurn (walk_plan walk.old.script) turn }
+    requires { IsTurn (walk_plan (leg_of walk.old.script)) turn }
     ensures script { walk.new.script ≡ walk.old.script }
-    ensures counts { let plan = walk_plan walk.old.script in
+    ensures counts { let plan = walk_plan (leg_of walk.old.script) in
         walk.new.counts ≡ run plan walk.old.counts (events_of plan turn) }
     ensures rows { walk.old.counts.rows ≤ walk.new.counts.rows }
     ensures one { walk.new.counts.rows ≤ walk.old.counts.rows + 1 }
@@ -165,9 +166,9 @@ fn trace_turn<F: MayFail, E: ByteSink>(
 ) -> bool
     requires few { lines ≤ 128 }
     requires lines { lines ≡ walk.old.script.config.lines }
-    requires turn { IsTurn (walk_plan walk.old.script) turn }
+    requires turn { IsTurn (walk_plan (leg_of walk.old.script)) turn }
     ensures script { walk.new.script ≡ walk.old.script }
-    ensures counts { let plan = walk_plan walk.old.script in
+    ensures counts { let plan = walk_plan (leg_of walk.old.script) in
         walk.new.counts ≡ run plan walk.old.counts (events_of plan turn) }
     ensures told { (start : Start) (first : E) →
         IsTold F.stands_for F.has_failed E.written E.faults over start first
@@ -196,9 +197,9 @@ fn trace_turns<F: MayFail, E: ByteSink>(
 ) -> bool
     requires few { lines ≤ 128 }
     requires lines { lines ≡ walk.old.script.config.lines }
-    requires turn { IsTurn (walk_plan walk.old.script) turn }
+    requires turn { IsTurn (walk_plan (leg_of walk.old.script)) turn }
     ensures script { walk.new.script ≡ walk.old.script }
-    ensures counts { let plan = walk_plan walk.old.script in
+    ensures counts { let plan = walk_plan (leg_of walk.old.script) in
         walk.new.counts ≡ run plan walk.old.counts
         (flat_map (λ (tries : List Event). tries) (replicate count (events_of plan turn))) }
     ensures told { (start : Start) (first : E) →
@@ -222,11 +223,11 @@ fn trace_drain<F: MayFail, E: ByteSink>(
     mut over: bool,
 ) -> bool
     requires valid { IsValid walk.old.script }
-    requires walked { IsWalked walk.old.script walk.old.counts }
+    requires walked { IsWalked (leg_of walk.old.script) walk.old.counts }
     requires lines { size.lines ≡ walk.old.script.config.lines }
     requires ticks { size.ticks ≡ walk.old.script.config.ticks }
     ensures script { walk.new.script ≡ walk.old.script }
-    ensures counts { let plan = walk_plan walk.old.script in
+    ensures counts { let plan = walk_plan (leg_of walk.old.script) in
         walk.new.counts ≡ drain (bound plan) plan walk.old.counts }
     ensures told { (start : Start) (first : E) →
         IsTold F.stands_for F.has_failed E.written E.faults over start first
@@ -271,13 +272,13 @@ fn trace_event_line<F: MayFail, E: ByteSink>(
     over: bool,
 ) -> bool
     requires valid { IsValid walk.old.script }
-    requires walked { IsWalked walk.old.script walk.old.counts }
+    requires walked { IsWalked (leg_of walk.old.script) walk.old.counts }
     requires event { IsEvent walk.old.script.config.lines line }
     requires lines { size.lines ≡ walk.old.script.config.lines }
     requires ticks { size.ticks ≡ walk.old.script.config.ticks }
     ensures script { walk.new.script ≡ walk.old.script }
     ensures counts { walk.new.counts
-        ≡ run_line (walk_plan walk.old.script) walk.old.counts line }
+        ≡ run_line (walk_plan (leg_of walk.old.script)) walk.old.counts line }
     ensures told { (start : Start) (first : E) →
         IsTold F.stands_for F.has_failed E.written E.faults over start first
         out.old notes.old walk.old →
@@ -301,7 +302,7 @@ fn trace_event_lines<F: MayFail, E: ByteSink>(
 ) -> bool
     requires valid { IsValid walk.old.script }
     requires events { lines.now ≡ walk.old.script.events }
-    requires begun { walk.old.counts ≡ begin (walk_plan walk.old.script) }
+    requires begun { walk.old.counts ≡ begin (walk_plan (leg_of walk.old.script)) }
     requires lines { size.lines ≡ walk.old.script.config.lines }
     requires ticks { size.ticks ≡ walk.old.script.config.ticks }
     ensures script { walk.new.script ≡ walk.old.script }
@@ -327,8 +328,8 @@ fn write_rest<K: ByteSink>(walk: &Walk, got: &mut GotLines<K>)
     ensures { (start : Start) (before : List ℕ) →
         HasText K.written K.faults got.old start before →
         HasText K.written K.faults got.new start
-        (before ++ refused_texts (refusals_of walk.now.script walk.now.counts)
-        ++ total_text (totals_of walk.now.script walk.now.counts)) }
+        (before ++ refused_texts (refusals_of (leg_of walk.now.script) walk.now.counts)
+        ++ total_text (totals_of (leg_of walk.now.script) walk.now.counts)) }
 {
     command_parts::write_rest(walk.refusals(), &walk.totals(), got);
 }
@@ -343,7 +344,7 @@ pub fn write_trace<K: ByteSink, E: ByteSink>(
 ) -> Result<(), Failed>
     requires valid { IsValid walk.old.script }
     requires events { lines.now ≡ walk.old.script.events }
-    requires begun { walk.old.counts ≡ begin (walk_plan walk.old.script) }
+    requires begun { walk.old.counts ≡ begin (walk_plan (leg_of walk.old.script)) }
     requires lines { size.lines ≡ walk.old.script.config.lines }
     requires ticks { size.ticks ≡ walk.old.script.config.ticks }
     ensures script { walk.new.script ≡ walk.old.script }

@@ -4,6 +4,7 @@
 ghost use Rattle.std.specs.Prelude.{◌≡◌, ◌+◌, ◌≤◌, ◌<◌, List, replicate, IfOk, OnOk};
 ghost use Rattle.std.specs.List.{flat_map};
 ghost use Rattle.session_model.specs.declared.walk.Event.{Event};
+ghost use Rattle.session_model.specs.Leg.{leg_of};
 ghost use Rattle.session_model.specs.Valid.{IsValid, IsEvent};
 ghost use Rattle.session_model.specs.Counts.{begin, run, run_line, drain, bound};
 ghost use Rattle.walk_law.specs.Walk.{walk_plan, IsWalked};
@@ -22,14 +23,15 @@ use walk_fates::{SeenRows, SeenWalk, nothing_seen, place_frames, see_since};
 /// Makes a turn, and sees what came of it.
 fn see_turn(walk: &mut Walk, turn: Turn, seen: &mut SeenRows) -> Result<(), AllocError>
     requires valid { IsValid walk.old.script }
-    requires walked { IsWalked walk.old.script walk.old.counts }
-    requires turn { IsTurn (walk_plan walk.old.script) turn }
-    requires seen { Sees walk.old.script walk.old.counts.ticks walk.old.counts.rows seen.old }
+    requires walked { IsWalked (leg_of walk.old.script) walk.old.counts }
+    requires turn { IsTurn (walk_plan (leg_of walk.old.script)) turn }
+    requires seen { Sees
+        (leg_of walk.old.script) walk.old.counts.ticks walk.old.counts.rows seen.old }
     ensures script { walk.new.script ≡ walk.old.script }
-    ensures counts { let plan = walk_plan walk.old.script in
+    ensures counts { let plan = walk_plan (leg_of walk.old.script) in
         walk.new.counts ≡ run plan walk.old.counts (events_of plan turn) }
     ensures seen { OnOk result
-        (Sees walk.new.script walk.new.counts.ticks walk.new.counts.rows seen.new) }
+        (Sees (leg_of walk.new.script) walk.new.counts.ticks walk.new.counts.rows seen.new) }
 {
     let totals = walk.totals();
     silent_turn(walk, turn);
@@ -39,15 +41,16 @@ fn see_turn(walk: &mut Walk, turn: Turn, seen: &mut SeenRows) -> Result<(), Allo
 /// Makes a turn a number of times.
 fn see_turns(walk: &mut Walk, turn: Turn, count: u32, seen: &mut SeenRows) -> Result<(), AllocError>
     requires valid { IsValid walk.old.script }
-    requires walked { IsWalked walk.old.script walk.old.counts }
-    requires turn { IsTurn (walk_plan walk.old.script) turn }
-    requires seen { Sees walk.old.script walk.old.counts.ticks walk.old.counts.rows seen.old }
+    requires walked { IsWalked (leg_of walk.old.script) walk.old.counts }
+    requires turn { IsTurn (walk_plan (leg_of walk.old.script)) turn }
+    requires seen { Sees
+        (leg_of walk.old.script) walk.old.counts.ticks walk.old.counts.rows seen.old }
     ensures script { walk.new.script ≡ walk.old.script }
-    ensures counts { let plan = walk_plan walk.old.script in
+    ensures counts { let plan = walk_plan (leg_of walk.old.script) in
         OnOk result (walk.new.counts ≡ run plan walk.old.counts
         (flat_map (λ (tries : List Event). tries) (replicate count (events_of plan turn)))) }
     ensures seen { OnOk result
-        (Sees walk.new.script walk.new.counts.ticks walk.new.counts.rows seen.new) }
+        (Sees (leg_of walk.new.script) walk.new.counts.ticks walk.new.counts.rows seen.new) }
 {
     for _made in 0..count {
         see_turn(walk, turn, seen)?;
@@ -58,14 +61,15 @@ fn see_turns(walk: &mut Walk, turn: Turn, count: u32, seen: &mut SeenRows) -> Re
 /// Makes rounds until all rows are taken.
 fn see_drain(walk: &mut Walk, ticks: u32, seen: &mut SeenRows) -> Result<(), AllocError>
     requires valid { IsValid walk.old.script }
-    requires walked { IsWalked walk.old.script walk.old.counts }
+    requires walked { IsWalked (leg_of walk.old.script) walk.old.counts }
     requires ticks { ticks ≡ walk.old.script.config.ticks }
-    requires seen { Sees walk.old.script walk.old.counts.ticks walk.old.counts.rows seen.old }
+    requires seen { Sees
+        (leg_of walk.old.script) walk.old.counts.ticks walk.old.counts.rows seen.old }
     ensures script { walk.new.script ≡ walk.old.script }
-    ensures counts { let plan = walk_plan walk.old.script in
+    ensures counts { let plan = walk_plan (leg_of walk.old.script) in
         OnOk result (walk.new.counts ≡ drain (bound plan) plan walk.old.counts) }
     ensures seen { OnOk result
-        (Sees walk.new.script walk.new.counts.ticks walk.new.counts.rows seen.new) }
+        (Sees (leg_of walk.new.script) walk.new.counts.ticks walk.new.counts.rows seen.new) }
 {
     while walk.totals().taken < ticks {
         see_turn(walk, Turn::Round, seen)?;
@@ -81,15 +85,16 @@ fn see_event_line(
     seen: &mut SeenRows,
 ) -> Result<(), AllocError>
     requires valid { IsValid walk.old.script }
-    requires walked { IsWalked walk.old.script walk.old.counts }
+    requires walked { IsWalked (leg_of walk.old.script) walk.old.counts }
     requires event { IsEvent walk.old.script.config.lines line }
     requires ticks { ticks ≡ walk.old.script.config.ticks }
-    requires seen { Sees walk.old.script walk.old.counts.ticks walk.old.counts.rows seen.old }
+    requires seen { Sees
+        (leg_of walk.old.script) walk.old.counts.ticks walk.old.counts.rows seen.old }
     ensures script { walk.new.script ≡ walk.old.script }
     ensures counts { OnOk result
-        (walk.new.counts ≡ run_line (walk_plan walk.old.script) walk.old.counts line) }
+        (walk.new.counts ≡ run_line (walk_plan (leg_of walk.old.script)) walk.old.counts line) }
     ensures seen { OnOk result
-        (Sees walk.new.script walk.new.counts.ticks walk.new.counts.rows seen.new) }
+        (Sees (leg_of walk.new.script) walk.new.counts.ticks walk.new.counts.rows seen.new) }
 {
     match turns_of(line) {
         Some((turn, count)) => see_turns(walk, turn, count, seen),
@@ -106,13 +111,14 @@ fn see_event_lines(
 ) -> Result<(), AllocError>
     requires valid { IsValid walk.old.script }
     requires events { lines.now ≡ walk.old.script.events }
-    requires begun { walk.old.counts ≡ begin (walk_plan walk.old.script) }
+    requires begun { walk.old.counts ≡ begin (walk_plan (leg_of walk.old.script)) }
     requires ticks { ticks ≡ walk.old.script.config.ticks }
-    requires seen { Sees walk.old.script walk.old.counts.ticks walk.old.counts.rows seen.old }
+    requires seen { Sees
+        (leg_of walk.old.script) walk.old.counts.ticks walk.old.counts.rows seen.old }
     ensures script { walk.new.script ≡ walk.old.script }
     ensures counts { OnOk result (walk.new.counts ≡ counts_in walk.old.script) }
     ensures seen { OnOk result
-        (Sees walk.new.script walk.new.counts.ticks walk.new.counts.rows seen.new) }
+        (Sees (leg_of walk.new.script) walk.new.counts.ticks walk.new.counts.rows seen.new) }
 {
     if lines.is_empty() {
         return see_drain(walk, ticks, seen);
@@ -132,11 +138,11 @@ pub fn see_walk(
 ) -> Result<SeenWalk, AllocError>
     requires valid { IsValid walk.old.script }
     requires events { lines.now ≡ walk.old.script.events }
-    requires begun { walk.old.counts ≡ begin (walk_plan walk.old.script) }
+    requires begun { walk.old.counts ≡ begin (walk_plan (leg_of walk.old.script)) }
     requires ticks { size.ticks ≡ walk.old.script.config.ticks }
     ensures script { walk.new.script ≡ walk.old.script }
     ensures counts { OnOk result (walk.new.counts ≡ counts_in walk.old.script) }
-    ensures seen { IfOk result (SeesWalk walk.new.script walk.new.counts) }
+    ensures seen { IfOk result (SeesWalk (leg_of walk.new.script) walk.new.counts) }
 {
     let mut rows = nothing_seen(alloc, walk.script().config.size);
     see_event_lines(walk, lines, size.ticks, &mut rows)?;

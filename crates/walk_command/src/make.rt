@@ -1,5 +1,6 @@
 //! `make`: a load from a number is run, and what came of it is written in three lines.
 ghost use Rattle.std.specs.Prelude.{◌≡◌, ◌≢◌, ◌≤◌, ◌*◌, length, take, sum, None, OnOk, OnErr, map, string_bytes};
+ghost use Rattle.session_model.specs.Leg.{leg_of};
 ghost use Rattle.outside_io.specs.Transfer.{Appends, AppendsPart};
 ghost use Rattle.session_model.specs.Valid.{IsValid, IsWithin};
 ghost use Rattle.session_model.specs.Counts.{begin, drain, bound};
@@ -139,13 +140,14 @@ fn write_made<K: ByteSink>(
 /// Drains a walk of which no event was made, and counts the octets of the frames that it delivers.
 fn drain_sums(walk: &mut Walk) -> SumOut
     requires valid { IsValid walk.old.script }
-    requires begun { walk.old.counts ≡ begin (walk_plan walk.old.script) }
+    requires begun { walk.old.counts ≡ begin (walk_plan (leg_of walk.old.script)) }
     ensures script { walk.new.script ≡ walk.old.script }
-    ensures counts { walk.new.counts ≡ drain (bound (walk_plan walk.old.script))
-        (walk_plan walk.old.script) walk.old.counts }
+    ensures counts { walk.new.counts ≡ drain (bound (walk_plan (leg_of walk.old.script)))
+        (walk_plan (leg_of walk.old.script)) walk.old.counts }
     ensures octets { result.octets
-        ≡ octet_count (delivered_of walk.old.script walk.new.counts.rows) }
-    ensures total { result.total ≡ octet_sum (delivered_of walk.old.script walk.new.counts.rows) }
+        ≡ octet_count (delivered_of (leg_of walk.old.script) walk.new.counts.rows) }
+    ensures total { result.total
+        ≡ octet_sum (delivered_of (leg_of walk.old.script) walk.new.counts.rows) }
 {
     let mut sums = SumOut {
         octets: 0,

@@ -1,5 +1,6 @@
 //! `walk`: a script's walk is made, and what comes of it is written.
 ghost use Rattle.std.specs.Prelude.{◌≡◌, ◌≢◌, None, OnOk, OnErr, map, string_bytes};
+ghost use Rattle.session_model.specs.Leg.{leg_of};
 ghost use Rattle.outside_io.specs.Transfer.{Appends, AppendsPart};
 ghost use Rattle.session_model.specs.Valid.{IsValid};
 ghost use Rattle.session_model.specs.Counts.{begin};
@@ -55,7 +56,7 @@ fn write_walk<K: ByteSink>(
 ) -> Result<(), Failed>
     requires valid { IsValid walk.old.script }
     requires events { lines.now ≡ walk.old.script.events }
-    requires begun { walk.old.counts ≡ begin (walk_plan walk.old.script) }
+    requires begun { walk.old.counts ≡ begin (walk_plan (leg_of walk.old.script)) }
     requires lines { size.lines ≡ walk.old.script.config.lines }
     requires ticks { size.ticks ≡ walk.old.script.config.ticks }
     ensures script { walk.new.script ≡ walk.old.script }

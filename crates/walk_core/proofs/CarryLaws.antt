@@ -7,10 +7,10 @@ use Rattle.std.specs.Global.{Vec, Box}
 use Rattle.session_model.specs.Sent.{container_of, frame_of}
 use Rattle.std.proofs.lemmas.Bool.{cases_lt, cases_Bool, cases_eq}
 use Rattle.vc_cell.specs.declared.Container.{Container}
-use Rattle.session_model.specs.declared.script.Script.{Script}
+use Rattle.session_model.specs.Leg.{Leg}
 use Rattle.session_model.specs.declared.walk.StallCause.{StallCause}
 use Rattle.session_model.specs.declared.walk.StallCause.TheVariants.{Done, Empty, RxFull}
-use Rattle.session_model.specs.Scenario.{scenario_of, carried_by}
+use Rattle.session_model.specs.Scenario.{scenario_by, carried_by}
 use Rattle.session_model.specs.Path.{cells}
 use Rattle.session_model.specs.Back.{session_cells}
 use Rattle.std.specs.List.{range_with_len}
@@ -25,7 +25,7 @@ use Rattle.terminal_law.proofs.SentLaws.{containers-size}
 use Rattle.terminal_law.proofs.ListLaws.{range-at}
 use Rattle.line_core.specs.Line.{and_push, and_flush, carries_of, path_cells, IsEnded}
 use Rattle.walk_law.specs.Walk.{sent_on, walk_plan, CanWalk, counts_at, cells_on, popped_on, popped_cells}
-use Rattle.walk_law.proofs.PlanLaws.{line-path, valid-walks}
+use Rattle.walk_law.proofs.PlanLaws.{line-path, sound-walks}
 use Rattle.walk_law.proofs.WalkLaws.{line-fits}
 use Rattle.progress_law.specs.Progress.{LineFits}
 use Rattle.session_law.proofs.AlikeLaws.{map-same}
@@ -44,25 +44,25 @@ use Rattle.walk_core.proofs.EventLaws.{walk-fits, walked-next, source-stays, lan
 use Rattle.walk_core.proofs.SendLaws.{sent-carried, counts-here, counts-of, waits-none, waits-some}
 
 -- a line in numbers
-pub record AreNumbers (script : Script) (m : ℕ) (line : Ringed) : Type 0 where
-  pub total : line.core.total ≡ script.config.ticks
-  pub delay : line.core.delay ≡ delay_on script m
-  pub pushed : line.core.pushed ≡ min line.carried script.config.ticks
-  pub flushed : line.core.flushed ≡ line.carried - script.config.ticks
-  pub given : line.given ≡ (path_on script m).given line.carried
+pub record AreNumbers (leg : Leg) (m : ℕ) (line : Ringed) : Type 0 where
+  pub total : line.core.total ≡ leg.config.ticks
+  pub delay : line.core.delay ≡ delay_on leg m
+  pub pushed : line.core.pushed ≡ min line.carried leg.config.ticks
+  pub flushed : line.core.flushed ≡ line.carried - leg.config.ticks
+  pub given : line.given ≡ (path_on leg m).given line.carried
 
-pub carries : (script : Script) (m x : ℕ) → carries_of (calls_on script m x) ≡ x
-carries script m x =
-    let e = length-take (min x script.config.ticks) (sent_on (scenario_of script) m) in
-    let all = containers-size (scenario_of script) (session_cells (scenario_of script)) m script.config.ticks in
+pub carries : (leg : Leg) (m x : ℕ) → carries_of (calls_on leg m x) ≡ x
+carries leg m x =
+    let e = length-take (min x leg.config.ticks) (sent_on (scenario_by leg) m) in
+    let all = containers-size (scenario_by leg) (session_cells (scenario_by leg)) m leg.config.ticks in
     omega (arith, e, all)
 
 -- the cells that its carries gave
-pub cells-are : (script : Script) (m x : ℕ) → path_cells (calls_on script m x) ≡ cells_by script m x
-cells-are script m x =
-    ap (cells (carried_by (scenario_of script) m) (delay_on script m) script.config.ticks (taken_by script m x))
-    (carries script m x)
-    ∙ taken-cells script m x
+pub cells-are : (leg : Leg) (m x : ℕ) → path_cells (calls_on leg m x) ≡ cells_by leg m x
+cells-are leg m x =
+    ap (cells (carried_by (scenario_by leg) m) (delay_on leg m) leg.config.ticks (taken_by leg m x))
+    (carries leg m x)
+    ∙ taken-cells leg m x
 
 le-no : (n : ℕ) → 0 < n → nat_le n 0 ≡ false
 le-no n some = grind (arith, some)
@@ -80,120 +80,120 @@ lt-yes a b low = grind (arith, low)
 lt-no : (a b : ℕ) → b ≤ a → nat_lt a b ≡ false
 lt-no a b low = grind (arith, low)
 
-pub numbers : (script : Script) (m : ℕ) (line : Ringed) → HasLine script m line → AreNumbers script m line
-numbers script m line has = record {
+pub numbers : (leg : Leg) (m : ℕ) (line : Ringed) → HasLine leg m line → AreNumbers leg m line
+numbers leg m line has = record {
   total = has.has.core.total;
   delay = has.has.core.delay;
-  pushed = has.has.core.pushed ∙ (let e = length-take (min line.carried script.config.ticks)
-      (sent_on (scenario_of script) m) in
-      let all = containers-size (scenario_of script) (session_cells (scenario_of script)) m script.config.ticks in
+  pushed = has.has.core.pushed ∙ (let e = length-take (min line.carried leg.config.ticks)
+      (sent_on (scenario_by leg) m) in
+      let all = containers-size (scenario_by leg) (session_cells (scenario_by leg)) m leg.config.ticks in
       omega (arith, e, all));
   flushed = has.has.core.flushed;
-  given = has.has.given ∙ ap length (cells-are script m line.carried) ∙ receive-size script m line.carried 0
-      ∙ (let e : (path_on script m).given line.carried - 0 ≡ (path_on script m).given line.carried = omega arith in e);
+  given = has.has.given ∙ ap length (cells-are leg m line.carried) ∙ receive-size leg m line.carried 0
+      ∙ (let e : (path_on leg m).given line.carried - 0 ≡ (path_on leg m).given line.carried = omega arith in e);
 }
 
-pub all-carried : (script : Script) (m : ℕ) (line : Ringed) → HasLine script m line →
-    line.core.pushed ≡ line.core.total → script.config.ticks ≤ line.carried
-all-carried script m line has all = let n = numbers script m line has in let a = n.pushed in let b = n.total in
+pub all-carried : (leg : Leg) (m : ℕ) (line : Ringed) → HasLine leg m line →
+    line.core.pushed ≡ line.core.total → leg.config.ticks ≤ line.carried
+all-carried leg m line has all = let n = numbers leg m line has in let a = n.pushed in let b = n.total in
     omega (arith, a, b, all)
 
-pub not-carried : (script : Script) (m : ℕ) (line : Ringed) → HasLine script m line →
-    line.core.pushed < line.core.total → line.carried < script.config.ticks
-not-carried script m line has left = let n = numbers script m line has in let a = n.pushed in let b = n.total in
+pub not-carried : (leg : Leg) (m : ℕ) (line : Ringed) → HasLine leg m line →
+    line.core.pushed < line.core.total → line.carried < leg.config.ticks
+not-carried leg m line has left = let n = numbers leg m line has in let a = n.pushed in let b = n.total in
     omega (arith, a, b, left)
 
-module _ (script : Script) (m ticks : ℕ) (line : Ringed) (has : HasLine script m line)
-    (pops : line.popped ≤ (path_on script m).given line.carried)
-    (room : (path_on script m).given line.carried ≤ line.popped + script.config.ring) where
+module _ (leg : Leg) (m ticks : ℕ) (line : Ringed) (has : HasLine leg m line)
+    (pops : line.popped ≤ (path_on leg m).given line.carried)
+    (room : (path_on leg m).given line.carried ≤ line.popped + leg.config.ring) where
   cause : Option StallCause
-  cause = carry_cause script.config.ticks script.config.ring ticks m (path_on script m) (line_counts line)
+  cause = carry_cause leg.config.ticks leg.config.ring ticks m (path_on leg m) (line_counts line)
 
-  pub cause-done : IsEnded line.core → Some Done ≡ carry_cause script.config.ticks script.config.ring ticks m
-      (path_on script m) (line_counts line)
+  pub cause-done : IsEnded line.core → Some Done ≡ carry_cause leg.config.ticks leg.config.ring ticks m
+      (path_on leg m) (line_counts line)
   cause-done ended =
-      let n = numbers script m line has in
+      let n = numbers leg m line has in
       let a = n.delay in let b = n.flushed in
-      let e : nat_lt (script.config.ticks + delay_on script m) line.carried ≡ true = grind (arith, ended, a, b) in
+      let e : nat_lt (leg.config.ticks + delay_on leg m) line.carried ≡ true = grind (arith, ended, a, b) in
       rw e refl
 
-  on : (IsEnded line.core → ⊥) → nat_lt (script.config.ticks + delay_on script m) line.carried ≡ false
+  on : (IsEnded line.core → ⊥) → nat_lt (leg.config.ticks + delay_on leg m) line.carried ≡ false
   on open' =
-      let n = numbers script m line has in
+      let n = numbers leg m line has in
       let a = n.delay in let b = n.flushed in
-      elim (cases_lt (script.config.ticks + delay_on script m) line.carried) [
+      elim (cases_lt (leg.config.ticks + delay_on leg m) line.carried) [
         | inl past ↦ absurd (open' (omega (arith, past, a, b)))
         | inr early ↦ grind (arith, early)
       ]
 
   pub cause-empty : (IsEnded line.core → ⊥) → line.core.pushed < line.core.total → ticks ≤ line.carried →
-      Some (Empty m) ≡ carry_cause script.config.ticks script.config.ring ticks m (path_on script m)
+      Some (Empty m) ≡ carry_cause leg.config.ticks leg.config.ring ticks m (path_on leg m)
       (line_counts line)
   cause-empty open' left dry =
-      let n = numbers script m line has in
+      let n = numbers leg m line has in
       let a = n.pushed in let b = n.total in
-      let e : nat_lt line.carried script.config.ticks ≡ true = grind (arith, left, a, b) in
-      let f : nat_le (ticks - min line.carried script.config.ticks) 0 ≡ true = grind (arith, left, a, b, dry) in
+      let e : nat_lt line.carried leg.config.ticks ≡ true = grind (arith, left, a, b) in
+      let f : nat_le (ticks - min line.carried leg.config.ticks) 0 ≡ true = grind (arith, left, a, b, dry) in
       rw (on open', e, f) refl
 
   wet : ((line.core.pushed < line.core.total) → ticks ≤ line.carried → ⊥) →
-      nat_lt line.carried script.config.ticks && nat_le (ticks - min line.carried script.config.ticks) 0 ≡ false
+      nat_lt line.carried leg.config.ticks && nat_le (ticks - min line.carried leg.config.ticks) 0 ≡ false
   wet not_dry =
-      let n = numbers script m line has in
+      let n = numbers leg m line has in
       let a = n.pushed in let b = n.total in
-      elim (cases_lt line.carried script.config.ticks) [
+      elim (cases_lt line.carried leg.config.ticks) [
         | inl left ↦ elim (cases_lt line.carried ticks) [
-          | inl more ↦ (let e = le-no (ticks - min line.carried script.config.ticks) (omega (arith, left, more)) in
-              let f = lt-yes line.carried script.config.ticks left in rw (f, e) refl)
+          | inl more ↦ (let e = le-no (ticks - min line.carried leg.config.ticks) (omega (arith, left, more)) in
+              let f = lt-yes line.carried leg.config.ticks left in rw (f, e) refl)
           | inr dry ↦ absurd (not_dry (omega (arith, left, a, b)) dry)
         ]
-        | inr all ↦ (let e = lt-no line.carried script.config.ticks all in rw e refl)
+        | inr all ↦ (let e = lt-no line.carried leg.config.ticks all in rw e refl)
       ]
 
   pub cause-full : (IsEnded line.core → ⊥) → ((line.core.pushed < line.core.total) → ticks ≤ line.carried → ⊥) →
       line.given ≡ line.popped + ring_of line →
-      Some (RxFull m) ≡ carry_cause script.config.ticks script.config.ring ticks m (path_on script m)
+      Some (RxFull m) ≡ carry_cause leg.config.ticks leg.config.ring ticks m (path_on leg m)
       (line_counts line)
   cause-full open' not_dry full =
-      let n = numbers script m line has in
+      let n = numbers leg m line has in
       let a = n.given in let b = has.ring in
-      let e : nat_le script.config.ring ((path_on script m).given line.carried - line.popped) ≡ true = grind
+      let e : nat_le leg.config.ring ((path_on leg m).given line.carried - line.popped) ≡ true = grind
       (arith, full, a, b) in
       rw (on open', wet not_dry, e) refl
 
   pub cause-none : (IsEnded line.core → ⊥) → ((line.core.pushed < line.core.total) → ticks ≤ line.carried → ⊥) →
       (line.given ≡ line.popped + ring_of line → ⊥) →
-      None ≡ carry_cause script.config.ticks script.config.ring ticks m (path_on script m) (line_counts line)
+      None ≡ carry_cause leg.config.ticks leg.config.ring ticks m (path_on leg m) (line_counts line)
   cause-none open' not_dry not_full =
-      let n = numbers script m line has in
+      let n = numbers leg m line has in
       let a = n.given in let b = has.ring in
-      elim (cases_lt ((path_on script m).given line.carried) (line.popped + script.config.ring)) [
-        | inl some ↦ (let e : nat_le script.config.ring ((path_on script m).given line.carried - line.popped)
+      elim (cases_lt ((path_on leg m).given line.carried) (line.popped + leg.config.ring)) [
+        | inl some ↦ (let e : nat_le leg.config.ring ((path_on leg m).given line.carried - line.popped)
             ≡ false = grind (arith, some, pops) in rw (on open', wet not_dry, e) refl)
         | inr all ↦ absurd (not_full (omega (arith, all, room, a, b)))
       ]
 
 -- ---- one carry more
-pub calls-push : (script : Script) (m : ℕ) (line : Ringed) → line.carried < script.config.ticks →
-    and_push (calls_on script m line.carried) (sent_at script m line.carried) ≡ calls_on script m (line.carried + 1)
-calls-push script m line low =
-    ap (λ (containers : List Container). record (calls_on script m line.carried) { containers = containers })
-    (sym (taken-next script m line.carried low))
-    ∙ ap (λ n. record (calls_on script m (line.carried + 1)) { flushes = n })
-    (let e : line.carried - script.config.ticks ≡ line.carried + 1 - script.config.ticks = omega (arith, low) in
+pub calls-push : (leg : Leg) (m : ℕ) (line : Ringed) → line.carried < leg.config.ticks →
+    and_push (calls_on leg m line.carried) (sent_at leg m line.carried) ≡ calls_on leg m (line.carried + 1)
+calls-push leg m line low =
+    ap (λ (containers : List Container). record (calls_on leg m line.carried) { containers = containers })
+    (sym (taken-next leg m line.carried low))
+    ∙ ap (λ n. record (calls_on leg m (line.carried + 1)) { flushes = n })
+    (let e : line.carried - leg.config.ticks ≡ line.carried + 1 - leg.config.ticks = omega (arith, low) in
     e)
 
-pub calls-flush : (script : Script) (m : ℕ) (line : Ringed) → script.config.ticks ≤ line.carried →
-    and_flush (calls_on script m line.carried) ≡ calls_on script m (line.carried + 1)
-calls-flush script m line past =
-    ap (λ n. record (calls_on script m line.carried) {
-      containers = take n (sent_on (scenario_of script) m);
-      flushes = suc (line.carried - script.config.ticks);
+pub calls-flush : (leg : Leg) (m : ℕ) (line : Ringed) → leg.config.ticks ≤ line.carried →
+    and_flush (calls_on leg m line.carried) ≡ calls_on leg m (line.carried + 1)
+calls-flush leg m line past =
+    ap (λ n. record (calls_on leg m line.carried) {
+      containers = take n (sent_on (scenario_by leg) m);
+      flushes = suc (line.carried - leg.config.ticks);
     })
-    (let e : min line.carried script.config.ticks ≡ min (line.carried + 1) script.config.ticks = omega
+    (let e : min line.carried leg.config.ticks ≡ min (line.carried + 1) leg.config.ticks = omega
     (arith, past) in e)
-    ∙ ap (λ n. record (calls_on script m (line.carried + 1)) { flushes = n })
-    (let e : suc (line.carried - script.config.ticks) ≡ line.carried + 1 - script.config.ticks = omega
+    ∙ ap (λ n. record (calls_on leg m (line.carried + 1)) { flushes = n })
+    (let e : suc (line.carried - leg.config.ticks) ≡ line.carried + 1 - leg.config.ticks = omega
     (arith, past) in e)
 
 -- ---- the step
@@ -239,12 +239,12 @@ map-get f [] m x e = absurd cc
 map-get f (y ∷ xs) zero x e = ap Some (ap f (let h : y ≡ x = cc in h))
 map-get f (y ∷ xs) (suc m) x e = map-get f xs m x e
 
-pub frame-at : (script : Script) (m x : ℕ) → m < length script.config.windows →
-    slice_get (frame_of (scenario_of script) (session_cells (scenario_of script)) x) m ≡ Some (sent_at script m x)
-frame-at script m x inside =
-    map-get (λ line. container_of (scenario_of script) (session_cells (scenario_of script)) line x)
-    (range_with_len 0 (length script.config.windows)) m m
-    (range-at 0 (length script.config.windows) m inside ∙ ap Some (let e : 0 + m ≡ m = omega arith in e))
+pub frame-at : (leg : Leg) (m x : ℕ) → m < length leg.config.windows →
+    slice_get (frame_of (scenario_by leg) (session_cells (scenario_by leg)) x) m ≡ Some (sent_at leg m x)
+frame-at leg m x inside =
+    map-get (λ line. container_of (scenario_by leg) (session_cells (scenario_by leg)) line x)
+    (range_with_len 0 (length leg.config.windows)) m m
+    (range-at 0 (length leg.config.windows) m inside ∙ ap Some (let e : 0 + m ≡ m = omega arith in e))
 
 -- ---- of a walk
 pub map-set : {X Y : Type 0} (f : X → Y) (xs : List X) (m : ℕ) (x : X) →
@@ -262,71 +262,71 @@ popped-same (y ∷ lines) zero (suc k) line x e same = refl
 popped-same (y ∷ lines) (suc m) zero line x e same = refl
 popped-same (y ∷ lines) (suc m) (suc k) line x e same = popped-same lines m k line x e same
 
-cells-same : (script : Script) (lines : List LineCounts) (m : ℕ) (line : LineCounts) (x : LineCounts) →
+cells-same : (leg : Leg) (lines : List LineCounts) (m : ℕ) (line : LineCounts) (x : LineCounts) →
     slice_get lines m ≡ Some line → x.popped ≡ line.popped →
-    popped_cells script lines ≡ popped_cells script (slice_set lines m x)
-cells-same script lines m line x e same =
-    map-same (popped_on script lines) (popped_on script (slice_set lines m x))
-    (λ k. ap (λ n. take n (cells_on (scenario_of script) (delay_on script k) k))
-    (sym (popped-same lines m k line x e same))) (range_with_len 0 (length script.config.windows))
+    popped_cells leg lines ≡ popped_cells leg (slice_set lines m x)
+cells-same leg lines m line x e same =
+    map-same (popped_on leg lines) (popped_on leg (slice_set lines m x))
+    (λ k. ap (λ n. take n (cells_on (scenario_by leg) (delay_on leg k) k))
+    (sym (popped-same lines m k line x e same))) (range_with_len 0 (length leg.config.windows))
 
-module _ (script : Script) (parts : Parts) (landing : Landed) (got : ℕ) (last : Option StepNote)
-    (is : IsWalk script parts landing got last)
-    (m : ℕ) (low : m < script.config.lines) (line : Ringed) (there : slice_get parts.lines m ≡ Some line) where
+module _ (leg : Leg) (parts : Parts) (landing : Landed) (got : ℕ) (last : Option StepNote)
+    (is : IsWalk leg parts landing got last)
+    (m : ℕ) (low : m < leg.config.lines) (line : Ringed) (there : slice_get parts.lines m ≡ Some line) where
   here : slice_get (counts_of parts landing).lines m ≡ Some (line_counts line)
   here = map-get line_counts parts.lines m line there
 
-  can : CanWalk script
-  can = valid-walks script is.valid
+  can : CanWalk leg
+  can = sound-walks leg is.sound
 
-  windows : m < length script.config.windows
-  windows = let e = is.valid.network.windows_each in omega (arith, low, e)
+  windows : m < length leg.config.windows
+  windows = let e = is.sound.network.windows_each in omega (arith, low, e)
 
-  pub step-is : step (walk_plan script) (counts_of parts landing) (Carry m) ≡ carry_on (walk_plan script)
-      (counts_of parts landing) m (path_on script m) (line_counts line)
+  pub step-is : step (walk_plan leg) (counts_of parts landing) (Carry m) ≡ carry_on (walk_plan leg)
+      (counts_of parts landing) m (path_on leg m) (line_counts line)
   step-is =
-      ap (λ p. carry_at (walk_plan script) (counts_of parts landing) m p
-      (slice_get (counts_of parts landing).lines m)) (line-path script (valid-walks script is.valid) m windows)
-      ∙ ap (carry_at (walk_plan script) (counts_of parts landing) m (Some (path_on script m))) here
+      ap (λ p. carry_at (walk_plan leg) (counts_of parts landing) m p
+      (slice_get (counts_of parts landing).lines m)) (line-path leg (sound-walks leg is.sound) m windows)
+      ∙ ap (carry_at (walk_plan leg) (counts_of parts landing) m (Some (path_on leg m))) here
 
-  pub line-has : HasLine script m line
+  pub line-has : HasLine leg m line
   line-has = is.lines.each m line there
 
-  pub line-room : HasRoom script m line
+  pub line-room : HasRoom leg m line
   line-room =
-      let fits = line-fits script (counts_of parts landing) (valid-walks script is.valid) is.walked m windows in
+      let fits = line-fits leg (counts_of parts landing) (sound-walks leg is.sound) is.walked m windows in
       let same = counts-here (counts_of parts landing).lines m (line_counts line) here in
       record {
-        pops = subst (λ (l : LineCounts). l.popped ≤ (path_on script m).given l.carried) same fits.pops;
-        room = subst (λ (l : LineCounts). (path_on script m).given l.carried ≤ l.popped + script.config.ring) same
+        pops = subst (λ (l : LineCounts). l.popped ≤ (path_on leg m).given l.carried) same fits.pops;
+        room = subst (λ (l : LineCounts). (path_on leg m).given l.carried ≤ l.popped + leg.config.ring) same
             fits.receive;
       }
 
   line-send : parts.source.ticks ≤ line.carried + 32
   line-send =
-      let fits = line-fits script (counts_of parts landing) (valid-walks script is.valid) is.walked m windows in
+      let fits = line-fits leg (counts_of parts landing) (sound-walks leg is.sound) is.walked m windows in
       let same = counts-here (counts_of parts landing).lines m (line_counts line) here in
-      let send = subst (λ (l : LineCounts). parts.source.ticks ≤ min l.carried script.config.ticks + 32) same
+      let send = subst (λ (l : LineCounts). parts.source.ticks ≤ min l.carried leg.config.ticks + 32) same
       fits.send in
       omega (arith, send)
 
   pub carry-stays : (cause : StallCause) →
-      Some cause ≡ carry_cause script.config.ticks script.config.ring parts.source.ticks m (path_on script m)
+      Some cause ≡ carry_cause leg.config.ticks leg.config.ring parts.source.ticks m (path_on leg m)
       (line_counts line) →
-      (counts_of parts landing ≡ counts_after script (counts_of parts landing) (Carry m))
-      × (Stalled cause ≡ moved_of script (counts_of parts landing) (Carry m))
+      (counts_of parts landing ≡ counts_after leg (counts_of parts landing) (Carry m))
+      × (Stalled cause ≡ moved_of leg (counts_of parts landing) (Carry m))
   carry-stays cause e =
-      let told = stalls (walk_plan script) (counts_of parts landing) m (path_on script m) (line_counts line) cause e in (
+      let told = stalls (walk_plan leg) (counts_of parts landing) m (path_on leg m) (line_counts line) cause e in (
         sym (ap (λ (x : Step). x.counts) step-is ∙ told.0),
         ap (λ o. answer_by o None)
             (sym (ap (λ (x : Step). x.cause) step-is ∙ told.1)),
       )
 
-  module _ (after : Ringed) (none : None ≡ carry_cause script.config.ticks script.config.ring parts.source.ticks m
-      (path_on script m) (line_counts line))
-      (has : HasLine script m after) (carried : after.carried ≡ line.carried + 1)
+  module _ (after : Ringed) (none : None ≡ carry_cause leg.config.ticks leg.config.ring parts.source.ticks m
+      (path_on leg m) (line_counts line))
+      (has : HasLine leg m after) (carried : after.carried ≡ line.carried + 1)
       (popped : after.popped ≡ line.popped) where
-    moves : (step (walk_plan script) (counts_of parts landing)
+    moves : (step (walk_plan leg) (counts_of parts landing)
         (Carry m) ≡ record {
           counts = record
               (counts_of parts landing) {
@@ -335,7 +335,7 @@ module _ (script : Script) (parts : Parts) (landing : Landed) (got : ℕ) (last 
               };
           cause = None;
         })
-    moves = step-is ∙ goes (walk_plan script) (counts_of parts landing) m (path_on script m) (line_counts line) none
+    moves = step-is ∙ goes (walk_plan leg) (counts_of parts landing) m (path_on leg m) (line_counts line) none
 
     lines-are : map line_counts (slice_set parts.lines m after) ≡ slice_set (counts_of parts landing).lines m
         (record { carried = line.carried + 1; popped = line.popped })
@@ -346,37 +346,37 @@ module _ (script : Script) (parts : Parts) (landing : Landed) (got : ℕ) (last 
         ∙ ap (λ n. record { carried = line.carried + 1; popped = n }) popped)
 
     pub carry-counts : counts_of (record parts { lines = slice_set parts.lines m after }) landing
-        ≡ counts_after script (counts_of parts landing) (Carry m)
+        ≡ counts_after leg (counts_of parts landing) (Carry m)
     carry-counts = ap (λ lines. record (counts_of parts landing) { lines = lines }) lines-are
         ∙ sym (ap (λ (x : Step). x.counts) moves)
 
-    pub carry-moved : Yes ≡ moved_of script (counts_of parts landing) (Carry m)
+    pub carry-moved : Yes ≡ moved_of leg (counts_of parts landing) (Carry m)
     carry-moved = ap (λ o. answer_by o None) (sym (ap (λ (x : Step). x.cause) moves))
 
     module _ (sent : List (List Container)) (changed : IsCarriedAt (line.carried % 32) m parts.sent sent) where
-      pub carry-kept : IsWalk script (record parts { lines = slice_set parts.lines m after; sent = sent }) landing
+      pub carry-kept : IsWalk leg (record parts { lines = slice_set parts.lines m after; sent = sent }) landing
           got last
       carry-kept =
-          let cells : popped_cells script (counts_of parts landing).lines ≡ popped_cells script
+          let cells : popped_cells leg (counts_of parts landing).lines ≡ popped_cells leg
           (map line_counts (slice_set parts.lines m after)) =
-          cells-same script (counts_of parts landing).lines m (line_counts line) (line_counts after) here popped
-          ∙ ap (popped_cells script) (sym (map-set line_counts parts.lines m after)) in
+          cells-same leg (counts_of parts landing).lines m (line_counts line) (line_counts after) here popped
+          ∙ ap (popped_cells leg) (sym (map-set line_counts parts.lines m after)) in
           record {
-            valid = is.valid;
+            sound = is.sound;
             total = is.total;
-            walked = walked-next script (counts_of parts landing) _ (Carry m) is.walked carry-counts;
-            source = source-stays script (counts_of parts landing) _ _ _ parts.source is.source;
-            sent = subst (λ ls. HasSent script parts.source.ticks ls sent) (sym lines-are)
-                (sent-carried script parts.source.ticks m (counts_of parts landing).lines (line_counts line)
+            walked = walked-next leg (counts_of parts landing) _ (Carry m) is.walked carry-counts;
+            source = source-stays leg (counts_of parts landing) _ _ _ parts.source is.source;
+            sent = subst (λ ls. HasSent leg parts.source.ticks ls sent) (sym lines-are)
+                (sent-carried leg parts.source.ticks m (counts_of parts landing).lines (line_counts line)
                 (record { carried = line.carried + 1; popped = line.popped }) parts.sent sent
                 is.sent here refl line-send changed);
             lines = record {
               size = length-slice_set parts.lines m after ∙ is.lines.size;
               each = λ k other e. elim (cases_eq k m) [
-                | inl same ↦ subst (λ (l : Ringed). HasLine script k l)
+                | inl same ↦ subst (λ (l : Ringed). HasLine leg k l)
                     (sym (set-here parts.lines m after other
                     (sym (ap (slice_get (slice_set parts.lines m after)) same) ∙ e)))
-                    (subst (λ j. HasLine script j after) (sym same) has)
+                    (subst (λ j. HasLine leg j after) (sym same) has)
                 | inr apart ↦ is.lines.each k other (sym (slice_get-set_other parts.lines m k after apart) ∙ e)
               ];
             };
@@ -389,115 +389,115 @@ module _ (script : Script) (parts : Parts) (landing : Landed) (got : ℕ) (last 
               size = is.sink.size;
             };
             back = record { ring = is.back.ring; lost = is.back.lost; inbox = is.back.inbox; room = is.back.room };
-            landed = landed-stays script (counts_of parts landing) _ _ _ landing is.landed;
+            landed = landed-stays leg (counts_of parts landing) _ _ _ landing is.landed;
             counted = is.counted;
             noted = is.noted;
           }
 
       -- by a number that is the line's
-      pub carry-kept_at : (k : ℕ) → k ≡ m → IsWalk script
+      pub carry-kept_at : (k : ℕ) → k ≡ m → IsWalk leg
           (record parts { lines = slice_set parts.lines k after; sent = sent }) landing got last
-      carry-kept_at k same = subst (λ (j : ℕ). IsWalk script
+      carry-kept_at k same = subst (λ (j : ℕ). IsWalk leg
           (record parts { lines = slice_set parts.lines j after; sent = sent }) landing got last)
           (sym same) carry-kept
 
       pub carry-counts_at : (k : ℕ) → k ≡ m →
           counts_of (record parts { lines = slice_set parts.lines k after; sent = sent }) landing
-          ≡ counts_after script (counts_of parts landing) (Carry m)
+          ≡ counts_after leg (counts_of parts landing) (Carry m)
       carry-counts_at k same = ap (λ (j : ℕ). counts_of
           (record parts { lines = slice_set parts.lines j after; sent = sent }) landing) same ∙ carry-counts
 
 -- a place of the send rings
-pub frame-size : (script : Script) (ticks : ℕ) (counts : List LineCounts) (sent : List (Vec (Box Container))) →
-    HasSent script ticks counts (map frame_in sent) → (k : ℕ) (frame : Vec (Box Container)) →
+pub frame-size : (leg : Leg) (ticks : ℕ) (counts : List LineCounts) (sent : List (Vec (Box Container))) →
+    HasSent leg ticks counts (map frame_in sent) → (k : ℕ) (frame : Vec (Box Container)) →
     slice_get sent k ≡ Some frame →
-    length frame.items ≡ script.config.lines
-frame-size script ticks counts sent has k frame e =
+    length frame.items ≡ leg.config.lines
+frame-size leg ticks counts sent has k frame e =
     sym (length-map frame.items (λ (b : Box Container). b.value))
     ∙ has.lines k (frame_in frame) (map-get frame_in sent k frame e)
 
-pub sent-places : (script : Script) (ticks : ℕ) (counts : List LineCounts) (sent : List (Vec (Box Container))) →
-    HasSent script ticks counts (map frame_in sent) → length sent ≡ 32
-sent-places script ticks counts sent has = sym (length-map sent frame_in) ∙ has.places
+pub sent-places : (leg : Leg) (ticks : ℕ) (counts : List LineCounts) (sent : List (Vec (Box Container))) →
+    HasSent leg ticks counts (map frame_in sent) → length sent ≡ 32
+sent-places leg ticks counts sent has = sym (length-map sent frame_in) ∙ has.places
 
 -- the container that a carry takes
-pub is-sent : (script : Script) (ticks : ℕ) (counts : List LineCounts) (sent : List (Vec (Box Container)))
-    (m x : ℕ) → HasSent script ticks counts (map frame_in sent) →
-    m < script.config.lines → (counts_at counts m).carried ≤ x → (x < script.config.ticks → x < ticks) →
-    (x < script.config.ticks → ticks ≤ x + 32) → IsSentOn script m x sent
-is-sent script ticks counts sent m x has own late some room low frame e =
+pub is-sent : (leg : Leg) (ticks : ℕ) (counts : List LineCounts) (sent : List (Vec (Box Container)))
+    (m x : ℕ) → HasSent leg ticks counts (map frame_in sent) →
+    m < leg.config.lines → (counts_at counts m).carried ≤ x → (x < leg.config.ticks → x < ticks) →
+    (x < leg.config.ticks → ticks ≤ x + 32) → IsSentOn leg m x sent
+is-sent leg ticks counts sent m x has own late some room low frame e =
     has.frames x m (frame_in frame) own late (some low) (room low) (map-get frame_in sent (x % 32) frame e)
 
-module _ (script : Script) (parts : Parts) (landing : Landed) (got : ℕ) (last : Option StepNote)
-    (is : IsWalk script parts landing got last)
-    (m : ℕ) (low : m < script.config.lines) (line : Ringed) (there : slice_get parts.lines m ≡ Some line) where
-  fits-line : LineFits script.config.ticks script.config.ring parts.source.ticks parts.sink.taken
-      (path_on script m) (line_counts line)
+module _ (leg : Leg) (parts : Parts) (landing : Landed) (got : ℕ) (last : Option StepNote)
+    (is : IsWalk leg parts landing got last)
+    (m : ℕ) (low : m < leg.config.lines) (line : Ringed) (there : slice_get parts.lines m ≡ Some line) where
+  fits-line : LineFits leg.config.ticks leg.config.ring parts.source.ticks parts.sink.taken
+      (path_on leg m) (line_counts line)
   fits-line =
-      let e = is.valid.network.windows_each in
-      let fits = line-fits script (counts_of parts landing) (valid-walks script is.valid) is.walked m
+      let e = is.sound.network.windows_each in
+      let fits = line-fits leg (counts_of parts landing) (sound-walks leg is.sound) is.walked m
       (omega (arith, low, e)) in
-      subst (LineFits script.config.ticks script.config.ring parts.source.ticks parts.sink.taken
-      (path_on script m)) (counts-here (counts_of parts landing).lines m (line_counts line)
+      subst (LineFits leg.config.ticks leg.config.ring parts.source.ticks parts.sink.taken
+      (path_on leg m)) (counts-here (counts_of parts landing).lines m (line_counts line)
       (map-get line_counts parts.lines m line there)) fits
 
   pub line-sent : (sent : List (Vec (Box Container))) → map frame_in sent ≡ parts.sent →
-      CanCarry line parts.source.ticks → IsSentOn script m line.carried sent
+      CanCarry line parts.source.ticks → IsSentOn leg m line.carried sent
   line-sent sent same can =
-      let n = numbers script m line (is.lines.each m line there) in
+      let n = numbers leg m line (is.lines.each m line there) in
       let a = n.pushed in let b = n.total in
       let fits = fits-line in
       let send = fits.send in
-      is-sent script parts.source.ticks (map line_counts parts.lines) sent m line.carried
-      (subst (HasSent script parts.source.ticks (map line_counts parts.lines)) (sym same) is.sent)
+      is-sent leg parts.source.ticks (map line_counts parts.lines) sent m line.carried
+      (subst (HasSent leg parts.source.ticks (map line_counts parts.lines)) (sym same) is.sent)
       low (let own = ap (λ (l : LineCounts). l.carried) (counts-of parts.lines m line there) in omega (arith, own))
       (λ left. can.wet (omega (arith, a, b, left))) (λ left. omega (arith, send, left))
 
   pub room-left : (line.given ≡ line.popped + ring_of line → ⊥) → line.given < line.popped + ring_of line
   room-left apart =
-      let n = numbers script m line (is.lines.each m line there) in
+      let n = numbers leg m line (is.lines.each m line there) in
       let a = n.given in let b = (is.lines.each m line there).ring in
       let fits = fits-line in
       let room = fits.receive in
       below line.given (line.popped + ring_of line) (omega (arith, a, b, room)) apart
 
   -- ---- what waits in the rings of the line
-  pub sends-made : min line.carried script.config.ticks ≤ parts.source.ticks
+  pub sends-made : min line.carried leg.config.ticks ≤ parts.source.ticks
   sends-made = fits-line.sent
 
-  few-ticks : parts.source.ticks ≤ script.config.ticks
-  few-ticks = (walk-fits script (counts_of parts landing) is.valid is.walked).ticks
+  few-ticks : parts.source.ticks ≤ leg.config.ticks
+  few-ticks = (walk-fits leg (counts_of parts landing) is.sound is.walked).ticks
 
   here-counts : counts_at (map line_counts parts.lines) m ≡ line_counts line
   here-counts = counts-of parts.lines m line there
 
-  pub sends-none : (k : ℕ) → in_send script.config.ticks parts.source.ticks (line_counts line) ≤ k →
-      None ≡ slice_get (send_ring script (counts_of parts landing) m) k
+  pub sends-none : (k : ℕ) → in_send leg.config.ticks parts.source.ticks (line_counts line) ≤ k →
+      None ≡ slice_get (send_ring leg (counts_of parts landing) m) k
   sends-none k past =
-      sym (ap (λ (l : LineCounts). slice_get (send_by script m parts.source.ticks l.carried) k) here-counts
-      ∙ waits-none script m parts.source.ticks line.carried k few-ticks past)
+      sym (ap (λ (l : LineCounts). slice_get (send_by leg m parts.source.ticks l.carried) k) here-counts
+      ∙ waits-none leg m parts.source.ticks line.carried k few-ticks past)
 
-  pub sends-some : (k t : ℕ) → k < in_send script.config.ticks parts.source.ticks (line_counts line) →
-      t ≡ min line.carried script.config.ticks + k →
+  pub sends-some : (k t : ℕ) → k < in_send leg.config.ticks parts.source.ticks (line_counts line) →
+      t ≡ min line.carried leg.config.ticks + k →
       (sent : List (Vec (Box Container))) → map frame_in sent ≡ parts.sent →
       (row : Vec (Box Container)) → slice_get sent (t % 32) ≡ Some row → (box : Box Container) →
       slice_get row.items m ≡ Some box →
-      Some box.value ≡ slice_get (send_ring script (counts_of parts landing) m) k
+      Some box.value ≡ slice_get (send_ring leg (counts_of parts landing) m) k
   sends-some k t inside is_place sent same row at box own =
       let few = few-ticks in
       let send = fits-line.send in
       let carried = ap (λ (l : LineCounts). l.carried) here-counts in
-      let held_all = subst (HasSent script parts.source.ticks (map line_counts parts.lines)) (sym same) is.sent in
-      let waits = is-sent script parts.source.ticks (map line_counts parts.lines) sent m t held_all low
+      let held_all = subst (HasSent leg parts.source.ticks (map line_counts parts.lines)) (sym same) is.sent in
+      let waits = is-sent leg parts.source.ticks (map line_counts parts.lines) sent m t held_all low
       (omega (arith, carried, inside, is_place, few)) (λ left. omega (arith, inside, is_place))
       (λ left. omega (arith, send, is_place)) in
       sym (map-get (λ (b : Box Container). b.value) row.items m box own)
       ∙ waits (omega (arith, inside, is_place, few)) row at
-      ∙ sym (ap (λ (l : LineCounts). slice_get (send_by script m parts.source.ticks l.carried) k) here-counts
-      ∙ waits-some script m parts.source.ticks line.carried k t few-ticks inside is_place)
+      ∙ sym (ap (λ (l : LineCounts). slice_get (send_by leg m parts.source.ticks l.carried) k) here-counts
+      ∙ waits-some leg m parts.source.ticks line.carried k t few-ticks inside is_place)
 
-  pub receives-are : (k : ℕ) → slice_get (drop line.popped (path_cells (calls_on script m line.carried))) k
-      ≡ slice_get (receive_ring script (counts_of parts landing) m) k
+  pub receives-are : (k : ℕ) → slice_get (drop line.popped (path_cells (calls_on leg m line.carried))) k
+      ≡ slice_get (receive_ring leg (counts_of parts landing) m) k
   receives-are k =
-      ap (λ cells. slice_get (drop line.popped cells) k) (cells-are script m line.carried)
-      ∙ sym (ap (λ (l : LineCounts). slice_get (receive_by script m l.carried l.popped) k) here-counts)
+      ap (λ cells. slice_get (drop line.popped cells) k) (cells-are leg m line.carried)
+      ∙ sym (ap (λ (l : LineCounts). slice_get (receive_by leg m l.carried l.popped) k) here-counts)

@@ -1,33 +1,33 @@
 -- What each event leaves of a walk's counts.
 use Rattle.std.proofs.Common.{◌≡◌, ℕ, List, [], ◌∷◌, ◌++◌, Option, Some, refl, sym, ◌∙◌, ap}
 use Rattle.session_model.specs.declared.walk.Event.{Event}
-use Rattle.session_model.specs.declared.script.Script.{Script}
+use Rattle.session_model.specs.Leg.{Leg}
 use Rattle.session_model.specs.declared.walk.StallCause.{StallCause}
 use Rattle.session_model.specs.Counts.{LineCounts, Counts, run, begin}
-use Rattle.session_model.specs.Valid.{IsValid}
+use Rattle.session_model.specs.Valid.{IsSound}
 use Rattle.progress_law.specs.Progress.{Fits}
 use Rattle.progress_law.proofs.MoveLaws.{reached-fits}
 use Rattle.progress_law.proofs.ReachLaws.{run-append}
 use Rattle.report_text.specs.declared.report.Refusal.{Refusal}
 use Rattle.walk_law.specs.Walk.{walk_plan, IsWalked}
-use Rattle.walk_law.proofs.PlanLaws.{has-plan, valid-walks}
+use Rattle.walk_law.proofs.PlanLaws.{has-plan, sound-walks}
 use Rattle.group_source.specs.Landed.{Landed}
 use Rattle.source_core.specs.Terminal.{Terminal}
 use Rattle.walk_core.specs.Moved.{answer_by, counts_after}
 use Rattle.walk_core.specs.Parts.{HasSource, HasLanded}
 use Rattle.walk_core.specs.declared.moved.Moved.TheVariants.{Stalled}
 
-pub walked-next : (script : Script) (s next : Counts) (event : Event) → IsWalked script s →
-    next ≡ counts_after script s event → IsWalked script next
+pub walked-next : (leg : Leg) (s next : Counts) (event : Event) → IsWalked leg s →
+    next ≡ counts_after leg s event → IsWalked leg next
 unfolding run
-walked-next script s next event walked is = (
+walked-next leg s next event walked is = (
   walked.0 ++ event ∷ [],
-  is ∙ ap (λ s. counts_after script s event) walked.1
-      ∙ sym (run-append (walk_plan script) (begin (walk_plan script)) walked.0 (event ∷ [])),
+  is ∙ ap (λ s. counts_after leg s event) walked.1
+      ∙ sym (run-append (walk_plan leg) (begin (walk_plan leg)) walked.0 (event ∷ [])),
 )
 
-pub walk-fits : (script : Script) (s : Counts) → IsValid script → IsWalked script s → Fits (walk_plan script) s
-walk-fits script s valid walked = reached-fits (walk_plan script) s (has-plan script (valid-walks script valid)) walked
+pub walk-fits : (leg : Leg) (s : Counts) → IsSound leg → IsWalked leg s → Fits (walk_plan leg) s
+walk-fits leg s sound walked = reached-fits (walk_plan leg) s (has-plan leg (sound-walks leg sound)) walked
 
 -- a stalled event
 pub stalled-moved : (cause : StallCause) (found : Option StallCause) (why : Option Refusal) → found ≡ Some cause →
@@ -35,13 +35,13 @@ pub stalled-moved : (cause : StallCause) (found : Option StallCause) (why : Opti
 stalled-moved cause found why e = rw e refl
 
 -- the source and what has landed, where lines, rows or return packets move
-module _ (script : Script) (s : Counts) (lines : List LineCounts) (rows backs : ℕ) where
-  pub source-stays : (source : Terminal) → HasSource script s source →
-      HasSource script (record s { lines = lines; rows = rows; backs = backs }) source
+module _ (leg : Leg) (s : Counts) (lines : List LineCounts) (rows backs : ℕ) where
+  pub source-stays : (source : Terminal) → HasSource leg s source →
+      HasSource leg (record s { lines = lines; rows = rows; backs = backs }) source
   source-stays source has = record { made = has.made; lines = has.lines; lag = has.lag; size = has.size }
 
-  pub landed-stays : (landing : Landed) → HasLanded script s landing →
-      HasLanded script (record s { lines = lines; rows = rows; backs = backs }) landing
+  pub landed-stays : (landing : Landed) → HasLanded leg s landing →
+      HasLanded leg (record s { lines = lines; rows = rows; backs = backs }) landing
   landed-stays landing has = record {
     items = has.items;
     refusals = has.refusals;

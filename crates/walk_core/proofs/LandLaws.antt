@@ -3,7 +3,7 @@ use Rattle.std.proofs.Common.{◌≡◌, ℕ, ◌+◌, nat_lt, slice_get, Option
 use Rattle.std.proofs.Common.{ap}
 use Rattle.std.proofs.lemmas.Bool.{cases_Bool}
 use Rattle.session_model.specs.declared.script.Item.{Item}
-use Rattle.session_model.specs.declared.script.Script.{Script}
+use Rattle.session_model.specs.Leg.{Leg}
 use Rattle.session_model.specs.declared.walk.Event.{Event}
 use Rattle.session_model.specs.declared.walk.Event.TheVariants.{Accept, Command}
 use Rattle.session_model.specs.declared.walk.StallCause.{StallCause}
@@ -42,50 +42,50 @@ land-moves ticks (Some due) s next e =
     [ inl late ↦ absurd (let f : Some (NotDue due) ≡ None = rw late at e in cc) | inr now ↦ rw now refl ]
 
 -- ---- an event lands the next item of its kind, which is at place i, or stalls
-pub record IsNext (script : Script) (s next : Counts) (event : Event) (i : ℕ) : Type 0 where
-  pub steps : step (walk_plan script) s event ≡ land_due s.ticks (due_found script.items i) s next
-  pub why : refusal_in_event script s event ≡ refusal_of_item script i (slice_get script.items i)
+pub record IsNext (leg : Leg) (s next : Counts) (event : Event) (i : ℕ) : Type 0 where
+  pub steps : step (walk_plan leg) s event ≡ land_due s.ticks (due_found leg.items i) s next
+  pub why : refusal_in_event leg s event ≡ refusal_of_item leg i (slice_get leg.items i)
 
-pub frame-next : (script : Script) (s : Counts) (i : ℕ) → i ≡ place_of is_frame s.frames script.items →
-    IsNext script s (record s { frames = s.frames + 1 }) Accept i
-frame-next script s i at = record {
+pub frame-next : (leg : Leg) (s : Counts) (i : ℕ) → i ≡ place_of is_frame s.frames leg.items →
+    IsNext leg s (record s { frames = s.frames + 1 }) Accept i
+frame-next leg s i at = record {
   steps = ap (λ due. land_due s.ticks due s (record s { frames = s.frames + 1 }))
-      (frame-due script.items s.frames ∙ ap (due_found script.items) (sym at));
-  why = ap (λ n. refusal_of_item script n (slice_get script.items n)) (sym at);
+      (frame-due leg.items s.frames ∙ ap (due_found leg.items) (sym at));
+  why = ap (λ n. refusal_of_item leg n (slice_get leg.items n)) (sym at);
 }
 
-pub command-next : (script : Script) (s : Counts) (i : ℕ) → i ≡ place_of is_command s.commands script.items →
-    IsNext script s (record s { commands = s.commands + 1 }) Command i
-command-next script s i at = record {
+pub command-next : (leg : Leg) (s : Counts) (i : ℕ) → i ≡ place_of is_command s.commands leg.items →
+    IsNext leg s (record s { commands = s.commands + 1 }) Command i
+command-next leg s i at = record {
   steps = ap (λ due. land_due s.ticks due s (record s { commands = s.commands + 1 }))
-      (command-due script.items s.commands ∙ ap (due_found script.items) (sym at));
-  why = ap (λ n. refusal_of_item script n (slice_get script.items n)) (sym at);
+      (command-due leg.items s.commands ∙ ap (due_found leg.items) (sym at));
+  why = ap (λ n. refusal_of_item leg n (slice_get leg.items n)) (sym at);
 }
 
 -- what an event answers that lands an item
 abbrev pub answer_of : Option Refusal → Moved
 answer_of why = answer_by None why
 
-module _ (script : Script) (s next : Counts) (event : Event) (i : ℕ) (is : IsNext script s next event i) where
-  pub next-cause : (step (walk_plan script) s event).cause ≡ stall_by s.ticks (slice_get script.items i)
-  next-cause = ap (λ (done : Step). done.cause) is.steps ∙ stall-cause s.ticks (slice_get script.items i) s next
+module _ (leg : Leg) (s next : Counts) (event : Event) (i : ℕ) (is : IsNext leg s next event i) where
+  pub next-cause : (step (walk_plan leg) s event).cause ≡ stall_by s.ticks (slice_get leg.items i)
+  next-cause = ap (λ (done : Step). done.cause) is.steps ∙ stall-cause s.ticks (slice_get leg.items i) s next
 
-  pub next-stays : (cause : StallCause) → (step (walk_plan script) s event).cause ≡ Some cause →
-      (s ≡ counts_after script s event) × (Stalled cause ≡ moved_of script s event)
+  pub next-stays : (cause : StallCause) → (step (walk_plan leg) s event).cause ≡ Some cause →
+      (s ≡ counts_after leg s event) × (Stalled cause ≡ moved_of leg s event)
   next-stays cause e = (
     sym (ap (λ (done : Step). done.counts) is.steps
-        ∙ land-stays s.ticks (due_found script.items i) s next cause
+        ∙ land-stays s.ticks (due_found leg.items i) s next cause
         (sym (ap (λ (done : Step). done.cause) is.steps) ∙ e)),
-    stalled-moved cause (step (walk_plan script) s event).cause (refusal_in_event script s event) e,
+    stalled-moved cause (step (walk_plan leg) s event).cause (refusal_in_event leg s event) e,
   )
 
-  pub next-moves : (item : Item) → slice_get script.items i ≡ Some item →
-      (step (walk_plan script) s event).cause ≡ None →
-      (next ≡ counts_after script s event) ×
-      (answer_of (refusal_at script (record { number = i; item = item })) ≡ moved_of script s event)
+  pub next-moves : (item : Item) → slice_get leg.items i ≡ Some item →
+      (step (walk_plan leg) s event).cause ≡ None →
+      (next ≡ counts_after leg s event) ×
+      (answer_of (refusal_at leg (record { number = i; item = item })) ≡ moved_of leg s event)
   next-moves item there e = (
     sym (ap (λ (done : Step). done.counts) is.steps
-        ∙ land-moves s.ticks (due_found script.items i) s next (sym (ap (λ (done : Step). done.cause) is.steps) ∙ e)),
-    ap (λ found. answer_of (refusal_of_item script i found)) (sym there) ∙ ap answer_of (sym is.why)
-        ∙ ap (λ cause. answer_by cause (refusal_in_event script s event)) (sym e),
+        ∙ land-moves s.ticks (due_found leg.items i) s next (sym (ap (λ (done : Step). done.cause) is.steps) ∙ e)),
+    ap (λ found. answer_of (refusal_of_item leg i found)) (sym there) ∙ ap answer_of (sym is.why)
+        ∙ ap (λ cause. answer_by cause (refusal_in_event leg s event)) (sym e),
   )

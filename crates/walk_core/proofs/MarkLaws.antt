@@ -1,8 +1,8 @@
 -- The mark of the segment that goes on is that of the session's rows.
 use Rattle.std.proofs.Common.{◌≡◌, ℕ, ◌^◌, ◌<◌, List, map, length, Option, ◌∙◌, ap, arith}
 use Rattle.vc_cell.specs.declared.Cell.{Cell}
-use Rattle.session_model.specs.declared.script.Script.{Script}
-use Rattle.session_model.specs.Scenario.{Scenario, scenario_of}
+use Rattle.session_model.specs.Leg.{Leg}
+use Rattle.session_model.specs.Scenario.{Scenario, scenario_by}
 use Rattle.session_model.specs.Table.{Told}
 use Rattle.session_model.specs.Back.{session_cells}
 use Rattle.session_model.specs.Segment.{segments_of}
@@ -11,7 +11,7 @@ use Rattle.loss_law.proofs.CutLaws.{Stands-all}
 use Rattle.loss_law.proofs.SessionStreamLaws.{rows-length}
 use Rattle.walk_law.specs.Walk.{popped_cells}
 use Rattle.walk_law.specs.Delivered.{session_rows}
-use Rattle.walk_law.proofs.PlanLaws.{valid-walks}
+use Rattle.walk_law.proofs.PlanLaws.{sound-walks}
 use Rattle.walk_law.proofs.EndLaws.{counts-within}
 use Rattle.walk_law.proofs.CountLaws.{place-most}
 use Rattle.walk_law.proofs.WalkLaws.{rows-are}
@@ -23,26 +23,26 @@ use Rattle.walk_core.specs.declared.moved.StepNote.{StepNote}
 use Rattle.group_source.specs.Landed.{Landed}
 use Rattle.walk_core.specs.Parts.{Parts, counts_of, line_counts, IsWalk}
 
-pub mark-is : (script : Script) (parts : Parts) (landing : Landed) (got : ℕ) (last : Option StepNote)
-    (result : Option ℕ) → IsWalk script parts landing got last →
+pub mark-is : (leg : Leg) (parts : Parts) (landing : Landed) (got : ℕ) (last : Option StepNote)
+    (result : Option ℕ) → IsWalk leg parts landing got last →
     ((cells : List (List Cell)) → Stands parts.sink cells →
     length (segments_of (received_rows parts.sink.size cells parts.sink.taken)).last.octets < 2 ^ 64 →
     result ≡ first_place (segments_of (received_rows parts.sink.size cells parts.sink.taken)).last.octets) →
-    result ≡ first_place (segments_of (session_rows script parts.sink.taken)).last.octets
-mark-is script parts landing got last result is said =
-    let scenario : Scenario = scenario_of script in
-    let cells : List (Option Told) = session_cells (scenario_of script) in
-    let popped : List (List Cell) = popped_cells script (map line_counts parts.lines) in
+    result ≡ first_place (segments_of (session_rows leg parts.sink.taken)).last.octets
+mark-is leg parts landing got last result is said =
+    let scenario : Scenario = scenario_by leg in
+    let cells : List (Option Told) = session_cells (scenario_by leg) in
+    let popped : List (List Cell) = popped_cells leg (map line_counts parts.lines) in
     let taken : ℕ = parts.sink.taken in
-    let can = valid-walks script is.valid in
-    let within = counts-within script (counts_of parts landing) can is.walked in
-    let same : (segments_of (received_rows script.config.size popped taken)).last.octets ≡
+    let can = sound-walks leg is.sound in
+    let within = counts-within leg (counts_of parts landing) can is.walked in
+    let same : (segments_of (received_rows leg.config.size popped taken)).last.octets ≡
     (segments_of (rows_of scenario cells taken)).last.octets =
-    session-last scenario cells popped taken (λ t low. rows-are script (counts_of parts landing) can is.walked t low) in
+    session-last scenario cells popped taken (λ t low. rows-are leg (counts_of parts landing) can is.walked t low) in
     let sized : (segments_of (received_rows parts.sink.size popped taken)).last.octets ≡
     (segments_of (rows_of scenario cells taken)).last.octets =
     ap (λ size. (segments_of (received_rows size popped taken)).last.octets) is.sink.size ∙ same in
     let stands = Stands-all (rows_of scenario cells taken) in
     let octets = rows-length scenario cells taken taken (omega arith) in
-    let few = place-most script taken is.valid (omega (arith, within.0, within.1)) in
+    let few = place-most leg taken is.sound (omega (arith, within.0, within.1)) in
     said popped is.sink.taken (omega (arith, ap length sized, stands.ends, octets, few)) ∙ ap first_place sized

@@ -12,14 +12,14 @@ use Rattle.vc_cell.specs.declared.Cell.{Cell}
 use Rattle.session_model.specs.declared.window.Window.{Window}
 use Rattle.session_model.specs.declared.script.Config.{Config}
 use Rattle.session_model.specs.declared.script.Item.{Item}
-use Rattle.session_model.specs.declared.script.Script.{Script}
-use Rattle.session_model.specs.Scenario.{scenario_of, offers_of, orders_of}
+use Rattle.session_model.specs.Leg.{Leg}
+use Rattle.session_model.specs.Scenario.{scenario_by, offers_of, orders_of}
 use Rattle.session_model.specs.Segment.{segments_on}
 use Rattle.session_model.specs.SessionStream.{rows_of}
 use Rattle.session_model.specs.Run.{delineate_within}
 use Rattle.session_model.specs.Hunt.{hunt_within}
 use Rattle.session_model.specs.Back.{cells_before}
-use Rattle.session_model.specs.Valid.{IsValid}
+use Rattle.session_model.specs.Valid.{IsSound}
 use Rattle.session_model.specs.Counts.{LineCounts, Counts, begin, used_in, in_return, in_inbox}
 use Rattle.line_core.specs.Line.{opened}
 use Rattle.realign_core.specs.Gather.{Gather, Stands as Gathers}
@@ -32,7 +32,7 @@ use Rattle.walk_law.specs.Landed.{Numbered, landed_from, is_client, landed_scena
 use Rattle.walk_law.specs.Landed.{refusal_at, is_accepted_frame, is_accepted_command}
 use Rattle.walk_law.specs.Delivered.{delivered_of}
 use Rattle.walk_law.specs.Step.{last_packet}
-use Rattle.walk_law.proofs.PlanLaws.{has-paths, valid-walks}
+use Rattle.walk_law.proofs.PlanLaws.{has-paths, sound-walks}
 use Rattle.walk_law.proofs.WalkLaws.{begins-walked}
 use Rattle.session_model.specs.declared.packet.Packet.{Packet}
 use Rattle.group_source.specs.Item.{bare_items}
@@ -73,23 +73,23 @@ opened-more config n lines line are is = record {
   ];
 }
 
-calls-opened : (script : Script) (m : ℕ) (line : Ringed) → IsOpened script.config m line →
-    calls_on script m line.carried
-    ≡ opened (delay_on script m) (slice_index_or script.config.windows m []) script.config.ticks
-calls-opened script m line is =
+calls-opened : (leg : Leg) (m : ℕ) (line : Ringed) → IsOpened leg.config m line →
+    calls_on leg m line.carried
+    ≡ opened (delay_on leg m) (slice_index_or leg.config.windows m []) leg.config.ticks
+calls-opened leg m line is =
     let none : line.carried ≡ 0 = is.has.carried in
-    ap (λ x. calls_on script m x) none
-    ∙ ap (λ n. record (calls_on script m 0) { containers = take n (sent_on (scenario_of script) m) })
-    (let e : min 0 script.config.ticks ≡ 0 = omega arith in e)
-    ∙ ap (λ n. record (opened (delay_on script m) (slice_index_or script.config.windows m []) script.config.ticks)
-    { flushes = n }) (let e : 0 - script.config.ticks ≡ 0 = omega arith in e)
+    ap (λ x. calls_on leg m x) none
+    ∙ ap (λ n. record (calls_on leg m 0) { containers = take n (sent_on (scenario_by leg) m) })
+    (let e : min 0 leg.config.ticks ≡ 0 = omega arith in e)
+    ∙ ap (λ n. record (opened (delay_on leg m) (slice_index_or leg.config.windows m []) leg.config.ticks)
+    { flushes = n }) (let e : 0 - leg.config.ticks ≡ 0 = omega arith in e)
 
-opened-lines : (script : Script) (lines : List Ringed) → AreOpened script.config script.config.lines lines →
-    HasLines script lines
-opened-lines script lines are = record {
+opened-lines : (leg : Leg) (lines : List Ringed) → AreOpened leg.config leg.config.lines lines →
+    HasLines leg lines
+opened-lines leg lines are = record {
   size = are.size;
   each = λ m line there. let is = are.each m line there in
-      record { has = subst (Has line) (sym (calls-opened script m line is)) is.has; ring = is.ring };
+      record { has = subst (Has line) (sym (calls-opened leg m line is)) is.has; ring = is.ring };
 }
 
 abbrev no_counts : LineCounts
@@ -121,13 +121,13 @@ map-none : (f : ℕ → List Cell) → ((k : ℕ) → f k ≡ []) → (ks : List
 map-none f none [] = refl
 map-none f none (k ∷ ks) = ap (λ x. x ∷ map f ks) (none k) ∙ ap (λ rest. [] ∷ rest) (map-none f none ks)
 
-cells-none : (script : Script) (n : ℕ) →
-    popped_cells script (replicate n no_counts) ≡ replicate (length script.config.windows) []
-cells-none script n =
-    map-none (popped_on script (replicate n no_counts))
-    (λ m. ap (λ k. take k (cells_on (scenario_of script) (delay_on script m) m)) (none-popped n m))
-    (range_with_len 0 (length script.config.windows))
-    ∙ ap (λ k. replicate k []) (length-range_with_len 0 (length script.config.windows))
+cells-none : (leg : Leg) (n : ℕ) →
+    popped_cells leg (replicate n no_counts) ≡ replicate (length leg.config.windows) []
+cells-none leg n =
+    map-none (popped_on leg (replicate n no_counts))
+    (λ m. ap (λ k. take k (cells_on (scenario_by leg) (delay_on leg m) m)) (none-popped n m))
+    (range_with_len 0 (length leg.config.windows))
+    ∙ ap (λ k. replicate k []) (length-range_with_len 0 (length leg.config.windows))
 
 -- ---- nothing has landed
 none-landed : (items : List Item) (i : ℕ) → landed_from 0 0 i items ≡ []
@@ -149,23 +149,23 @@ sent-long (row ∷ rows) n all zero frame e = ap length (let h : frame ≡ frame
 sent-long (row ∷ rows) n all (suc k) frame e = sent-long rows n
     (λ i d low. all (suc i) d (omega (arith, low))) k frame e
 
-pub sent-opened : (script : Script) (counts : List LineCounts) (sent : List (Vec (Box Container))) → length sent ≡ 32 →
-    All (λ (row : Vec (Box Container)). length row.items ≡ script.config.lines) sent →
-    HasSent script 0 counts (map frame_in sent)
-sent-opened script counts sent places long = record {
+pub sent-opened : (leg : Leg) (counts : List LineCounts) (sent : List (Vec (Box Container))) → length sent ≡ 32 →
+    All (λ (row : Vec (Box Container)). length row.items ≡ leg.config.lines) sent →
+    HasSent leg 0 counts (map frame_in sent)
+sent-opened leg counts sent places long = record {
   places = length-map sent frame_in ∙ places;
-  lines = sent-long sent script.config.lines long;
+  lines = sent-long sent leg.config.lines long;
   frames = λ t m frame inside late low high told. absurd (omega (arith, low));
 }
 
 -- ---- nothing was told, nothing is on its way, and nothing was delivered
-none-told : (script : Script) → told_before script 0 ≡ []
+none-told : (leg : Leg) → told_before leg 0 ≡ []
 unfolding cells_before
-none-told script = ap (cells_before (scenario_of script)) (let e : used_in script.config.lag 0 ≡ 0 = omega arith in e)
+none-told leg = ap (cells_before (scenario_by leg)) (let e : used_in leg.config.lag 0 ≡ 0 = omega arith in e)
 
-none-delivered : (script : Script) → delivered_of script 0 ≡ []
+none-delivered : (leg : Leg) → delivered_of leg 0 ≡ []
 unfolding rows_of segments_on delineate_within hunt_within
-none-delivered script = refl
+none-delivered leg = refl
 
 take-none : {X : Type 0} (xs : List X) → take 0 xs ≡ []
 take-none [] = refl
@@ -178,16 +178,16 @@ drop-none (x ∷ xs) = refl
 range-none : {X : Type 0} (f : ℕ → X) (z n : ℕ) → n ≡ 0 → map f (range_with_len z n) ≡ []
 range-none f z n none = ap (λ k. map f (range_with_len z k)) none
 
-refused-none : (script : Script) (items : List Numbered) → items ≡ [] →
-    flat_map (λ item. refused_by item.number (refusal_at script item)) items ≡ []
-refused-none script items none = ap (flat_map (λ item. refused_by item.number (refusal_at script item))) none
+refused-none : (leg : Leg) (items : List Numbered) → items ≡ [] →
+    flat_map (λ item. refused_by item.number (refusal_at leg item)) items ≡ []
+refused-none leg items none = ap (flat_map (λ item. refused_by item.number (refusal_at leg item))) none
 
 -- ---- the walk
 abbrev counts_from : ℕ → List LineCounts → ℕ → ℕ → Counts
 counts_from ticks lines rows backs = record
     { ticks = ticks; frames = 0; commands = 0; lines = lines; rows = rows; backs = backs }
 
-module _ (script : Script) (all : Opened) (is : IsNew script all) (valid : IsValid script) where
+module _ (leg : Leg) (all : Opened) (is : IsNew leg all) (sound : IsSound leg) (untold : leg.tells ≡ []) where
   abbrev source : Terminal
   source = all.ends.source.core
 
@@ -207,105 +207,105 @@ module _ (script : Script) (all : Opened) (is : IsNew script all) (valid : IsVal
   back = path_of all.returns.ring all.ends.source.inbox
 
   back-is : path_of all.returns.ring all.ends.source.inbox
-      ≡ record { ring = []; lost = script.config.lost; inbox = []; room = script.config.lag + 1; backs = 0 }
+      ≡ record { ring = []; lost = leg.config.lost; inbox = []; room = leg.config.lag + 1; backs = 0 }
   back-is = ap (λ (ring : List Packet). path_of ring all.ends.source.inbox) is.ring ∙ ap (path_of []) is.source.inbox
 
-  paths-size : length (walk_plan script).paths ≡ script.config.lines
-  paths-size = has-paths script (valid-walks script valid) ∙ valid.network.windows_each
+  paths-size : length (walk_plan leg).paths ≡ leg.config.lines
+  paths-size = has-paths leg (sound-walks leg sound) ∙ sound.network.windows_each
 
-  begin-counts : counts_from source.ticks (map line_counts lines) sink.taken back.backs ≡ begin (walk_plan script)
+  begin-counts : counts_from source.ticks (map line_counts lines) sink.taken back.backs ≡ begin (walk_plan leg)
   begin-counts =
       ap (λ n. counts_from n (map line_counts lines) sink.taken back.backs) is.source.core.ticks
       ∙ ap (λ ls. counts_from 0 ls sink.taken back.backs)
-      (opened-counts script.config script.config.lines lines is.lines
+      (opened-counts leg.config leg.config.lines lines is.lines
       ∙ ap (λ k. replicate k no_counts) (sym paths-size))
-      ∙ ap (λ n. counts_from 0 (replicate (length (walk_plan script).paths) no_counts) n back.backs) is.sink.taken
-      ∙ ap (λ (b : Return). counts_from 0 (replicate (length (walk_plan script).paths) no_counts) 0 b.backs) back-is
+      ∙ ap (λ n. counts_from 0 (replicate (length (walk_plan leg).paths) no_counts) n back.backs) is.sink.taken
+      ∙ ap (λ (b : Return). counts_from 0 (replicate (length (walk_plan leg).paths) no_counts) 0 b.backs) back-is
 
   pub new-counts : counts_of
       (parts_of all.ends.source
       (map frame_in all.paths.sent.items) all.paths.lines.items all.returns.rows all.ends.sink all.returns.ring)
-      all.ends.source.landed ≡ begin (walk_plan script)
+      all.ends.source.landed ≡ begin (walk_plan leg)
   new-counts =
       ap (counts_of (parts_of all.ends.source
       (map frame_in all.paths.sent.items) all.paths.lines.items all.returns.rows all.ends.sink all.returns.ring))
       is.source.landed
       ∙ begin-counts
 
-  cells-are : popped_cells script (map line_counts lines) ≡ replicate script.config.lines []
+  cells-are : popped_cells leg (map line_counts lines) ≡ replicate leg.config.lines []
   cells-are =
-      ap (popped_cells script) (opened-counts script.config script.config.lines lines is.lines)
-      ∙ cells-none script script.config.lines
-      ∙ ap (λ k. replicate k []) valid.network.windows_each
+      ap (popped_cells leg) (opened-counts leg.config leg.config.lines lines is.lines)
+      ∙ cells-none leg leg.config.lines
+      ∙ ap (λ k. replicate k []) sound.network.windows_each
 
-  cells-size : length (popped_cells script (map line_counts lines)) ≡ script.config.lines
+  cells-size : length (popped_cells leg (map line_counts lines)) ≡ leg.config.lines
   cells-size =
-      length-map (range_with_len 0 (length script.config.windows)) (popped_on script (map line_counts lines))
-      ∙ length-range_with_len 0 (length script.config.windows)
-      ∙ valid.network.windows_each
+      length-map (range_with_len 0 (length leg.config.windows)) (popped_on leg (map line_counts lines))
+      ∙ length-range_with_len 0 (length leg.config.windows)
+      ∙ sound.network.windows_each
 
-  none-walk : IsWalk script
+  none-walk : IsWalk leg
       (parts_of all.ends.source
       (map frame_in all.paths.sent.items) all.paths.lines.items all.returns.rows all.ends.sink all.returns.ring)
-      (none_landed (bare_items script.items)) 0 None
+      (none_landed (bare_items leg.items)) 0 None
   none-walk = record {
-    valid = valid;
+    sound = sound;
     total = is.source.total;
-    walked = subst (IsWalked script) (sym begin-counts) (begins-walked script);
-    source = subst (λ s. HasSource script s source) (sym begin-counts) (record {
-      made = subst (HasMade source (landed_scenario script (begin (walk_plan script)))) (sym (none-told script))
-          (is.source.core.made (landed_scenario script (begin (walk_plan script)))
+    walked = subst (IsWalked leg) (sym begin-counts) (begins-walked leg);
+    source = subst (λ s. HasSource leg s source) (sym begin-counts) (record {
+      made = subst (HasMade source (landed_scenario leg (begin (walk_plan leg)))) (sym (none-told leg))
+          (is.source.core.made (landed_scenario leg (begin (walk_plan leg)))
           (record {
-            of_lines = valid.network.windows_each;
+            of_lines = sound.network.windows_each;
             of_lag = refl;
             of_size = refl;
             no_offers = take-none
-                (offers_of script.items);
-            no_orders = take-none (orders_of script.items);
-            no_tells = refl;
+                (offers_of leg.items);
+            no_orders = take-none (orders_of leg.items);
+            no_tells = untold;
           }));
       lines = is.source.core.lines;
       lag = is.source.core.lag;
       size = is.source.core.size;
     });
-    sent = subst (λ n. HasSent script n (map line_counts lines) (map frame_in sent)) (sym is.source.core.ticks)
-        (sent-opened script (map line_counts lines) sent is.sent.places is.sent.lines);
-    lines = opened-lines script lines is.lines;
+    sent = subst (λ n. HasSent leg n (map line_counts lines) (map frame_in sent)) (sym is.source.core.ticks)
+        (sent-opened leg (map line_counts lines) sent is.sent.places is.sent.lines);
+    lines = opened-lines leg lines is.lines;
     sink = record {
       gathers = subst (Gathers rows) (sym cells-are) is.rows.gathers;
-      taken = is.sink.stands (popped_cells script (map line_counts lines)) cells-size;
+      taken = is.sink.stands (popped_cells leg (map line_counts lines)) cells-size;
       passed = is.rows.rows ∙ sym is.sink.taken;
       lines = is.rows.lines ∙ sym is.sink.lines;
       all = is.sink.lines;
       size = is.sink.size;
     };
-    back = subst (λ s. HasBack script s back) (sym begin-counts)
-        (subst (HasBack script (begin (walk_plan script))) (sym back-is) (record {
+    back = subst (λ s. HasBack leg s back) (sym begin-counts)
+        (subst (HasBack leg (begin (walk_plan leg))) (sym back-is) (record {
           lost = refl;
-          ring = sym (range-none (said_packet script) 0 (in_return (begin (walk_plan script)))
-              (let e : in_return (begin (walk_plan script)) ≡ 0 = refl in e));
-          inbox = sym (range-none (back_cell script) (used_in script.config.lag 0)
-              (in_inbox (walk_plan script) (begin (walk_plan script)))
-              (let e : 0 - used_in script.config.lag 0 ≡ 0 = omega arith in e));
+          ring = sym (range-none (said_packet leg) 0 (in_return (begin (walk_plan leg)))
+              (let e : in_return (begin (walk_plan leg)) ≡ 0 = refl in e));
+          inbox = sym (range-none (back_cell leg) (used_in leg.config.lag 0)
+              (in_inbox (walk_plan leg) (begin (walk_plan leg)))
+              (let e : 0 - used_in leg.config.lag 0 ≡ 0 = omega arith in e));
           room = refl;
         }));
     landed = record {
       items = refl;
-      refusals = sym (refused-none script (landed_from 0 0 0 script.items) (none-landed script.items 0));
-      frames = sym (ap (λ xs. length (filter (is_accepted_frame script) xs) + 0) (none-landed script.items 0));
-      commands = sym (ap (λ xs. length (filter (is_accepted_command script) xs) + 0) (none-landed script.items 0));
+      refusals = sym (refused-none leg (landed_from 0 0 0 leg.items) (none-landed leg.items 0));
+      frames = sym (ap (λ xs. length (filter (is_accepted_frame leg) xs) + 0) (none-landed leg.items 0));
+      commands = sym (ap (λ xs. length (filter (is_accepted_command leg) xs) + 0) (none-landed leg.items 0));
     };
-    counted = sym (ap (λ n. min (length (delivered_of script n)) 18446744073709551615) is.sink.taken
-        ∙ ap (λ xs. min (length xs) 18446744073709551615) (none-delivered script));
-    noted = subst (λ n. None ≡ note_of script (last_packet n)) (sym is.source.core.ticks) refl;
+    counted = sym (ap (λ n. min (length (delivered_of leg n)) 18446744073709551615) is.sink.taken
+        ∙ ap (λ xs. min (length xs) 18446744073709551615) (none-delivered leg));
+    noted = subst (λ n. None ≡ note_of leg (last_packet n)) (sym is.source.core.ticks) refl;
   }
 
-  pub new-walk : IsWalk script
+  pub new-walk : IsWalk leg
       (parts_of all.ends.source
       (map frame_in all.paths.sent.items) all.paths.lines.items all.returns.rows all.ends.sink all.returns.ring)
       all.ends.source.landed 0 None
   new-walk =
-      subst (λ (l : Landed). IsWalk script
+      subst (λ (l : Landed). IsWalk leg
       (parts_of all.ends.source
       (map frame_in all.paths.sent.items) all.paths.lines.items all.returns.rows all.ends.sink all.returns.ring) l 0
       None)

@@ -5,7 +5,7 @@ use Rattle.std.proofs.Common.{arith, append_assoc}
 use Rattle.std.proofs.lemmas.Option.{slice_get_within}
 use Rattle.std.proofs.lemmas.Bool.{cases_Bool}
 use Rattle.std.proofs.lemmas.List.{append-nil}
-use Rattle.session_model.specs.declared.script.Script.{Script}
+use Rattle.session_model.specs.Leg.{Leg}
 use Rattle.session_model.specs.declared.walk.Event.{Event}
 use Rattle.session_model.specs.declared.walk.Event.TheVariants.{Accept, Command, Tick, Carry, Back, Take}
 use Rattle.session_model.specs.declared.walk.StallCause.{StallCause}
@@ -14,14 +14,14 @@ use Rattle.session_model.specs.Counts.{Due, frame_due, command_due, LinePath, Li
 use Rattle.session_model.specs.Counts.{in_receive, in_return, held, full, is_missing, tick_full, tick_held, carry_at}
 use Rattle.session_model.specs.Counts.{pop_lines, take_popped, is_back_full, back, tick, take_row, land_due, frame_dues}
 use Rattle.session_model.specs.Counts.{command_dues, step, run, carries_from, round, drain, bound}
-use Rattle.session_model.specs.Valid.{IsValid}
+use Rattle.session_model.specs.Valid.{IsSound}
 use Rattle.progress_law.specs.Progress.{made}
 use Rattle.progress_law.proofs.MeasureLaws.{round-less, drain-round, drain-stop}
 use Rattle.progress_law.proofs.ReachLaws.{run-append}
 use Rattle.report_text.specs.declared.report.Refusal.{Refusal}
 use Rattle.walk_law.specs.Walk.{walk_plan, IsWalked}
 use Rattle.outside_io.specs.Start.{Start}
-use Rattle.walk_law.proofs.PlanLaws.{has-plan, valid-walks}
+use Rattle.walk_law.proofs.PlanLaws.{has-plan, sound-walks}
 use Rattle.walk_law.specs.Delivered.{delivered_of}
 use Rattle.walk_law.proofs.FrameLaws.{frames-grow}
 use Rattle.walk_core.specs.Moved.{delivered_since, answer_by, moved_of, counts_after, refusal_in_event, GivesRows}
@@ -127,49 +127,49 @@ landed-none plan start event count = (0, refl, omega arith, omega arith)
 abbrev pub IsMoving : Moved → Type 0
 IsMoving moved = (cause : StallCause) → moved ≡ Stalled cause → ⊥
 
-module _ (script : Script) (start : Counts) where
-  pub frame-turn : (s next : Counts) (moved : Moved) → Landed (walk_plan script) start s Accept (λ s. s.frames) →
-      next ≡ counts_after script s Accept → moved ≡ moved_of script s Accept → IsMoving moved →
-      Landed (walk_plan script) start next Accept (λ s. s.frames) ×
-      (length (walk_plan script).items - next.frames < length (walk_plan script).items - s.frames)
+module _ (leg : Leg) (start : Counts) where
+  pub frame-turn : (s next : Counts) (moved : Moved) → Landed (walk_plan leg) start s Accept (λ s. s.frames) →
+      next ≡ counts_after leg s Accept → moved ≡ moved_of leg s Accept → IsMoving moved →
+      Landed (walk_plan leg) start next Accept (λ s. s.frames) ×
+      (length (walk_plan leg).items - next.frames < length (walk_plan leg).items - s.frames)
   frame-turn s next moved (k, is, sum, few) after said moving =
-      let (then_, d, here) = moves-on s.ticks (slice_get (frame_dues (walk_plan script).items) s.frames) s
-      (record s { frames = s.frames + 1 }) (refusal_in_event script s Accept)
+      let (then_, d, here) = moves-on s.ticks (slice_get (frame_dues (walk_plan leg).items) s.frames) s
+      (record s { frames = s.frames + 1 }) (refusal_in_event leg s Accept)
       (λ cause e. moving cause (said ∙ sym e)) in
-      let inside = slice_get_within (frame_dues (walk_plan script).items) s.frames d here in
-      let most = frames-few (walk_plan script).items in
+      let inside = slice_get_within (frame_dues (walk_plan leg).items) s.frames d here in
+      let most = frames-few (walk_plan leg).items in
       let count : next.frames ≡ s.frames + 1 = ap (λ (s : Counts). s.frames) (after ∙ then_) in (
         (
           suc k,
-          after ∙ moved-one (walk_plan script) start s Accept k is,
+          after ∙ moved-one (walk_plan leg) start s Accept k is,
           omega (arith, count, sum),
           omega (arith, sum, inside, most),
         ),
         omega (arith, count, inside, most),
       )
 
-  pub frame-end : (s next : Counts) (cause : StallCause) → Landed (walk_plan script) start s Accept (λ s. s.frames) →
-      next ≡ counts_after script s Accept → Stalled cause ≡ moved_of script s Accept →
-      next ≡ run (walk_plan script) start (replicate (suc (length (walk_plan script).items)) Accept)
+  pub frame-end : (s next : Counts) (cause : StallCause) → Landed (walk_plan leg) start s Accept (λ s. s.frames) →
+      next ≡ counts_after leg s Accept → Stalled cause ≡ moved_of leg s Accept →
+      next ≡ run (walk_plan leg) start (replicate (suc (length (walk_plan leg).items)) Accept)
   frame-end s next cause (k, is, sum, few) after stalls =
-      after ∙ stalled-all (walk_plan script) start s Accept k (length (walk_plan script).items) is few
-      (stalls-same s.ticks (slice_get (frame_dues (walk_plan script).items) s.frames) s
-      (record s { frames = s.frames + 1 }) (refusal_in_event script s Accept) cause stalls)
+      after ∙ stalled-all (walk_plan leg) start s Accept k (length (walk_plan leg).items) is few
+      (stalls-same s.ticks (slice_get (frame_dues (walk_plan leg).items) s.frames) s
+      (record s { frames = s.frames + 1 }) (refusal_in_event leg s Accept) cause stalls)
 
-  pub command-turn : (s next : Counts) (moved : Moved) → Landed (walk_plan script) start s Command (λ s. s.commands) →
-      next ≡ counts_after script s Command → moved ≡ moved_of script s Command → IsMoving moved →
-      Landed (walk_plan script) start next Command (λ s. s.commands) ×
-      (length (walk_plan script).items - next.commands < length (walk_plan script).items - s.commands)
+  pub command-turn : (s next : Counts) (moved : Moved) → Landed (walk_plan leg) start s Command (λ s. s.commands) →
+      next ≡ counts_after leg s Command → moved ≡ moved_of leg s Command → IsMoving moved →
+      Landed (walk_plan leg) start next Command (λ s. s.commands) ×
+      (length (walk_plan leg).items - next.commands < length (walk_plan leg).items - s.commands)
   command-turn s next moved (k, is, sum, few) after said moving =
-      let (then_, d, here) = moves-on s.ticks (slice_get (command_dues (walk_plan script).items) s.commands) s
-      (record s { commands = s.commands + 1 }) (refusal_in_event script s Command)
+      let (then_, d, here) = moves-on s.ticks (slice_get (command_dues (walk_plan leg).items) s.commands) s
+      (record s { commands = s.commands + 1 }) (refusal_in_event leg s Command)
       (λ cause e. moving cause (said ∙ sym e)) in
-      let inside = slice_get_within (command_dues (walk_plan script).items) s.commands d here in
-      let most = commands-few (walk_plan script).items in
+      let inside = slice_get_within (command_dues (walk_plan leg).items) s.commands d here in
+      let most = commands-few (walk_plan leg).items in
       let count : next.commands ≡ s.commands + 1 = ap (λ (s : Counts). s.commands) (after ∙ then_) in (
         (
           suc k,
-          after ∙ moved-one (walk_plan script) start s Command k is,
+          after ∙ moved-one (walk_plan leg) start s Command k is,
           omega (arith, count, sum),
           omega (arith, sum, inside, most),
         ),
@@ -177,66 +177,66 @@ module _ (script : Script) (start : Counts) where
       )
 
   pub command-end : (s next : Counts) (cause : StallCause) →
-      Landed (walk_plan script) start s Command (λ s. s.commands) → next ≡ counts_after script s Command →
-      Stalled cause ≡ moved_of script s Command →
-      next ≡ run (walk_plan script) start (replicate (suc (length (walk_plan script).items)) Command)
+      Landed (walk_plan leg) start s Command (λ s. s.commands) → next ≡ counts_after leg s Command →
+      Stalled cause ≡ moved_of leg s Command →
+      next ≡ run (walk_plan leg) start (replicate (suc (length (walk_plan leg).items)) Command)
   command-end s next cause (k, is, sum, few) after stalls =
-      after ∙ stalled-all (walk_plan script) start s Command k (length (walk_plan script).items) is few
-      (stalls-same s.ticks (slice_get (command_dues (walk_plan script).items) s.commands) s
-      (record s { commands = s.commands + 1 }) (refusal_in_event script s Command) cause stalls)
+      after ∙ stalled-all (walk_plan leg) start s Command k (length (walk_plan leg).items) is few
+      (stalls-same s.ticks (slice_get (command_dues (walk_plan leg).items) s.commands) s
+      (record s { commands = s.commands + 1 }) (refusal_in_event leg s Command) cause stalls)
 
-  pub carry-turn : (s next : Counts) (m : ℕ) (whole : Counts) → m < length (walk_plan script).paths →
-      run (walk_plan script) s (carries_from m (drop m (walk_plan script).paths)) ≡ whole →
-      next ≡ counts_after script s (Carry m) →
-      run (walk_plan script) next (carries_from (m + 1) (drop (m + 1) (walk_plan script).paths)) ≡ whole
+  pub carry-turn : (s next : Counts) (m : ℕ) (whole : Counts) → m < length (walk_plan leg).paths →
+      run (walk_plan leg) s (carries_from m (drop m (walk_plan leg).paths)) ≡ whole →
+      next ≡ counts_after leg s (Carry m) →
+      run (walk_plan leg) next (carries_from (m + 1) (drop (m + 1) (walk_plan leg).paths)) ≡ whole
   carry-turn s next m whole low so after =
-      ap (λ k. run (walk_plan script) next (carries_from k (drop k (walk_plan script).paths)))
+      ap (λ k. run (walk_plan leg) next (carries_from k (drop k (walk_plan leg).paths)))
       (let e : m + 1 ≡ suc m = omega arith in e)
-      ∙ ap (λ s. run (walk_plan script) s (carries_from (suc m) (drop (suc m) (walk_plan script).paths))) after
-      ∙ sym (carry-next (walk_plan script) s (walk_plan script).paths m low) ∙ so
+      ∙ ap (λ s. run (walk_plan leg) s (carries_from (suc m) (drop (suc m) (walk_plan leg).paths))) after
+      ∙ sym (carry-next (walk_plan leg) s (walk_plan leg).paths m low) ∙ so
 
-  pub carry-end : (s : Counts) (m : ℕ) (whole : Counts) → length (walk_plan script).paths ≤ m →
-      run (walk_plan script) s (carries_from m (drop m (walk_plan script).paths)) ≡ whole →
-      run (walk_plan script) s (Back ∷ Take ∷ []) ≡ whole
-  carry-end s m whole past so = sym (carry-last (walk_plan script) s (walk_plan script).paths m past) ∙ so
+  pub carry-end : (s : Counts) (m : ℕ) (whole : Counts) → length (walk_plan leg).paths ≤ m →
+      run (walk_plan leg) s (carries_from m (drop m (walk_plan leg).paths)) ≡ whole →
+      run (walk_plan leg) s (Back ∷ Take ∷ []) ≡ whole
+  carry-end s m whole past so = sym (carry-last (walk_plan leg) s (walk_plan leg).paths m past) ∙ so
 
   -- ---- a round, by its parts
   pub round-parts : (a b t m r e : Counts) →
-      a ≡ run (walk_plan script) start (replicate (suc (length (walk_plan script).items)) Accept) →
-      b ≡ run (walk_plan script) a (replicate (suc (length (walk_plan script).items)) Command) →
-      t ≡ counts_after script b Tick →
-      run (walk_plan script) m (Back ∷ Take ∷ []) ≡ run (walk_plan script) t (carries_from 0 (walk_plan script).paths) →
-      r ≡ counts_after script m Back → e ≡ counts_after script r Take →
-      e ≡ run (walk_plan script) start (round (walk_plan script))
+      a ≡ run (walk_plan leg) start (replicate (suc (length (walk_plan leg).items)) Accept) →
+      b ≡ run (walk_plan leg) a (replicate (suc (length (walk_plan leg).items)) Command) →
+      t ≡ counts_after leg b Tick →
+      run (walk_plan leg) m (Back ∷ Take ∷ []) ≡ run (walk_plan leg) t (carries_from 0 (walk_plan leg).paths) →
+      r ≡ counts_after leg m Back → e ≡ counts_after leg r Take →
+      e ≡ run (walk_plan leg) start (round (walk_plan leg))
   unfolding run
   round-parts a b t m r e is_a is_b is_t is_m is_r is_e =
-      let p : Plan = walk_plan script in
+      let p : Plan = walk_plan leg in
       let as_ : List Event = replicate (suc (length p.items)) Accept in
       let bs_ : List Event = replicate (suc (length p.items)) Command in
       let cs_ : List Event = carries_from 0 p.paths in
-      is_e ∙ ap (λ r. counts_after script r Take) is_r ∙ is_m ∙ ap (λ t. run p t cs_) is_t
+      is_e ∙ ap (λ r. counts_after leg r Take) is_r ∙ is_m ∙ ap (λ t. run p t cs_) is_t
       ∙ ap (λ b. run p b (Tick ∷ cs_)) (is_b ∙ ap (λ a. run p a bs_) is_a)
       ∙ sym (run-append p (run p start as_) bs_ (Tick ∷ cs_)) ∙ sym (run-append p start as_ (bs_ ++ Tick ∷ cs_))
 
   -- ---- rounds until all rows are taken
-  pub round-turn : (next : Counts) → IsValid script → IsWalked script start → start.rows < script.config.ticks →
-      next ≡ run (walk_plan script) start (round (walk_plan script)) →
-      (bound (walk_plan script) - made next < bound (walk_plan script) - made start) ×
-      (drain (bound (walk_plan script)) (walk_plan script) next ≡ drain (bound (walk_plan script))
-      (walk_plan script) start)
-  round-turn next valid walked open_ is =
-      let plans = has-plan script (valid-walks script valid) in
-      let fits = walk-fits script start valid walked in
-      let less = round-less (walk_plan script) start plans fits open_ in
+  pub round-turn : (next : Counts) → IsSound leg → IsWalked leg start → start.rows < leg.config.ticks →
+      next ≡ run (walk_plan leg) start (round (walk_plan leg)) →
+      (bound (walk_plan leg) - made next < bound (walk_plan leg) - made start) ×
+      (drain (bound (walk_plan leg)) (walk_plan leg) next ≡ drain (bound (walk_plan leg))
+      (walk_plan leg) start)
+  round-turn next sound walked open_ is =
+      let plans = has-plan leg (sound-walks leg sound) in
+      let fits = walk-fits leg start sound walked in
+      let less = round-less (walk_plan leg) start plans fits open_ in
       let same = ap made is in (
         omega (arith, less, same),
-        ap (drain (bound (walk_plan script)) (walk_plan script)) is
-            ∙ drain-round (walk_plan script) start plans fits open_,
+        ap (drain (bound (walk_plan leg)) (walk_plan leg)) is
+            ∙ drain-round (walk_plan leg) start plans fits open_,
       )
 
-  pub drained-end : (whole : Counts) → script.config.ticks ≤ start.rows →
-      drain (bound (walk_plan script)) (walk_plan script) start ≡ whole → start ≡ whole
-  drained-end whole shut so = sym (drain-stop (bound (walk_plan script)) (walk_plan script) start shut) ∙ so
+  pub drained-end : (whole : Counts) → leg.config.ticks ≤ start.rows →
+      drain (bound (walk_plan leg)) (walk_plan leg) start ≡ whole → start ≡ whole
+  drained-end whole shut so = sym (drain-stop (bound (walk_plan leg)) (walk_plan leg) start shut) ∙ so
 
 -- ---- only a Take raises the rows
 land-rows : (ticks : ℕ) (due : Option ℕ) (s next : Counts) → next.rows ≡ s.rows →
@@ -244,12 +244,12 @@ land-rows : (ticks : ℕ) (due : Option ℕ) (s next : Counts) → next.rows ≡
 land-rows ticks None s next e = refl
 land-rows ticks (Some due) s next e = elim (cases_Bool (nat_lt ticks due)) [ inl h ↦ rw h refl | inr h ↦ rw h e ]
 
-pub frame-rows : (script : Script) (s : Counts) → (counts_after script s Accept).rows ≡ s.rows
-frame-rows script s = land-rows s.ticks (slice_get (frame_dues (walk_plan script).items) s.frames) s
+pub frame-rows : (leg : Leg) (s : Counts) → (counts_after leg s Accept).rows ≡ s.rows
+frame-rows leg s = land-rows s.ticks (slice_get (frame_dues (walk_plan leg).items) s.frames) s
     (record s { frames = s.frames + 1 }) refl
 
-pub command-rows : (script : Script) (s : Counts) → (counts_after script s Command).rows ≡ s.rows
-command-rows script s = land-rows s.ticks (slice_get (command_dues (walk_plan script).items) s.commands) s
+pub command-rows : (leg : Leg) (s : Counts) → (counts_after leg s Command).rows ≡ s.rows
+command-rows leg s = land-rows s.ticks (slice_get (command_dues (walk_plan leg).items) s.commands) s
     (record s { commands = s.commands + 1 }) refl
 
 back-rows : (s : Counts) → (back s).counts.rows ≡ s.rows
@@ -284,8 +284,8 @@ carried-rows plan s m (Some path) (Some line) =
       ])
     ]
 
-pub carry-rows : (script : Script) (s : Counts) (m : ℕ) → (counts_after script s (Carry m)).rows ≡ s.rows
-carry-rows script s m = carried-rows (walk_plan script) s m (slice_get (walk_plan script).paths m) (slice_get s.lines m)
+pub carry-rows : (leg : Leg) (s : Counts) (m : ℕ) → (counts_after leg s (Carry m)).rows ≡ s.rows
+carry-rows leg s m = carried-rows (walk_plan leg) s m (slice_get (walk_plan leg).paths m) (slice_get s.lines m)
 
 popped-rise : (s : Counts) (lines : List LineCounts) (waiting : Option ℕ) →
     s.rows ≤ (take_popped s lines waiting).counts.rows
@@ -308,65 +308,65 @@ drop-append : {X : Type 0} (xs ys : List X) → drop (length xs) (xs ++ ys) ≡ 
 drop-append [] ys = refl
 drop-append (x ∷ xs) ys = drop-append xs ys
 
-since : (script : Script) (n more : ℕ) → n ≤ more →
-    delivered_of script more ≡ delivered_of script n ++ delivered_since script n more
-since script n more low =
+since : (leg : Leg) (n more : ℕ) → n ≤ more →
+    delivered_of leg more ≡ delivered_of leg n ++ delivered_since leg n more
+since leg n more low =
     let e : n + (more - n) ≡ more = omega (arith, low) in
-    ap (delivered_of script) (sym e) ∙ frames-grow script n (more - n)
-    ∙ ap (λ k. delivered_of script n ++ delivered_since script n k) e
+    ap (delivered_of leg) (sym e) ∙ frames-grow leg n (more - n)
+    ∙ ap (λ k. delivered_of leg n ++ delivered_since leg n k) e
 
-pub since-then : (script : Script) (a b d : ℕ) → a ≤ b → b ≤ d →
-    delivered_since script a d ≡ delivered_since script a b ++ delivered_since script b d
-since-then script a b d low high =
-    ap (drop (length (delivered_of script a)))
-    (since script b d high ∙ ap (λ xs. xs ++ delivered_since script b d) (since script a b low)
-    ∙ append_assoc (delivered_of script a) (delivered_since script a b) (delivered_since script b d))
-    ∙ drop-append (delivered_of script a) (delivered_since script a b ++ delivered_since script b d)
+pub since-then : (leg : Leg) (a b d : ℕ) → a ≤ b → b ≤ d →
+    delivered_since leg a d ≡ delivered_since leg a b ++ delivered_since leg b d
+since-then leg a b d low high =
+    ap (drop (length (delivered_of leg a)))
+    (since leg b d high ∙ ap (λ xs. xs ++ delivered_since leg b d) (since leg a b low)
+    ∙ append_assoc (delivered_of leg a) (delivered_since leg a b) (delivered_since leg b d))
+    ∙ drop-append (delivered_of leg a) (delivered_since leg a b ++ delivered_since leg b d)
 
-pub since-none : (script : Script) (a : ℕ) → delivered_since script a a ≡ []
-since-none script a = ap (drop (length (delivered_of script a))) (sym (append-nil (delivered_of script a)))
-    ∙ drop-append (delivered_of script a) []
+pub since-none : (leg : Leg) (a : ℕ) → delivered_since leg a a ≡ []
+since-none leg a = ap (drop (length (delivered_of leg a))) (sym (append-nil (delivered_of leg a)))
+    ∙ drop-append (delivered_of leg a) []
 
 -- ---- the rows and the scripts of a round
-pub round-rows : (script : Script) (a b t m r e s : Counts) → a.rows ≡ s.rows → b.rows ≡ a.rows →
-    t ≡ counts_after script b Tick → m.rows ≡ t.rows → r ≡ counts_after script m Back → r.rows ≡ s.rows
-round-rows script a b t m r e s is_a is_b is_t is_m is_r =
+pub round-rows : (leg : Leg) (a b t m r e s : Counts) → a.rows ≡ s.rows → b.rows ≡ a.rows →
+    t ≡ counts_after leg b Tick → m.rows ≡ t.rows → r ≡ counts_after leg m Back → r.rows ≡ s.rows
+round-rows leg a b t m r e s is_a is_b is_t is_m is_r =
     ap (λ (x : Counts). x.rows) is_r ∙ back-rows m ∙ is_m ∙ ap (λ (x : Counts). x.rows) is_t
-    ∙ tick-rows (walk_plan script) b ∙ is_b ∙ is_a
+    ∙ tick-rows (walk_plan leg) b ∙ is_b ∙ is_a
 
 -- ---- no event takes rows back
-step-rises : (script : Script) (s : Counts) (event : Event) → s.rows ≤ (counts_after script s event).rows
-step-rises script s Accept = let e = frame-rows script s in omega (arith, e)
-step-rises script s Command = let e = command-rows script s in omega (arith, e)
-step-rises script s Tick = let e = tick-rows (walk_plan script) s in omega (arith, e)
-step-rises script s (Carry m) = let e = carry-rows script s m in omega (arith, e)
-step-rises script s Back = let e = back-rows s in omega (arith, e)
-step-rises script s Take = take-rises (walk_plan script) s
+step-rises : (leg : Leg) (s : Counts) (event : Event) → s.rows ≤ (counts_after leg s event).rows
+step-rises leg s Accept = let e = frame-rows leg s in omega (arith, e)
+step-rises leg s Command = let e = command-rows leg s in omega (arith, e)
+step-rises leg s Tick = let e = tick-rows (walk_plan leg) s in omega (arith, e)
+step-rises leg s (Carry m) = let e = carry-rows leg s m in omega (arith, e)
+step-rises leg s Back = let e = back-rows s in omega (arith, e)
+step-rises leg s Take = take-rises (walk_plan leg) s
 
-pub run-rises : (script : Script) (s : Counts) (events : List Event) → s.rows ≤ (run (walk_plan script) s events).rows
+pub run-rises : (leg : Leg) (s : Counts) (events : List Event) → s.rows ≤ (run (walk_plan leg) s events).rows
 unfolding run
-run-rises script s [] = omega arith
-run-rises script s (event ∷ events) =
-    let one = step-rises script s event in
-    let rest = run-rises script (counts_after script s event) events in
+run-rises leg s [] = omega arith
+run-rises leg s (event ∷ events) =
+    let one = step-rises leg s event in
+    let rest = run-rises leg (counts_after leg s event) events in
     omega (arith, one, rest)
 
-pub all-taken : (script : Script) (s : Counts) → IsValid script → IsWalked script s → script.config.ticks ≤ s.rows →
-    s.rows ≡ script.config.ticks
-all-taken script s valid walked shut = let most = (walk-fits script s valid walked).rows in omega (arith, most, shut)
+pub all-taken : (leg : Leg) (s : Counts) → IsSound leg → IsWalked leg s → leg.config.ticks ≤ s.rows →
+    s.rows ≡ leg.config.ticks
+all-taken leg s sound walked shut = let most = (walk-fits leg s sound walked).rows in omega (arith, most, shut)
 
 -- ---- a place that is given the frames of rows
-pub gives-none : {Out : Type 0} (stands_for : Out → Start → List (List ℕ) → Type 0) (out : Out) (script : Script)
-    (before rows : ℕ) → rows ≡ before → GivesRows stands_for out out script before rows
-gives-none stands_for out script before rows same start given stands =
-    let none = ap (delivered_since script before) same ∙ since-none script before in
+pub gives-none : {Out : Type 0} (stands_for : Out → Start → List (List ℕ) → Type 0) (out : Out) (leg : Leg)
+    (before rows : ℕ) → rows ≡ before → GivesRows stands_for out out leg before rows
+gives-none stands_for out leg before rows same start given stands =
+    let none = ap (delivered_since leg before) same ∙ since-none leg before in
     subst (stands_for out start) (sym (ap (λ more. given ++ more) none ∙ append-nil given)) stands
 
 pub gives-then : {Out : Type 0} (stands_for : Out → Start → List (List ℕ) → Type 0) (was now next : Out)
-    (script : Script) (a b d : ℕ) → a ≤ b → b ≤ d →
-    GivesRows stands_for was now script a b → GivesRows stands_for now next script b d →
-    GivesRows stands_for was next script a d
-gives-then stands_for was now next script a b d low high first then_ start given stands =
-    let whole = append_assoc given (delivered_since script a b) (delivered_since script b d)
-    ∙ ap (λ more. given ++ more) (sym (since-then script a b d low high)) in
-    subst (stands_for next start) whole (then_ start (given ++ delivered_since script a b) (first start given stands))
+    (leg : Leg) (a b d : ℕ) → a ≤ b → b ≤ d →
+    GivesRows stands_for was now leg a b → GivesRows stands_for now next leg b d →
+    GivesRows stands_for was next leg a d
+gives-then stands_for was now next leg a b d low high first then_ start given stands =
+    let whole = append_assoc given (delivered_since leg a b) (delivered_since leg b d)
+    ∙ ap (λ more. given ++ more) (sym (since-then leg a b d low high)) in
+    subst (stands_for next start) whole (then_ start (given ++ delivered_since leg a b) (first start given stands))

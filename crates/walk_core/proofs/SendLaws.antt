@@ -10,7 +10,7 @@ use Rattle.std.specs.Prelude.{option_map}
 use Rattle.std.proofs.lemmas.Option.{get_or_from_slice_get, slice_get_within, slice_get_past, slice_get-map}
 use Rattle.std.proofs.lemmas.List.FromFn.{take-map-range_with_len}
 use Rattle.line_law.proofs.ListLaws.{slice_get-drop}
-use Rattle.session_model.specs.Scenario.{Scenario, scenario_of}
+use Rattle.session_model.specs.Scenario.{Scenario, scenario_by}
 use Rattle.session_model.specs.Back.{session_cells}
 use Rattle.session_model.specs.Sent.{container_of}
 use Rattle.terminal_law.proofs.SentLaws.{container-at}
@@ -18,7 +18,7 @@ use Rattle.walk_law.specs.Rings.{send_by, sent_at}
 use Rattle.walk_law.proofs.RingLaws.{send-size}
 use Rattle.circular_buffer.proofs.Places.{slice_get-some, slice_get-set_same, slice_get-set_other}
 use Rattle.vc_cell.specs.declared.Container.{Container}
-use Rattle.session_model.specs.declared.script.Script.{Script}
+use Rattle.session_model.specs.Leg.{Leg}
 use Rattle.session_model.specs.Counts.{LineCounts}
 use Rattle.walk_law.specs.Walk.{sent_on, counts_at}
 use Rattle.walk_parts.specs.Ringed.{Ringed}
@@ -27,26 +27,26 @@ use Rattle.walk_core.specs.Parts.{line_counts, frame_in, HasSent}
 use Rattle.walk_core.specs.Carry.{IsCarriedAt}
 
 -- ---- what waits in the send ring of a line
-pub waits-none : (script : Script) (m n x k : ℕ) → n ≤ script.config.ticks → n - min x script.config.ticks ≤ k →
-    slice_get (send_by script m n x) k ≡ None
-waits-none script m n x k low past =
-    slice_get_past (send_by script m n x) k (let size = send-size script m n x low in omega (arith, size, past))
+pub waits-none : (leg : Leg) (m n x k : ℕ) → n ≤ leg.config.ticks → n - min x leg.config.ticks ≤ k →
+    slice_get (send_by leg m n x) k ≡ None
+waits-none leg m n x k low past =
+    slice_get_past (send_by leg m n x) k (let size = send-size leg m n x low in omega (arith, size, past))
 
-pub waits-some : (script : Script) (m n x k t : ℕ) → n ≤ script.config.ticks → k < n - min x script.config.ticks →
-    t ≡ min x script.config.ticks + k → slice_get (send_by script m n x) k ≡ Some (sent_at script m t)
-waits-some script m n x k t low inside is =
-    let scenario : Scenario = scenario_of script in
+pub waits-some : (leg : Leg) (m n x k t : ℕ) → n ≤ leg.config.ticks → k < n - min x leg.config.ticks →
+    t ≡ min x leg.config.ticks + k → slice_get (send_by leg m n x) k ≡ Some (sent_at leg m t)
+waits-some leg m n x k t low inside is =
+    let scenario : Scenario = scenario_by leg in
     let made : List Container = take n (sent_on scenario m) in
-    slice_get-drop made (min x script.config.ticks) k ∙ ap (slice_get made) (sym is)
+    slice_get-drop made (min x leg.config.ticks) k ∙ ap (slice_get made) (sym is)
     ∙ ap (λ xs. slice_get xs t)
-    (take-map-range_with_len (container_of scenario (session_cells scenario) m) 0 script.config.ticks n low)
+    (take-map-range_with_len (container_of scenario (session_cells scenario) m) 0 leg.config.ticks n low)
     ∙ container-at scenario (session_cells scenario) m n t (omega (arith, inside, is))
 
 -- ---- lines that have carried more
-pub sent-later : (script : Script) (ticks : ℕ) (counts more : List LineCounts) (sent : List (List Container)) →
-    HasSent script ticks counts sent →
-    ((m : ℕ) → (counts_at counts m).carried ≤ (counts_at more m).carried) → HasSent script ticks more sent
-sent-later script ticks counts more sent has grows = record {
+pub sent-later : (leg : Leg) (ticks : ℕ) (counts more : List LineCounts) (sent : List (List Container)) →
+    HasSent leg ticks counts sent →
+    ((m : ℕ) → (counts_at counts m).carried ≤ (counts_at more m).carried) → HasSent leg ticks more sent
+sent-later leg ticks counts more sent has grows = record {
   places = has.places;
   lines = has.lines;
   frames = λ t m frame inside late low high told. has.frames t m frame inside
@@ -79,12 +79,12 @@ counts-set (x ∷ lines) (suc m) line more there = counts-set lines m line more 
 other-place : (x t ticks : ℕ) → x + 1 ≤ t → t < ticks → ticks ≤ x + 32 → t % 32 ≡ x % 32 → ⊥
 other-place x t ticks later low few same = omega (arith, later, low, few, same)
 
-pub sent-carried : (script : Script) (ticks m : ℕ) (counts : List LineCounts) (line more : LineCounts)
-    (sent after : List (List Container)) → HasSent script ticks counts sent →
+pub sent-carried : (leg : Leg) (ticks m : ℕ) (counts : List LineCounts) (line more : LineCounts)
+    (sent after : List (List Container)) → HasSent leg ticks counts sent →
     slice_get counts m ≡ Some line → more.carried ≡ line.carried + 1 → ticks ≤ line.carried + 32 →
     IsCarriedAt (line.carried % 32) m sent after →
-    HasSent script ticks (slice_set counts m more) after
-sent-carried script ticks m counts line more sent after has there one few changed = record {
+    HasSent leg ticks (slice_set counts m more) after
+sent-carried leg ticks m counts line more sent after has there one few changed = record {
   places = changed.places ∙ has.places;
   lines = λ k frame told. let found = changed.lines k frame told in found.2 ∙ has.lines k found.0 found.1;
   frames = λ t k frame inside late low high told.
@@ -183,12 +183,12 @@ counts-of (x ∷ lines) zero line there = ap line_counts (let h : x ≡ line = c
 counts-of (x ∷ lines) (suc m) line there = counts-of lines m line there
 
 -- where each line has carried all frames
-pub sent-swapped : (script : Script) (ticks : ℕ) (lines : List Ringed) (sent : List (Vec (Box Container)))
-    (a b : ℕ) → length lines ≡ script.config.lines →
-    HasSent script ticks (map line_counts lines) (map frame_in sent) → a < length sent → b < length sent →
+pub sent-swapped : (leg : Leg) (ticks : ℕ) (lines : List Ringed) (sent : List (Vec (Box Container)))
+    (a b : ℕ) → length lines ≡ leg.config.lines →
+    HasSent leg ticks (map line_counts lines) (map frame_in sent) → a < length sent → b < length sent →
     ((m : ℕ) (line : Ringed) → slice_get lines m ≡ Some line → ticks ≤ line.carried) →
-    HasSent script ticks (map line_counts lines) (map frame_in (swap sent a b))
-sent-swapped script ticks lines sent a b size has low under all = record {
+    HasSent leg ticks (map line_counts lines) (map frame_in (swap sent a b))
+sent-swapped leg ticks lines sent a b size has low under all = record {
   places = length-map (swap sent a b) frame_in ∙ length-swap sent a b ∙ sym (length-map sent frame_in) ∙ has.places;
   lines = λ k frame told.
       let inside = slice_get_within _ k frame told in

@@ -10,10 +10,10 @@ use Rattle.std.proofs.lemmas.List.{length-map}
 use Rattle.std.proofs.lemmas.Option.{slice_get_within}
 use Rattle.vc_cell.specs.declared.Container.{Container}
 use Rattle.vc_cell.specs.declared.Cell.{Cell}
-use Rattle.session_model.specs.declared.script.Script.{Script}
+use Rattle.session_model.specs.Leg.{Leg}
 use Rattle.session_model.specs.Path.{cells}
 use Rattle.session_model.specs.Number.{verdict}
-use Rattle.session_model.specs.Scenario.{scenario_of, carried_by}
+use Rattle.session_model.specs.Scenario.{scenario_by, carried_by}
 use Rattle.session_model.specs.Counts.{LinePath, LineCounts, Popped, pop, popped_line, pop_lines, with_line, in_receive}
 use Rattle.line_core.specs.Line.{path_cells}
 use Rattle.terminal_law.proofs.ListLaws.{range-at}
@@ -33,10 +33,10 @@ use Rattle.walk_core.specs.Take.{CanPop, HasPopped}
 use Rattle.walk_core.proofs.CarryLaws.{carries, numbers, map-get, map-set}
 
 -- the first cells of all that a line gives are those that some carries give, where these give as many
-first-cells : (script : Script) (line x y : ℕ) → x ≤ script.config.ticks + delay_on script line + 1 →
-    y ≤ (path_on script line).given x →
-    take y (line_cells script line) ≡ take y (cells_by script line x)
-first-cells script line x y low inside = line-first script line x y low inside
+first-cells : (leg : Leg) (line x y : ℕ) → x ≤ leg.config.ticks + delay_on leg line + 1 →
+    y ≤ (path_on leg line).given x →
+    take y (line_cells leg line) ≡ take y (cells_by leg line x)
+first-cells leg line x y low inside = line-first leg line x y low inside
 
 -- ---- the counts of lines that are popped
 at-most : (a b : ℕ) → a ≤ b → nat_le a b ≡ true
@@ -192,17 +192,17 @@ map-one f g from (suc n) (suc m) x low here beside =
     (map-one f g (from + 1) n m x (omega (arith, low)) (ap g e ∙ here)
     (λ k apart. beside k (λ same. apart (same ∙ sym e))))
 
-cells-set : (script : Script) (lines : List LineCounts) (m : ℕ) (x : LineCounts) → m < length lines →
-    m < length script.config.windows →
-    popped_cells script (slice_set lines m x) ≡ slice_set (popped_cells script lines) m
-    (take x.popped (line_cells script m))
-cells-set script lines m x low inside =
+cells-set : (leg : Leg) (lines : List LineCounts) (m : ℕ) (x : LineCounts) → m < length lines →
+    m < length leg.config.windows →
+    popped_cells leg (slice_set lines m x) ≡ slice_set (popped_cells leg lines) m
+    (take x.popped (line_cells leg m))
+cells-set leg lines m x low inside =
     let e : 0 + m ≡ m = omega arith in
-    map-one (popped_on script lines) (popped_on script (slice_set lines m x)) 0 (length script.config.windows) m
-    (take x.popped (line_cells script m)) inside
-    (ap (popped_on script (slice_set lines m x)) e
-    ∙ ap (λ (l : LineCounts). take l.popped (line_cells script m)) (set-at lines m x low))
-    (λ k apart. ap (λ (l : LineCounts). take l.popped (line_cells script k))
+    map-one (popped_on leg lines) (popped_on leg (slice_set lines m x)) 0 (length leg.config.windows) m
+    (take x.popped (line_cells leg m)) inside
+    (ap (popped_on leg (slice_set lines m x)) e
+    ∙ ap (λ (l : LineCounts). take l.popped (line_cells leg m)) (set-at lines m x low))
+    (λ k apart. ap (λ (l : LineCounts). take l.popped (line_cells leg k))
     (set-beside lines m k x (λ same. apart (same ∙ sym e))))
 
 -- ---- a line that is popped
@@ -246,38 +246,38 @@ counts-at (x ∷ lines) zero line e = cc
 counts-at (x ∷ lines) (suc m) line e = counts-at lines m line e
 
 -- the lines before line m were popped, and decide the next row
-pub record Popping (script : Script) (was now : List Ringed) (rows : Gather) (m : ℕ) : Type 0 where
-  pub can : CanPop script now rows
-  pub before : AreDecidedBefore script (map line_counts now) m rows.rows
-  pub same : pop_lines rows.rows 0 (walk_plan script).paths (map line_counts now) ≡ pop_lines rows.rows 0
-      (walk_plan script).paths (map line_counts was)
+pub record Popping (leg : Leg) (was now : List Ringed) (rows : Gather) (m : ℕ) : Type 0 where
+  pub can : CanPop leg now rows
+  pub before : AreDecidedBefore leg (map line_counts now) m rows.rows
+  pub same : pop_lines rows.rows 0 (walk_plan leg).paths (map line_counts now) ≡ pop_lines rows.rows 0
+      (walk_plan leg).paths (map line_counts was)
 
-pub popping-none : (script : Script) (lines : List Ringed) (rows : Gather) → CanPop script lines rows →
-    Popping script lines lines rows 0
-popping-none script lines rows can = record { can = can; before = λ i low. absurd (omega (arith, low)); same = refl }
+pub popping-none : (leg : Leg) (lines : List Ringed) (rows : Gather) → CanPop leg lines rows →
+    Popping leg lines lines rows 0
+popping-none leg lines rows can = record { can = can; before = λ i low. absurd (omega (arith, low)); same = refl }
 
 some-path : (a b : LinePath) → Some a ≡ Some b → a ≡ b
 some-path a b e = cc
 
-ahead-of : (script : Script) → CanWalk script → (t m : ℕ) (lines : List LineCounts) →
-    AreDecidedBefore script lines m t → Ahead t (walk_plan script).paths lines m
-ahead-of script can t m lines before i path low e =
-    let count = has-paths script can in
-    let inside = slice_get_within (walk_plan script).paths i path e in
-    let same : path_on script i ≡ path =
-    some-path (path_on script i) path (sym (line-path script can i (omega (arith, inside, count))) ∙ e) in
+ahead-of : (leg : Leg) → CanWalk leg → (t m : ℕ) (lines : List LineCounts) →
+    AreDecidedBefore leg lines m t → Ahead t (walk_plan leg).paths lines m
+ahead-of leg can t m lines before i path low e =
+    let count = has-paths leg can in
+    let inside = slice_get_within (walk_plan leg).paths i path e in
+    let same : path_on leg i ≡ path =
+    some-path (path_on leg i) path (sym (line-path leg can i (omega (arith, inside, count))) ∙ e) in
     subst (λ (p : LinePath). t < p.decided (counts_at lines i).popped) same (before i low)
 
 -- all lines decide the next row
-pub popping-all : (script : Script) (was now : List Ringed) (rows : Gather) (m : ℕ) → length now ≤ m →
-    Popping script was now rows m → HasPopped script was now rows None
-popping-all script was now rows m past has =
-    let paths = (walk_plan script).paths in
-    let count = has-paths script has.can.can in
+pub popping-all : (leg : Leg) (was now : List Ringed) (rows : Gather) (m : ℕ) → length now ≤ m →
+    Popping leg was now rows m → HasPopped leg was now rows None
+popping-all leg was now rows m past has =
+    let paths = (walk_plan leg).paths in
+    let count = has-paths leg has.can.can in
     let size = has.can.size in
     let long = length-map now line_counts in
     let all = pops-all rows.rows 0 paths (map line_counts now) (omega (arith, count, size, long))
-    (ahead-of script has.can.can rows.rows (length (map line_counts now)) (map line_counts now)
+    (ahead-of leg has.can.can rows.rows (length (map line_counts now)) (map line_counts now)
     (λ i low. has.before i (omega (arith, low, long, past)))) in
     record {
       lines = has.can.lines;
@@ -286,56 +286,56 @@ popping-all script was now rows m past has =
       gathers = has.can.gathers;
     }
 
-module _ (script : Script) (was now : List Ringed) (rows : Gather) (m : ℕ) (has : Popping script was now rows m)
+module _ (leg : Leg) (was now : List Ringed) (rows : Gather) (m : ℕ) (has : Popping leg was now rows m)
     (line : Ringed) (there : slice_get now m ≡ Some line) where
-  inside : m < length script.config.windows
+  inside : m < length leg.config.windows
   inside = let low = slice_get_within now m line there in let size = has.can.size in omega (arith, low, size)
 
-  own : HasLine script m line
+  own : HasLine leg m line
   own = has.can.lines.each m line there
 
   here : slice_get (map line_counts now) m ≡ Some (line_counts line)
   here = map-get line_counts now m line there
 
-  path-is : path_cells (calls_on script m line.carried) ≡ cells_by script m line.carried
-  path-is = ap (λ k. cells (carried_by (scenario_of script) m) (delay_on script m) script.config.ticks
-      (taken_by script m line.carried) k) (carries script m line.carried) ∙ taken-cells script m line.carried
+  path-is : path_cells (calls_on leg m line.carried) ≡ cells_by leg m line.carried
+  path-is = ap (λ k. cells (carried_by (scenario_by leg) m) (delay_on leg m) leg.config.ticks
+      (taken_by leg m line.carried) k) (carries leg m line.carried) ∙ taken-cells leg m line.carried
 
   pops-low : line.popped ≤ line.given
   pops-low = has.can.pops m line there
 
-  given-is : line.given ≡ (path_on script m).given line.carried
-  given-is = (numbers script m line (has.can.lines.each m line there)).given
+  given-is : line.given ≡ (path_on leg m).given line.carried
+  given-is = (numbers leg m line (has.can.lines.each m line there)).given
 
-  first : (y : ℕ) → y ≤ line.given → take y (path_cells (calls_on script m line.carried)) ≡ take y (line_cells script m)
+  first : (y : ℕ) → y ≤ line.given → take y (path_cells (calls_on leg m line.carried)) ≡ take y (line_cells leg m)
   first y low = ap (take y) path-is
-      ∙ sym (first-cells script m line.carried y (has.can.carries m line there) (subst (λ n. y ≤ n) given-is low))
+      ∙ sym (first-cells leg m line.carried y (has.can.carries m line there) (subst (λ n. y ≤ n) given-is low))
 
   open-is : (y : ℕ) → y ≤ line.given →
-      leaves_open (path_cells (calls_on script m line.carried)) rows.rows y ≡ nat_le
-      ((path_on script m).decided y) rows.rows
+      leaves_open (path_cells (calls_on leg m line.carried)) rows.rows y ≡ nat_le
+      ((path_on leg m).decided y) rows.rows
   open-is y low =
       ap (λ own. is_none (verdict own rows.rows)) (first y low)
-      ∙ to-none (verdict (take y (line_cells script m)) rows.rows) ((path_on script m).decided y) rows.rows
-      (popped-decides script m y rows.rows has.can.row)
+      ∙ to-none (verdict (take y (line_cells leg m)) rows.rows) ((path_on leg m).decided y) rows.rows
+      (popped-decides leg m y rows.rows has.can.row)
 
-  pub is-next : IsNext line (calls_on script m line.carried) rows (popped_cells script (map line_counts now)) m
+  pub is-next : IsNext line (calls_on leg m line.carried) rows (popped_cells leg (map line_counts now)) m
   is-next = record {
     has = own.has;
     gathers = has.can.gathers;
-    own = map-get (popped_on script (map line_counts now)) (range_with_len 0 (length script.config.windows)) m m
-        (range-at 0 (length script.config.windows) m inside ∙ ap Some (let e : 0 + m ≡ m = omega arith in e))
-        ∙ ap Some (ap (λ (l : LineCounts). take l.popped (line_cells script m))
+    own = map-get (popped_on leg (map line_counts now)) (range_with_len 0 (length leg.config.windows)) m m
+        (range-at 0 (length leg.config.windows) m inside ∙ ap Some (let e : 0 + m ≡ m = omega arith in e))
+        ∙ ap Some (ap (λ (l : LineCounts). take l.popped (line_cells leg m))
         (counts-at (map line_counts now) m (line_counts line) here) ∙ sym (first line.popped pops-low));
     before = λ i other low e.
         let within = inside in
-        let near : i < length script.config.windows = omega (arith, low, within) in
-        let cell = map-get (popped_on script (map line_counts now)) (range_with_len 0 (length script.config.windows)) i
-        i (range-at 0 (length script.config.windows) i near ∙ ap Some (let z : 0 + i ≡ i = omega arith in z)) in
-        let same : popped_on script (map line_counts now) i ≡ other =
-        some-cells (popped_on script (map line_counts now) i) other (sym cell ∙ e) in
+        let near : i < length leg.config.windows = omega (arith, low, within) in
+        let cell = map-get (popped_on leg (map line_counts now)) (range_with_len 0 (length leg.config.windows)) i
+        i (range-at 0 (length leg.config.windows) i near ∙ ap Some (let z : 0 + i ≡ i = omega arith in z)) in
+        let same : popped_on leg (map line_counts now) i ≡ other =
+        some-cells (popped_on leg (map line_counts now) i) other (sym cell ∙ e) in
         subst (λ (own : List Cell). IsSome (verdict own rows.rows)) same
-        ((popped-decides script i (counts_at (map line_counts now) i).popped rows.rows has.can.row).1
+        ((popped-decides leg i (counts_at (map line_counts now) i).popped rows.rows has.can.row).1
         (has.before i low));
   }
     where
@@ -344,30 +344,32 @@ module _ (script : Script) (was now : List Ringed) (rows : Gather) (m : ℕ) (ha
 
   module _ (after : Ringed) (rows' : Gather) (others : IsPopped line after) (row : rows'.rows ≡ rows.rows)
       (popped : after.popped ≡ popped_until (line.given - line.popped)
-      (λ y. leaves_open (path_cells (calls_on script m line.carried)) rows.rows y) line.popped)
-      (stays : Has after (calls_on script m line.carried))
-      (gathers : Gathers rows' (slice_set (popped_cells script (map line_counts now)) m
-      (own_cells after (calls_on script m line.carried)))) where
-    popped-is : after.popped ≡ pop (in_receive (path_on script m) (line_counts line))
-        (path_on script m) rows.rows line.popped
+      (λ y. leaves_open (path_cells (calls_on leg m line.carried)) rows.rows y) line.popped)
+      (stays : Has after (calls_on leg m line.carried))
+      (gathers : Gathers rows' (slice_set (popped_cells leg (map line_counts now)) m
+      (own_cells after (calls_on leg m line.carried)))) where
+    popped-is : after.popped ≡ pop (in_receive (path_on leg m) (line_counts line))
+        (path_on leg m) rows.rows line.popped
     popped-is =
         popped ∙ until-pops line.given (line.given - line.popped)
-        (λ y. leaves_open (path_cells (calls_on script m line.carried)) rows.rows y)
-        (path_on script m) rows.rows line.popped (let p = pops-low in omega (arith, p)) open-is
-        ∙ ap (λ n. pop (n - line.popped) (path_on script m) rows.rows line.popped) given-is
+        (λ y. leaves_open (path_cells (calls_on leg m line.carried)) rows.rows y)
+        (path_on leg m) rows.rows line.popped (let p = pops-low in omega (arith, p)) open-is
+        ∙ ap (λ n. pop (n - line.popped) (path_on leg m) rows.rows line.popped) given-is
 
     carried-is : after.carried ≡ line.carried
     carried-is = others.carried
 
-    counts-are : line_counts after ≡ popped_line (path_on script m) rows.rows (line_counts line)
+    counts-are : line_counts after ≡ popped_line (path_on leg m) rows.rows (line_counts line)
     counts-are = ap₂ (λ x y. record { carried = x; popped = y }) carried-is popped-is
 
     after-low : after.popped ≤ line.given
     after-low = let p = pops-low in
-        let h = until-below (line.given - line.popped) (λ y. leaves_open (path_cells (calls_on script m line.carried)) rows.rows y) line.popped in omega (arith, p, h, popped)
+        let h = until-below (line.given - line.popped)
+        (λ y. leaves_open (path_cells (calls_on leg m line.carried)) rows.rows y) line.popped in
+        omega (arith, p, h, popped)
 
-    has-path : slice_get (walk_plan script).paths m ≡ Some (path_on script m)
-    has-path = line-path script has.can.can m inside
+    has-path : slice_get (walk_plan leg).paths m ≡ Some (path_on leg m)
+    has-path = line-path leg has.can.can m inside
 
     set-is : map line_counts (slice_set now m after) ≡ slice_set (map line_counts now) m (line_counts after)
     set-is = map-set line_counts now m after
@@ -375,15 +377,15 @@ module _ (script : Script) (was now : List Ringed) (rows : Gather) (m : ℕ) (ha
     long : m < length (map line_counts now)
     long = let e = length-map now line_counts in let low = slice_get_within now m line there in omega (arith, e, low)
 
-    pub popped-can : CanPop script (slice_set now m after) rows'
+    pub popped-can : CanPop leg (slice_set now m after) rows'
     popped-can = record {
       can = has.can.can;
       lines = record {
         size = length-slice_set now m after ∙ has.can.lines.size;
         each = λ k other e. elim (cases_eq k m) [
-          | inl same ↦ subst (HasLine script k)
+          | inl same ↦ subst (HasLine leg k)
               (sym (set-here now m after other (subst (λ j. slice_get (slice_set now m after) j ≡ Some other) same e)))
-              (subst (λ j. HasLine script j after) (sym same) has-after)
+              (subst (λ j. HasLine leg j after) (sym same) has-after)
           | inr apart ↦ has.can.lines.each k other (sym (slice_get-set_other now m k after apart) ∙ e)
         ];
       };
@@ -395,41 +397,41 @@ module _ (script : Script) (was now : List Ringed) (rows : Gather) (m : ℕ) (ha
         | inr apart ↦ has.can.pops k other (sym (slice_get-set_other now m k after apart) ∙ e)
       ];
       carries = λ k other e. elim (cases_eq k m) [
-        | inl same ↦ subst (λ (l : Ringed). l.carried ≤ script.config.ticks + delay_on script k + 1)
+        | inl same ↦ subst (λ (l : Ringed). l.carried ≤ leg.config.ticks + delay_on leg k + 1)
             (sym (set-here now m after other (subst (λ j. slice_get (slice_set now m after) j ≡ Some other) same e)))
-            (subst (λ j. after.carried ≤ script.config.ticks + delay_on script j + 1) (sym same)
-            (subst (λ n. n ≤ script.config.ticks + delay_on script m + 1) (sym carried-is)
+            (subst (λ j. after.carried ≤ leg.config.ticks + delay_on leg j + 1) (sym same)
+            (subst (λ n. n ≤ leg.config.ticks + delay_on leg m + 1) (sym carried-is)
             (has.can.carries m line there)))
         | inr apart ↦ has.can.carries k other (sym (slice_get-set_other now m k after apart) ∙ e)
       ];
-      row = subst (λ t. t < script.config.ticks) (sym row) has.can.row;
+      row = subst (λ t. t < leg.config.ticks) (sym row) has.can.row;
       gathers = subst (Gathers rows')
-          (sym (ap (popped_cells script) set-is
-          ∙ cells-set script (map line_counts now) m (line_counts after) long inside
-          ∙ ap (slice_set (popped_cells script (map line_counts now)) m) (sym (first after.popped after-low)))) gathers;
+          (sym (ap (popped_cells leg) set-is
+          ∙ cells-set leg (map line_counts now) m (line_counts after) long inside
+          ∙ ap (slice_set (popped_cells leg (map line_counts now)) m) (sym (first after.popped after-low)))) gathers;
     }
       where
-        has-after : HasLine script m after
+        has-after : HasLine leg m after
         has-after = record {
-          has = subst (λ n. Has after (calls_on script m n)) (sym carried-is) stays;
+          has = subst (λ n. Has after (calls_on leg m n)) (sym carried-is) stays;
           ring = ap length others.signs ∙ own.ring;
         }
 
-    popped-same : pop_lines rows'.rows 0 (walk_plan script).paths (map line_counts (slice_set now m after))
-        ≡ pop_lines rows'.rows 0 (walk_plan script).paths (map line_counts was)
+    popped-same : pop_lines rows'.rows 0 (walk_plan leg).paths (map line_counts (slice_set now m after))
+        ≡ pop_lines rows'.rows 0 (walk_plan leg).paths (map line_counts was)
     popped-same =
-        ap₂ (λ t lines. pop_lines t 0 (walk_plan script).paths lines) row
+        ap₂ (λ t lines. pop_lines t 0 (walk_plan leg).paths lines) row
         (set-is ∙ ap (slice_set (map line_counts now) m) counts-are)
-        ∙ pops-set rows.rows 0 m (walk_plan script).paths (map line_counts now) (path_on script m)
-        (line_counts line) has-path here (ahead-of script has.can.can rows.rows m (map line_counts now) has.before)
+        ∙ pops-set rows.rows 0 m (walk_plan leg).paths (map line_counts now) (path_on leg m)
+        (line_counts line) has-path here (ahead-of leg has.can.can rows.rows m (map line_counts now) has.before)
         (subst (λ n. line.popped ≤ n) given-is pops-low)
-        ∙ has.same ∙ ap (λ t. pop_lines t 0 (walk_plan script).paths (map line_counts was)) (sym row)
+        ∙ has.same ∙ ap (λ t. pop_lines t 0 (walk_plan leg).paths (map line_counts was)) (sym row)
 
-    before-is : AreDecidedBefore script (map line_counts (slice_set now m after)) m rows'.rows
+    before-is : AreDecidedBefore leg (map line_counts (slice_set now m after)) m rows'.rows
     before-is i low =
-        subst (λ t. t < (path_on script i).decided (counts_at (map line_counts (slice_set now m after)) i).popped)
+        subst (λ t. t < (path_on leg i).decided (counts_at (map line_counts (slice_set now m after)) i).popped)
         (sym row)
-        (subst (λ (l : LineCounts). rows.rows < (path_on script i).decided l.popped)
+        (subst (λ (l : LineCounts). rows.rows < (path_on leg i).decided l.popped)
         (sym (ap (λ lines. counts_at lines i) set-is
         ∙ set-beside (map line_counts now) m i (line_counts after) (λ e. omega (arith, e, low))))
         (has.before i low))
@@ -437,45 +439,45 @@ module _ (script : Script) (was now : List Ringed) (rows : Gather) (m : ℕ) (ha
     at-after : counts_at (map line_counts (slice_set now m after)) m ≡ line_counts after
     at-after = ap (λ lines. counts_at lines m) set-is ∙ set-at (map line_counts now) m (line_counts after) long
 
-    decided-by : IsSome (verdict (own_cells after (calls_on script m line.carried)) rows.rows) ↔
-        (rows.rows < (path_on script m).decided after.popped)
+    decided-by : IsSome (verdict (own_cells after (calls_on leg m line.carried)) rows.rows) ↔
+        (rows.rows < (path_on leg m).decided after.popped)
     decided-by = subst (λ (own : List Cell). IsSome (verdict own rows.rows) ↔
-        (rows.rows < (path_on script m).decided after.popped)) (sym (first after.popped after-low))
-        (popped-decides script m after.popped rows.rows has.can.row)
+        (rows.rows < (path_on leg m).decided after.popped)) (sym (first after.popped after-low))
+        (popped-decides leg m after.popped rows.rows has.can.row)
 
-    pub popping-next : true ≡ is_some (verdict (own_cells after (calls_on script m line.carried)) rows.rows) →
-        Popping script was (slice_set now m after) rows' (m + 1)
+    pub popping-next : true ≡ is_some (verdict (own_cells after (calls_on leg m line.carried)) rows.rows) →
+        Popping leg was (slice_set now m after) rows' (m + 1)
     popping-next told = record {
       can = popped-can;
       before = λ i low. elim (cases_lt i m) [
         | inl less ↦ before-is i less
         | inr least ↦
             let same : i ≡ m = omega (arith, low, least) in
-            subst (λ k. rows'.rows < (path_on script k).decided
+            subst (λ k. rows'.rows < (path_on leg k).decided
             (counts_at (map line_counts (slice_set now m after)) k).popped) (sym same)
-            (subst (λ (l : LineCounts). rows'.rows < (path_on script m).decided l.popped) (sym at-after)
-            (subst (λ t. t < (path_on script m).decided after.popped) (sym row) (decided-by.0 (to-some _ (sym told)))))
+            (subst (λ (l : LineCounts). rows'.rows < (path_on leg m).decided l.popped) (sym at-after)
+            (subst (λ t. t < (path_on leg m).decided after.popped) (sym row) (decided-by.0 (to-some _ (sym told)))))
       ];
       same = popped-same;
     }
 
-    pub popping-waits : false ≡ is_some (verdict (own_cells after (calls_on script m line.carried)) rows.rows) →
-        HasPopped script was (slice_set now m after) rows' (Some m)
+    pub popping-waits : false ≡ is_some (verdict (own_cells after (calls_on leg m line.carried)) rows.rows) →
+        HasPopped leg was (slice_set now m after) rows' (Some m)
     popping-waits told =
-        let low : (path_on script m).decided after.popped ≤ rows'.rows =
-        elim (cases_lt rows.rows ((path_on script m).decided after.popped)) [
+        let low : (path_on leg m).decided after.popped ≤ rows'.rows =
+        elim (cases_lt rows.rows ((path_on leg m).decided after.popped)) [
           | inl past ↦ absurd (from-some _ (sym told) (decided-by.1 past))
-          | inr open' ↦ subst (λ t. (path_on script m).decided after.popped ≤ t) (sym row) open'
+          | inr open' ↦ subst (λ t. (path_on leg m).decided after.popped ≤ t) (sym row) open'
         ] in
         let counts = map line_counts (slice_set now m after) in
         let there' : slice_get counts m ≡ Some (line_counts after) = ap (λ lines. slice_get lines m) set-is
         ∙ get-set (map line_counts now) m (line_counts after) long in
-        let again : popped_line (path_on script m) rows'.rows (line_counts after) ≡ line_counts after =
-        ap₂ (λ t l. popped_line (path_on script m) t l) row counts-are
-        ∙ popped-again (path_on script m) rows.rows (line_counts line)
+        let again : popped_line (path_on leg m) rows'.rows (line_counts after) ≡ line_counts after =
+        ap₂ (λ t l. popped_line (path_on leg m) t l) row counts-are
+        ∙ popped-again (path_on leg m) rows.rows (line_counts line)
         (subst (λ n. line.popped ≤ n) given-is pops-low) ∙ sym counts-are in
-        let all = pops-until rows'.rows 0 m (walk_plan script).paths counts (path_on script m)
-        (line_counts after) has-path there' (ahead-of script has.can.can rows'.rows m counts before-is) again
+        let all = pops-until rows'.rows 0 m (walk_plan leg).paths counts (path_on leg m)
+        (line_counts after) has-path there' (ahead-of leg has.can.can rows'.rows m counts before-is) again
         low in
         record {
           lines = popped-can.lines;

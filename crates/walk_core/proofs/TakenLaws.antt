@@ -10,7 +10,7 @@ use Rattle.std.proofs.lemmas.List.FromFn.{length-map-range_with_len}
 use Rattle.std.proofs.lemmas.Option.{slice_get_within}
 use Rattle.vc_cell.specs.declared.Cell.{Cell}
 use Rattle.session_model.specs.declared.packet.Packet.{Packet}
-use Rattle.session_model.specs.declared.script.Script.{Script}
+use Rattle.session_model.specs.Leg.{Leg}
 use Rattle.session_model.specs.declared.walk.Event.TheVariants.{Take}
 use Rattle.session_model.specs.declared.walk.StallCause.{StallCause}
 use Rattle.session_model.specs.declared.walk.StallCause.TheVariants.{Done, BackFull, Waiting}
@@ -30,7 +30,7 @@ use Rattle.sink_core.proofs.LaterLaws.{stands-longer}
 use Rattle.walk_law.specs.Walk.{walk_plan, CanWalk, IsWalked, counts_at, popped_on, popped_cells, path_on}
 use Rattle.walk_law.specs.Rings.{line_cells, said_packet, return_ring}
 use Rattle.walk_law.specs.Delivered.{delivered_of, IsReceived}
-use Rattle.walk_law.proofs.PlanLaws.{valid-walks}
+use Rattle.walk_law.proofs.PlanLaws.{sound-walks}
 use Rattle.walk_law.proofs.WalkLaws.{line-fits}
 use Rattle.walk_law.proofs.WaitLaws.{take-waits}
 use Rattle.walk_law.proofs.ReturnLaws.{packet-said, packets-next, ring-says}
@@ -92,24 +92,24 @@ pops-carry t k (path ∷ paths) (line ∷ lines) (suc m) =
       | inr e ↦ rw e (pops-carry t (suc k) paths lines m)
     ]
 
-cells-longer : (script : Script) (before after : List LineCounts) →
+cells-longer : (leg : Leg) (before after : List LineCounts) →
     ((m : ℕ) → (counts_at before m).popped ≤ (counts_at after m).popped) →
-    IsLonger (popped_cells script before) (popped_cells script after)
-cells-longer script before after more = record {
-  size = length-map-range_with_len (popped_on script after) 0 (length script.config.windows)
-      ∙ sym (length-map-range_with_len (popped_on script before) 0 (length script.config.windows));
+    IsLonger (popped_cells leg before) (popped_cells leg after)
+cells-longer leg before after more = record {
+  size = length-map-range_with_len (popped_on leg after) 0 (length leg.config.windows)
+      ∙ sym (length-map-range_with_len (popped_on leg before) 0 (length leg.config.windows));
   each = λ m own here.
-      let n : ℕ = length script.config.windows in
+      let n : ℕ = length leg.config.windows in
       let y : ℕ = (counts_at before m).popped in
       let z : ℕ = (counts_at after m).popped in
-      let all : List Cell = line_cells script m in
-      let size = length-map-range_with_len (popped_on script before) 0 (length script.config.windows) in
-      let within = slice_get_within (popped_cells script before) m own here in
+      let all : List Cell = line_cells leg m in
+      let size = length-map-range_with_len (popped_on leg before) 0 (length leg.config.windows) in
+      let within = slice_get_within (popped_cells leg before) m own here in
       let at = range-at 0 n m (omega (arith, size, within)) ∙ ap Some (let e : 0 + m ≡ m = omega arith in e) in
-      let is : take y all ≡ own = same-some (popped_on script before m) own
-      (sym (map-get (popped_on script before) (range_with_len 0 n) m m at) ∙ here) in (
+      let is : take y all ≡ own = same-some (popped_on leg before m) own
+      (sym (map-get (popped_on leg before) (range_with_len 0 n) m m at) ∙ here) in (
         drop y (take z all),
-        map-get (popped_on script after) (range_with_len 0 n) m m at
+        map-get (popped_on leg after) (range_with_len 0 n) m m at
             ∙ ap Some (sym (take-append-drop y (take z all))
             ∙ ap (λ l. l ++ drop y (take z all)) (take-take y z all (more m) ∙ is)),
       );
@@ -163,15 +163,15 @@ end-room s room ends =
     ]
 
 -- what the sink says is the next packet of the return ring, which has room for it
-record IsSaid (script : Script) (s : Counts) (lines : List LineCounts) (packet : Option Packet) : Type 0 where
-  ring : return_ring script s ++ listed packet ≡ return_ring script (record s { lines = lines; rows = s.rows + 1 })
+record IsSaid (leg : Leg) (s : Counts) (lines : List LineCounts) (packet : Option Packet) : Type 0 where
+  ring : return_ring leg s ++ listed packet ≡ return_ring leg (record s { lines = lines; rows = s.rows + 1 })
   room : in_return s + length (listed packet) ≤ 4
 
-said : (script : Script) (s : Counts) (lines : List LineCounts) (packet : Option Packet) → CanWalk script →
-    IsWalked script (record s { lines = lines; rows = s.rows + 1 }) →
+said : (leg : Leg) (s : Counts) (lines : List LineCounts) (packet : Option Packet) → CanWalk leg →
+    IsWalked leg (record s { lines = lines; rows = s.rows + 1 }) →
     s.backs ≤ packets_in s.rows → packets_in s.rows ≤ s.backs + 4 → is_back_full s ≡ false →
-    packet ≡ back_at (popped_cells script lines) s.rows → IsSaid script s lines packet
-said script s lines packet can walked low high room is =
+    packet ≡ back_at (popped_cells leg lines) s.rows → IsSaid leg s lines packet
+said leg s lines packet can walked low high room is =
     let next : Counts = record s { lines = lines; rows = s.rows + 1 } in
     elim (cases_Bool (nat_lt 22 s.rows && s.rows % 16 == 7)) [
       | inl ends ↦
@@ -179,21 +179,22 @@ said script s lines packet can walked low high room is =
           let k = packet-of s.rows place.0 place.1 in
           let late = place.0 in
           let at = place.1 in
-          let told = packet-said script next (packets_in s.rows) can walked (omega (arith, late, at)) in
-          let some : packet ≡ Some (said_packet script (packets_in s.rows)) =
-          is ∙ rw ends (ap Some (ap (return_at (popped_cells script lines)) k ∙ told)) in
+          let told = packet-said leg next (packets_in s.rows) can walked (omega (arith, late, at)) in
+          let some : packet ≡ Some (said_packet leg (packets_in s.rows)) =
+          is ∙ rw ends (ap Some (ap (return_at (popped_cells leg lines)) k ∙ told)) in
           let free = end-room s room ends in
           record {
-            ring = ap (λ p. return_ring script s ++ listed p) some
-                ∙ sym (ring-says script s (s.rows + 1) low (packets-next s.rows ∙ rw ends refl));
+            ring = ap (λ p. return_ring leg s ++ listed p) some
+                ∙ sym (ring-says leg s (s.rows + 1) low (packets-next s.rows ∙ rw ends refl));
             room = subst (λ p. in_return s + length (listed p) ≤ 4) (sym some) (omega (arith, free));
           }
       | inr other ↦
           let none : packet ≡ None = is ∙ rw other refl in
-          let same : packets_in s.rows ≡ packets_in (s.rows + 1) = let e = rw other at (packets-next s.rows) in omega (arith, e) in
+          let same : packets_in s.rows ≡ packets_in (s.rows + 1) = let e = rw other at (packets-next s.rows) in
+          omega (arith, e) in
           record {
-            ring = ap (λ p. return_ring script s ++ listed p) none ∙ append-nil (return_ring script s)
-                ∙ ap (λ n. map (said_packet script) (range_with_len s.backs (n - s.backs))) same;
+            ring = ap (λ p. return_ring leg s ++ listed p) none ∙ append-nil (return_ring leg s)
+                ∙ ap (λ n. map (said_packet leg) (range_with_len s.backs (n - s.backs))) same;
             room = subst (λ p. in_return s + length (listed p) ≤ 4) (sym none) (omega (arith, high));
           }
     ]
@@ -202,48 +203,48 @@ received : IsReceived row_in
 received = record { whole = λ octets. refl; lost = refl }
 
 -- ---- of a walk
-module _ (script : Script) (parts : Parts) (landing : Landed) (got : ℕ) (last : Option StepNote)
-    (is : IsWalk script parts landing got last) where
+module _ (leg : Leg) (parts : Parts) (landing : Landed) (got : ℕ) (last : Option StepNote)
+    (is : IsWalk leg parts landing got last) where
   abbrev was : Counts
   was = counts_of parts landing
 
-  can : CanWalk script
-  can = valid-walks script is.valid
+  can : CanWalk leg
+  can = sound-walks leg is.sound
 
-  fits : Fits (walk_plan script) (counts_of parts landing)
-  fits = walk-fits script was is.valid is.walked
+  fits : Fits (walk_plan leg) (counts_of parts landing)
+  fits = walk-fits leg was is.sound is.walked
 
   ring-is : length parts.back.ring ≡ in_return (counts_of parts landing)
-  ring-is = ap length is.back.ring ∙ ring-size script was
+  ring-is = ap length is.back.ring ∙ ring-size leg was
 
   line-at : (m : ℕ) (line : Ringed) → slice_get parts.lines m ≡ Some line →
-      LineFits script.config.ticks script.config.ring parts.source.ticks parts.sink.taken (path_on script m)
+      LineFits leg.config.ticks leg.config.ring parts.source.ticks parts.sink.taken (path_on leg m)
       (line_counts line)
   line-at m line there =
       let low = slice_get_within parts.lines m line there in
       let size = is.lines.size in
-      let windows = is.valid.network.windows_each in
-      subst (LineFits script.config.ticks script.config.ring parts.source.ticks parts.sink.taken (path_on script m))
+      let windows = is.sound.network.windows_each in
+      subst (LineFits leg.config.ticks leg.config.ring parts.source.ticks parts.sink.taken (path_on leg m))
       (counts-at (map line_counts parts.lines) m (line_counts line) (map-get line_counts parts.lines m line there))
-      (line-fits script was can is.walked m (omega (arith, low, size, windows)))
+      (line-fits leg was can is.walked m (omega (arith, low, size, windows)))
 
   pub full-is : (full : Bool) → (IsTrue full ↔ (length parts.back.ring ≡ 4)) →
       full ≡ nat_le 4 (in_return (counts_of parts landing))
   full-is full same = full-by full (length parts.back.ring) (in_return was) same ring-is
       (let most = fits.returns in omega (arith, most))
 
-  pub cause-full : (row : ℕ) → row ≡ parts.sink.taken → row < script.config.ticks →
+  pub cause-full : (row : ℕ) → row ≡ parts.sink.taken → row < leg.config.ticks →
       true ≡ (nat_le 23 row && row % 16 == 7) → (IsTrue true ↔ (length parts.back.ring ≡ 4)) →
-      Some BackFull ≡ take_cause script.config.ticks (counts_of parts landing)
+      Some BackFull ≡ take_cause leg.config.ticks (counts_of parts landing)
   cause-full row at low ends full =
-      let left = lt-leb script.config.ticks parts.sink.taken (subst (λ t. t < script.config.ticks) at low) in
+      let left = lt-leb leg.config.ticks parts.sink.taken (subst (λ t. t < leg.config.ticks) at low) in
       rw (left, sym (subst (λ t. true ≡ (nat_le 23 t && t % 16 == 7)) at ends), sym (full-is true full)) refl
 
-  pub cause-none : (row : ℕ) → row ≡ parts.sink.taken → row < script.config.ticks →
+  pub cause-none : (row : ℕ) → row ≡ parts.sink.taken → row < leg.config.ticks →
       (false ≡ (nat_le 23 row && row % 16 == 7)) ⊎ (IsTrue false ↔ (length parts.back.ring ≡ 4)) →
-      None ≡ take_cause script.config.ticks (counts_of parts landing)
+      None ≡ take_cause leg.config.ticks (counts_of parts landing)
   cause-none row at low room =
-      let left = lt-leb script.config.ticks parts.sink.taken (subst (λ t. t < script.config.ticks) at low) in
+      let left = lt-leb leg.config.ticks parts.sink.taken (subst (λ t. t < leg.config.ticks) at low) in
       elim (cases_Bool (nat_le 23 parts.sink.taken && parts.sink.taken % 16 == 7)) [
         | inr other ↦ rw (left, other) refl
         | inl ends ↦ elim room [
@@ -253,86 +254,86 @@ module _ (script : Script) (parts : Parts) (landing : Landed) (got : ℕ) (last 
         ]
       ]
 
-  pub take-stays : (cause : StallCause) → Some cause ≡ take_cause script.config.ticks (counts_of parts landing) →
-      (counts_of parts landing ≡ counts_after script (counts_of parts landing) Take) ×
-      (Stalled cause ≡ moved_of script (counts_of parts landing) Take)
+  pub take-stays : (cause : StallCause) → Some cause ≡ take_cause leg.config.ticks (counts_of parts landing) →
+      (counts_of parts landing ≡ counts_after leg (counts_of parts landing) Take) ×
+      (Stalled cause ≡ moved_of leg (counts_of parts landing) Take)
   take-stays cause e =
-      let stays = cause-stalls (walk_plan script) was cause e in
+      let stays = cause-stalls (walk_plan leg) was cause e in
       (sym (ap (λ (x : Step). x.counts) stays), ap (λ (x : Step). answer_by x.cause None) (sym stays))
 
-  module _ (none : None ≡ take_cause script.config.ticks (counts_of parts landing)) where
-    is_left : Goes (walk_plan script) (counts_of parts landing)
-    is_left = goes (walk_plan script) was none
+  module _ (none : None ≡ take_cause leg.config.ticks (counts_of parts landing)) where
+    is_left : Goes (walk_plan leg) (counts_of parts landing)
+    is_left = goes (walk_plan leg) was none
 
     pub rows-few : parts.sink.taken < 4294967295
-    rows-few = let low = is_left.left in let most = is.valid.network.ticks.1 in omega (arith, low, most)
+    rows-few = let low = is_left.left in let most = is.sound.network.ticks.1 in omega (arith, low, most)
 
-    pub can-pop : CanPop script parts.lines parts.rows
+    pub can-pop : CanPop leg parts.lines parts.rows
     can-pop = record {
       can = can;
       lines = is.lines;
-      size = is.lines.size ∙ sym is.valid.network.windows_each;
+      size = is.lines.size ∙ sym is.sound.network.windows_each;
       pops = λ m line there.
-          let given = (numbers script m line (is.lines.each m line there)).given in
+          let given = (numbers leg m line (is.lines.each m line there)).given in
           let pops = (line-at m line there).pops in
           omega (arith, given, pops);
       carries = λ m line there. (line-at m line there).carries;
-      row = subst (λ t. t < script.config.ticks) (sym is.sink.passed) is_left.left;
+      row = subst (λ t. t < leg.config.ticks) (sym is.sink.passed) is_left.left;
       gathers = is.sink.gathers;
     }
 
     module _ (lines : List Ringed) (rows : Gather) (waiting : Option ℕ) (same : rows.rows ≡ parts.rows.rows)
-        (count : line_count rows ≡ line_count parts.rows) (popped : HasPopped script parts.lines lines rows waiting)
+        (count : line_count rows ≡ line_count parts.rows) (popped : HasPopped leg parts.lines lines rows waiting)
       where
         row-is : rows.rows ≡ parts.sink.taken
         row-is = same ∙ is.sink.passed
 
         lines-are : map line_counts lines ≡
-            (pop_lines parts.sink.taken 0 (walk_plan script).paths (map line_counts parts.lines)).lines
-        lines-are = popped.counts ∙ ap (λ t. (pop_lines t 0 (walk_plan script).paths (map line_counts parts.lines)).lines)
+            (pop_lines parts.sink.taken 0 (walk_plan leg).paths (map line_counts parts.lines)).lines
+        lines-are = popped.counts ∙ ap (λ t. (pop_lines t 0 (walk_plan leg).paths (map line_counts parts.lines)).lines)
             row-is
 
-        waits-are : waiting ≡ (pop_lines parts.sink.taken 0 (walk_plan script).paths
+        waits-are : waiting ≡ (pop_lines parts.sink.taken 0 (walk_plan leg).paths
             (map line_counts parts.lines)).waiting
         waits-are = popped.waits ∙ ap (λ t.
-            (pop_lines t 0 (walk_plan script).paths (map line_counts parts.lines)).waiting) row-is
+            (pop_lines t 0 (walk_plan leg).paths (map line_counts parts.lines)).waiting) row-is
 
-        moves : step (walk_plan script) (counts_of parts landing) Take ≡ take_popped (counts_of parts landing)
+        moves : step (walk_plan leg) (counts_of parts landing) Take ≡ take_popped (counts_of parts landing)
             (map line_counts lines) waiting
         moves = is_left.moves ∙ ap₂ (take_popped was) (sym lines-are) (sym waits-are)
 
-        stands : HasTaken parts.sink (popped_cells script (map line_counts lines))
+        stands : HasTaken parts.sink (popped_cells leg (map line_counts lines))
         stands =
-            stands-longer parts.sink (popped_cells script was.lines) (popped_cells script (map line_counts lines))
-            (cells-longer script was.lines (map line_counts lines)
+            stands-longer parts.sink (popped_cells leg was.lines) (popped_cells leg (map line_counts lines))
+            (cells-longer leg was.lines (map line_counts lines)
             (λ m. subst (λ ls. (counts_at (map line_counts parts.lines) m).popped ≤ (counts_at ls m).popped)
-            (sym lines-are) (pops-more parts.sink.taken 0 (walk_plan script).paths was.lines m)))
+            (sym lines-are) (pops-more parts.sink.taken 0 (walk_plan leg).paths was.lines m)))
             is.sink.taken
 
-        sent : HasSent script parts.source.ticks (map line_counts lines) parts.sent
+        sent : HasSent leg parts.source.ticks (map line_counts lines) parts.sent
         sent =
-            sent-later script parts.source.ticks was.lines (map line_counts lines) parts.sent is.sent
+            sent-later leg parts.source.ticks was.lines (map line_counts lines) parts.sent is.sent
             (λ m. subst (λ ls. (counts_at was.lines m).carried ≤ (counts_at ls m).carried) (sym lines-are)
-            (pops-carry parts.sink.taken 0 (walk_plan script).paths was.lines m))
+            (pops-carry parts.sink.taken 0 (walk_plan leg).paths was.lines m))
 
         module _ (line : ℕ) (waits : Some line ≡ waiting) where
-          stays : step (walk_plan script) (counts_of parts landing) Take ≡ stalled
+          stays : step (walk_plan leg) (counts_of parts landing) Take ≡ stalled
               (record (counts_of parts landing) { lines = map line_counts lines }) (Waiting line)
           stays = moves ∙ ap (take_popped was (map line_counts lines)) (sym waits)
 
-          pub waits-counts : counts_of (record parts { lines = lines; rows = rows }) landing ≡ counts_after script
+          pub waits-counts : counts_of (record parts { lines = lines; rows = rows }) landing ≡ counts_after leg
               (counts_of parts landing) Take
           waits-counts = sym (ap (λ (x : Step). x.counts) stays)
 
-          pub waits-moved : Stalled (Waiting line) ≡ moved_of script (counts_of parts landing) Take
+          pub waits-moved : Stalled (Waiting line) ≡ moved_of leg (counts_of parts landing) Take
           waits-moved = ap (λ (x : Step). answer_by x.cause None) (sym stays)
 
-          pub waits-kept : IsWalk script (record parts { lines = lines; rows = rows }) landing got last
+          pub waits-kept : IsWalk leg (record parts { lines = lines; rows = rows }) landing got last
           waits-kept = record {
-            valid = is.valid;
+            sound = is.sound;
             total = is.total;
-            walked = walked-next script was _ Take is.walked waits-counts;
-            source = source-stays script (counts_of parts landing) _ _ _ parts.source is.source;
+            walked = walked-next leg was _ Take is.walked waits-counts;
+            source = source-stays leg (counts_of parts landing) _ _ _ parts.source is.source;
             sent = sent;
             lines = popped.lines;
             sink = record {
@@ -344,89 +345,89 @@ module _ (script : Script) (parts : Parts) (landing : Landed) (got : ℕ) (last 
               size = is.sink.size;
             };
             back = record { ring = is.back.ring; lost = is.back.lost; inbox = is.back.inbox; room = is.back.room };
-            landed = landed-stays script (counts_of parts landing) _ _ _ landing is.landed;
+            landed = landed-stays leg (counts_of parts landing) _ _ _ landing is.landed;
             counted = is.counted;
             noted = is.noted;
           }
 
         module _ (decided : None ≡ waiting) where
-          pub can-take : CanTake (popped_cells script (map line_counts lines)) parts.sink rows
+          pub can-take : CanTake (popped_cells leg (map line_counts lines)) parts.sink rows
           can-take = record {
             gathers = popped.gathers;
             taken = stands;
-            none = ap (λ ls. first_open (popped_cells script ls) parts.sink.taken) lines-are
-                ∙ take-waits script was.lines parts.sink.taken can (length-map parts.lines line_counts ∙ can-pop.size)
+            none = ap (λ ls. first_open (popped_cells leg ls) parts.sink.taken) lines-are
+                ∙ take-waits leg was.lines parts.sink.taken can (length-map parts.lines line_counts ∙ can-pop.size)
                 is_left.left ∙ sym waits-are ∙ sym decided;
           }
 
           abbrev next : Counts
           next = record (counts_of parts landing) { lines = map line_counts lines; rows = parts.sink.taken + 1 }
 
-          passes : step (walk_plan script) (counts_of parts landing) Take ≡ moved next
+          passes : step (walk_plan leg) (counts_of parts landing) Take ≡ moved next
           passes = moves ∙ ap (take_popped was (map line_counts lines)) (sym decided)
 
-          pub taken-moved : Yes ≡ moved_of script (counts_of parts landing) Take
+          pub taken-moved : Yes ≡ moved_of leg (counts_of parts landing) Take
           taken-moved = ap (λ (x : Step). answer_by x.cause None) (sym passes)
 
-          walked-on : IsWalked script next
-          walked-on = walked-next script was next Take is.walked (sym (ap (λ (x : Step). x.counts) passes))
+          walked-on : IsWalked leg next
+          walked-on = walked-next leg was next Take is.walked (sym (ap (λ (x : Step). x.counts) passes))
 
           module _ (sink : Core) (gather : Gather) (packet : Option Packet)
-              (row : HasRow (popped_cells script (map line_counts lines)) parts.sink sink gather packet) where
-            is_said : IsSaid script (counts_of parts landing) (map line_counts lines) packet
-            is_said = said script was (map line_counts lines) packet can walked-on fits.backs fits.returns is_left.room
+              (row : HasRow (popped_cells leg (map line_counts lines)) parts.sink sink gather packet) where
+            is_said : IsSaid leg (counts_of parts landing) (map line_counts lines) packet
+            is_said = said leg was (map line_counts lines) packet can walked-on fits.backs fits.returns is_left.room
                 row.said
 
             pub said-room : length parts.back.ring + length (listed packet) ≤ 4
             said-room = let e = ring-is in let room = is_said.room in omega (arith, e, room)
 
-            added-is : added_frames parts.sink.size (popped_cells script (map line_counts lines)) parts.sink.taken
-                sink.taken ≡ delivered_since script parts.sink.taken sink.taken
+            added-is : added_frames parts.sink.size (popped_cells leg (map line_counts lines)) parts.sink.taken
+                sink.taken ≡ delivered_since leg parts.sink.taken sink.taken
             added-is =
-                ap₂ (λ size t. added_frames size (popped_cells script (map line_counts lines)) parts.sink.taken t)
+                ap₂ (λ size t. added_frames size (popped_cells leg (map line_counts lines)) parts.sink.taken t)
                 is.sink.size row.one
                 ∙ ap₂ (λ before all. drop (length before) all)
-                (frames-received script next can walked-on row_in received parts.sink.taken (omega arith))
-                (frames-received script next can walked-on row_in received (parts.sink.taken + 1) (omega arith))
-                ∙ ap (delivered_since script parts.sink.taken) (sym row.one)
+                (frames-received leg next can walked-on row_in received parts.sink.taken (omega arith))
+                (frames-received leg next can walked-on row_in received (parts.sink.taken + 1) (omega arith))
+                ∙ ap (delivered_since leg parts.sink.taken) (sym row.one)
 
             pub taken-gives : {Out : Type 0} (stands_for : Out → Start → List (List ℕ) → Type 0) (before after : Out) →
                 ((start : Start) (given : List (List ℕ)) → stands_for before start given →
                 stands_for after start (given ++ added_frames parts.sink.size
-                (popped_cells script (map line_counts lines)) parts.sink.taken sink.taken)) →
-                GivesRows stands_for before after script parts.sink.taken sink.taken
+                (popped_cells leg (map line_counts lines)) parts.sink.taken sink.taken)) →
+                GivesRows stands_for before after leg parts.sink.taken sink.taken
             taken-gives stands_for before after gives start given stood =
                 subst (λ frames. stands_for after start (given ++ frames)) added-is (gives start given stood)
 
             module _ (back : Return) (says : back ≡ and_said parts.back packet)
                 (count' : ℕ) (counts : count' ≡ min
-                (got + length (added_frames parts.sink.size (popped_cells script (map line_counts lines))
+                (got + length (added_frames parts.sink.size (popped_cells leg (map line_counts lines))
                 parts.sink.taken sink.taken)) 18446744073709551615) where
               counts-are : counts_of (record parts { lines = lines; rows = gather; sink = sink; back = back }) landing
                   ≡ next
               counts-are = ap₂ (λ n (b : Return). record next { rows = n; backs = b.backs }) row.one says
 
               pub taken-counts : counts_of (record parts { lines = lines; rows = gather; sink = sink; back = back })
-                  landing ≡ counts_after script (counts_of parts landing) Take
+                  landing ≡ counts_after leg (counts_of parts landing) Take
               taken-counts = counts-are ∙ sym (ap (λ (x : Step). x.counts) passes)
 
-              counted : count' ≡ min (length (delivered_of script sink.taken)) 18446744073709551615
+              counted : count' ≡ min (length (delivered_of leg sink.taken)) 18446744073709551615
               counted =
-                  let all = ap length (frames-grow script parts.sink.taken 1)
-                  ∙ length-append (delivered_of script parts.sink.taken)
-                  (delivered_since script parts.sink.taken (parts.sink.taken + 1)) in
-                  let now = ap (λ t. length (delivered_of script t)) row.one in
-                  let more = ap length added-is ∙ ap (λ t. length (delivered_since script parts.sink.taken t)) row.one in
+                  let all = ap length (frames-grow leg parts.sink.taken 1)
+                  ∙ length-append (delivered_of leg parts.sink.taken)
+                  (delivered_since leg parts.sink.taken (parts.sink.taken + 1)) in
+                  let now = ap (λ t. length (delivered_of leg t)) row.one in
+                  let more = ap length added-is ∙ ap (λ t. length (delivered_since leg parts.sink.taken t)) row.one in
                   let before = is.counted in
                   omega (arith, counts, all, now, more, before)
 
-              pub taken-kept : IsWalk script (record parts { lines = lines; rows = gather; sink = sink; back = back })
+              pub taken-kept : IsWalk leg (record parts { lines = lines; rows = gather; sink = sink; back = back })
                   landing count' last
               taken-kept = record {
-                valid = is.valid;
+                sound = is.sound;
                 total = is.total;
-                walked = subst (IsWalked script) (sym counts-are) walked-on;
-                source = source-stays script (counts_of parts landing) _ _ _ parts.source is.source;
+                walked = subst (IsWalked leg) (sym counts-are) walked-on;
+                source = source-stays leg (counts_of parts landing) _ _ _ parts.source is.source;
                 sent = sent;
                 lines = popped.lines;
                 sink = record {
@@ -438,14 +439,14 @@ module _ (script : Script) (parts : Parts) (landing : Landed) (got : ℕ) (last 
                   all = row.all ∙ is.sink.all;
                   size = row.size ∙ is.sink.size;
                 };
-                back = subst (λ s. HasBack script s back) (sym counts-are) (record {
+                back = subst (λ s. HasBack leg s back) (sym counts-are) (record {
                   ring = ap (λ (b : Return). b.ring) says ∙ ap (λ ring. ring ++ listed packet) is.back.ring
                       ∙ is_said.ring;
                   lost = ap (λ (b : Return). b.lost) says ∙ is.back.lost;
                   inbox = ap (λ (b : Return). b.inbox) says ∙ is.back.inbox;
                   room = ap (λ (b : Return). b.room) says ∙ is.back.room;
                 });
-                landed = landed-stays script (counts_of parts landing) _ _ _ landing is.landed;
+                landed = landed-stays leg (counts_of parts landing) _ _ _ landing is.landed;
                 counted = counted;
                 noted = is.noted;
               }

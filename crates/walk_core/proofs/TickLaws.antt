@@ -13,11 +13,11 @@ use Rattle.circular_buffer.proofs.Places.{slice_get-set_other}
 use Rattle.realign_core.proofs.GatherLaws.{length-slice_set, set-here}
 use Rattle.vc_cell.specs.declared.BackCell.{BackCell}
 use Rattle.vc_cell.specs.declared.Container.{Container}
-use Rattle.session_model.specs.declared.script.Script.{Script}
+use Rattle.session_model.specs.Leg.{Leg}
 use Rattle.session_model.specs.declared.walk.Event.TheVariants.{Tick}
 use Rattle.session_model.specs.declared.walk.StallCause.{StallCause}
 use Rattle.session_model.specs.declared.walk.StallCause.TheVariants.{Done, BackMissing}
-use Rattle.session_model.specs.Scenario.{Scenario, scenario_of}
+use Rattle.session_model.specs.Scenario.{Scenario, scenario_by}
 use Rattle.session_model.specs.Table.{Told}
 use Rattle.session_model.specs.Back.{session_cells, cells_before}
 use Rattle.session_model.specs.Sent.{container_of, frame_of}
@@ -32,7 +32,7 @@ use Rattle.walk_law.specs.Walk.{walk_plan, CanWalk, IsWalked, counts_at}
 use Rattle.walk_law.specs.Rings.{sent_at, back_cell, inbox}
 use Rattle.walk_law.specs.Landed.{landed_scenario, told_before}
 use Rattle.walk_law.specs.Step.{last_packet, cell_taken, table_in}
-use Rattle.walk_law.proofs.PlanLaws.{valid-walks}
+use Rattle.walk_law.proofs.PlanLaws.{sound-walks}
 use Rattle.walk_law.proofs.WalkLaws.{line-fits}
 use Rattle.walk_law.proofs.SourceLaws.{told-frames}
 use Rattle.walk_law.proofs.StepLaws.{last-next, used-now, said-ends, table-now}
@@ -197,15 +197,15 @@ not-missing plan s cells size none =
 
 -- ---- the return cell of a tick
 -- the tick takes this cell, or none, and leaves this of the return path
-record IsTaken (script : Script) (s : Counts) (back : Return) (cell : Option BackCell) (path : Return) : Type 0 where
-  told : told_before script (s.ticks + 1) ≡ with_cell (told_before script s.ticks) cell
-  inbox : path.inbox ≡ inbox script (record s { ticks = s.ticks + 1 })
+record IsTaken (leg : Leg) (s : Counts) (back : Return) (cell : Option BackCell) (path : Return) : Type 0 where
+  told : told_before leg (s.ticks + 1) ≡ with_cell (told_before leg s.ticks) cell
+  inbox : path.inbox ≡ inbox leg (record s { ticks = s.ticks + 1 })
   ring : path.ring ≡ back.ring
   lost : path.lost ≡ back.lost
   room : path.room ≡ back.room
   backs : path.backs ≡ back.backs
-  noted : s.ticks % 16 ≡ 8 → cell ≡ cell_taken script (s.ticks / 16)
-  some : is_some cell ≡ is_some (needed_at script.config.lag s.ticks)
+  noted : s.ticks % 16 ≡ 8 → cell ≡ cell_taken leg (s.ticks / 16)
+  some : is_some cell ≡ is_some (needed_at leg.config.lag s.ticks)
 
 -- where the cell that is needed is not missing, it is there
 cell-there : (lag ticks backs : ℕ) → ticks % 16 == 8 ≡ true → lag ≤ ticks / 16 →
@@ -218,13 +218,13 @@ cell-there lag ticks backs place since e =
     let h = leb-false (backs - used_in lag ticks) 0 some in
     omega (arith, h)
 
-taken-some : (script : Script) (s : Counts) (back path : Return) (cell : Option BackCell) → CanWalk script →
-    IsWalked script s → s.rows ≤ script.config.ticks → HasBack script s back →
-    is_missing (walk_plan script) s ≡ false → s.ticks % 16 == 8 ≡ true →
-    nat_le script.config.lag (s.ticks / 16) ≡ true →
-    cell ≡ slice_get back.inbox 0 → path ≡ record back { inbox = drop 1 back.inbox } → IsTaken script s back cell path
-taken-some script s back path cell can walked rows has there place late first left =
-    let lag = script.config.lag in
+taken-some : (leg : Leg) (s : Counts) (back path : Return) (cell : Option BackCell) → CanWalk leg →
+    IsWalked leg s → s.rows ≤ leg.config.ticks → HasBack leg s back →
+    is_missing (walk_plan leg) s ≡ false → s.ticks % 16 == 8 ≡ true →
+    nat_le leg.config.lag (s.ticks / 16) ≡ true →
+    cell ≡ slice_get back.inbox 0 → path ≡ record back { inbox = drop 1 back.inbox } → IsTaken leg s back cell path
+taken-some leg s back path cell can walked rows has there place late first left =
+    let lag = leg.config.lag in
     let used = used_in lag s.ticks in
     let at = eqb-true (s.ticks % 16) 8 place in
     let since = leb-true lag (s.ticks / 16) late in
@@ -232,30 +232,30 @@ taken-some script s back path cell can walked rows has there place late first le
     let low = cell-there lag s.ticks s.backs place since there in
     let more : used_in lag (s.ticks + 1) ≡ used_in lag s.ticks + 1 = return_laws.used-next lag s.ticks
     ∙ rw (place, late) refl in
-    let box = has.inbox ∙ return_laws.inbox-taken script s (s.ticks + 1) low more in
-    let is : cell ≡ Some (back_cell script used) = first ∙ ap (λ cells. slice_get cells 0) box in
-    let ends = said-ends script s used can walked low in
+    let box = has.inbox ∙ return_laws.inbox-taken leg s (s.ticks + 1) low more in
+    let is : cell ≡ Some (back_cell leg used) = first ∙ ap (λ cells. slice_get cells 0) box in
+    let ends = said-ends leg s used can walked low in
     record {
-      told = ap (cells_before (scenario_of script)) more
-          ∙ return_laws.cells-next script can used (omega (arith, ends, rows))
-          ∙ sym (ap (with_cell (told_before script s.ticks)) is);
+      told = ap (cells_before (scenario_by leg)) more
+          ∙ return_laws.cells-next leg can used (omega (arith, ends, rows))
+          ∙ sym (ap (with_cell (told_before leg s.ticks)) is);
       inbox = ap (λ (p : Return). p.inbox) left ∙ ap (drop 1) box;
       ring = ap (λ (p : Return). p.ring) left;
       lost = ap (λ (p : Return). p.lost) left;
       room = ap (λ (p : Return). p.room) left;
       backs = ap (λ (p : Return). p.backs) left;
-      noted = λ place_. is ∙ rw late (ap (λ k. Some (back_cell script k)) (used-now lag s.ticks at since));
+      noted = λ place_. is ∙ rw late (ap (λ k. Some (back_cell leg k)) (used-now lag s.ticks at since));
       some = ap is_some is ∙ sym (ap is_some need);
     }
 
-taken-none : (script : Script) (s : Counts) (back path : Return) (cell : Option BackCell) → HasBack script s back →
-    used_in script.config.lag (s.ticks + 1) ≡ used_in script.config.lag s.ticks →
-    needed_at script.config.lag s.ticks ≡ None → (s.ticks % 16 ≡ 8 → None ≡ cell_taken script (s.ticks / 16)) →
-    cell ≡ None → path ≡ back → IsTaken script s back cell path
-taken-none script s back path cell has same need noted is left = record {
-  told = ap (cells_before (scenario_of script)) same ∙ sym (ap (with_cell (told_before script s.ticks)) is);
+taken-none : (leg : Leg) (s : Counts) (back path : Return) (cell : Option BackCell) → HasBack leg s back →
+    used_in leg.config.lag (s.ticks + 1) ≡ used_in leg.config.lag s.ticks →
+    needed_at leg.config.lag s.ticks ≡ None → (s.ticks % 16 ≡ 8 → None ≡ cell_taken leg (s.ticks / 16)) →
+    cell ≡ None → path ≡ back → IsTaken leg s back cell path
+taken-none leg s back path cell has same need noted is left = record {
+  told = ap (cells_before (scenario_by leg)) same ∙ sym (ap (with_cell (told_before leg s.ticks)) is);
   inbox = ap (λ (p : Return). p.inbox) left ∙ has.inbox
-      ∙ ap (λ u. map (back_cell script) (range_with_len u (s.backs - u))) (sym same);
+      ∙ ap (λ u. map (back_cell leg) (range_with_len u (s.backs - u))) (sym same);
   ring = ap (λ (p : Return). p.ring) left;
   lost = ap (λ (p : Return). p.lost) left;
   room = ap (λ (p : Return). p.room) left;
@@ -264,23 +264,23 @@ taken-none script s back path cell has same need noted is left = record {
   some = ap is_some is ∙ sym (ap is_some need);
 }
 
-taken : (script : Script) (s : Counts) (back path : Return) (cell : Option BackCell) → CanWalk script →
-    IsWalked script s → s.rows ≤ script.config.ticks → HasBack script s back →
-    is_missing (walk_plan script) s ≡ false →
-    cell ≡ (if is_some (needed_at script.config.lag s.ticks) then slice_get back.inbox 0 else None) →
-    path ≡ (if is_some (needed_at script.config.lag s.ticks) then record back
-    { inbox = drop 1 back.inbox } else back) → IsTaken script s back cell path
-taken script s back path cell can walked rows has there first left =
-    let lag = script.config.lag in
+taken : (leg : Leg) (s : Counts) (back path : Return) (cell : Option BackCell) → CanWalk leg →
+    IsWalked leg s → s.rows ≤ leg.config.ticks → HasBack leg s back →
+    is_missing (walk_plan leg) s ≡ false →
+    cell ≡ (if is_some (needed_at leg.config.lag s.ticks) then slice_get back.inbox 0 else None) →
+    path ≡ (if is_some (needed_at leg.config.lag s.ticks) then record back
+    { inbox = drop 1 back.inbox } else back) → IsTaken leg s back cell path
+taken leg s back path cell can walked rows has there first left =
+    let lag = leg.config.lag in
     elim (cases_Bool (s.ticks % 16 == 8)) [
-      | inr other ↦ taken-none script s back path cell has
+      | inr other ↦ taken-none leg s back path cell has
           (return_laws.used-next lag s.ticks
           ∙ rw other (let e : used_in lag s.ticks + 0 ≡ used_in lag s.ticks = omega arith in e)) (rw other refl)
           (λ place. absurd (return_laws.not-equal (s.ticks % 16) 8 other place)) (rw other at first) (rw other at left)
       | inl place ↦ elim (cases_Bool (nat_le lag (s.ticks / 16))) [
-        | inl late ↦ taken-some script s back path cell can walked rows has there place late
+        | inl late ↦ taken-some leg s back path cell can walked rows has there place late
             (rw (place, late) at first) (rw (place, late) at left)
-        | inr early ↦ taken-none script s back path cell has
+        | inr early ↦ taken-none leg s back path cell has
             (return_laws.used-next lag s.ticks
             ∙ rw (place, early) (let e : used_in lag s.ticks + 0 ≡ used_in lag s.ticks = omega arith in e))
             (rw (place, early) refl)
@@ -292,18 +292,18 @@ taken script s back path cell can walked rows has there first left =
 apart-places : (t n : ℕ) → t < n → n ≤ t + 31 → t % 32 ≡ n % 32 → ⊥
 apart-places t n low high e = omega (arith, low, high, e)
 
-frame-long : (script : Script) (t : ℕ) →
-    length (frame_of (scenario_of script) (session_cells (scenario_of script)) t) ≡ length script.config.windows
-frame-long script t =
-    length-map (range_with_len 0 (length script.config.windows))
-    (λ line. container_of (scenario_of script) (session_cells (scenario_of script)) line t)
-    ∙ length-range_with_len 0 (length script.config.windows)
+frame-long : (leg : Leg) (t : ℕ) →
+    length (frame_of (scenario_by leg) (session_cells (scenario_by leg)) t) ≡ length leg.config.windows
+frame-long leg t =
+    length-map (range_with_len 0 (length leg.config.windows))
+    (λ line. container_of (scenario_by leg) (session_cells (scenario_by leg)) line t)
+    ∙ length-range_with_len 0 (length leg.config.windows)
 
-sent-more : (script : Script) (ticks : ℕ) (counts : List LineCounts) (sent : List (List Container))
-    (frame : List Container) → HasSent script ticks counts sent →
-    frame ≡ frame_of (scenario_of script) (session_cells (scenario_of script)) ticks →
-    length frame ≡ script.config.lines → HasSent script (ticks + 1) counts (slice_set sent (ticks % 32) frame)
-sent-more script ticks counts sent frame has is long = record {
+sent-more : (leg : Leg) (ticks : ℕ) (counts : List LineCounts) (sent : List (List Container))
+    (frame : List Container) → HasSent leg ticks counts sent →
+    frame ≡ frame_of (scenario_by leg) (session_cells (scenario_by leg)) ticks →
+    length frame ≡ leg.config.lines → HasSent leg (ticks + 1) counts (slice_set sent (ticks % 32) frame)
+sent-more leg ticks counts sent frame has is long = record {
   places = length-slice_set sent (ticks % 32) frame ∙ has.places;
   lines = λ k other e. elim (cases_eq k (ticks % 32)) [
     | inl same ↦ ap length (set-here sent (ticks % 32) frame other
@@ -317,32 +317,32 @@ sent-more script ticks counts sent frame has is long = record {
         ∙ told)
     | inr now ↦
         let e : t ≡ ticks = omega (arith, low, now) in
-        let windows = ap length is ∙ frame-long script ticks in
+        let windows = ap length is ∙ frame-long leg ticks in
         ap (λ xs. slice_get xs m)
         (set-here sent (ticks % 32) frame other
         (sym (ap (λ n. slice_get (slice_set sent (ticks % 32) frame) (n % 32)) e) ∙ told) ∙ is)
-        ∙ frame-at script m ticks (omega (arith, inside, windows, long))
-        ∙ ap (λ n. Some (sent_at script m n)) (sym e)
+        ∙ frame-at leg m ticks (omega (arith, inside, windows, long))
+        ∙ ap (λ n. Some (sent_at leg m n)) (sym e)
   ];
 }
 
 -- ---- the last decision step
-note-next : (script : Script) (ticks : ℕ) (cell : Option BackCell) (last note : Option StepNote) →
-    last ≡ note_of script (last_packet ticks) →
-    (ticks % 16 ≡ 8 → cell ≡ cell_taken script (ticks / 16)) →
+note-next : (leg : Leg) (ticks : ℕ) (cell : Option BackCell) (last note : Option StepNote) →
+    last ≡ note_of leg (last_packet ticks) →
+    (ticks % 16 ≡ 8 → cell ≡ cell_taken leg (ticks / 16)) →
     note ≡ (if ticks % 16 == 8 then Some (record { packet = ticks / 16; back = cell }) else last) →
-    note ≡ note_of script (last_packet (ticks + 1))
-note-next script ticks cell last note before noted is =
+    note ≡ note_of leg (last_packet (ticks + 1))
+note-next leg ticks cell last note before noted is =
     elim (cases_Bool (ticks % 16 == 8)) [
       | inl place ↦
           let now : note ≡ Some (record { packet = ticks / 16; back = cell }) = rw place at is in
           let next : last_packet (ticks + 1) ≡ Some (ticks / 16) = last-next ticks ∙ rw place refl in
           now ∙ ap (λ c. Some (record { packet = ticks / 16; back = c })) (noted (eqb-true (ticks % 16) 8 place))
-          ∙ sym (ap (note_of script) next)
+          ∙ sym (ap (note_of leg) next)
       | inr other ↦
           let now : note ≡ last = rw other at is in
           let next : last_packet (ticks + 1) ≡ last_packet ticks = last-next ticks ∙ rw other refl in
-          now ∙ before ∙ sym (ap (note_of script) next)
+          now ∙ before ∙ sym (ap (note_of leg) next)
     ]
 
 -- the return path once the source has taken what it needs
@@ -360,66 +360,66 @@ carried-at [] k d low = absurd (omega arith)
 carried-at (x ∷ xs) zero d low = refl
 carried-at (x ∷ xs) (suc k) d low = carried-at xs k d (omega arith)
 
-module _ (script : Script) (parts : Parts) (landing : Landed) (got : ℕ) (last : Option StepNote)
-    (is : IsWalk script parts landing got last) where
+module _ (leg : Leg) (parts : Parts) (landing : Landed) (got : ℕ) (last : Option StepNote)
+    (is : IsWalk leg parts landing got last) where
   pub lines-made : (lines : List Ringed) → lines ≡ parts.lines → (k : ℕ) (d : Ringed) → k < length lines →
-      min (slice_index_or lines k d).carried script.config.ticks ≤ parts.source.ticks
+      min (slice_index_or lines k d).carried leg.config.ticks ≤ parts.source.ticks
   lines-made lines same k d low =
       let size = ap length same ∙ is.lines.size in
-      let windows = is.valid.network.windows_each in
-      let fits = line-fits script (counts_of parts landing) (valid-walks script is.valid) is.walked k
+      let windows = is.sound.network.windows_each in
+      let fits = line-fits leg (counts_of parts landing) (sound-walks leg is.sound) is.walked k
       (omega (arith, low, size, windows)) in
       let sent = fits.sent in
       let at = ap (λ (ls : List Ringed). (counts_at (map line_counts ls) k).carried) (sym same)
       ∙ carried-at lines k d low in
-      subst (λ n. min n script.config.ticks ≤ parts.source.ticks) at sent
+      subst (λ n. min n leg.config.ticks ≤ parts.source.ticks) at sent
 
-  pub missing-cause : (packet : ℕ) → parts.source.ticks < script.config.ticks →
-      held parts.source.ticks landing.frames landing.commands 0 (walk_plan script).items ≡ None →
-      full script.config.ticks parts.source.ticks 0 (map line_counts parts.lines) ≡ None →
+  pub missing-cause : (packet : ℕ) → parts.source.ticks < leg.config.ticks →
+      held parts.source.ticks landing.frames landing.commands 0 (walk_plan leg).items ≡ None →
+      full leg.config.ticks parts.source.ticks 0 (map line_counts parts.lines) ≡ None →
       needed parts.source ≡ Some packet → parts.back.inbox ≡ [] →
-      Some (BackMissing packet) ≡ (step (walk_plan script) (counts_of parts landing) Tick).cause
+      Some (BackMissing packet) ≡ (step (walk_plan leg) (counts_of parts landing) Tick).cause
   missing-cause packet low none_held none_full need none =
-      let size : length (inbox script (counts_of parts landing))
-      ≡ in_inbox (walk_plan script) (counts_of parts landing) =
-      length-map (range_with_len (used_in script.config.lag parts.source.ticks)
-      (in_inbox (walk_plan script) (counts_of parts landing))) (back_cell script)
-      ∙ length-range_with_len (used_in script.config.lag parts.source.ticks)
-      (in_inbox (walk_plan script) (counts_of parts landing)) in
-      sym (missing-here (walk_plan script) (counts_of parts landing) packet low none_held none_full
+      let size : length (inbox leg (counts_of parts landing))
+      ≡ in_inbox (walk_plan leg) (counts_of parts landing) =
+      length-map (range_with_len (used_in leg.config.lag parts.source.ticks)
+      (in_inbox (walk_plan leg) (counts_of parts landing))) (back_cell leg)
+      ∙ length-range_with_len (used_in leg.config.lag parts.source.ticks)
+      (in_inbox (walk_plan leg) (counts_of parts landing)) in
+      sym (missing-here (walk_plan leg) (counts_of parts landing) packet low none_held none_full
       (ap (λ lag. needed_at lag parts.source.ticks) (sym is.source.lag) ∙ need)
       (sym size ∙ sym (ap length is.back.inbox) ∙ ap length none))
 
-  inbox-size : length parts.back.inbox ≡ in_inbox (walk_plan script) (counts_of parts landing)
+  inbox-size : length parts.back.inbox ≡ in_inbox (walk_plan leg) (counts_of parts landing)
   inbox-size =
       ap length is.back.inbox
-      ∙ length-map (range_with_len (used_in script.config.lag parts.source.ticks)
-      (in_inbox (walk_plan script) (counts_of parts landing))) (back_cell script)
-      ∙ length-range_with_len (used_in script.config.lag parts.source.ticks)
-      (in_inbox (walk_plan script) (counts_of parts landing))
+      ∙ length-map (range_with_len (used_in leg.config.lag parts.source.ticks)
+      (in_inbox (walk_plan leg) (counts_of parts landing))) (back_cell leg)
+      ∙ length-range_with_len (used_in leg.config.lag parts.source.ticks)
+      (in_inbox (walk_plan leg) (counts_of parts landing))
 
   bare-held : held parts.source.ticks landing.frames landing.commands 0 (dues_of landing.items)
-      ≡ held parts.source.ticks landing.frames landing.commands 0 (walk_plan script).items
+      ≡ held parts.source.ticks landing.frames landing.commands 0 (walk_plan leg).items
   bare-held = ap (held parts.source.ticks landing.frames landing.commands 0)
-      (ap dues_of is.landed.items ∙ bare-dues script.items)
+      (ap dues_of is.landed.items ∙ bare-dues leg.items)
 
   -- why no frame is made, by what the source says
   pub early-cause : (cause : EarlyCause) →
       (if nat_le parts.total parts.source.ticks then Some Early_done else option_map Early_held
       (held parts.source.ticks landing.frames landing.commands 0 (dues_of landing.items))) ≡ Some cause →
-      Some (early_stall cause) ≡ (step (walk_plan script) (counts_of parts landing) Tick).cause
+      Some (early_stall cause) ≡ (step (walk_plan leg) (counts_of parts landing) Tick).cause
   early-cause cause e =
-      by-total (nat_le script.config.ticks parts.source.ticks) refl
-      (held parts.source.ticks landing.frames landing.commands 0 (walk_plan script).items) refl
+      by-total (nat_le leg.config.ticks parts.source.ticks) refl
+      (held parts.source.ticks landing.frames landing.commands 0 (walk_plan leg).items) refl
       (sym (ap (λ n. if nat_le n parts.source.ticks then Some Early_done else option_map Early_held
       (held parts.source.ticks landing.frames landing.commands 0 (dues_of landing.items))) is.total
-      ∙ ap (λ (h : Option ℕ). if nat_le script.config.ticks parts.source.ticks then Some Early_done else option_map
+      ∙ ap (λ (h : Option ℕ). if nat_le leg.config.ticks parts.source.ticks then Some Early_done else option_map
       Early_held h) bare-held) ∙ e)
     where
-      by-total : (done : Bool) → nat_le script.config.ticks parts.source.ticks ≡ done → (found : Option ℕ) →
-          held parts.source.ticks landing.frames landing.commands 0 (walk_plan script).items ≡ found →
+      by-total : (done : Bool) → nat_le leg.config.ticks parts.source.ticks ≡ done → (found : Option ℕ) →
+          held parts.source.ticks landing.frames landing.commands 0 (walk_plan leg).items ≡ found →
           (if done then Some Early_done else option_map Early_held found) ≡ Some cause →
-          Some (early_stall cause) ≡ (step (walk_plan script) (counts_of parts landing) Tick).cause
+          Some (early_stall cause) ≡ (step (walk_plan leg) (counts_of parts landing) Tick).cause
       by-total true past found is_found e = rw past (let same : Early_done ≡ cause = cc in
           ap (λ c. Some (early_stall c)) (sym same))
       by-total false left None is_found e = absurd cc
@@ -428,14 +428,14 @@ module _ (script : Script) (parts : Parts) (landing : Landed) (got : ℕ) (last 
 
   module _ (free : (if nat_le parts.total parts.source.ticks then Some Early_done else option_map Early_held
       (held parts.source.ticks landing.frames landing.commands 0 (dues_of landing.items))) ≡ None) where
-    left-none : (nat_le script.config.ticks parts.source.ticks ≡ false) ×
-        (held parts.source.ticks landing.frames landing.commands 0 (walk_plan script).items ≡ None)
+    left-none : (nat_le leg.config.ticks parts.source.ticks ≡ false) ×
+        (held parts.source.ticks landing.frames landing.commands 0 (walk_plan leg).items ≡ None)
     left-none =
-        by-none (nat_le script.config.ticks parts.source.ticks)
-        (held parts.source.ticks landing.frames landing.commands 0 (walk_plan script).items)
+        by-none (nat_le leg.config.ticks parts.source.ticks)
+        (held parts.source.ticks landing.frames landing.commands 0 (walk_plan leg).items)
         (sym (ap (λ n. if nat_le n parts.source.ticks then Some Early_done else option_map Early_held
         (held parts.source.ticks landing.frames landing.commands 0 (dues_of landing.items))) is.total
-        ∙ ap (λ (h : Option ℕ). if nat_le script.config.ticks parts.source.ticks then Some Early_done else option_map
+        ∙ ap (λ (h : Option ℕ). if nat_le leg.config.ticks parts.source.ticks then Some Early_done else option_map
         Early_held h) bare-held) ∙ free)
       where
         by-none : (done : Bool) (found : Option ℕ) →
@@ -446,50 +446,50 @@ module _ (script : Script) (parts : Parts) (landing : Landed) (got : ℕ) (last 
         by-none false (Some item) e = absurd cc
 
     pub full-cause : (line : ℕ) →
-        full script.config.ticks parts.source.ticks 0 (map line_counts parts.lines) ≡ Some line →
-        Some (TxFull line) ≡ (step (walk_plan script) (counts_of parts landing) Tick).cause
+        full leg.config.ticks parts.source.ticks 0 (map line_counts parts.lines) ≡ Some line →
+        Some (TxFull line) ≡ (step (walk_plan leg) (counts_of parts landing) Tick).cause
     full-cause line found = rw (left-none.0, left-none.1, found) refl
 
     pub missing-stalls : (packet : ℕ) →
-        full script.config.ticks parts.source.ticks 0 (map line_counts parts.lines) ≡ None →
+        full leg.config.ticks parts.source.ticks 0 (map line_counts parts.lines) ≡ None →
         missing_by (needed parts.source) parts.back.inbox ≡ Some packet →
-        Some (BackMissing packet) ≡ (step (walk_plan script) (counts_of parts landing) Tick).cause
+        Some (BackMissing packet) ≡ (step (walk_plan leg) (counts_of parts landing) Tick).cause
     missing-stalls packet slots misses =
         let (need, none) = missing-some (needed parts.source) parts.back.inbox packet misses in
-        missing-cause packet (leb-false script.config.ticks parts.source.ticks left-none.0) left-none.1 slots need none
+        missing-cause packet (leb-false leg.config.ticks parts.source.ticks left-none.0) left-none.1 slots need none
 
-    pub no-cause : full script.config.ticks parts.source.ticks 0 (map line_counts parts.lines) ≡ None →
+    pub no-cause : full leg.config.ticks parts.source.ticks 0 (map line_counts parts.lines) ≡ None →
         missing_by (needed parts.source) parts.back.inbox ≡ None →
-        None ≡ (step (walk_plan script) (counts_of parts landing) Tick).cause
+        None ≡ (step (walk_plan leg) (counts_of parts landing) Tick).cause
     no-cause slots there =
-        let has = not-missing (walk_plan script) (counts_of parts landing) parts.back.inbox inbox-size
+        let has = not-missing (walk_plan leg) (counts_of parts landing) parts.back.inbox inbox-size
         (ap (λ lag. missing_by (needed_at lag parts.source.ticks) parts.back.inbox) (sym is.source.lag) ∙ there) in
         rw (left-none.0, left-none.1, slots, has) refl
 
-  pub tick-stays : (cause : StallCause) → Some cause ≡ (step (walk_plan script) (counts_of parts landing) Tick).cause →
-      (counts_of parts landing ≡ counts_after script (counts_of parts landing) Tick) ×
-      (Stalled cause ≡ moved_of script (counts_of parts landing) Tick)
+  pub tick-stays : (cause : StallCause) → Some cause ≡ (step (walk_plan leg) (counts_of parts landing) Tick).cause →
+      (counts_of parts landing ≡ counts_after leg (counts_of parts landing) Tick) ×
+      (Stalled cause ≡ moved_of leg (counts_of parts landing) Tick)
   tick-stays cause e = (
-    sym (not-take (stalled-same (walk_plan script) (counts_of parts landing) Tick cause (sym e))),
+    sym (not-take (stalled-same (walk_plan leg) (counts_of parts landing) Tick cause (sym e))),
     ap
         (λ o. answer_by o None) e,
   )
     where
-      not-take : ChangesNothing (walk_plan script) (counts_of parts landing) Tick →
-          (step (walk_plan script) (counts_of parts landing) Tick).counts ≡ counts_of parts landing
+      not-take : ChangesNothing (walk_plan leg) (counts_of parts landing) Tick →
+          (step (walk_plan leg) (counts_of parts landing) Tick).counts ≡ counts_of parts landing
       not-take (inl same) = same
       not-take (inr take) = absurd (let e = take.0 in cc)
 
-  module _ (e : None ≡ (step (walk_plan script) (counts_of parts landing) Tick).cause) where
-    goes : (parts.source.ticks < script.config.ticks) × Goes (walk_plan script) (counts_of parts landing)
-        (tick (walk_plan script) (counts_of parts landing))
-    goes = tick-goes (walk_plan script) (counts_of parts landing) e
+  module _ (e : None ≡ (step (walk_plan leg) (counts_of parts landing) Tick).cause) where
+    goes : (parts.source.ticks < leg.config.ticks) × Goes (walk_plan leg) (counts_of parts landing)
+        (tick (walk_plan leg) (counts_of parts landing))
+    goes = tick-goes (walk_plan leg) (counts_of parts landing) e
 
     pub ticks-few : parts.source.ticks < 4294967295
-    ticks-few = let low = goes.0 in let most = is.valid.network.ticks.1 in omega (arith, low, most)
+    ticks-few = let low = goes.0 in let most = is.sound.network.ticks.1 in omega (arith, low, most)
 
-    free : IsFree (walk_plan script) (counts_of parts landing)
-    free = tick-free (walk_plan script) (counts_of parts landing) e
+    free : IsFree (walk_plan leg) (counts_of parts landing)
+    free = tick-free (walk_plan leg) (counts_of parts landing) e
 
     -- the source has no cause either
     pub early-free : (if nat_le parts.total parts.source.ticks then Some Early_done else option_map Early_held
@@ -508,18 +508,18 @@ module _ (script : Script) (parts : Parts) (landing : Landed) (got : ℕ) (last 
             (let f : None ≡ Some (BackMissing packet) = e
             ∙ sym (missing-stalls early-free packet free.slots same) in cc)
 
-    pub tick-moved : Yes ≡ moved_of script (counts_of parts landing) Tick
+    pub tick-moved : Yes ≡ moved_of leg (counts_of parts landing) Tick
     tick-moved = ap (λ o. answer_by o None) e
 
     module _ (cell : Option BackCell) (path : Return)
         (first : cell ≡ (if is_some (needed parts.source) then slice_get parts.back.inbox 0 else None))
         (left : path ≡ (if is_some (needed parts.source) then record parts.back
         { inbox = drop 1 parts.back.inbox } else parts.back)) where
-      is_taken : IsTaken script (counts_of parts landing) parts.back cell path
+      is_taken : IsTaken leg (counts_of parts landing) parts.back cell path
       is_taken =
-          let fits = walk-fits script (counts_of parts landing) is.valid is.walked in
-          taken script (counts_of parts landing) parts.back path cell
-          (valid-walks script is.valid) is.walked fits.rows is.back goes.1.has_cell
+          let fits = walk-fits leg (counts_of parts landing) is.sound is.walked in
+          taken leg (counts_of parts landing) parts.back path cell
+          (sound-walks leg is.sound) is.walked fits.rows is.back goes.1.has_cell
           (subst (λ lag. cell ≡
           (if is_some (needed_at lag parts.source.ticks) then slice_get parts.back.inbox 0 else None)) is.source.lag
           first)
@@ -564,23 +564,23 @@ module _ (script : Script) (parts : Parts) (landing : Landed) (got : ℕ) (last 
               sent = slice_set parts.sent
                   (parts.source.ticks % 32) frame;
               back = path;
-            }) landing ≡ counts_after script (counts_of parts landing) Tick
+            }) landing ≡ counts_after leg (counts_of parts landing) Tick
         tick-counts = counts-are ∙ sym (ap (λ (x : Step). x.counts) goes.1.moves)
 
-        walked-after : IsWalked script (record (counts_of parts landing) { ticks = parts.source.ticks + 1 })
-        walked-after = walked-next script (counts_of parts landing) _ Tick is.walked
+        walked-after : IsWalked leg (record (counts_of parts landing) { ticks = parts.source.ticks + 1 })
+        walked-after = walked-next leg (counts_of parts landing) _ Tick is.walked
             (sym (ap (λ (x : Step). x.counts) goes.1.moves))
 
-        frame-is : frame ≡ frame_of (scenario_of script) (session_cells (scenario_of script)) parts.source.ticks
+        frame-is : frame ≡ frame_of (scenario_by leg) (session_cells (scenario_by leg)) parts.source.ticks
         frame-is =
-            made (landed_scenario script (counts_of parts landing))
-            (told_before script parts.source.ticks) is.source.made
-            ∙ ap (λ cells. frame_of (landed_scenario script (counts_of parts landing)) cells parts.source.ticks)
+            made (landed_scenario leg (counts_of parts landing))
+            (told_before leg parts.source.ticks) is.source.made
+            ∙ ap (λ cells. frame_of (landed_scenario leg (counts_of parts landing)) cells parts.source.ticks)
             (sym is_taken.told)
-            ∙ told-frames script (record (counts_of parts landing) { ticks = parts.source.ticks + 1 })
-            (valid-walks script is.valid) walked-after parts.source.ticks (omega arith)
+            ∙ told-frames leg (record (counts_of parts landing) { ticks = parts.source.ticks + 1 })
+            (sound-walks leg is.sound) walked-after parts.source.ticks (omega arith)
 
-        pub tick-kept : IsWalk script
+        pub tick-kept : IsWalk leg
             (record parts {
               source = source;
               sent = slice_set parts.sent
@@ -588,21 +588,21 @@ module _ (script : Script) (parts : Parts) (landing : Landed) (got : ℕ) (last 
               back = path;
             }) landing got note
         tick-kept = record {
-          valid = is.valid;
+          sound = is.sound;
           total = is.total;
-          walked = subst (IsWalked script) (sym counts-are) walked-after;
-          source = subst (λ s. HasSource script s source) (sym counts-are) (record {
-            made = subst (HasMade source (landed_scenario script (counts_of parts landing))) (sym is_taken.told)
-                (stands (landed_scenario script (counts_of parts landing))
-                (told_before script parts.source.ticks) is.source.made);
+          walked = subst (IsWalked leg) (sym counts-are) walked-after;
+          source = subst (λ s. HasSource leg s source) (sym counts-are) (record {
+            made = subst (HasMade source (landed_scenario leg (counts_of parts landing))) (sym is_taken.told)
+                (stands (landed_scenario leg (counts_of parts landing))
+                (told_before leg parts.source.ticks) is.source.made);
             lines = kind.lines ∙ is.source.lines;
             lag = kind.lag ∙ is.source.lag;
             size = kind.size ∙ is.source.size;
           });
-          sent = subst (λ n. HasSent script n (map line_counts parts.lines)
+          sent = subst (λ n. HasSent leg n (map line_counts parts.lines)
               (slice_set parts.sent (parts.source.ticks % 32) frame)) (sym ticks)
-              (sent-more script parts.source.ticks (map line_counts parts.lines) parts.sent frame is.sent frame-is
-              (ap length frame-is ∙ frame-long script parts.source.ticks ∙ is.valid.network.windows_each));
+              (sent-more leg parts.source.ticks (map line_counts parts.lines) parts.sent frame is.sent frame-is
+              (ap length frame-is ∙ frame-long leg parts.source.ticks ∙ is.sound.network.windows_each));
           lines = is.lines;
           sink = record {
             gathers = is.sink.gathers;
@@ -613,7 +613,7 @@ module _ (script : Script) (parts : Parts) (landing : Landed) (got : ℕ) (last 
             all = is.sink.all;
             size = is.sink.size;
           };
-          back = subst (λ s. HasBack script s path) (sym counts-are)
+          back = subst (λ s. HasBack leg s path) (sym counts-are)
               (record {
                 ring = is_taken.ring ∙ is.back.ring;
                 lost = is_taken.lost
@@ -628,8 +628,8 @@ module _ (script : Script) (parts : Parts) (landing : Landed) (got : ℕ) (last 
             commands = is.landed.commands;
           };
           counted = is.counted;
-          noted = subst (λ n. note ≡ note_of script (last_packet n)) (sym ticks)
-              (note-next script parts.source.ticks cell last note is.noted is_taken.noted noted);
+          noted = subst (λ n. note ≡ note_of leg (last_packet n)) (sym ticks)
+              (note-next leg parts.source.ticks cell last note is.noted is_taken.noted noted);
         }
 
         -- by the rings as they are kept, at a number that is that of the frame
@@ -641,23 +641,23 @@ module _ (script : Script) (parts : Parts) (landing : Landed) (got : ℕ) (last 
               ∙ ap (λ j. slice_set (map frame_in rows) j frame) at
               ∙ ap (λ sent. slice_set sent (parts.source.ticks % 32) frame) same)
 
-          pub tick-kept_at : IsWalk script
+          pub tick-kept_at : IsWalk leg
               (record parts {
                 source = source;
                 sent = map frame_in
                     (slice_set rows k row);
                 back = path;
               }) landing got note
-          tick-kept_at = subst (λ sent. IsWalk script
+          tick-kept_at = subst (λ sent. IsWalk leg
               (record parts { source = source; sent = sent; back = path }) landing got note) rows-are tick-kept
 
 -- ---- the send rings before a frame is put into them
-pub sent-placed : (script : Script) (parts : Parts) (landing : Landed) (got : ℕ) (last : Option StepNote)
-    (sent : List (List Container)) → IsWalk script parts landing got last →
-    HasSent script parts.source.ticks (map line_counts parts.lines) sent →
-    IsWalk script (record parts { sent = sent }) landing got last
-sent-placed script parts landing got last sent is has = record {
-  valid = is.valid;
+pub sent-placed : (leg : Leg) (parts : Parts) (landing : Landed) (got : ℕ) (last : Option StepNote)
+    (sent : List (List Container)) → IsWalk leg parts landing got last →
+    HasSent leg parts.source.ticks (map line_counts parts.lines) sent →
+    IsWalk leg (record parts { sent = sent }) landing got last
+sent-placed leg parts landing got last sent is has = record {
+  sound = is.sound;
   total = is.total;
   walked = is.walked;
   source = is.source;
@@ -671,19 +671,19 @@ sent-placed script parts landing got last sent is has = record {
 }
 
 -- by the ticks and the lines as they are read
-pub sent-read : (script : Script) (ticks now : ℕ) (lines own : List Ringed) (was after : List (List Container)) →
+pub sent-read : (leg : Leg) (ticks now : ℕ) (lines own : List Ringed) (was after : List (List Container)) →
     now ≡ ticks → own ≡ lines →
-    (HasSent script now (map line_counts own) was → HasSent script now (map line_counts own) after) →
-    HasSent script ticks (map line_counts lines) was → HasSent script ticks (map line_counts lines) after
-sent-read script ticks now lines own was after same_ticks same_lines keeps has =
-    subst (λ n. HasSent script n (map line_counts lines) after) same_ticks
-    (subst (λ ls. HasSent script now (map line_counts ls) after) same_lines
-    (keeps (subst (λ ls. HasSent script now (map line_counts ls) was) (sym same_lines)
-    (subst (λ n. HasSent script n (map line_counts lines) was) (sym same_ticks) has))))
+    (HasSent leg now (map line_counts own) was → HasSent leg now (map line_counts own) after) →
+    HasSent leg ticks (map line_counts lines) was → HasSent leg ticks (map line_counts lines) after
+sent-read leg ticks now lines own was after same_ticks same_lines keeps has =
+    subst (λ n. HasSent leg n (map line_counts lines) after) same_ticks
+    (subst (λ ls. HasSent leg now (map line_counts ls) after) same_lines
+    (keeps (subst (λ ls. HasSent leg now (map line_counts ls) was) (sym same_lines)
+    (subst (λ n. HasSent leg n (map line_counts lines) was) (sym same_ticks) has))))
 
 -- ---- the table
-pub table-after : (script : Script) (parts : Parts) (landing : Landed) (got : ℕ) (last : Option StepNote) →
-    IsWalk script parts landing got last → parts.source.table.source.table ≡ table_in script parts.source.ticks
-table-after script parts landing got last is =
+pub table-after : (leg : Leg) (parts : Parts) (landing : Landed) (got : ℕ) (last : Option StepNote) →
+    IsWalk leg parts landing got last → parts.source.table.source.table ≡ table_in leg parts.source.ticks
+table-after leg parts landing got last is =
     ap (λ (table : Course). table.source.table) is.source.made.table
-    ∙ table-now script (counts_of parts landing) (valid-walks script is.valid) is.walked
+    ∙ table-now leg (counts_of parts landing) (sound-walks leg is.sound) is.walked

@@ -1,6 +1,6 @@
 -- The totals of a walk.
 use Rattle.std.proofs.Common.{◌≡◌, ℕ, ◌+◌, ◌-◌, length, Option, ◌∙◌, ap, arith}
-use Rattle.session_model.specs.declared.script.Script.{Script}
+use Rattle.session_model.specs.Leg.{Leg}
 use Rattle.report_text.specs.declared.report.Totals.{Totals}
 use Rattle.walk_law.specs.Landed.{totals_of}
 use Rattle.walk_law.specs.Delivered.{delivered_of}
@@ -14,21 +14,21 @@ abbrev totals_with : ℕ → ℕ → ℕ → ℕ → ℕ → ℕ → Totals
 totals_with ticks taken frames commands refused got = record
     { ticks = ticks; taken = taken; frames = frames; commands = commands; refused = refused; got = got }
 
-module _ (script : Script) (parts : Parts) (landing : Landed) (got : ℕ) (last : Option StepNote)
-    (is : IsWalk script parts landing got last) where
-  all-counted : got ≡ length (delivered_of script parts.sink.taken)
+module _ (leg : Leg) (parts : Parts) (landing : Landed) (got : ℕ) (last : Option StepNote)
+    (is : IsWalk leg parts landing got last) where
+  all-counted : got ≡ length (delivered_of leg parts.sink.taken)
   all-counted =
-      let most = delivered-few script parts.sink.taken is.valid
-      (walk-fits script (counts_of parts landing) is.valid is.walked).rows in
+      let most = delivered-few leg parts.sink.taken is.sound
+      (walk-fits leg (counts_of parts landing) is.sound is.walked).rows in
       let counted = is.counted in
       omega (arith, most, counted)
 
   pub totals-are : (ticks taken frames commands refused : ℕ) → ticks ≡ parts.source.ticks → taken ≡ parts.sink.taken →
       frames + landing.refused_frames ≡ landing.frames → commands + landing.refused_commands ≡ landing.commands →
       refused ≡ length landing.refusals →
-      totals_with ticks taken frames commands refused got ≡ totals_of script (counts_of parts landing)
+      totals_with ticks taken frames commands refused got ≡ totals_of leg (counts_of parts landing)
   totals-are ticks taken frames commands refused is_ticks is_taken more most all =
-      let t : Totals = totals_of script (counts_of parts landing) in
+      let t : Totals = totals_of leg (counts_of parts landing) in
       let is_frames : frames ≡ t.frames = let e = is.landed.frames in omega (arith, e, more) in
       let is_commands : commands ≡ t.commands = let e = is.landed.commands in omega (arith, e, most) in
       ap (λ n. totals_with n taken frames commands refused got) is_ticks

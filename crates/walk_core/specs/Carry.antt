@@ -4,7 +4,7 @@ use Rattle.std.specs.Prelude.{if◌then◌else◌, Option, Some, None}
 use Rattle.std.specs.Global.{Vec, Box}
 use Rattle.vc_cell.specs.declared.Container.{Container}
 use Rattle.vc_cell.specs.Held.{held}
-use Rattle.session_model.specs.declared.script.Script.{Script}
+use Rattle.session_model.specs.Leg.{Leg}
 use Rattle.walk_law.specs.Rings.{sent_at}
 use Rattle.walk_law.specs.Walk.{path_on}
 use Rattle.walk_parts.specs.Ringed.{Ringed, ring_of}
@@ -27,15 +27,15 @@ pub record CanCarry (line : Ringed) (ticks : ℕ) : Type 0 where
   pub room : line.given ≢ line.popped + ring_of line
 
 -- the cells that were popped were given, and the ring holds the others
-pub record HasRoom (script : Script) (m : ℕ) (line : Ringed) : Type 0 where
-  pub pops : line.popped ≤ (path_on script m).given line.carried
-  pub room : (path_on script m).given line.carried ≤ line.popped + script.config.ring
+pub record HasRoom (leg : Leg) (m : ℕ) (line : Ringed) : Type 0 where
+  pub pops : line.popped ≤ (path_on leg m).given line.carried
+  pub room : (path_on leg m).given line.carried ≤ line.popped + leg.config.ring
 
 -- the container of frame t of a line is in the send rings
-abbrev pub IsSentOn : Script → ℕ → ℕ → List (Vec (Box Container)) → Type 0
-IsSentOn script m t sent = t < script.config.ticks →
+abbrev pub IsSentOn : Leg → ℕ → ℕ → List (Vec (Box Container)) → Type 0
+IsSentOn leg m t sent = t < leg.config.ticks →
     (frame : Vec (Box Container)) → slice_get sent (t % 32) ≡ Some frame →
-    slice_get (held frame.items) m ≡ Some (sent_at script m t)
+    slice_get (held frame.items) m ≡ Some (sent_at leg m t)
 
 -- in the send rings, of the frame at a place at most the container of line m has changed, and no other frame
 pub record IsCarriedAt (place m : ℕ) (before after : List (List Container)) : Type 0 where

@@ -2,6 +2,7 @@
 use Rattle.std.specs.Prelude.{ℕ, List, ◌++◌, length, drop, slice_get, Option, Some, None}
 use Rattle.session_model.specs.declared.script.Item.{Item}
 use Rattle.session_model.specs.declared.script.Script.{Script}
+use Rattle.session_model.specs.Leg.{Leg}
 use Rattle.session_model.specs.declared.walk.Event.{Event}
 use Rattle.session_model.specs.declared.walk.Event.TheVariants.{Accept, Command, Tick, Carry, Back, Take}
 use Rattle.session_model.specs.declared.walk.StallCause.{StallCause}
@@ -21,22 +22,22 @@ pub record Walked : Type 0 where
   pub counts : Counts
 
 -- why an item is refused, where there is one
-abbrev pub refusal_of_item : Script → ℕ → Option Item → Option Refusal
-refusal_of_item script number None = None
-refusal_of_item script number (Some item) = refusal_at script (record { number = number; item = item })
+abbrev pub refusal_of_item : Leg → ℕ → Option Item → Option Refusal
+refusal_of_item leg number None = None
+refusal_of_item leg number (Some item) = refusal_at leg (record { number = number; item = item })
 
 -- why the item is refused that an event lands
-abbrev pub refusal_in_event : Script → Counts → Event → Option Refusal
-refusal_in_event script s Accept =
-    refusal_of_item script (place_of is_frame s.frames script.items)
-    (slice_get script.items (place_of is_frame s.frames script.items))
-refusal_in_event script s Command =
-    refusal_of_item script (place_of is_command s.commands script.items)
-    (slice_get script.items (place_of is_command s.commands script.items))
-refusal_in_event script s Tick = None
-refusal_in_event script s (Carry line) = None
-refusal_in_event script s Back = None
-refusal_in_event script s Take = None
+abbrev pub refusal_in_event : Leg → Counts → Event → Option Refusal
+refusal_in_event leg s Accept =
+    refusal_of_item leg (place_of is_frame s.frames leg.items)
+    (slice_get leg.items (place_of is_frame s.frames leg.items))
+refusal_in_event leg s Command =
+    refusal_of_item leg (place_of is_command s.commands leg.items)
+    (slice_get leg.items (place_of is_command s.commands leg.items))
+refusal_in_event leg s Tick = None
+refusal_in_event leg s (Carry line) = None
+refusal_in_event leg s Back = None
+refusal_in_event leg s Take = None
 
 -- the answer, where the event stalls for a cause, or moves and maybe lands an item that is refused
 abbrev pub answer_by : Option StallCause → Option Refusal → Moved
@@ -44,19 +45,19 @@ answer_by (Some cause) why = Stalled cause
 answer_by None (Some why) = Refused why
 answer_by None None = Yes
 
-abbrev pub moved_of : Script → Counts → Event → Moved
-moved_of script s event = answer_by (step (walk_plan script) s event).cause (refusal_in_event script s event)
+abbrev pub moved_of : Leg → Counts → Event → Moved
+moved_of leg s event = answer_by (step (walk_plan leg) s event).cause (refusal_in_event leg s event)
 
 -- the counts after an event
-abbrev pub counts_after : Script → Counts → Event → Counts
-counts_after script s event = (step (walk_plan script) s event).counts
+abbrev pub counts_after : Leg → Counts → Event → Counts
+counts_after leg s event = (step (walk_plan leg) s event).counts
 
 -- the frames that some rows give beside those of fewer rows
-abbrev pub delivered_since : Script → ℕ → ℕ → List (List ℕ)
-delivered_since script before rows = drop (length (delivered_of script before)) (delivered_of script rows)
+abbrev pub delivered_since : Leg → ℕ → ℕ → List (List ℕ)
+delivered_since leg before rows = drop (length (delivered_of leg before)) (delivered_of leg rows)
 
 -- a place of frames is given those of more rows: behind each start it stands for what it stood for, followed by them
-abbrev pub GivesRows : {Out : Type 0} → (Out → Start → List (List ℕ) → Type 0) → Out → Out → Script → ℕ → ℕ → Type 0
-GivesRows stands_for was now script before rows =
+abbrev pub GivesRows : {Out : Type 0} → (Out → Start → List (List ℕ) → Type 0) → Out → Out → Leg → ℕ → ℕ → Type 0
+GivesRows stands_for was now leg before rows =
     (start : Start) (given : List (List ℕ)) → stands_for was start given →
-    stands_for now start (given ++ delivered_since script before rows)
+    stands_for now start (given ++ delivered_since leg before rows)

@@ -4,7 +4,7 @@ use Rattle.std.specs.Global.{Vec, Box}
 use Rattle.vc_cell.specs.declared.Container.{Container}
 use Rattle.vc_cell.specs.declared.Cell.{Cell}
 use Rattle.session_model.specs.declared.script.Config.{Config}
-use Rattle.session_model.specs.declared.script.Script.{Script}
+use Rattle.session_model.specs.Leg.{Leg}
 use Rattle.group_source.specs.Source.{IsUnused}
 use Rattle.line_core.specs.Line.{opened}
 use Rattle.realign_core.specs.Gather.{Gather, Stands as Gathers, line_count}
@@ -42,10 +42,10 @@ pub record IsNewGather (count : ℕ) (gather : Gather) : Type 0 where
   pub rows : gather.rows ≡ 0
 
 -- all of these
-pub record IsNew (script : Script) (opened : Opened) : Type 0 where
-  pub source : IsUnused script opened.ends.source
-  pub sink : IsNewSink script.config opened.ends.sink
-  pub sent : AreRings script.config.lines opened.paths.sent.items
-  pub lines : AreOpened script.config script.config.lines opened.paths.lines.items
-  pub rows : IsNewGather script.config.lines opened.returns.rows
+pub record IsNew (leg : Leg) (opened : Opened) : Type 0 where
+  pub source : IsUnused leg opened.ends.source
+  pub sink : IsNewSink leg.config opened.ends.sink
+  pub sent : AreRings leg.config.lines opened.paths.sent.items
+  pub lines : AreOpened leg.config leg.config.lines opened.paths.lines.items
+  pub rows : IsNewGather leg.config.lines opened.returns.rows
   pub ring : opened.returns.ring ≡ []

@@ -1,10 +1,10 @@
--- What a walk holds, by its script and its counts.
+-- What a walk holds, by its leg and its counts.
 use Rattle.std.specs.Prelude.{◌≡◌, ℕ, ◌+◌, ◌-◌, ◌%◌, ◌<◌, ◌≤◌, min, List, [], map, length, slice_get, slice_index_or}
 use Rattle.std.specs.Prelude.{Option, Some, None}
 use Rattle.std.specs.Global.{Vec, Box}
 use Rattle.vc_cell.specs.declared.Container.{Container}
-use Rattle.session_model.specs.declared.script.Script.{Script}
-use Rattle.session_model.specs.Valid.{IsValid}
+use Rattle.session_model.specs.Leg.{Leg}
+use Rattle.session_model.specs.Valid.{IsSound}
 use Rattle.session_model.specs.Counts.{LineCounts, Counts}
 use Rattle.vc_cell.specs.Held.{held}
 use Rattle.line_core.specs.Line.{Calls}
@@ -71,74 +71,74 @@ counts_of parts landing = record {
 }
 
 -- the calls that brought a line where it is, after some carries
-abbrev pub calls_on : Script → ℕ → ℕ → Calls
-calls_on script line carries = record {
-  delay = delay_on script line;
-  windows = slice_index_or script.config.windows line [];
-  total = script.config.ticks;
-  containers = taken_by script line carries;
-  flushes = carries - script.config.ticks;
+abbrev pub calls_on : Leg → ℕ → ℕ → Calls
+calls_on leg line carries = record {
+  delay = delay_on leg line;
+  windows = slice_index_or leg.config.windows line [];
+  total = leg.config.ticks;
+  containers = taken_by leg line carries;
+  flushes = carries - leg.config.ticks;
 }
 
--- ---- each part stands for what the script and the counts give
-pub record HasSource (script : Script) (s : Counts) (source : Terminal) : Type 0 where
-  pub made : HasMade source (landed_scenario script s) (told_before script s.ticks)
-  pub lines : source.lines ≡ script.config.lines
-  pub lag : source.lag ≡ script.config.lag
-  pub size : source.size ≡ script.config.size
+-- ---- each part stands for what the leg and the counts give
+pub record HasSource (leg : Leg) (s : Counts) (source : Terminal) : Type 0 where
+  pub made : HasMade source (landed_scenario leg s) (told_before leg s.ticks)
+  pub lines : source.lines ≡ leg.config.lines
+  pub lag : source.lag ≡ leg.config.lag
+  pub size : source.size ≡ leg.config.size
 
 -- of the containers of the frames, those that their line hasn't carried
-pub record HasSent (script : Script) (ticks : ℕ) (counts : List LineCounts) (sent : List (List Container)) : Type 0
+pub record HasSent (leg : Leg) (ticks : ℕ) (counts : List LineCounts) (sent : List (List Container)) : Type 0
   where
     pub places : length sent ≡ 32
-    pub lines : (k : ℕ) (frame : List Container) → slice_get sent k ≡ Some frame → length frame ≡ script.config.lines
-    pub frames : (t m : ℕ) (frame : List Container) → m < script.config.lines → (counts_at counts m).carried ≤ t →
+    pub lines : (k : ℕ) (frame : List Container) → slice_get sent k ≡ Some frame → length frame ≡ leg.config.lines
+    pub frames : (t m : ℕ) (frame : List Container) → m < leg.config.lines → (counts_at counts m).carried ≤ t →
         t < ticks → ticks ≤ t + 32 →
-        slice_get sent (t % 32) ≡ Some frame → slice_get frame m ≡ Some (sent_at script m t)
+        slice_get sent (t % 32) ≡ Some frame → slice_get frame m ≡ Some (sent_at leg m t)
 
-pub record HasLine (script : Script) (m : ℕ) (line : Ringed) : Type 0 where
-  pub has : Has line (calls_on script m line.carried)
-  pub ring : ring_of line ≡ script.config.ring
+pub record HasLine (leg : Leg) (m : ℕ) (line : Ringed) : Type 0 where
+  pub has : Has line (calls_on leg m line.carried)
+  pub ring : ring_of line ≡ leg.config.ring
 
-pub record HasLines (script : Script) (lines : List Ringed) : Type 0 where
-  pub size : length lines ≡ script.config.lines
-  pub each : (m : ℕ) (line : Ringed) → slice_get lines m ≡ Some line → HasLine script m line
+pub record HasLines (leg : Leg) (lines : List Ringed) : Type 0 where
+  pub size : length lines ≡ leg.config.lines
+  pub each : (m : ℕ) (line : Ringed) → slice_get lines m ≡ Some line → HasLine leg m line
 
-pub record HasSink (script : Script) (s : Counts) (rows : Gather) (sink : Core) : Type 0 where
-  pub gathers : Gathers rows (popped_cells script s.lines)
-  pub taken : HasTaken sink (popped_cells script s.lines)
+pub record HasSink (leg : Leg) (s : Counts) (rows : Gather) (sink : Core) : Type 0 where
+  pub gathers : Gathers rows (popped_cells leg s.lines)
+  pub taken : HasTaken sink (popped_cells leg s.lines)
   pub passed : rows.rows ≡ sink.taken
   pub lines : line_count rows ≡ sink.lines
-  pub all : sink.lines ≡ script.config.lines
-  pub size : sink.size ≡ script.config.size
+  pub all : sink.lines ≡ leg.config.lines
+  pub size : sink.size ≡ leg.config.size
 
-pub record HasBack (script : Script) (s : Counts) (back : Return) : Type 0 where
-  pub ring : back.ring ≡ return_ring script s
-  pub lost : back.lost ≡ script.config.lost
-  pub inbox : back.inbox ≡ inbox script s
-  pub room : back.room ≡ script.config.lag + 1
+pub record HasBack (leg : Leg) (s : Counts) (back : Return) : Type 0 where
+  pub ring : back.ring ≡ return_ring leg s
+  pub lost : back.lost ≡ leg.config.lost
+  pub inbox : back.inbox ≡ inbox leg s
+  pub room : back.room ≡ leg.config.lag + 1
 
-pub record HasLanded (script : Script) (s : Counts) (landing : Landed) : Type 0 where
-  pub items : landing.items ≡ bare_items script.items
-  pub refusals : landing.refusals ≡ refusals_of script s
-  pub frames : s.frames ≡ (totals_of script s).frames + landing.refused_frames
-  pub commands : s.commands ≡ (totals_of script s).commands + landing.refused_commands
+pub record HasLanded (leg : Leg) (s : Counts) (landing : Landed) : Type 0 where
+  pub items : landing.items ≡ bare_items leg.items
+  pub refusals : landing.refusals ≡ refusals_of leg s
+  pub frames : s.frames ≡ (totals_of leg s).frames + landing.refused_frames
+  pub commands : s.commands ≡ (totals_of leg s).commands + landing.refused_commands
 
 -- the last decision step
-abbrev pub note_of : Script → Option ℕ → Option StepNote
-note_of script None = None
-note_of script (Some packet) = Some (record { packet = packet; back = cell_taken script packet })
+abbrev pub note_of : Leg → Option ℕ → Option StepNote
+note_of leg None = None
+note_of leg (Some packet) = Some (record { packet = packet; back = cell_taken leg packet })
 
--- a walk of a script that can be walked, after some events
-pub record IsWalk (script : Script) (parts : Parts) (landing : Landed) (got : ℕ) (last : Option StepNote) : Type 0 where
-  pub valid : IsValid script
-  pub total : parts.total ≡ script.config.ticks
-  pub walked : IsWalked script (counts_of parts landing)
-  pub source : HasSource script (counts_of parts landing) parts.source
-  pub sent : HasSent script parts.source.ticks (map line_counts parts.lines) parts.sent
-  pub lines : HasLines script parts.lines
-  pub sink : HasSink script (counts_of parts landing) parts.rows parts.sink
-  pub back : HasBack script (counts_of parts landing) parts.back
-  pub landed : HasLanded script (counts_of parts landing) landing
-  pub counted : got ≡ min (length (delivered_of script parts.sink.taken)) 18446744073709551615
-  pub noted : last ≡ note_of script (last_packet parts.source.ticks)
+-- a walk of a leg that can be walked, after some events
+pub record IsWalk (leg : Leg) (parts : Parts) (landing : Landed) (got : ℕ) (last : Option StepNote) : Type 0 where
+  pub sound : IsSound leg
+  pub total : parts.total ≡ leg.config.ticks
+  pub walked : IsWalked leg (counts_of parts landing)
+  pub source : HasSource leg (counts_of parts landing) parts.source
+  pub sent : HasSent leg parts.source.ticks (map line_counts parts.lines) parts.sent
+  pub lines : HasLines leg parts.lines
+  pub sink : HasSink leg (counts_of parts landing) parts.rows parts.sink
+  pub back : HasBack leg (counts_of parts landing) parts.back
+  pub landed : HasLanded leg (counts_of parts landing) landing
+  pub counted : got ≡ min (length (delivered_of leg parts.sink.taken)) 18446744073709551615
+  pub noted : last ≡ note_of leg (last_packet parts.source.ticks)

@@ -2,7 +2,7 @@
 use Rattle.std.specs.Prelude.{◌≡◌, ℕ, ◌+◌, ◌<◌, ◌≤◌, nat_le, if◌then◌else◌, List, map, length, slice_get, Option, Some}
 use Rattle.std.specs.Prelude.{None}
 use Rattle.vc_cell.specs.declared.Cell.{Cell}
-use Rattle.session_model.specs.declared.script.Script.{Script}
+use Rattle.session_model.specs.Leg.{Leg}
 use Rattle.session_model.specs.declared.packet.Packet.{Packet}
 use Rattle.session_model.specs.declared.walk.StallCause.{StallCause}
 use Rattle.session_model.specs.declared.walk.StallCause.TheVariants.{Done, BackFull}
@@ -21,22 +21,22 @@ abbrev pub take_cause : ℕ → Counts → Option StallCause
 take_cause total s = if nat_le total s.rows then Some Done else (if is_back_full s then Some BackFull else None)
 
 -- the cells that were popped of the lines were gathered, and a row is left
-pub record CanPop (script : Script) (own : List Ringed) (gather : Gather) : Type 0 where
-  pub can : CanWalk script
-  pub lines : HasLines script own
-  pub size : length own ≡ length script.config.windows
+pub record CanPop (leg : Leg) (own : List Ringed) (gather : Gather) : Type 0 where
+  pub can : CanWalk leg
+  pub lines : HasLines leg own
+  pub size : length own ≡ length leg.config.windows
   pub pops : (m : ℕ) (line : Ringed) → slice_get own m ≡ Some line → line.popped ≤ line.given
   pub carries : (m : ℕ) (line : Ringed) → slice_get own m ≡ Some line →
-      line.carried ≤ script.config.ticks + delay_on script m + 1
-  pub row : gather.rows < script.config.ticks
-  pub gathers : Gathers gather (popped_cells script (map line_counts own))
+      line.carried ≤ leg.config.ticks + delay_on leg m + 1
+  pub row : gather.rows < leg.config.ticks
+  pub gathers : Gathers gather (popped_cells leg (map line_counts own))
 
 -- lines were popped until each decides the next row, or up to the first that doesn't
-pub record HasPopped (script : Script) (was now : List Ringed) (gather : Gather) (waiting : Option ℕ) : Type 0 where
-  pub lines : HasLines script now
-  pub counts : map line_counts now ≡ (pop_lines gather.rows 0 (walk_plan script).paths (map line_counts was)).lines
-  pub waits : waiting ≡ (pop_lines gather.rows 0 (walk_plan script).paths (map line_counts was)).waiting
-  pub gathers : Gathers gather (popped_cells script (map line_counts now))
+pub record HasPopped (leg : Leg) (was now : List Ringed) (gather : Gather) (waiting : Option ℕ) : Type 0 where
+  pub lines : HasLines leg now
+  pub counts : map line_counts now ≡ (pop_lines gather.rows 0 (walk_plan leg).paths (map line_counts was)).lines
+  pub waits : waiting ≡ (pop_lines gather.rows 0 (walk_plan leg).paths (map line_counts was)).waiting
+  pub gathers : Gathers gather (popped_cells leg (map line_counts now))
 
 -- each line decides the next row
 pub record CanTake (cells : List (List Cell)) (core : Core) (gather : Gather) : Type 0 where

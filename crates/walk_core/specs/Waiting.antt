@@ -2,15 +2,15 @@
 use Rattle.std.specs.Prelude.{ℕ, List}
 use Rattle.vc_cell.specs.declared.Container.{Container}
 use Rattle.vc_cell.specs.declared.Cell.{Cell}
-use Rattle.session_model.specs.declared.script.Script.{Script}
+use Rattle.session_model.specs.Leg.{Leg}
 use Rattle.session_model.specs.Counts.{Counts}
 use Rattle.walk_law.specs.Walk.{counts_at}
 use Rattle.walk_law.specs.Rings.{send_by, receive_by}
 
 -- the session's containers on a line that were made, and that it hasn't carried
-abbrev pub send_ring : Script → Counts → ℕ → List Container
-send_ring script s line = send_by script line s.ticks (counts_at s.lines line).carried
+abbrev pub send_ring : Leg → Counts → ℕ → List Container
+send_ring leg s line = send_by leg line s.ticks (counts_at s.lines line).carried
 
 -- the cells that its carries gave, and that weren't popped
-abbrev pub receive_ring : Script → Counts → ℕ → List Cell
-receive_ring script s line = receive_by script line (counts_at s.lines line).carried (counts_at s.lines line).popped
+abbrev pub receive_ring : Leg → Counts → ℕ → List Cell
+receive_ring leg s line = receive_by leg line (counts_at s.lines line).carried (counts_at s.lines line).popped

@@ -4,6 +4,7 @@ ghost use Rattle.std.specs.Prelude.{◌≡◌, ◌≤◌, [], length, All, IfOk}
 ghost use Rattle.std.specs.Global.{Vec, Box};
 ghost use Rattle.vc_cell.specs.declared.Container.{Container};
 ghost use Rattle.session_model.specs.Valid.{IsValid, IsNetwork};
+ghost use Rattle.session_model.specs.Leg.{leg_of};
 ghost use Rattle.group_source.specs.Source.{IsUnused};
 ghost use Rattle.walk_core.specs.Opened.{AreOpened, AreRings, IsNewSink, IsNewGather, IsNew};
 
@@ -52,7 +53,7 @@ pub(crate) struct Opened {
 /// go where memory is short.
 pub(crate) fn open(alloc: Global, script: &Script) -> Result<Opened, AllocError>
     requires { IsValid script.now }
-    ensures { IfOk result (λ opened. IsNew script.now opened) }
+    ensures { IfOk result (λ opened. IsNew (leg_of script.now) opened) }
 {
     let paths = open_paths(alloc, &script.config)?;
     let returns = open_returns(alloc, &script.config)?;
@@ -67,7 +68,7 @@ pub(crate) fn open(alloc: Global, script: &Script) -> Result<Opened, AllocError>
 /// Opens the terminals.
 fn open_ends(alloc: Global, script: &Script) -> Result<Ends, AllocError>
     requires { IsValid script.now }
-    ensures source { IfOk result (λ ends. IsUnused script.now ends.source) }
+    ensures source { IfOk result (λ ends. IsUnused (leg_of script.now) ends.source) }
     ensures sink { IfOk result (λ ends. IsNewSink script.now.config ends.sink) }
 {
     Ok(Ends {

@@ -1,7 +1,7 @@
 //! The sink's side of a walk: cells are popped until the lines decide a row, and the row is taken.
 
 ghost use Rattle.std.specs.Prelude.{◌≡◌, ℕ, ◌+◌, ◌%◌, ◌==◌, ◌&&◌, nat_le, ◌<◌, ◌≤◌, ◌++◌, List, length, min};
-ghost use Rattle.session_model.specs.declared.script.Script.{Script};
+ghost use Rattle.session_model.specs.Leg.{Leg};
 ghost use Rattle.outside_io.specs.Start.{Start};
 ghost use Rattle.walk_core.specs.Take.{CanPop, HasPopped, CanTake, HasRow};
 ghost use Rattle.sink_core.specs.Given.{added_frames};
@@ -27,8 +27,8 @@ pub(crate) fn ends_packet(row: u32) -> bool
 /// Pops cells line by line until each decides the next row, or up to the first line that doesn't.
 pub(crate) fn pop_lines(lines: &mut Vec<WalkLine>, rows: &mut RowGather) -> Option<u8>
     requires few { length lines.old.items ≤ 128 }
-    ensures pops { (script : Script) → CanPop script lines.old.items rows.old →
-        HasPopped script lines.old.items lines.new.items rows.new result }
+    ensures pops { (leg : Leg) → CanPop leg lines.old.items rows.old →
+        HasPopped leg lines.old.items lines.new.items rows.new result }
     ensures lines { line_count rows.new ≡ line_count rows.old }
     ensures rows { rows.new.rows ≡ rows.old.rows }
 {

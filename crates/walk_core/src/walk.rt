@@ -16,7 +16,7 @@ ghost use Rattle.walk_core.specs.Moved.{answer_by, counts_after, moved_of, deliv
 ghost use Rattle.std.specs.Global.{Vec, Box};
 ghost use Rattle.vc_cell.specs.Held.{held};
 ghost use Rattle.vc_cell.specs.declared.Container.{Container};
-ghost use Rattle.session_model.specs.declared.script.Script.{Script};
+ghost use Rattle.session_model.specs.Leg.{Leg, leg_of};
 ghost use Rattle.walk_law.specs.Walk.{walk_plan, path_on, IsWalked};
 ghost use Rattle.walk_parts.specs.Ringed.{Ringed, ring_of};
 ghost use Rattle.walk_core.specs.Opened.{IsNew};
@@ -70,6 +70,8 @@ pub struct Walk {
 
 impl Model for Walk {
     ghost use Rattle.std.specs.Prelude.{map};
+    ghost use Rattle.session_model.specs.Leg.{leg_of};
+    ghost use Rattle.session_model.specs.Valid.{IsValid};
     ghost use Rattle.walk_core.specs.Moved.{Walked};
     ghost use Rattle.walk_core.specs.Parts.{parts_of, counts_of, sent_frames, IsWalk};
 
@@ -80,7 +82,7 @@ impl Model for Walk {
       counts = counts_of (parts_of w.source (sent_frames w.sent) w.lines.items w.rows w.sink w.ring) w.source.landed;
     } };
 
-    ghost invariant = { λ w. IsWalk w.script (parts_of w.source (sent_frames w.sent) w.lines.items w.rows w.sink w.ring) w.source.landed w.got w.last };
+    ghost invariant = { λ w. IsValid w.script × IsWalk (leg_of w.script) (parts_of w.source (sent_frames w.sent) w.lines.items w.rows w.sink w.ring) w.source.landed w.got w.last };
 }
 
 impl Walk {
@@ -88,7 +90,7 @@ impl Walk {
     pub fn new(alloc: Global, script: Script) -> Result<Walk, AllocError>
         requires { IsValid script }
         ensures script { IfOk result (λ walk. walk.script ≡ script) }
-        ensures counts { IfOk result (λ walk. walk.counts ≡ begin (walk_plan script)) }
+        ensures counts { IfOk result (λ walk. walk.counts ≡ begin (walk_plan (leg_of script))) }
     {
         let opened = open(alloc, &script)?;
         Ok(Walk::from_opened(script, opened))
@@ -97,12 +99,12 @@ impl Walk {
     /// Makes an event. One that stalls changes nothing, but that a Take which waits keeps the cells that it
     /// popped. Frames that a taken row delivers are given to `out`.
     pub fn step<F: FrameOut>(&mut self, event: Event, out: &mut F) -> Moved
-        requires { HasLine (walk_plan self.old.script) event }
+        requires { HasLine (walk_plan (leg_of self.old.script)) event }
         ensures script { self.new.script ≡ self.old.script }
         ensures counts { self.new.counts
-            ≡ counts_after self.old.script self.old.counts event }
-        ensures moved { result ≡ moved_of self.old.script self.old.counts event }
-        ensures gives { GivesRows F.stands_for out.old out.new self.old.script
+            ≡ counts_after (leg_of self.old.script) self.old.counts event }
+        ensures moved { result ≡ moved_of (leg_of self.old.script) self.old.counts event }
+        ensures gives { GivesRows F.stands_for out.old out.new (leg_of self.old.script)
             self.old.counts.rows self.new.counts.rows }
     {
         match event {
@@ -122,9 +124,9 @@ impl Walk {
     /// of the lines.
     pub fn round<F: FrameOut>(&mut self, out: &mut F)
         ensures script { self.new.script ≡ self.old.script }
-        ensures counts { self.new.counts ≡ run (walk_plan self.old.script) self.old.counts
-            (round (walk_plan self.old.script)) }
-        ensures gives { GivesRows F.stands_for out.old out.new self.old.script
+        ensures counts { self.new.counts ≡ run (walk_plan (leg_of self.old.script)) self.old.counts
+            (round (walk_plan (leg_of self.old.script))) }
+        ensures gives { GivesRows F.stands_for out.old out.new (leg_of self.old.script)
             self.old.counts.rows self.new.counts.rows }
     {
         self.accept_all();
@@ -138,10 +140,10 @@ impl Walk {
     /// Makes rounds until all rows are taken.
     pub fn drain<F: FrameOut>(&mut self, out: &mut F)
         ensures script { self.new.script ≡ self.old.script }
-        ensures counts { self.new.counts ≡ drain (bound (walk_plan self.old.script))
-            (walk_plan self.old.script) self.old.counts }
+        ensures counts { self.new.counts ≡ drain (bound (walk_plan (leg_of self.old.script)))
+            (walk_plan (leg_of self.old.script)) self.old.counts }
         ensures all { self.new.counts.rows ≡ self.old.script.config.ticks }
-        ensures gives { GivesRows F.stands_for out.old out.new self.old.script
+        ensures gives { GivesRows F.stands_for out.old out.new (leg_of self.old.script)
             self.old.counts.rows self.old.script.config.ticks }
     {
         while self.sink.taken() < self.script.config.ticks {
@@ -151,7 +153,7 @@ impl Walk {
 
     /// What came of the walk so far, in numbers.
     pub fn totals(&self) -> Totals
-        ensures { result ≡ totals_of self.now.script self.now.counts }
+        ensures { result ≡ totals_of (leg_of self.now.script) self.now.counts }
     {
         Totals {
             ticks: self.source.ticks(),
@@ -167,7 +169,7 @@ impl Walk {
     pub fn script(&self) -> &Script
         ensures script { result.now ≡ self.now.script }
         ensures valid { IsValid self.now.script }
-        ensures walked { IsWalked self.now.script self.now.counts }
+        ensures walked { IsWalked (leg_of self.now.script) self.now.counts }
     {
         &self.script
     }
@@ -181,24 +183,26 @@ impl Walk {
 
     /// The items that were refused, in the order of the script.
     pub fn refusals(&self) -> &[(u32, Refusal)]
-        ensures { result.now ≡ refusals_of self.now.script self.now.counts }
+        ensures { result.now ≡ refusals_of (leg_of self.now.script) self.now.counts }
     {
         self.source.landing().refusals()
     }
 
     /// The last decision step, where one was made.
     pub fn last_step(&self) -> Option<StepNote>
-        ensures { result ≡ note_of self.now.script (last_packet self.now.counts.ticks) }
+        ensures { result ≡ note_of (leg_of self.now.script) (last_packet self.now.counts.ticks) }
     {
         self.last
     }
 
     /// The table of the lines after the last decision step and the commands that were accepted since.
     pub fn table(&self) -> &SourceTable
-        ensures source { result.now.source ≡ source_at (landed_scenario self.now.script self.now.counts)
-            (told_before self.now.script self.now.counts.ticks) (steps_in self.now.counts.ticks) }
+        ensures source { result.now.source
+            ≡ source_at (landed_scenario (leg_of self.now.script) self.now.counts)
+            (told_before (leg_of self.now.script) self.now.counts.ticks)
+            (steps_in self.now.counts.ticks) }
         ensures table { result.now.source.table
-            ≡ table_in self.now.script self.now.counts.ticks }
+            ≡ table_in (leg_of self.now.script) self.now.counts.ticks }
         ensures steps { result.now.steps ≡ steps_in self.now.counts.ticks }
     {
         self.source.table()
@@ -209,7 +213,7 @@ impl Walk {
     pub fn send_ring(&self, line: u8, place: u32) -> Option<&Container>
         requires { line < self.now.script.config.lines }
         ensures { option_copied result
-            ≡ slice_get (send_ring self.now.script self.now.counts line) place }
+            ≡ slice_get (send_ring (leg_of self.now.script) self.now.counts line) place }
     {
         let m = usize::from(line);
         match frame_at(
@@ -228,7 +232,7 @@ impl Walk {
     pub fn receive_ring(&self, line: u8, place: u32) -> Option<CellRef<'_>>
         requires { line < self.now.script.config.lines }
         ensures { option_map cell_of result
-            ≡ slice_get (receive_ring self.now.script self.now.counts line) place }
+            ≡ slice_get (receive_ring (leg_of self.now.script) self.now.counts line) place }
     {
         self.lines[usize::from(line)].waiting(place)
     }
@@ -236,7 +240,8 @@ impl Walk {
     /// The place that is confirmed first in the segment that goes on with the next row, counted from its first octet.
     pub fn first_confirmed(&self) -> Option<u64>
         ensures { result ≡ first_place
-            (segments_of (session_rows self.now.script self.now.counts.rows)).last.octets }
+            (segments_of (session_rows (leg_of self.now.script)
+            self.now.counts.rows)).last.octets }
     {
         self.sink.first_confirmed()
     }
@@ -244,9 +249,9 @@ impl Walk {
     /// A walk of a script before any event, of what was opened for it.
     fn from_opened(script: Script, opened: Opened) -> Walk
         requires script { IsValid script }
-        requires opened { IsNew script opened }
+        requires opened { IsNew (leg_of script) opened }
         ensures script { result.script ≡ script }
-        ensures counts { result.counts ≡ begin (walk_plan script) }
+        ensures counts { result.counts ≡ begin (walk_plan (leg_of script)) }
     {
         let Opened {
             paths,
@@ -272,8 +277,8 @@ impl Walk {
     /// Lands frames until one stalls.
     fn accept_all(&mut self)
         ensures script { self.new.script ≡ self.old.script }
-        ensures counts { self.new.counts ≡ run (walk_plan self.old.script) self.old.counts
-            (replicate (suc (length (walk_plan self.old.script).items)) Accept) }
+        ensures counts { self.new.counts ≡ run (walk_plan (leg_of self.old.script)) self.old.counts
+            (replicate (suc (length (walk_plan (leg_of self.old.script)).items)) Accept) }
         ensures rows { self.new.counts.rows ≡ self.old.counts.rows }
     {
         loop {
@@ -286,8 +291,8 @@ impl Walk {
     /// Lands commands until one stalls.
     fn command_all(&mut self)
         ensures script { self.new.script ≡ self.old.script }
-        ensures counts { self.new.counts ≡ run (walk_plan self.old.script) self.old.counts
-            (replicate (suc (length (walk_plan self.old.script).items)) Command) }
+        ensures counts { self.new.counts ≡ run (walk_plan (leg_of self.old.script)) self.old.counts
+            (replicate (suc (length (walk_plan (leg_of self.old.script)).items)) Command) }
         ensures rows { self.new.counts.rows ≡ self.old.counts.rows }
     {
         loop {
@@ -301,8 +306,8 @@ impl Walk {
     fn accept(&mut self) -> Moved
         ensures script { self.new.script ≡ self.old.script }
         ensures counts { self.new.counts
-            ≡ counts_after self.old.script self.old.counts Accept }
-        ensures moved { result ≡ moved_of self.old.script self.old.counts Accept }
+            ≡ counts_after (leg_of self.old.script) self.old.counts Accept }
+        ensures moved { result ≡ moved_of (leg_of self.old.script) self.old.counts Accept }
     {
         self.land(true)
     }
@@ -311,8 +316,8 @@ impl Walk {
     fn command(&mut self) -> Moved
         ensures script { self.new.script ≡ self.old.script }
         ensures counts { self.new.counts
-            ≡ counts_after self.old.script self.old.counts Command }
-        ensures moved { result ≡ moved_of self.old.script self.old.counts Command }
+            ≡ counts_after (leg_of self.old.script) self.old.counts Command }
+        ensures moved { result ≡ moved_of (leg_of self.old.script) self.old.counts Command }
     {
         self.land(false)
     }
@@ -321,9 +326,9 @@ impl Walk {
     fn land(&mut self, client: bool) -> Moved
         ensures script { self.new.script ≡ self.old.script }
         ensures counts { self.new.counts
-            ≡ counts_after self.old.script self.old.counts (landing_of client) }
+            ≡ counts_after (leg_of self.old.script) self.old.counts (landing_of client) }
         ensures moved { result
-            ≡ moved_of self.old.script self.old.counts (landing_of client) }
+            ≡ moved_of (leg_of self.old.script) self.old.counts (landing_of client) }
     {
         let Some(number) = self.source.landing().next(client) else {
             return Moved::Stalled(StallCause::Done);
@@ -339,9 +344,9 @@ impl Walk {
     fn take<F: FrameOut>(&mut self, out: &mut F) -> Moved
         ensures script { self.new.script ≡ self.old.script }
         ensures counts { self.new.counts
-            ≡ counts_after self.old.script self.old.counts Take }
-        ensures moved { result ≡ moved_of self.old.script self.old.counts Take }
-        ensures gives { GivesRows F.stands_for out.old out.new self.old.script
+            ≡ counts_after (leg_of self.old.script) self.old.counts Take }
+        ensures moved { result ≡ moved_of (leg_of self.old.script) self.old.counts Take }
+        ensures gives { GivesRows F.stands_for out.old out.new (leg_of self.old.script)
             self.old.counts.rows self.new.counts.rows }
     {
         match self.take_stall() {
@@ -355,9 +360,9 @@ impl Walk {
         requires { take_cause self.old.script.config.ticks self.old.counts ≡ None }
         ensures script { self.new.script ≡ self.old.script }
         ensures counts { self.new.counts
-            ≡ counts_after self.old.script self.old.counts Take }
-        ensures moved { result ≡ moved_of self.old.script self.old.counts Take }
-        ensures gives { GivesRows F.stands_for out.old out.new self.old.script
+            ≡ counts_after (leg_of self.old.script) self.old.counts Take }
+        ensures moved { result ≡ moved_of (leg_of self.old.script) self.old.counts Take }
+        ensures gives { GivesRows F.stands_for out.old out.new (leg_of self.old.script)
             self.old.counts.rows self.new.counts.rows }
     {
         if let Some(line) = pop_lines(&mut self.lines, &mut self.rows) {
@@ -386,9 +391,9 @@ impl Walk {
     /// Tries one carry of each line.
     fn carry_all(&mut self)
         ensures script { self.new.script ≡ self.old.script }
-        ensures counts { run (walk_plan self.new.script) self.new.counts (Back ∷ Take ∷ [])
-            ≡ run (walk_plan self.old.script) self.old.counts
-            (carries_from 0 (walk_plan self.old.script).paths) }
+        ensures counts { run (walk_plan (leg_of self.new.script)) self.new.counts
+            (Back ∷ Take ∷ []) ≡ run (walk_plan (leg_of self.old.script)) self.old.counts
+            (carries_from 0 (walk_plan (leg_of self.old.script)).paths) }
         ensures rows { self.new.counts.rows ≡ self.old.counts.rows }
     {
         for line in 0..self.script.config.lines {
@@ -400,8 +405,8 @@ impl Walk {
     fn tick(&mut self) -> Moved
         ensures script { self.new.script ≡ self.old.script }
         ensures counts { self.new.counts
-            ≡ counts_after self.old.script self.old.counts Tick }
-        ensures moved { result ≡ moved_of self.old.script self.old.counts Tick }
+            ≡ counts_after (leg_of self.old.script) self.old.counts Tick }
+        ensures moved { result ≡ moved_of (leg_of self.old.script) self.old.counts Tick }
     {
         if let Some(cause) = self.tick_stall() {
             return Moved::Stalled(cause);
@@ -415,7 +420,7 @@ impl Walk {
 
     /// Why no frame is made.
     fn tick_stall(&self) -> Option<StallCause>
-        ensures { result ≡ (step (walk_plan self.now.script) self.now.counts Tick).cause }
+        ensures { result ≡ (step (walk_plan (leg_of self.now.script)) self.now.counts Tick).cause }
     {
         if let Some(cause) = self.source.early_cause() {
             return Some(stall_early(cause));
@@ -434,8 +439,8 @@ impl Walk {
         requires { line < self.old.script.config.lines }
         ensures script { self.new.script ≡ self.old.script }
         ensures counts { self.new.counts
-            ≡ counts_after self.old.script self.old.counts (Carry line) }
-        ensures moved { result ≡ moved_of self.old.script self.old.counts (Carry line) }
+            ≡ counts_after (leg_of self.old.script) self.old.counts (Carry line) }
+        ensures moved { result ≡ moved_of (leg_of self.old.script) self.old.counts (Carry line) }
     {
         let m = usize::from(line);
         match carry_stall(&self.lines[m], line, self.source.ticks()) {
@@ -451,8 +456,8 @@ impl Walk {
     fn back(&mut self) -> Moved
         ensures script { self.new.script ≡ self.old.script }
         ensures counts { self.new.counts
-            ≡ counts_after self.old.script self.old.counts Back }
-        ensures moved { result ≡ moved_of self.old.script self.old.counts Back }
+            ≡ counts_after (leg_of self.old.script) self.old.counts Back }
+        ensures moved { result ≡ moved_of (leg_of self.old.script) self.old.counts Back }
     {
         if self.ring.is_empty() {
             return Moved::Stalled(StallCause::BackEmpty);
@@ -512,9 +517,9 @@ fn next_place(sent: &mut Vec<Vec<Box<HeldContainer>>>, lines: &[WalkLine], ticks
     requires places { length sent.old.items ≡ 32 }
     ensures place { result ≡ ticks % 32 }
     ensures places { length sent.new.items ≡ 32 }
-    ensures has { (script : Script) → length lines.now ≡ script.config.lines →
-        HasSent script ticks (map line_counts lines.now) (sent_frames sent.old) →
-        HasSent script ticks (map line_counts lines.now) (sent_frames sent.new) }
+    ensures has { (leg : Leg) → length lines.now ≡ leg.config.lines →
+        HasSent leg ticks (map line_counts lines.now) (sent_frames sent.old) →
+        HasSent leg ticks (map line_counts lines.now) (sent_frames sent.new) }
 {
     let place = ticks as usize % SENDS;
     if are_carried(lines, ticks) {
@@ -577,9 +582,9 @@ fn is_dry(own: &WalkLine, ticks: u32) -> bool
 
 /// Why a line carries nothing.
 fn carry_stall(own: &WalkLine, line: u8, ticks: u32) -> Option<StallCause>
-    ensures cause { (script : Script) → HasLineOn script line own.now → HasRoom script line own.now →
-        result ≡ carry_cause script.config.ticks script.config.ring ticks line
-        (path_on script line) (line_counts own.now) }
+    ensures cause { (leg : Leg) → HasLineOn leg line own.now → HasRoom leg line own.now →
+        result ≡ carry_cause leg.config.ticks leg.config.ring ticks line
+        (path_on leg line) (line_counts own.now) }
     ensures can { result ≡ None → CanCarry own.now ticks }
 {
     if own.ended() {
@@ -600,8 +605,8 @@ fn carry_on(own: &mut WalkLine, m: usize, sent: &mut Vec<Vec<Box<HeldContainer>>
     requires places { length sent.old.items ≡ 32 }
     requires lines { (k : ℕ) (frame : Vec (Box Container)) →
         slice_get sent.old.items k ≡ Some frame → m < length frame.items }
-    ensures has { (script : Script) → HasLineOn script m own.old →
-        IsSentOn script m own.old.carried sent.old.items → HasLineOn script m own.new }
+    ensures has { (leg : Leg) → HasLineOn leg m own.old →
+        IsSentOn leg m own.old.carried sent.old.items → HasLineOn leg m own.new }
     ensures carried { own.new.carried ≡ own.old.carried + 1 }
     ensures popped { own.new.popped ≡ own.old.popped }
     ensures sent { IsCarriedAt (own.old.carried % 32) m

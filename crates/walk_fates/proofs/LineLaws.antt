@@ -11,10 +11,10 @@ use Rattle.std.proofs.lemmas.List.Elements.{All-nil, All-cons, All-head, All-tai
 use Rattle.session_model.specs.declared.script.Item.{Item}
 use Rattle.session_model.specs.declared.script.ItemKind.{ItemKind}
 use Rattle.session_model.specs.declared.script.ItemKind.TheVariants.{Frame, Add, Remove}
-use Rattle.session_model.specs.declared.script.Script.{Script}
+use Rattle.session_model.specs.Leg.{Leg}
 use Rattle.session_model.specs.Piece.{Piece, stream_of}
 use Rattle.session_model.specs.Hunt.{Confirmed, hunt}
-use Rattle.session_model.specs.Scenario.{scenario_of, offer_of, offers_of}
+use Rattle.session_model.specs.Scenario.{scenario_by, offer_of, offers_of}
 use Rattle.session_model.specs.Segment.{StreamRow, Segment, segments, octets_of_rows}
 use Rattle.session_model.specs.Client.{place_of, stream_before}
 use Rattle.session_model.specs.Counts.{Counts}
@@ -26,7 +26,7 @@ use Rattle.walk_law.specs.Walk.{session_of}
 use Rattle.walk_law.specs.Delivered.{session_rows}
 use Rattle.walk_law.specs.Promise.{session_pieces}
 use Rattle.walk_law.specs.Landed.{Numbered, is_client, with_if, landed_from, refusal_at}
-use Rattle.walk_law.proofs.PlanLaws.{valid-walks}
+use Rattle.walk_law.proofs.PlanLaws.{sound-walks}
 use Rattle.walk_law.proofs.EndLaws.{counts-within}
 use Rattle.fate_law.specs.declared.Fate.{Fate}
 use Rattle.fate_law.specs.declared.Fate.TheVariants.{Waits, Cut, Unconfirmed, Hunting, Unsettled, Got}
@@ -118,15 +118,15 @@ mark-low rows segment place among marked =
     subst (MarkLow (length (octets_of_rows rows))) among.2 (later-low rows among.0 segment among.1) place marked
 
 -- ---- the pieces of the ticks made
-pub piece-stays : (script : Script) (ticks rows place : ℕ) → rows ≤ ticks → ticks ≤ script.config.ticks →
-    place < length (octets_of_rows (session_rows script rows)) →
-    is_piece_at (stream_before (scenario_of script) (session_of script) ticks).pieces place ≡ is_piece_at
-    (session_pieces script) place
-piece-stays script ticks rows place low high within =
-    let front = (stream_before (scenario_of script) (session_of script) ticks).pieces in
-    let begins = pieces-begin (scenario_of script) (session_of script) ticks script.config.ticks high in
-    let octets = ap length (rows-octets (scenario_of script) (session_of script) rows ticks low) in
-    let part = length-take (place_of (scenario_of script) (session_of script) rows) (stream_of front) in
+pub piece-stays : (leg : Leg) (ticks rows place : ℕ) → rows ≤ ticks → ticks ≤ leg.config.ticks →
+    place < length (octets_of_rows (session_rows leg rows)) →
+    is_piece_at (stream_before (scenario_by leg) (session_of leg) ticks).pieces place ≡ is_piece_at
+    (session_pieces leg) place
+piece-stays leg ticks rows place low high within =
+    let front = (stream_before (scenario_by leg) (session_of leg) ticks).pieces in
+    let begins = pieces-begin (scenario_by leg) (session_of leg) ticks leg.config.ticks high in
+    let octets = ap length (rows-octets (scenario_by leg) (session_of leg) rows ticks low) in
+    let part = length-take (place_of (scenario_by leg) (session_of leg) rows) (stream_of front) in
     sym (ap (λ pieces. is_piece_at pieces place) begins.1
     ∙ piece-front place front begins.0 (omega (arith, octets, part, within)))
 
@@ -150,19 +150,19 @@ module _ (front whole : List Piece) (sent : List ℕ)
       (mark-same segment (hunt true 0 segment.octets) (All-head (IsPart sent) segment segments parts) refl))
       (marks-same segments (All-tail (IsPart sent) segment segments parts))
 
-pub marks-stay : (script : Script) (ticks rows : ℕ) → rows ≤ ticks → ticks ≤ script.config.ticks →
-    are_true_marks (stream_before (scenario_of script) (session_of script) ticks).pieces (session_rows script rows)
-    ≡ are_true_marks (session_pieces script) (session_rows script rows)
-marks-stay script ticks rows low high =
-    marks-same (stream_before (scenario_of script) (session_of script) ticks).pieces (session_pieces script)
-    (octets_of_rows (session_rows script rows))
-    (λ place within. piece-stays script ticks rows place low high within) (segments (session_rows script rows))
-    (parts-of (session_rows script rows))
+pub marks-stay : (leg : Leg) (ticks rows : ℕ) → rows ≤ ticks → ticks ≤ leg.config.ticks →
+    are_true_marks (stream_before (scenario_by leg) (session_of leg) ticks).pieces (session_rows leg rows)
+    ≡ are_true_marks (session_pieces leg) (session_rows leg rows)
+marks-stay leg ticks rows low high =
+    marks-same (stream_before (scenario_by leg) (session_of leg) ticks).pieces (session_pieces leg)
+    (octets_of_rows (session_rows leg rows))
+    (λ place within. piece-stays leg ticks rows place low high within) (segments (session_rows leg rows))
+    (parts-of (session_rows leg rows))
 
 -- ---- a walk that was seen
-module _ (script : Script) (s : Counts) (seen : SeenWalk) (sees : SeesWalk script s seen) where
-  pub within : (s.rows ≤ s.ticks) × (s.ticks ≤ script.config.ticks)
-  within = counts-within script s (valid-walks script sees.valid) sees.walked
+module _ (leg : Leg) (s : Counts) (seen : SeenWalk) (sees : SeesWalk leg s seen) where
+  pub within : (s.rows ≤ s.ticks) × (s.ticks ≤ leg.config.ticks)
+  within = counts-within leg s (sound-walks leg sees.sound) sees.walked
 
   pub reach : s.rows ≤ 16 * length seen.rows.packets.active + 24
   reach = let steps = sees.rows.packets.steps in let low = within.0 in omega (arith, steps, low)
@@ -170,50 +170,50 @@ module _ (script : Script) (s : Counts) (seen : SeenWalk) (sees : SeesWalk scrip
   pub kept-rows : seen.rows.segments.rows ≤ 16 * length seen.rows.packets.active + 24
   kept-rows =
       let count = sees.rows.segments.count in
-      let size = rows-count (scenario_of script) (session_of script) s.rows in
+      let size = rows-count (scenario_by leg) (session_of leg) s.rows in
       let low = reach in
       omega (arith, count, size, low)
 
   pub fate-is : (i : ℕ) (result : Fate) →
-      result ≡ fate_at (stream_before (scenario_of script) (session_of script) s.ticks).pieces
-      (session_rows script s.rows) i → result ≡ fates_in script s.rows i
-  fate-is i result is = is ∙ sym (session-fate script s.ticks s.rows i within.0 within.1)
+      result ≡ fate_at (stream_before (scenario_by leg) (session_of leg) s.ticks).pieces
+      (session_rows leg s.rows) i → result ≡ fates_in leg s.rows i
+  fate-is i result is = is ∙ sym (session-fate leg s.ticks s.rows i within.0 within.1)
 
   pub starts-are : (result : Bool) →
-      result ≡ are_true_marks (stream_before (scenario_of script) (session_of script) s.ticks).pieces
-      (session_rows script s.rows) →
-      result ≡ are_true_marks (session_pieces script) (session_rows script s.rows)
-  starts-are result is = is ∙ marks-stay script s.ticks s.rows within.0 within.1
+      result ≡ are_true_marks (stream_before (scenario_by leg) (session_of leg) s.ticks).pieces
+      (session_rows leg s.rows) →
+      result ≡ are_true_marks (session_pieces leg) (session_rows leg s.rows)
+  starts-are result is = is ∙ marks-stay leg s.ticks s.rows within.0 within.1
 
   -- the row of a mark
-  module _ (segment : RowSegment) (place : ℕ) (among : Contains (later_segments (session_rows script s.rows)) segment)
+  module _ (segment : RowSegment) (place : ℕ) (among : Contains (later_segments (session_rows leg s.rows)) segment)
       (marked : segment.mark ≡ Some place) where
-    pub mark-within : place < place_of (scenario_of script) (session_of script) s.rows
+    pub mark-within : place < place_of (scenario_by leg) (session_of leg) s.rows
     mark-within =
-        let low = mark-low (session_rows script s.rows) segment place among marked in
-        let size = rows-length (scenario_of script) (session_of script) s.rows s.rows (omega arith) in
+        let low = mark-low (session_rows leg s.rows) segment place among marked in
+        let size = rows-length (scenario_by leg) (session_of leg) s.rows s.rows (omega arith) in
         omega (arith, low, size)
 
-    pub not-beyond : place_of (scenario_of script) (session_of script) (16 * length seen.rows.packets.active + 24) ≤
+    pub not-beyond : place_of (scenario_by leg) (session_of leg) (16 * length seen.rows.packets.active + 24) ≤
         place → ⊥
     not-beyond beyond =
-        let up = place-up (scenario_of script) (session_of script) s.rows (16 * length seen.rows.packets.active + 24)
+        let up = place-up (scenario_by leg) (session_of leg) s.rows (16 * length seen.rows.packets.active + 24)
         reach in
         let low = mark-within in
         omega (arith, up, low, beyond)
 
-    pub mark-piece : is_piece_at (stream_before (scenario_of script) (session_of script) s.ticks).pieces place
-        ≡ is_piece_at (session_pieces script) place
-    mark-piece = piece-stays script s.ticks s.rows place within.0 within.1
-        (mark-low (session_rows script s.rows) segment place among marked)
+    pub mark-piece : is_piece_at (stream_before (scenario_by leg) (session_of leg) s.ticks).pieces place
+        ≡ is_piece_at (session_pieces leg) place
+    mark-piece = piece-stays leg s.ticks s.rows place within.0 within.1
+        (mark-low (session_rows leg s.rows) segment place among marked)
 
-    pub mark-row : (row : ℕ) → place_of (scenario_of script) (session_of script) row ≤ place →
-        place < place_of (scenario_of script) (session_of script) (suc row) →
-        row ≡ row_at (session_rows script s.rows) place
-    mark-row row from below = row-is (scenario_of script) (session_of script) s.rows place row mark-within from below
+    pub mark-row : (row : ℕ) → place_of (scenario_by leg) (session_of leg) row ≤ place →
+        place < place_of (scenario_by leg) (session_of leg) (suc row) →
+        row ≡ row_at (session_rows leg s.rows) place
+    mark-row row from below = row-is (scenario_by leg) (session_of leg) s.rows place row mark-within from below
 
 -- ---- the client's items among those that have landed
-module _ (script : Script) (fate : ℕ → Fate) where
+module _ (leg : Leg) (fate : ℕ → Fate) where
   then-skips : (item : Numbered) (why : Option Refusal) (kind : ItemKind) (n : ℕ) (others : ℕ → List Ended) →
       is_client kind ≡ false → ended_then fate item why kind n others ≡ others n
   then-skips item None (Frame octets) n others other = absurd (let e : true ≡ false = other in cc)
@@ -234,18 +234,18 @@ module _ (script : Script) (fate : ℕ → Fate) where
   then-same item (Some why) (Remove line) n xs ys same = same n
 
   with-skips : (there : Bool) (item : Numbered) (rest : List Numbered) (n : ℕ) → is_client item.item.kind ≡ false →
-      ended_on script fate (with_if there item rest) n ≡ ended_on script fate rest n
+      ended_on leg fate (with_if there item rest) n ≡ ended_on leg fate rest n
   unfolding ended_on
   with-skips true item rest n other =
-      then-skips item (refusal_at script item) item.item.kind n (ended_on script fate rest) other
+      then-skips item (refusal_at leg item) item.item.kind n (ended_on leg fate rest) other
   with-skips false item rest n other = refl
 
   with-same : (there : Bool) (item : Numbered) (xs ys : List Numbered) (n : ℕ) →
-      ((m : ℕ) → ended_on script fate xs m ≡ ended_on script fate ys m) →
-      ended_on script fate (with_if there item xs) n ≡ ended_on script fate (with_if there item ys) n
+      ((m : ℕ) → ended_on leg fate xs m ≡ ended_on leg fate ys m) →
+      ended_on leg fate (with_if there item xs) n ≡ ended_on leg fate (with_if there item ys) n
   unfolding ended_on
   with-same true item xs ys n same =
-      then-same item (refusal_at script item) item.item.kind n (ended_on script fate xs) (ended_on script fate ys) same
+      then-same item (refusal_at leg item) item.item.kind n (ended_on leg fate xs) (ended_on leg fate ys) same
   with-same false item xs ys n same = same n
 
   landed-client : (a b i : ℕ) (item : Item) (items : List Item) → is_client item.kind ≡ true →
@@ -261,20 +261,20 @@ module _ (script : Script) (fate : ℕ → Fate) where
   landed-other a b i item items other = rw other refl
 
   pub commands-none : (a b i : ℕ) (items : List Item) (n : ℕ) →
-      ended_on script fate (landed_from a b i items) n ≡ ended_on script fate (landed_from a 0 i items) n
+      ended_on leg fate (landed_from a b i items) n ≡ ended_on leg fate (landed_from a 0 i items) n
   unfolding landed_from
   commands-none a b i [] n = refl
   commands-none a b i (item ∷ items) n =
       let own : Numbered = record { number = i; item = item } in
       elim (cases_Bool (is_client item.kind)) [
-        | inl client ↦ ap (λ l. ended_on script fate l n) (landed-client a b i item items client)
+        | inl client ↦ ap (λ l. ended_on leg fate l n) (landed-client a b i item items client)
             ∙ with-same (nat_lt 0 a) own (landed_from (a - 1) b (suc i) items) (landed_from (a - 1) 0 (suc i) items) n
             (λ m. commands-none (a - 1) b (suc i) items m)
-            ∙ sym (ap (λ l. ended_on script fate l n) (landed-client a 0 i item items client))
-        | inr other ↦ ap (λ l. ended_on script fate l n) (landed-other a b i item items other)
+            ∙ sym (ap (λ l. ended_on leg fate l n) (landed-client a 0 i item items client))
+        | inr other ↦ ap (λ l. ended_on leg fate l n) (landed-other a b i item items other)
             ∙ with-skips (nat_lt 0 b) own (landed_from a (b - 1) (suc i) items) n other
             ∙ commands-none a (b - 1) (suc i) items n
-            ∙ sym (ap (λ l. ended_on script fate l n) (landed-other a 0 i item items other))
+            ∙ sym (ap (λ l. ended_on leg fate l n) (landed-other a 0 i item items other))
       ]
 
   -- how many are accepted with it
@@ -297,14 +297,14 @@ module _ (script : Script) (fate : ℕ → Fate) where
   frame-then item octets None i others = refl
   frame-then item octets (Some why) i others = refl
 
-  pub next-ended : (was now : Cursor) (found : LandedFrame) (next : IsNext script was now found) (i : ℕ) →
-      ended_on script fate (frames_left script was) i ≡ ended_frame found next.octets i ∷ ended_on script fate
-      (frames_left script now) (accepted_by found.refusal i)
+  pub next-ended : (was now : Cursor) (found : LandedFrame) (next : IsNext leg was now found) (i : ℕ) →
+      ended_on leg fate (frames_left leg was) i ≡ ended_frame found next.octets i ∷ ended_on leg fate
+      (frames_left leg now) (accepted_by found.refusal i)
   unfolding ended_on
   next-ended was now found next i =
       let own : Numbered = record { number = found.number; item = next.item } in
-      let others = ended_on script fate (frames_left script now) in
-      ap (λ l. ended_on script fate l i) next.rest
+      let others = ended_on leg fate (frames_left leg now) in
+      ap (λ l. ended_on leg fate l i) next.rest
       ∙ ap₂ (λ why kind. ended_then fate own why kind i others) (sym next.refusal) next.kind
       ∙ frame-then own next.octets found.refusal i others
       ∙ ap (λ due. record { number = found.number; due = due; frame = next.octets; end = end_by fate found.refusal i } ∷
@@ -414,19 +414,19 @@ end-text ticks rows all count starts are =
     (count_of has_waited all) n) (sym none)
 
 -- ---- the client's items so far
-pub record FramesDone (script : Script) (s : Counts) (cursor : Cursor) (count : EndedCount)
+pub record FramesDone (leg : Leg) (s : Counts) (cursor : Cursor) (count : EndedCount)
     (done : List Ended) : Type 0 where
-  pub at : IsAt script s cursor
+  pub at : IsAt leg s cursor
   pub counted : Counted done count
-  pub size : length done ≡ frames_before_item script cursor.item
-  pub rest : ended_of script s ≡ done ++ ended_on script (fates_in script s.rows)
-      (frames_left script cursor) count.frames
+  pub size : length done ≡ frames_before_item leg cursor.item
+  pub rest : ended_of leg s ≡ done ++ ended_on leg (fates_in leg s.rows)
+      (frames_left leg cursor) count.frames
 
-pub frames-begun : (script : Script) (s : Counts) (cursor : Cursor) (count : EndedCount) → IsAt script s cursor →
+pub frames-begun : (leg : Leg) (s : Counts) (cursor : Cursor) (count : EndedCount) → IsAt leg s cursor →
     cursor.item ≡ 0 → count.frames ≡ 0 → count.refused ≡ 0 →
-    count.totals.got ≡ 0 → count.totals.lost ≡ 0 → count.totals.waits ≡ 0 → FramesDone script s cursor count []
-frames-begun script s cursor count at first frames kept got lost waits =
-    let none : frames_before_item script cursor.item ≡ 0 = ap (frames_before_item script) first in
+    count.totals.got ≡ 0 → count.totals.lost ≡ 0 → count.totals.waits ≡ 0 → FramesDone leg s cursor count []
+frames-begun leg s cursor count at first frames kept got lost waits =
+    let none : frames_before_item leg cursor.item ≡ 0 = ap (frames_before_item leg) first in
     let left = at.left in
     let all : s.frames ≡ cursor.left = omega (arith, left, none) in
     record {
@@ -439,34 +439,34 @@ frames-begun script s cursor count at first frames kept got lost waits =
         frames = omega (arith, frames, got, lost, waits);
       };
       size = sym none;
-      rest = commands-none script (fates_in script s.rows) s.frames s.commands 0 script.items 0
-          ∙ ap (λ n. ended_on script (fates_in script s.rows) (landed_from n 0 0 script.items) 0) all
-          ∙ ap (λ i. ended_on script (fates_in script s.rows) (landed_from cursor.left 0 i (drop i script.items)) 0)
+      rest = commands-none leg (fates_in leg s.rows) s.frames s.commands 0 leg.items 0
+          ∙ ap (λ n. ended_on leg (fates_in leg s.rows) (landed_from n 0 0 leg.items) 0) all
+          ∙ ap (λ i. ended_on leg (fates_in leg s.rows) (landed_from cursor.left 0 i (drop i leg.items)) 0)
           (sym first)
-          ∙ ap (ended_on script (fates_in script s.rows) (frames_left script cursor)) (sym frames);
+          ∙ ap (ended_on leg (fates_in leg s.rows) (frames_left leg cursor)) (sym frames);
     }
 
-pub frames-next : (script : Script) (s : Counts) (was now : Cursor) (count more : EndedCount) (done : List Ended)
-    (found : LandedFrame) (next : IsNext script was now found) →
-    FramesDone script s was count done → IsAt script s now →
-    more ≡ counted_end count (end_by (fates_in script s.rows) found.refusal count.frames) →
-    FramesDone script s now more (done ++ ended_frame script (fates_in script s.rows) found next.octets count.frames ∷
+pub frames-next : (leg : Leg) (s : Counts) (was now : Cursor) (count more : EndedCount) (done : List Ended)
+    (found : LandedFrame) (next : IsNext leg was now found) →
+    FramesDone leg s was count done → IsAt leg s now →
+    more ≡ counted_end count (end_by (fates_in leg s.rows) found.refusal count.frames) →
+    FramesDone leg s now more (done ++ ended_frame leg (fates_in leg s.rows) found next.octets count.frames ∷
     [])
-frames-next script s was now count more done found next come at is =
-    let fate = fates_in script s.rows in
-    let own : Ended = ended_frame script fate found next.octets count.frames in
+frames-next leg s was now count more done found next come at is =
+    let fate = fates_in leg s.rows in
+    let own : Ended = ended_frame leg fate found next.octets count.frames in
     record {
       at = at;
       counted = subst (Counted (done ++ own ∷ [])) (sym is)
           (counted-next done count come.counted found.number found.due next.octets
           (end_by fate found.refusal count.frames));
       size = (let one = length-append done (own ∷ []) in let before = come.size in
-          let after = next-count script was now found next in omega (arith, one, before, after));
+          let after = next-count leg was now found next in omega (arith, one, before, after));
       rest = come.rest
-          ∙ ap (λ l. done ++ l) (next-ended script fate was now found next count.frames)
-          ∙ ap (λ n. done ++ own ∷ ended_on script fate (frames_left script now) n)
-          (sym (ap (λ (c : EndedCount). c.frames) is ∙ ended-count script fate count found.refusal))
-          ∙ sym (append_assoc done (own ∷ []) (ended_on script fate (frames_left script now) more.frames));
+          ∙ ap (λ l. done ++ l) (next-ended leg fate was now found next count.frames)
+          ∙ ap (λ n. done ++ own ∷ ended_on leg fate (frames_left leg now) n)
+          (sym (ap (λ (c : EndedCount). c.frames) is ∙ ended-count leg fate count found.refusal))
+          ∙ sym (append_assoc done (own ∷ []) (ended_on leg fate (frames_left leg now) more.frames));
     }
 
 pub offers-few : (items : List Item) → length (offers_of items) ≤ length items
@@ -482,25 +482,25 @@ offers-few (item ∷ items) =
     one (Add line) = omega arith
     one (Remove line) = omega arith
 
-pub frames-few : (script : Script) (s : Counts) (cursor : Cursor) (count : EndedCount) (done : List Ended) →
-    FramesDone script s cursor count done → count.frames + count.refused < 4294967295
-frames-few script s cursor count done come =
+pub frames-few : (leg : Leg) (s : Counts) (cursor : Cursor) (count : EndedCount) (done : List Ended) →
+    FramesDone leg s cursor count done → count.frames + count.refused < 4294967295
+frames-few leg s cursor count done come =
     let size = come.size in
     let items = come.counted.items in
-    let offers = offers-few (take cursor.item script.items) in
-    let part = length-take cursor.item script.items in
-    let few = come.at.valid.few in
+    let offers = offers-few (take cursor.item leg.items) in
+    let part = length-take cursor.item leg.items in
+    let few = come.at.sound.few in
     omega (arith, size, items, offers, part, few)
 
-pub frames-less : (script : Script) (was now : Cursor) (found : LandedFrame) → IsNext script was now found →
-    length (frames_left script now) < length (frames_left script was)
-frames-less script was now found next = let rest = ap length next.rest in omega (arith, rest)
+pub frames-less : (leg : Leg) (was now : Cursor) (found : LandedFrame) → IsNext leg was now found →
+    length (frames_left leg now) < length (frames_left leg was)
+frames-less leg was now found next = let rest = ap length next.rest in omega (arith, rest)
 
-pub frames-past : (script : Script) (s : Counts) (cursor : Cursor) (count : EndedCount) (done : List Ended) →
-    FramesDone script s cursor count done → IsPast script s cursor → done ≡ ended_of script s
+pub frames-past : (leg : Leg) (s : Counts) (cursor : Cursor) (count : EndedCount) (done : List Ended) →
+    FramesDone leg s cursor count done → IsPast leg s cursor → done ≡ ended_of leg s
 unfolding ended_on
-frames-past script s cursor count done come past =
-    sym (come.rest ∙ ap (λ l. done ++ ended_on script (fates_in script s.rows) l count.frames) past.none
+frames-past leg s cursor count done come past =
+    sym (come.rest ∙ ap (λ l. done ++ ended_on leg (fates_in leg s.rows) l count.frames) past.none
     ∙ append-nil done)
 
 pub texts-next : (done : List Ended) (own : Ended) (before : List ℕ) →

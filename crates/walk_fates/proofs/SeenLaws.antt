@@ -6,8 +6,8 @@ use Rattle.std.specs.List.{range_with_len}
 use Rattle.std.specs.Option.{option_map, ForSome}
 use Rattle.std.proofs.lemmas.Bool.{cases_Bool, cases_lt}
 use Rattle.std.proofs.lemmas.List.FromFn.{map-range_with_len_more, length-map-range_with_len}
-use Rattle.session_model.specs.declared.script.Script.{Script}
-use Rattle.session_model.specs.Scenario.{scenario_of, steps_in}
+use Rattle.session_model.specs.Leg.{Leg}
+use Rattle.session_model.specs.Scenario.{scenario_by, steps_in}
 use Rattle.session_model.specs.Table.{Table, active}
 use Rattle.session_model.specs.Source.{after, table_of}
 use Rattle.session_model.specs.Damage.{AreWindows}
@@ -17,14 +17,14 @@ use Rattle.session_model.specs.SessionRows.{is_whole_row}
 use Rattle.session_model.specs.SessionStream.{rows_of, row_of}
 use Rattle.session_model.specs.Client.{place_of}
 use Rattle.session_model.specs.Counts.{Counts}
-use Rattle.session_model.specs.Valid.{IsValid}
+use Rattle.session_model.specs.Valid.{IsSound}
 use Rattle.loss_law.proofs.CutLaws.{Stands-all}
 use Rattle.loss_law.proofs.FoundLaws.{confirmed-within}
 use Rattle.loss_law.proofs.SessionStreamLaws.{rows-length}
 use Rattle.walk_law.specs.Walk.{session_of, IsWalked}
 use Rattle.walk_law.specs.Step.{table_in}
 use Rattle.walk_law.specs.Delivered.{session_rows}
-use Rattle.walk_law.proofs.PlanLaws.{valid-walks}
+use Rattle.walk_law.proofs.PlanLaws.{sound-walks}
 use Rattle.walk_law.proofs.EndLaws.{counts-within}
 use Rattle.walk_law.proofs.CountLaws.{place-most}
 use Rattle.gfp_mark.specs.Marks.{first_place}
@@ -39,15 +39,15 @@ use Rattle.walk_fates.specs.Seen.{Sees}
 use Rattle.walk_fates.specs.declared.seen.SeenRows.{SeenRows}
 
 -- ---- bounds
-pub few-rows : (script : Script) (s : Counts) → IsValid script → IsWalked script s → (s.rows ≤ s.ticks) ×
-    (s.ticks ≤ script.config.ticks) × (s.ticks ≤ 1000000)
-few-rows script s valid walked =
-    let within = counts-within script s (valid-walks script valid) walked in
-    let most = valid.network.ticks.1 in
+pub few-rows : (leg : Leg) (s : Counts) → IsSound leg → IsWalked leg s → (s.rows ≤ s.ticks) ×
+    (s.ticks ≤ leg.config.ticks) × (s.ticks ≤ 1000000)
+few-rows leg s sound walked =
+    let within = counts-within leg s (sound-walks leg sound) walked in
+    let most = sound.network.ticks.1 in
     (within.0, within.1, omega (arith, within.1, most))
 
-pub windows-apart : (script : Script) → IsValid script → All (AreWindows 0) script.config.windows
-windows-apart script valid k d low = (valid.network.windows k d low).apart
+pub windows-apart : (leg : Leg) → IsSound leg → All (AreWindows 0) leg.config.windows
+windows-apart leg sound k d low = (sound.network.windows k d low).apart
 
 -- ---- packets
 list-next : (f : ℕ → List ℕ) (all : List (List ℕ)) (last : List ℕ) (n : ℕ) → length all ≡ n →
@@ -70,21 +70,21 @@ list-next f all last n size before is k low = elim (cases_lt k n) [
     last-of [] = refl
     last-of (x ∷ xs) = last-of xs
 
-pub packets-next : (script : Script) (before ticks : ℕ) (packets : PacketList) (lines : List ℕ) (next : PacketList) →
-    Governs script before packets →
-    steps_in ticks ≡ steps_in before + 1 → lines ≡ active (table_in script ticks) →
+pub packets-next : (leg : Leg) (before ticks : ℕ) (packets : PacketList) (lines : List ℕ) (next : PacketList) →
+    Governs leg before packets →
+    steps_in ticks ≡ steps_in before + 1 → lines ≡ active (table_in leg ticks) →
     next ≡ record { size = packets.size; active = packets.active ++ lines ∷ [] } →
-    Governs script ticks next
-packets-next script before ticks packets lines next governs step is made =
+    Governs leg ticks next
+packets-next leg before ticks packets lines next governs step is made =
     let are = governs.are in
     let steps : length packets.active + 1 ≡ steps_in ticks = omega (arith, governs.steps, step) in
-    let table = λ (k : ℕ). active (table_of (scenario_of script) (session_of script) k) in
+    let table = λ (k : ℕ). active (table_of (scenario_by leg) (session_of leg) k) in
     let count : length (packets.active ++ lines ∷ []) ≡ length packets.active + 1 =
     length-append packets.active (lines ∷ []) in
     let here : lines ≡ table (length packets.active) = is
     ∙ ap (λ n. active (table-after n))
     (let e : steps_in ticks ≡ suc (length packets.active) = omega (arith, steps) in e) in
-    subst (Governs script ticks) (sym made) (record {
+    subst (Governs leg ticks) (sym made) (record {
       are = record {
         size = are.size;
         lines =
@@ -95,27 +95,27 @@ packets-next script before ticks packets lines next governs step is made =
     })
   where
     table-after : ℕ → Table
-    table-after n = (after (scenario_of script) (session_of script) n).table
+    table-after n = (after (scenario_by leg) (session_of leg) n).table
 
 -- ---- rows
-pub causes-next : (script : Script) (n : ℕ) →
-    map (row_cause (scenario_of script) (session_of script)) (range_with_len 0 (n + 1))
-    ≡ map (row_cause (scenario_of script) (session_of script)) (range_with_len 0 n) ++ row_cause (scenario_of script)
-    (session_of script) n ∷ []
-causes-next script n = map-range_with_len_more (row_cause (scenario_of script) (session_of script)) 0 n n (omega arith)
+pub causes-next : (leg : Leg) (n : ℕ) →
+    map (row_cause (scenario_by leg) (session_of leg)) (range_with_len 0 (n + 1))
+    ≡ map (row_cause (scenario_by leg) (session_of leg)) (range_with_len 0 n) ++ row_cause (scenario_by leg)
+    (session_of leg) n ∷ []
+causes-next leg n = map-range_with_len_more (row_cause (scenario_by leg) (session_of leg)) 0 n n (omega arith)
 
-pub rows-next : (script : Script) (n : ℕ) →
-    session_rows script (n + 1) ≡ session_rows script n ++ row_of (scenario_of script) (session_of script) n ∷ []
+pub rows-next : (leg : Leg) (n : ℕ) →
+    session_rows leg (n + 1) ≡ session_rows leg n ++ row_of (scenario_by leg) (session_of leg) n ∷ []
 unfolding rows_of
-rows-next script n = ap (session_rows script) (let e : n + 1 ≡ suc n = omega arith in e)
+rows-next leg n = ap (session_rows leg) (let e : n + 1 ≡ suc n = omega arith in e)
 
-pub whole-cause : (script : Script) (t : ℕ) (cause : Option Cause) →
-    cause ≡ row_cause (scenario_of script) (session_of script) t →
-    is_whole_row (scenario_of script) (session_of script) t ≡ is_none cause
-whole-cause script t None is = (cause-whole (scenario_of script) (session_of script) t).0 (sym is)
-whole-cause script t (Some cause) is = elim (cases_Bool (is_whole_row (scenario_of script) (session_of script) t)) [
+pub whole-cause : (leg : Leg) (t : ℕ) (cause : Option Cause) →
+    cause ≡ row_cause (scenario_by leg) (session_of leg) t →
+    is_whole_row (scenario_by leg) (session_of leg) t ≡ is_none cause
+whole-cause leg t None is = (cause-whole (scenario_by leg) (session_of leg) t).0 (sym is)
+whole-cause leg t (Some cause) is = elim (cases_Bool (is_whole_row (scenario_by leg) (session_of leg) t)) [
   | inl whole ↦ absurd (let wrong : Some cause ≡ None = is
-      ∙ (cause-whole (scenario_of script) (session_of script) t).1 whole in cc)
+      ∙ (cause-whole (scenario_by leg) (session_of leg) t).1 whole in cc)
   | inr cut ↦ cut
 ]
 
@@ -131,17 +131,17 @@ confirms-by : (base : ℕ) (found : Option Confirmed) →
 confirms-by base None = refl
 confirms-by base (Some found) = refl
 
-pub row-tells : (script : Script) (s : Counts) (rows end : ℕ) (confirmed : Option ℕ) → rows ≡ s.rows →
-    end ≡ place_of (scenario_of script) (session_of script) s.rows →
-    confirmed ≡ first_place (segments_of (session_rows script s.rows)).last.octets →
-    Tells (session_rows script rows) end confirmed
-row-tells script s rows end confirmed is ends told = record {
-  ends = ends ∙ sym (rows-length (scenario_of script) (session_of script) s.rows s.rows (omega arith))
-      ∙ ap (λ n. length (octets_of_rows (session_rows script n))) (sym is);
-  confirms = ap (option_map (λ place. (segments_of (session_rows script rows)).last.base + place))
-      (told ∙ ap (λ n. first_place (segments_of (session_rows script n)).last.octets) (sym is))
-      ∙ confirms-by (segments_of (session_rows script rows)).last.base
-      (hunt true 0 (segments_of (session_rows script rows)).last.octets);
+pub row-tells : (leg : Leg) (s : Counts) (rows end : ℕ) (confirmed : Option ℕ) → rows ≡ s.rows →
+    end ≡ place_of (scenario_by leg) (session_of leg) s.rows →
+    confirmed ≡ first_place (segments_of (session_rows leg s.rows)).last.octets →
+    Tells (session_rows leg rows) end confirmed
+row-tells leg s rows end confirmed is ends told = record {
+  ends = ends ∙ sym (rows-length (scenario_by leg) (session_of leg) s.rows s.rows (omega arith))
+      ∙ ap (λ n. length (octets_of_rows (session_rows leg n))) (sym is);
+  confirms = ap (option_map (λ place. (segments_of (session_rows leg rows)).last.base + place))
+      (told ∙ ap (λ n. first_place (segments_of (session_rows leg n)).last.octets) (sym is))
+      ∙ confirms-by (segments_of (session_rows leg rows)).last.base
+      (hunt true 0 (segments_of (session_rows leg rows)).last.octets);
 }
 
 few-by : (octets : List ℕ) (found : Option Confirmed) → hunt true 0 octets ≡ found → length octets < 2 ^ 63 →
@@ -150,82 +150,82 @@ few-by octets None is low place there = absurd (let e : None ≡ Some place = th
 few-by octets (Some found) is low place there = let within = confirmed-within octets found is in
     let e : found.place ≡ place = cc in omega (arith, within, low, e)
 
-pub place-low : (script : Script) (rows : ℕ) → IsValid script → rows ≤ script.config.ticks →
-    place_of (scenario_of script) (session_of script) rows < 2 ^ 63
-place-low script rows valid low = let most = place-most script rows valid low in omega (arith, most)
+pub place-low : (leg : Leg) (rows : ℕ) → IsSound leg → rows ≤ leg.config.ticks →
+    place_of (scenario_by leg) (session_of leg) rows < 2 ^ 63
+place-low leg rows sound low = let most = place-most leg rows sound low in omega (arith, most)
 
-pub mark-low : (script : Script) (rows : ℕ) (confirmed : Option ℕ) → IsValid script → rows ≤ script.config.ticks →
-    confirmed ≡ first_place (segments_of (session_rows script rows)).last.octets →
+pub mark-low : (leg : Leg) (rows : ℕ) (confirmed : Option ℕ) → IsSound leg → rows ≤ leg.config.ticks →
+    confirmed ≡ first_place (segments_of (session_rows leg rows)).last.octets →
     ForSome confirmed (λ place. place < 2 ^ 63)
-mark-low script rows confirmed valid low told =
-    let stands = Stands-all (session_rows script rows) in
-    let octets = rows-length (scenario_of script) (session_of script) rows rows (omega arith) in
-    let place = place-low script rows valid low in
-    let last = (segments_of (session_rows script rows)).last.octets in
+mark-low leg rows confirmed sound low told =
+    let stands = Stands-all (session_rows leg rows) in
+    let octets = rows-length (scenario_by leg) (session_of leg) rows rows (omega arith) in
+    let place = place-low leg rows sound low in
+    let last = (segments_of (session_rows leg rows)).last.octets in
     let few : length last < 2 ^ 63 = omega (arith, stands.ends, octets, place) in
     subst (λ found. ForSome found (λ place. place < 2 ^ 63)) (sym told) (few-by last (hunt true 0 last) refl few)
 
 -- ---- how many
-pub causes-size : (script : Script) (n : ℕ) →
-    length (map (row_cause (scenario_of script) (session_of script)) (range_with_len 0 n)) ≡ n
-causes-size script n = length-map-range_with_len (row_cause (scenario_of script) (session_of script)) 0 n
+pub causes-size : (leg : Leg) (n : ℕ) →
+    length (map (row_cause (scenario_by leg) (session_of leg)) (range_with_len 0 n)) ≡ n
+causes-size leg n = length-map-range_with_len (row_cause (scenario_by leg) (session_of leg)) 0 n
 
-pub rows-size : (script : Script) (n : ℕ) → length (session_rows script n) ≡ n
+pub rows-size : (leg : Leg) (n : ℕ) → length (session_rows leg n) ≡ n
 unfolding rows_of
-rows-size script zero = refl
-rows-size script (suc n) = let before = rows-size script n in
-    let more = length-append (session_rows script n) (row_of (scenario_of script) (session_of script) n ∷ []) in
+rows-size leg zero = refl
+rows-size leg (suc n) = let before = rows-size leg n in
+    let more = length-append (session_rows leg n) (row_of (scenario_by leg) (session_of leg) n ∷ []) in
     omega (arith, before, more)
 
 -- ---- before any row
-pub nothing-governs : (script : Script) (size : ℕ) (packets : PacketList) → script.config.size ≡ size →
-    packets ≡ record { size = size; active = [] } → Governs script 0 packets
-nothing-governs script size packets is made = subst (Governs script 0) (sym made) (record {
+pub nothing-governs : (leg : Leg) (size : ℕ) (packets : PacketList) → leg.config.size ≡ size →
+    packets ≡ record { size = size; active = [] } → Governs leg 0 packets
+nothing-governs leg size packets is made = subst (Governs leg 0) (sym made) (record {
   are = record { size = sym is; lines = λ k low. absurd (omega (arith, low)) };
   steps = refl;
 })
 
-pub no-rows : (script : Script) → session_rows script 0 ≡ []
+pub no-rows : (leg : Leg) → session_rows leg 0 ≡ []
 unfolding rows_of
-no-rows script = refl
+no-rows leg = refl
 
-pub sees-nothing : (script : Script) (size : ℕ) (seen : SeenRows) → script.config.size ≡ size →
+pub sees-nothing : (leg : Leg) (size : ℕ) (seen : SeenRows) → leg.config.size ≡ size →
     seen.packets ≡ record { size = size; active = [] } → Stands seen.segments [] → AreRuns seen.runs [] →
-    Sees script 0 0 seen
-sees-nothing script size seen is made segments runs = record {
-  packets = nothing-governs script size seen.packets is made;
-  segments = subst (Stands seen.segments) (sym (no-rows script)) segments;
+    Sees leg 0 0 seen
+sees-nothing leg size seen is made segments runs = record {
+  packets = nothing-governs leg size seen.packets is made;
+  segments = subst (Stands seen.segments) (sym (no-rows leg)) segments;
   runs = runs;
 }
 
 -- ---- one row more
-pub one-row : (script : Script) (ticks row rows : ℕ) (seen : SeenRows) → row + 1 ≡ rows →
-    Governs script ticks seen.packets →
-    Stands seen.segments (session_rows script row ++ row_of (scenario_of script) (session_of script) row ∷ []) →
-    AreRuns seen.runs (map (row_cause (scenario_of script) (session_of script)) (range_with_len 0 row) ++ row_cause
-    (scenario_of script) (session_of script) row ∷ []) → Sees script ticks rows seen
-one-row script ticks row rows seen next packets segments runs = subst (λ n. Sees script ticks n seen) next (record {
+pub one-row : (leg : Leg) (ticks row rows : ℕ) (seen : SeenRows) → row + 1 ≡ rows →
+    Governs leg ticks seen.packets →
+    Stands seen.segments (session_rows leg row ++ row_of (scenario_by leg) (session_of leg) row ∷ []) →
+    AreRuns seen.runs (map (row_cause (scenario_by leg) (session_of leg)) (range_with_len 0 row) ++ row_cause
+    (scenario_by leg) (session_of leg) row ∷ []) → Sees leg ticks rows seen
+one-row leg ticks row rows seen next packets segments runs = subst (λ n. Sees leg ticks n seen) next (record {
   packets = packets;
-  segments = subst (Stands seen.segments) (sym (rows-next script row)) segments;
-  runs = subst (AreRuns seen.runs) (sym (causes-next script row)) runs;
+  segments = subst (Stands seen.segments) (sym (rows-next leg row)) segments;
+  runs = subst (AreRuns seen.runs) (sym (causes-next leg row)) runs;
 })
 
 -- ---- a decision step, or none
-pub sees-step : (script : Script) (before ticks rows : ℕ) (seen next : SeenRows) (packets : PacketList)
-    (lines : List ℕ) → Sees script before rows seen →
-    steps_in ticks ≡ steps_in before + 1 → lines ≡ active (table_in script ticks) →
+pub sees-step : (leg : Leg) (before ticks rows : ℕ) (seen next : SeenRows) (packets : PacketList)
+    (lines : List ℕ) → Sees leg before rows seen →
+    steps_in ticks ≡ steps_in before + 1 → lines ≡ active (table_in leg ticks) →
     packets ≡ record { size = seen.packets.size; active = seen.packets.active ++ lines ∷ [] } →
-    next ≡ record { packets = packets; segments = seen.segments; runs = seen.runs } → Sees script ticks rows next
-sees-step script before ticks rows seen next packets lines sees step is made so =
-    subst (Sees script ticks rows) (sym so) (record {
-      packets = packets-next script before ticks seen.packets lines packets sees.packets step is made;
+    next ≡ record { packets = packets; segments = seen.segments; runs = seen.runs } → Sees leg ticks rows next
+sees-step leg before ticks rows seen next packets lines sees step is made so =
+    subst (Sees leg ticks rows) (sym so) (record {
+      packets = packets-next leg before ticks seen.packets lines packets sees.packets step is made;
       segments = sees.segments;
       runs = sees.runs;
     })
 
-pub sees-same : (script : Script) (before ticks rows : ℕ) (seen next : SeenRows) → Sees script before rows seen →
-    steps_in ticks ≡ steps_in before → next ≡ seen → Sees script ticks rows next
-sees-same script before ticks rows seen next sees step so = subst (Sees script ticks rows) (sym so) (record {
+pub sees-same : (leg : Leg) (before ticks rows : ℕ) (seen next : SeenRows) → Sees leg before rows seen →
+    steps_in ticks ≡ steps_in before → next ≡ seen → Sees leg ticks rows next
+sees-same leg before ticks rows seen next sees step so = subst (Sees leg ticks rows) (sym so) (record {
   packets = record { are = sees.packets.are; steps = sees.packets.steps ∙ sym step };
   segments = sees.segments;
   runs = sees.runs;

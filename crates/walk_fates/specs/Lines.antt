@@ -1,8 +1,8 @@
 -- What is known of a walk that was made, and what its items came to, as private clauses say it.
 use Rattle.std.specs.Prelude.{◌≡◌, ℕ, ◌+◌, List, length, Option, Some, None}
-use Rattle.session_model.specs.declared.script.Script.{Script}
+use Rattle.session_model.specs.Leg.{Leg}
 use Rattle.session_model.specs.Counts.{Counts}
-use Rattle.session_model.specs.Valid.{IsValid}
+use Rattle.session_model.specs.Valid.{IsSound}
 use Rattle.walk_law.specs.Walk.{IsWalked}
 use Rattle.walk_law.specs.Delivered.{session_rows}
 use Rattle.walk_law.specs.Promise.{session_pieces}
@@ -19,15 +19,15 @@ use Rattle.walk_fates.specs.declared.seen.SeenWalk.{SeenWalk}
 use Rattle.walk_fates.specs.declared.lines.EndedCount.{EndedCount}
 
 -- what is known of a walk that was made
-pub record SeesWalk (script : Script) (s : Counts) (seen : SeenWalk) : Type 0 where
-  pub valid : IsValid script
-  pub walked : IsWalked script s
-  pub rows : Sees script s.ticks s.rows seen.rows
-  pub places : Rules script s.ticks seen.ruler
+pub record SeesWalk (leg : Leg) (s : Counts) (seen : SeenWalk) : Type 0 where
+  pub sound : IsSound leg
+  pub walked : IsWalked leg s
+  pub rows : Sees leg s.ticks s.rows seen.rows
+  pub places : Rules leg s.ticks seen.ruler
 
 -- the line of a segment of some rows
-abbrev pub segment_in : Script → ℕ → RowSegment → List ℕ
-segment_in script rows segment = segment_text (session_pieces script) (session_rows script rows) segment
+abbrev pub segment_in : Leg → ℕ → RowSegment → List ℕ
+segment_in leg rows segment = segment_text (session_pieces leg) (session_rows leg rows) segment
 
 -- the items whose lines were written, counted
 pub record Counted (all : List Ended) (count : EndedCount) : Type 0 where
@@ -39,8 +39,8 @@ pub record Counted (all : List Ended) (count : EndedCount) : Type 0 where
 
 -- ---- item by item
 -- what became of accepted frames after some rows
-abbrev pub fates_in : Script → ℕ → ℕ → Fate
-fates_in script rows = fate_at (session_pieces script) (session_rows script rows)
+abbrev pub fates_in : Leg → ℕ → ℕ → Fate
+fates_in leg rows = fate_at (session_pieces leg) (session_rows leg rows)
 
 -- the end of a client item, by why it is refused, where so many were accepted before it
 abbrev pub end_by : (ℕ → Fate) → Option Refusal → ℕ → End

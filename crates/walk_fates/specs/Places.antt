@@ -1,17 +1,17 @@
 -- The packets of a walk and the places of its frames, as private clauses say it.
 use Rattle.std.specs.Prelude.{◌≡◌, ℕ, length}
-use Rattle.session_model.specs.declared.script.Script.{Script}
-use Rattle.session_model.specs.Scenario.{scenario_of, steps_in}
+use Rattle.session_model.specs.Leg.{Leg}
+use Rattle.session_model.specs.Scenario.{scenario_by, steps_in}
 use Rattle.session_model.specs.Client.{stream_before}
 use Rattle.walk_law.specs.Walk.{session_of}
 use Rattle.fate_law.specs.Ruler.{Ruler, ruler_of}
 use Rattle.fate_core.specs.Packets.{PacketList, ArePackets}
 
 -- the packets are those whose decision steps some ticks made
-pub record Governs (script : Script) (ticks : ℕ) (packets : PacketList) : Type 0 where
-  pub are : ArePackets (scenario_of script) (session_of script) packets
+pub record Governs (leg : Leg) (ticks : ℕ) (packets : PacketList) : Type 0 where
+  pub are : ArePackets (scenario_by leg) (session_of leg) packets
   pub steps : length packets.active ≡ steps_in ticks
 
 -- the ruler is that of the stream before a tick is made
-abbrev pub Rules : Script → ℕ → Ruler → Type 0
-Rules script ticks ruler = ruler ≡ ruler_of (stream_before (scenario_of script) (session_of script) ticks)
+abbrev pub Rules : Leg → ℕ → Ruler → Type 0
+Rules leg ticks ruler = ruler ≡ ruler_of (stream_before (scenario_by leg) (session_of leg) ticks)

@@ -2,6 +2,7 @@
 //! that landed, and one of totals.
 ghost use Rattle.std.specs.Prelude.{◌≡◌, ℕ, ◌+◌, ◌<◌, ◌++◌, List, Contains, slice_get, OnOk, OnErr};
 ghost use Rattle.std.specs.List.{flat_map};
+ghost use Rattle.session_model.specs.Leg.{leg_of};
 ghost use Rattle.outside_io.specs.Start.{Start};
 ghost use Rattle.outside_io.specs.Transfer.{Appends, AppendsPart};
 ghost use Rattle.got_lines.specs.Told.{HasText};
@@ -53,11 +54,11 @@ fn write_runs<K: ByteSink>(runs: &[SpoiledRun], got: &mut GotLines<K>)
 
 /// What is confirmed first in a segment, which is one of those but the first.
 fn told_mark(segment: RowSegment, walk: &Walk, seen: &SeenWalk) -> Option<ToldMark>
-    requires seen { SeesWalk walk.now.script walk.now.counts seen.now }
+    requires seen { SeesWalk (leg_of walk.now.script) walk.now.counts seen.now }
     requires segment { Contains
-        (later_segments (session_rows walk.now.script walk.now.counts.rows)) segment }
-    ensures { told_text result ≡ mark_text (session_pieces walk.now.script)
-        (session_rows walk.now.script walk.now.counts.rows) segment.mark }
+        (later_segments (session_rows (leg_of walk.now.script) walk.now.counts.rows)) segment }
+    ensures { told_text result ≡ mark_text (session_pieces (leg_of walk.now.script))
+        (session_rows (leg_of walk.now.script) walk.now.counts.rows) segment.mark }
 {
     let place = segment.mark?;
     let row = seen.rows.packets.row_of(place)?;
@@ -69,13 +70,13 @@ fn told_mark(segment: RowSegment, walk: &Walk, seen: &SeenWalk) -> Option<ToldMa
 
 /// Writes the line of a segment, of those but the first, counted from 0.
 fn write_segment<K: ByteSink>(i: usize, walk: &Walk, seen: &SeenWalk, got: &mut GotLines<K>)
-    requires { SeesWalk walk.now.script walk.now.counts seen.now }
+    requires { SeesWalk (leg_of walk.now.script) walk.now.counts seen.now }
     ensures { (segment : RowSegmentData) →
-        slice_get (later_segments (session_rows walk.now.script walk.now.counts.rows)) i
+        slice_get (later_segments (session_rows (leg_of walk.now.script) walk.now.counts.rows)) i
         ≡ Some segment → (start : Start) (before : List ℕ) →
         HasText K.written K.faults got.old start before →
         HasText K.written K.faults got.new start
-        (before ++ segment_in walk.now.script walk.now.counts.rows segment) }
+        (before ++ segment_in (leg_of walk.now.script) walk.now.counts.rows segment) }
 {
     let Some(segment) = seen.rows.segments.later(i) else {
         return;
@@ -87,12 +88,12 @@ fn write_segment<K: ByteSink>(i: usize, walk: &Walk, seen: &SeenWalk, got: &mut 
 
 /// Writes the lines of the segments but the first.
 fn write_segments<K: ByteSink>(walk: &Walk, seen: &SeenWalk, got: &mut GotLines<K>)
-    requires { SeesWalk walk.now.script walk.now.counts seen.now }
+    requires { SeesWalk (leg_of walk.now.script) walk.now.counts seen.now }
     ensures { (start : Start) (before : List ℕ) →
         HasText K.written K.faults got.old start before →
         HasText K.written K.faults got.new start
-        (before ++ flat_map (segment_in walk.now.script walk.now.counts.rows)
-        (later_segments (session_rows walk.now.script walk.now.counts.rows))) }
+        (before ++ flat_map (segment_in (leg_of walk.now.script) walk.now.counts.rows)
+        (later_segments (session_rows (leg_of walk.now.script) walk.now.counts.rows))) }
 {
     for i in 0..seen.rows.segments.later_count() {
         write_segment(i, walk, seen, got);
@@ -101,8 +102,8 @@ fn write_segments<K: ByteSink>(walk: &Walk, seen: &SeenWalk, got: &mut GotLines<
 
 /// What became of an accepted frame, counted from 0 as they were accepted.
 pub fn accepted_fate(frame: u32, walk: &Walk, seen: &SeenWalk) -> Fate
-    requires { SeesWalk walk.now.script walk.now.counts seen.now }
-    ensures { result ≡ fates_in walk.now.script walk.now.counts.rows frame }
+    requires { SeesWalk (leg_of walk.now.script) walk.now.counts seen.now }
+    ensures { result ≡ fates_in (leg_of walk.now.script) walk.now.counts.rows frame }
 {
     let rows = &seen.rows;
     fate(frame as usize, &seen.ruler, &rows.packets, &rows.segments)
@@ -159,7 +160,7 @@ fn write_frame<K: ByteSink>(
     ended: &mut EndedCount,
     got: &mut GotLines<K>,
 )
-    requires seen { SeesWalk walk.now.script walk.now.counts seen.now }
+    requires seen { SeesWalk (leg_of walk.now.script) walk.now.counts seen.now }
     requires few { ended.old.frames + ended.old.refused < 4294967295 }
     requires sum { ended.old.frames
         ≡ ended.old.totals.got + ended.old.totals.lost + ended.old.totals.waits }
@@ -167,9 +168,11 @@ fn write_frame<K: ByteSink>(
         HasText K.written K.faults got.old start before →
         HasText K.written K.faults got.new start
         (before ++ item_text frame.number frame.due
-        (end_by (fates_in walk.now.script walk.now.counts.rows) frame.refusal ended.old.frames)) }
+        (end_by (fates_in (leg_of walk.now.script) walk.now.counts.rows) frame.refusal
+        ended.old.frames)) }
     ensures count { ended.new ≡ counted_end ended.old
-        (end_by (fates_in walk.now.script walk.now.counts.rows) frame.refusal ended.old.frames) }
+        (end_by (fates_in (leg_of walk.now.script) walk.now.counts.rows) frame.refusal
+        ended.old.frames) }
 {
     match frame.refusal {
         Some(why) => write_refused(frame, why, ended, got),
@@ -182,12 +185,12 @@ fn write_frame<K: ByteSink>(
 
 /// Writes the lines of the client items that have landed, and counts them.
 fn write_frames<K: ByteSink>(walk: &Walk, seen: &SeenWalk, got: &mut GotLines<K>) -> EndedCount
-    requires { SeesWalk walk.now.script walk.now.counts seen.now }
+    requires { SeesWalk (leg_of walk.now.script) walk.now.counts seen.now }
     ensures text { (start : Start) (before : List ℕ) →
         HasText K.written K.faults got.old start before →
         HasText K.written K.faults got.new start
-        (before ++ flat_map ended_text (ended_of walk.now.script walk.now.counts)) }
-    ensures counted { Counted (ended_of walk.now.script walk.now.counts) result }
+        (before ++ flat_map ended_text (ended_of (leg_of walk.now.script) walk.now.counts)) }
+    ensures counted { Counted (ended_of (leg_of walk.now.script) walk.now.counts) result }
 {
     let mut ended = EndedCount {
         frames: 0,
@@ -203,13 +206,13 @@ fn write_frames<K: ByteSink>(walk: &Walk, seen: &SeenWalk, got: &mut GotLines<K>
 
 /// Writes the last line.
 fn write_end<K: ByteSink>(walk: &Walk, seen: &SeenWalk, ended: EndedCount, got: &mut GotLines<K>)
-    requires { SeesWalk walk.now.script walk.now.counts seen.now }
+    requires { SeesWalk (leg_of walk.now.script) walk.now.counts seen.now }
     ensures { (all : List Ended) → Counted all ended → (start : Start) (before : List ℕ) →
         HasText K.written K.faults got.old start before →
         HasText K.written K.faults got.new start
         (before ++ fates_end walk.now.counts.ticks walk.now.counts.rows all
-        (are_true_marks (session_pieces walk.now.script)
-        (session_rows walk.now.script walk.now.counts.rows))) }
+        (are_true_marks (session_pieces (leg_of walk.now.script))
+        (session_rows (leg_of walk.now.script) walk.now.counts.rows))) }
 {
     let totals = walk.totals();
     let tally = Tally {
@@ -227,11 +230,11 @@ fn write_end<K: ByteSink>(walk: &Walk, seen: &SeenWalk, ended: EndedCount, got: 
 
 /// Writes what became of the frames of a walk.
 pub fn write_fates<K: ByteSink>(walk: &Walk, seen: &SeenWalk, out: &mut K) -> Result<(), Failed>
-    requires { SeesWalk walk.now.script walk.now.counts seen.now }
+    requires { SeesWalk (leg_of walk.now.script) walk.now.counts seen.now }
     ensures ok { OnOk result (Appends K.written K.faults out.old out.new
-        (fates_text walk.now.script walk.now.counts)) }
+        (fates_text (leg_of walk.now.script) walk.now.counts)) }
     ensures err { OnErr result (AppendsPart K.written K.faults out.old out.new
-        (fates_text walk.now.script walk.now.counts)) }
+        (fates_text (leg_of walk.now.script) walk.now.counts)) }
 {
     let mut got = GotLines::new(out);
     write_runs(seen.rows.runs.runs(), &mut got);

@@ -1,6 +1,7 @@
 //! Where the pieces of a walk's accepted frames lie, which is known once the walk was made: by when they
 //! landed, and by how far the stream was made in each tick.
 ghost use Rattle.std.specs.Prelude.{◌≡◌, ℕ, ◌+◌, ◌^◌, ◌≤◌, ◌<◌, IfOk, IfSome, IfNone};
+ghost use Rattle.session_model.specs.Leg.{leg_of};
 ghost use Rattle.session_model.specs.Valid.{IsValid};
 ghost use Rattle.walk_law.specs.Walk.{IsWalked};
 ghost use Rattle.fate_law.specs.Ruler.{ruler_of};
@@ -16,13 +17,13 @@ use walk_frames::{FrameCursor, LandedFrame};
 /// The stream is made by the ticks after some up to another.
 fn reach_ticks(ruler: &mut Ruler, walk: &Walk, packets: &Packets, from: u32, to: u32)
     requires valid { IsValid walk.now.script }
-    requires walked { IsWalked walk.now.script walk.now.counts }
-    requires packets { Governs walk.now.script walk.now.counts.ticks packets.now }
+    requires walked { IsWalked (leg_of walk.now.script) walk.now.counts }
+    requires packets { Governs (leg_of walk.now.script) walk.now.counts.ticks packets.now }
     requires order { from ≤ to }
     requires to { to ≤ walk.now.counts.ticks }
-    ensures { (frames : ℕ) → Between walk.now.script frames from to →
-        ruler.old ≡ ruler_of (stream_in walk.now.script from frames) →
-        ruler.new ≡ ruler_of (stream_in walk.now.script to frames) }
+    ensures { (frames : ℕ) → Between (leg_of walk.now.script) frames from to →
+        ruler.old ≡ ruler_of (stream_in (leg_of walk.now.script) from frames) →
+        ruler.new ≡ ruler_of (stream_in (leg_of walk.now.script) to frames) }
 {
     for t in from..to {
         ruler.reach(place_after(walk, packets, t));
@@ -32,10 +33,10 @@ fn reach_ticks(ruler: &mut Ruler, walk: &Walk, packets: &Packets, from: u32, to:
 /// The place at which a row ends of which the tick was made.
 fn place_after(walk: &Walk, packets: &Packets, row: u32) -> u64
     requires valid { IsValid walk.now.script }
-    requires walked { IsWalked walk.now.script walk.now.counts }
-    requires packets { Governs walk.now.script walk.now.counts.ticks packets.now }
+    requires walked { IsWalked (leg_of walk.now.script) walk.now.counts }
+    requires packets { Governs (leg_of walk.now.script) walk.now.counts.ticks packets.now }
     requires made { row < walk.now.counts.ticks }
-    ensures is { result ≡ place_in walk.now.script (row + 1) }
+    ensures is { result ≡ place_in (leg_of walk.now.script) (row + 1) }
     ensures low { result < 2 ^ 63 }
 {
     packets.place(row + 1)
@@ -43,13 +44,13 @@ fn place_after(walk: &Walk, packets: &Packets, row: u32) -> u64
 
 /// The next frame that landed before a tick was made.
 fn next_before(cursor: &mut FrameCursor, walk: &Walk, ticks: u32) -> Option<LandedFrame>
-    requires at { IsAt walk.now.script walk.now.counts cursor.old }
+    requires at { IsAt (leg_of walk.now.script) walk.now.counts cursor.old }
     requires ticks { ticks ≡ walk.now.counts.ticks }
-    ensures at { IsAt walk.now.script walk.now.counts cursor.new }
-    ensures some { IfSome result (IsNext walk.now.script cursor.old cursor.new) }
+    ensures at { IsAt (leg_of walk.now.script) walk.now.counts cursor.new }
+    ensures some { IfSome result (IsNext (leg_of walk.now.script) cursor.old cursor.new) }
     ensures before { IfSome result (λ found. found.due < walk.now.counts.ticks) }
-    ensures none { IfNone result (IsLate walk.now.script
-        (frames_before_item walk.now.script cursor.old.item) walk.now.counts.ticks) }
+    ensures none { IfNone result (IsLate (leg_of walk.now.script)
+        (frames_before_item (leg_of walk.now.script) cursor.old.item) walk.now.counts.ticks) }
 {
     match cursor.next(walk) {
         Some(frame) if frame.due < ticks => Some(frame),
@@ -60,9 +61,9 @@ fn next_before(cursor: &mut FrameCursor, walk: &Walk, ticks: u32) -> Option<Land
 /// Where the pieces of the accepted frames of a walk lie that were begun.
 pub fn place_frames(alloc: Global, walk: &Walk, packets: &Packets) -> Result<Ruler, AllocError>
     requires valid { IsValid walk.now.script }
-    requires walked { IsWalked walk.now.script walk.now.counts }
-    requires packets { Governs walk.now.script walk.now.counts.ticks packets.now }
-    ensures { IfOk result (Rules walk.now.script walk.now.counts.ticks) }
+    requires walked { IsWalked (leg_of walk.now.script) walk.now.counts }
+    requires packets { Governs (leg_of walk.now.script) walk.now.counts.ticks packets.now }
+    ensures { IfOk result (Rules (leg_of walk.now.script) walk.now.counts.ticks) }
 {
     let made = walk.totals().ticks;
     let mut ruler = Ruler::new(alloc);

@@ -2,7 +2,7 @@
 //! the row that was taken is whole and why not, and what is confirmed after it.
 ghost use Rattle.std.specs.Prelude.{◌≡◌, ◌+◌, ◌≤◌, OnOk};
 ghost use Rattle.std.specs.Bool.{OnTrue, OnFalse};
-ghost use Rattle.session_model.specs.declared.script.Script.{Script};
+ghost use Rattle.session_model.specs.Leg.{Leg, leg_of};
 ghost use Rattle.session_model.specs.Scenario.{steps_in};
 ghost use Rattle.session_model.specs.Valid.{IsValid};
 ghost use Rattle.walk_law.specs.Walk.{IsWalked};
@@ -44,11 +44,11 @@ pub fn is_step(before: u32, now: u32) -> bool
 /// Sees a row, which was taken last.
 fn see_row(walk: &Walk, row: u32, seen: &mut SeenRows) -> Result<(), AllocError>
     requires valid { IsValid walk.now.script }
-    requires walked { IsWalked walk.now.script walk.now.counts }
+    requires walked { IsWalked (leg_of walk.now.script) walk.now.counts }
     requires last { row + 1 ≡ walk.now.counts.rows }
-    requires seen { Sees walk.now.script walk.now.counts.ticks row seen.old }
+    requires seen { Sees (leg_of walk.now.script) walk.now.counts.ticks row seen.old }
     ensures { OnOk result
-        (Sees walk.now.script walk.now.counts.ticks walk.now.counts.rows seen.new) }
+        (Sees (leg_of walk.now.script) walk.now.counts.ticks walk.now.counts.rows seen.new) }
 {
     let cause = row_cause(&walk.script().config.windows, &seen.packets, row);
     seen.runs.row(cause)?;
@@ -60,14 +60,14 @@ fn see_row(walk: &Walk, row: u32, seen: &mut SeenRows) -> Result<(), AllocError>
 /// Sees what came of a turn, after so many ticks and rows.
 pub fn see_since(walk: &Walk, ticks: u32, rows: u32, seen: &mut SeenRows) -> Result<(), AllocError>
     requires valid { IsValid walk.now.script }
-    requires walked { IsWalked walk.now.script walk.now.counts }
+    requires walked { IsWalked (leg_of walk.now.script) walk.now.counts }
     requires least { ticks ≤ walk.now.counts.ticks }
     requires most { walk.now.counts.ticks ≤ ticks + 1 }
     requires rows { rows ≤ walk.now.counts.rows }
     requires one { walk.now.counts.rows ≤ rows + 1 }
-    requires seen { Sees walk.now.script ticks rows seen.old }
+    requires seen { Sees (leg_of walk.now.script) ticks rows seen.old }
     ensures { OnOk result
-        (Sees walk.now.script walk.now.counts.ticks walk.now.counts.rows seen.new) }
+        (Sees (leg_of walk.now.script) walk.now.counts.ticks walk.now.counts.rows seen.new) }
 {
     let totals = walk.totals();
     if is_step(ticks, totals.ticks) {
@@ -81,7 +81,7 @@ pub fn see_since(walk: &Walk, ticks: u32, rows: u32, seen: &mut SeenRows) -> Res
 
 /// Before the first turn.
 pub fn nothing_seen(alloc: Global, size: u16) -> SeenRows
-    ensures { (script : Script) → script.config.size ≡ size → Sees script 0 0 result }
+    ensures { (leg : Leg) → leg.config.size ≡ size → Sees leg 0 0 result }
 {
     SeenRows {
         packets: Packets::new(alloc, size),

@@ -1,4 +1,4 @@
--- The items of a script are passed one after another: frames that have landed, and others.
+-- The items of a leg are passed one after another: frames that have landed, and others.
 use Rattle.std.proofs.Common.{◌≡◌, ℕ, zero, suc, ◌+◌, ◌-◌, ◌<◌, ◌≤◌, nat_lt, if◌then◌else◌, Bool, true, false, List, []}
 use Rattle.std.proofs.Common.{◌∷◌, ◌++◌, take, drop, length, All, Option, Some, None, slice_get, get_or, ◌⊎◌, refl, sym}
 use Rattle.std.proofs.Common.{◌∙◌, ap, ap₂, subst, arith, inl, inr, append-nil, length-append}
@@ -9,7 +9,7 @@ use Rattle.std.proofs.lemmas.List.Elements.{All-nil, All-cons, All-append, All-w
 use Rattle.session_model.specs.declared.script.Item.{Item}
 use Rattle.session_model.specs.declared.script.ItemKind.{ItemKind}
 use Rattle.session_model.specs.declared.script.ItemKind.TheVariants.{Frame, Add, Remove}
-use Rattle.session_model.specs.declared.script.Script.{Script}
+use Rattle.session_model.specs.Leg.{Leg}
 use Rattle.session_model.specs.Scenario.{DueFrame, offer_of, offers_of}
 use Rattle.session_model.specs.Counts.{Counts}
 use Rattle.report_text.specs.declared.report.Refusal.{Refusal}
@@ -60,103 +60,103 @@ refused-late i number (Some why) low =
     All-cons (λ (refused : ℕ × Refusal). i ≤ refused.0) (number, why) [] low
     (All-nil (λ (refused : ℕ × Refusal). i ≤ refused.0))
 
-abbrev AreLate : Script → ℕ → List Numbered → Type 0
-AreLate script least items = All (λ (refused : ℕ × Refusal). least ≤ refused.0) (refusals_among script items)
+abbrev AreLate : Leg → ℕ → List Numbered → Type 0
+AreLate leg least items = All (λ (refused : ℕ × Refusal). least ≤ refused.0) (refusals_among leg items)
 
-with-late : (script : Script) (least i : ℕ) (item : Item) (there : Bool) (rest : List Numbered) → least ≤ i →
-    AreLate script least rest → AreLate script least (with_if there (record { number = i; item = item }) rest)
-with-late script least i item true rest low each =
-    let why : Option Refusal = refusal_at script (record { number = i; item = item }) in
-    All-append (λ (refused : ℕ × Refusal). least ≤ refused.0) (refused_by i why) (refusals_among script rest)
+with-late : (leg : Leg) (least i : ℕ) (item : Item) (there : Bool) (rest : List Numbered) → least ≤ i →
+    AreLate leg least rest → AreLate leg least (with_if there (record { number = i; item = item }) rest)
+with-late leg least i item true rest low each =
+    let why : Option Refusal = refusal_at leg (record { number = i; item = item }) in
+    All-append (λ (refused : ℕ × Refusal). least ≤ refused.0) (refused_by i why) (refusals_among leg rest)
     (refused-late least i why low) each
-with-late script least i item false rest low each = each
+with-late leg least i item false rest low each = each
 
-one-late : (script : Script) (least a b i : ℕ) (item : Item) (frames others : List Numbered) (client : Bool) →
-    least ≤ i → AreLate script least frames → AreLate script least others →
-    AreLate script least (if client then with_if (nat_lt 0 a) (record { number = i; item = item }) frames else with_if
+one-late : (leg : Leg) (least a b i : ℕ) (item : Item) (frames others : List Numbered) (client : Bool) →
+    least ≤ i → AreLate leg least frames → AreLate leg least others →
+    AreLate leg least (if client then with_if (nat_lt 0 a) (record { number = i; item = item }) frames else with_if
     (nat_lt 0 b) (record { number = i; item = item }) others)
-one-late script least a b i item frames others true low one other =
-    with-late script least i item (nat_lt 0 a) frames low one
-one-late script least a b i item frames others false low one other =
-    with-late script least i item (nat_lt 0 b) others low other
+one-late leg least a b i item frames others true low one other =
+    with-late leg least i item (nat_lt 0 a) frames low one
+one-late leg least a b i item frames others false low one other =
+    with-late leg least i item (nat_lt 0 b) others low other
 
 -- refusals from an item on have no lower number
-pub refusals-late : (script : Script) (least a b i : ℕ) (items : List Item) → least ≤ i →
-    AreLate script least (landed_from a b i items)
+pub refusals-late : (leg : Leg) (least a b i : ℕ) (items : List Item) → least ≤ i →
+    AreLate leg least (landed_from a b i items)
 unfolding landed_from
-refusals-late script least a b i [] low = All-nil (λ (refused : ℕ × Refusal). least ≤ refused.0)
-refusals-late script least a b i (item ∷ items) low =
-    one-late script least a b i item (landed_from (a - 1) b (suc i) items) (landed_from a (b - 1) (suc i) items)
+refusals-late leg least a b i [] low = All-nil (λ (refused : ℕ × Refusal). least ≤ refused.0)
+refusals-late leg least a b i (item ∷ items) low =
+    one-late leg least a b i item (landed_from (a - 1) b (suc i) items) (landed_from a (b - 1) (suc i) items)
     (is_client item.kind) low
-    (refusals-late script least (a - 1) b (suc i) items (omega (arith, low)))
-    (refusals-late script least a (b - 1) (suc i) items (omega (arith, low)))
+    (refusals-late leg least (a - 1) b (suc i) items (omega (arith, low)))
+    (refusals-late leg least a (b - 1) (suc i) items (omega (arith, low)))
 
 -- ---- one item is passed
-module _ (script : Script) (s : Counts) (cursor : Cursor) (at : IsAt script s cursor) (item : Item)
-    (there : slice_get script.items cursor.item ≡ Some item) (some : 0 < cursor.left) where
+module _ (leg : Leg) (s : Counts) (cursor : Cursor) (at : IsAt leg s cursor) (item : Item)
+    (there : slice_get leg.items cursor.item ≡ Some item) (some : 0 < cursor.left) where
   abbrev pub own : Numbered
   own = record { number = cursor.item; item = item }
 
   abbrev behind : List Item
-  behind = drop (cursor.item + 1) script.items
+  behind = drop (cursor.item + 1) leg.items
 
-  from-here : (a b : ℕ) → landed_from a b cursor.item (drop cursor.item script.items) ≡ landed_from a b cursor.item
+  from-here : (a b : ℕ) → landed_from a b cursor.item (drop cursor.item leg.items) ≡ landed_from a b cursor.item
       (item ∷ behind)
-  from-here a b = ap (landed_from a b cursor.item) (drop-one script.items cursor.item item there)
+  from-here a b = ap (landed_from a b cursor.item) (drop-one leg.items cursor.item item there)
 
   numbers : (a b : ℕ) → landed_from a b (suc cursor.item) behind ≡ landed_from a b (cursor.item + 1) behind
   numbers a b = ap (λ n. landed_from a b n behind) (let e : suc cursor.item ≡ cursor.item + 1 = omega arith in e)
 
   -- what the refusals from here on are, by whether the item is a frame
   pub frame-refusals : is_client item.kind ≡ true →
-      drop cursor.refusal (refusals_of script s) ≡ refused_by cursor.item (refusal_at script own) ++ refusals_among
-      script (landed_from (cursor.left - 1) at.commands (cursor.item + 1) behind)
+      drop cursor.refusal (refusals_of leg s) ≡ refused_by cursor.item (refusal_at leg own) ++ refusals_among
+      leg (landed_from (cursor.left - 1) at.commands (cursor.item + 1) behind)
   frame-refusals client =
-      at.refusals ∙ ap (refusals_among script)
+      at.refusals ∙ ap (refusals_among leg)
       (from-here cursor.left at.commands ∙ landed-frame cursor.left at.commands cursor.item item behind client some
       ∙ ap (λ l. own ∷ l) (numbers (cursor.left - 1) at.commands))
 
   with-refusals : (landed : Bool) (rest : List Numbered) → (why : Option Refusal) ×
-      (refusals_among script (with_if landed own rest) ≡ refused_by cursor.item why ++ refusals_among script rest)
-  with-refusals true rest = (refusal_at script own, refl)
+      (refusals_among leg (with_if landed own rest) ≡ refused_by cursor.item why ++ refusals_among leg rest)
+  with-refusals true rest = (refusal_at leg own, refl)
   with-refusals false rest = (None, refl)
 
   pub other-refusals : is_client item.kind ≡ false →
-      (why : Option Refusal) × (drop cursor.refusal (refusals_of script s)
-      ≡ refused_by cursor.item why ++ refusals_among script
+      (why : Option Refusal) × (drop cursor.refusal (refusals_of leg s)
+      ≡ refused_by cursor.item why ++ refusals_among leg
       (landed_from cursor.left (at.commands - 1) (cursor.item + 1) behind))
   other-refusals other =
       let parts = with-refusals (nat_lt 0 at.commands)
       (landed_from cursor.left (at.commands - 1) (cursor.item + 1) behind) in (
         parts.0,
-        at.refusals ∙ ap (refusals_among script)
+        at.refusals ∙ ap (refusals_among leg)
             (from-here cursor.left at.commands ∙ landed-other cursor.left at.commands cursor.item item behind other
             ∙ ap (with_if (nat_lt 0 at.commands) own) (numbers cursor.left (at.commands - 1))) ∙ parts.1,
       )
 
   pub frame-rest : is_client item.kind ≡ true →
-      frames_left script cursor ≡ own ∷ landed_from (cursor.left - 1) 0 (cursor.item + 1) behind
+      frames_left leg cursor ≡ own ∷ landed_from (cursor.left - 1) 0 (cursor.item + 1) behind
   frame-rest client = from-here cursor.left 0 ∙ landed-frame cursor.left 0 cursor.item item behind client some
       ∙ ap (λ l. own ∷ l) (numbers (cursor.left - 1) 0)
 
   pub other-rest : is_client item.kind ≡ false →
-      frames_left script cursor ≡ landed_from cursor.left 0 (cursor.item + 1) behind
+      frames_left leg cursor ≡ landed_from cursor.left 0 (cursor.item + 1) behind
   other-rest other = from-here cursor.left 0 ∙ landed-other cursor.left 0 cursor.item item behind other
       ∙ numbers cursor.left 0
 
   pub late-refusals : (a b : ℕ) →
       All (λ (refused : ℕ × Refusal). cursor.item < refused.0)
-      (refusals_among script (landed_from a b (cursor.item + 1) behind))
+      (refusals_among leg (landed_from a b (cursor.item + 1) behind))
   late-refusals a b =
       All-weaker (λ (refused : ℕ × Refusal). cursor.item + 1 ≤ refused.0)
       (λ (refused : ℕ × Refusal). cursor.item < refused.0) (λ refused low. omega (arith, low)) _
-      (refusals-late script (cursor.item + 1) a b (cursor.item + 1) behind (omega arith))
+      (refusals-late leg (cursor.item + 1) a b (cursor.item + 1) behind (omega arith))
 
-  pub before-next : length (offer_of item.due item.kind) + frames_before_item script cursor.item
-      ≡ frames_before_item script (cursor.item + 1)
+  pub before-next : length (offer_of item.due item.kind) + frames_before_item leg cursor.item
+      ≡ frames_before_item leg (cursor.item + 1)
   before-next =
-      let e = ap length (offers-next script.items cursor.item item there) in
-      let n = length-append (offers_of (take cursor.item script.items)) (offer_of item.due item.kind) in
+      let e = ap length (offers-next leg.items cursor.item item there) in
+      let n = length-append (offers_of (take cursor.item leg.items)) (offer_of item.due item.kind) in
       omega (arith, e, n)
 
 -- the next refusal is the item's, where its number is
@@ -184,23 +184,23 @@ get-there (x ∷ xs) zero d low = refl
 get-there (x ∷ xs) (suc k) d low = get-there xs k d (omega (arith, low))
 
 -- ---- what a pass makes of a cursor
-module _ (script : Script) (s : Counts) (cursor : Cursor) (at : IsAt script s cursor) (some : 0 < cursor.left)
-    (low : cursor.item < length script.items)
-    (items : List Item) (are : items ≡ script.items) (refusals : List (ℕ × Refusal))
-    (told : refusals ≡ refusals_of script s)
+module _ (leg : Leg) (s : Counts) (cursor : Cursor) (at : IsAt leg s cursor) (some : 0 < cursor.left)
+    (low : cursor.item < length leg.items)
+    (items : List Item) (are : items ≡ leg.items) (refusals : List (ℕ × Refusal))
+    (told : refusals ≡ refusals_of leg s)
     (i : ℕ) (here : i ≡ cursor.item) (item : Item) (item-is : item ≡ get_or items i item) (result : Option Refusal)
     (r : ℕ)
     (finds : (why : Option Refusal) (later : List (ℕ × Refusal)) →
     drop cursor.refusal refusals ≡ refused_by i why ++ later →
     All (λ (refused : ℕ × Refusal). i < refused.0) later →
     (result ≡ why) × (drop r refusals ≡ later)) where
-  there : slice_get script.items cursor.item ≡ Some item
-  there = get-there script.items cursor.item item low ∙ ap Some (sym (item-is ∙ ap₂ (λ l n. get_or l n item) are here))
+  there : slice_get leg.items cursor.item ≡ Some item
+  there = get-there leg.items cursor.item item low ∙ ap Some (sym (item-is ∙ ap₂ (λ l n. get_or l n item) are here))
 
   found : (why : Option Refusal) (later : List (ℕ × Refusal)) →
-      drop cursor.refusal (refusals_of script s) ≡ refused_by cursor.item why ++ later →
+      drop cursor.refusal (refusals_of leg s) ≡ refused_by cursor.item why ++ later →
       All (λ (refused : ℕ × Refusal). cursor.item < refused.0) later → (result ≡ why) ×
-      (drop r (refusals_of script s) ≡ later)
+      (drop r (refusals_of leg s) ≡ later)
   found why later is far =
       let both = finds why later (ap (drop cursor.refusal) told ∙ is ∙ ap (λ n. refused_by n why ++ later) (sym here))
       (subst (λ n. All (λ (refused : ℕ × Refusal). n < refused.0) later) (sym here) far) in
@@ -213,18 +213,18 @@ module _ (script : Script) (s : Counts) (cursor : Cursor) (at : IsAt script s cu
   client octets kind = ap is_client kind
 
   pass-at : (octets : List ℕ) (now : Cursor) → item.kind ≡ Frame octets →
-      now ≡ record { item = i + 1; refusal = r; left = cursor.left - 1 } → IsAt script s now
+      now ≡ record { item = i + 1; refusal = r; left = cursor.left - 1 } → IsAt leg s now
   pass-at octets now kind is =
-      let why = refusal_at script (record { number = cursor.item; item = item }) in
-      let later = refusals_among script
-      (landed_from (cursor.left - 1) at.commands (cursor.item + 1) (drop (cursor.item + 1) script.items)) in
-      let both = found why later (frame-refusals script s cursor at item there some (client octets kind))
-      (late-refusals script s cursor at item there some (cursor.left - 1) at.commands) in
-      let before = before-next script s cursor at item there some in
+      let why = refusal_at leg (record { number = cursor.item; item = item }) in
+      let later = refusals_among leg
+      (landed_from (cursor.left - 1) at.commands (cursor.item + 1) (drop (cursor.item + 1) leg.items)) in
+      let both = found why later (frame-refusals leg s cursor at item there some (client octets kind))
+      (late-refusals leg s cursor at item there some (cursor.left - 1) at.commands) in
+      let before = before-next leg s cursor at item there some in
       let one = one-offer octets kind in
-      subst (IsAt script s) (sym (is ∙ ap (λ n. record { item = n + 1; refusal = r; left = cursor.left - 1 }) here))
+      subst (IsAt leg s) (sym (is ∙ ap (λ n. record { item = n + 1; refusal = r; left = cursor.left - 1 }) here))
       (record {
-        valid = at.valid;
+        sound = at.sound;
         walked = at.walked;
         commands = at.commands;
         within = omega (arith, low);
@@ -234,16 +234,16 @@ module _ (script : Script) (s : Counts) (cursor : Cursor) (at : IsAt script s cu
 
   pass-next : (octets : List ℕ) (n : ℕ) (now : Cursor) → item.kind ≡ Frame octets → n ≡ length octets →
       now ≡ record { item = i + 1; refusal = r; left = cursor.left - 1 } →
-      IsNext script cursor now (record { number = i; due = item.due; length = n; refusal = result })
+      IsNext leg cursor now (record { number = i; due = item.due; length = n; refusal = result })
   pass-next octets n now kind size is =
-      let why = refusal_at script (record { number = cursor.item; item = item }) in
-      let later = refusals_among script
-      (landed_from (cursor.left - 1) at.commands (cursor.item + 1) (drop (cursor.item + 1) script.items)) in
-      let both = found why later (frame-refusals script s cursor at item there some (client octets kind))
-      (late-refusals script s cursor at item there some (cursor.left - 1) at.commands) in
-      subst (λ k. IsNext script cursor now (record { number = k; due = item.due; length = n; refusal = result }))
+      let why = refusal_at leg (record { number = cursor.item; item = item }) in
+      let later = refusals_among leg
+      (landed_from (cursor.left - 1) at.commands (cursor.item + 1) (drop (cursor.item + 1) leg.items)) in
+      let both = found why later (frame-refusals leg s cursor at item there some (client octets kind))
+      (late-refusals leg s cursor at item there some (cursor.left - 1) at.commands) in
+      subst (λ k. IsNext leg cursor now (record { number = k; due = item.due; length = n; refusal = result }))
       (sym here)
-      (subst (λ (now : Cursor). IsNext script cursor now
+      (subst (λ (now : Cursor). IsNext leg cursor now
       (record { number = cursor.item; due = item.due; length = n; refusal = result }))
       (sym (is ∙ ap (λ n. record { item = n + 1; refusal = r; left = cursor.left - 1 }) here)) (record {
         item = item;
@@ -255,12 +255,12 @@ module _ (script : Script) (s : Counts) (cursor : Cursor) (at : IsAt script s cu
         refusal = both.0;
         before = refl;
         after = refl;
-        rest = frame-rest script s cursor at item there some (client octets kind);
+        rest = frame-rest leg s cursor at item there some (client octets kind);
       }))
 
   pub passed : (octets : List ℕ) (n : ℕ) (now : Cursor) → item.kind ≡ Frame octets → n ≡ length octets →
       now ≡ record { item = i + 1; refusal = r; left = cursor.left - 1 } →
-      IsAt script s now × IsNext script cursor now (record { number = i; due = item.due; length = n; refusal = result })
+      IsAt leg s now × IsNext leg cursor now (record { number = i; due = item.due; length = n; refusal = result })
   passed octets n now kind size is = (pass-at octets now kind is, pass-next octets n now kind size is)
 
   none-here : is_client item.kind ≡ false → length (offer_of item.due item.kind) ≡ 0
@@ -272,18 +272,18 @@ module _ (script : Script) (s : Counts) (cursor : Cursor) (at : IsAt script s cu
       by (Remove line) is = refl
 
   skip-at : (now : Cursor) → is_client item.kind ≡ false →
-      now ≡ record { item = i + 1; refusal = r; left = cursor.left } → IsAt script s now
+      now ≡ record { item = i + 1; refusal = r; left = cursor.left } → IsAt leg s now
   skip-at now other is =
-      let parts = other-refusals script s cursor at item there some other in
-      let later = refusals_among script
-      (landed_from cursor.left (at.commands - 1) (cursor.item + 1) (drop (cursor.item + 1) script.items)) in
+      let parts = other-refusals leg s cursor at item there some other in
+      let later = refusals_among leg
+      (landed_from cursor.left (at.commands - 1) (cursor.item + 1) (drop (cursor.item + 1) leg.items)) in
       let both = found parts.0 later parts.1
-      (late-refusals script s cursor at item there some cursor.left (at.commands - 1)) in
-      let before = before-next script s cursor at item there some in
+      (late-refusals leg s cursor at item there some cursor.left (at.commands - 1)) in
+      let before = before-next leg s cursor at item there some in
       let none = none-here other in
-      subst (IsAt script s) (sym (is ∙ ap (λ n. record { item = n + 1; refusal = r; left = cursor.left }) here))
+      subst (IsAt leg s) (sym (is ∙ ap (λ n. record { item = n + 1; refusal = r; left = cursor.left }) here))
       (record {
-        valid = at.valid;
+        sound = at.sound;
         walked = at.walked;
         commands = at.commands - 1;
         within = omega (arith, low);
@@ -292,18 +292,18 @@ module _ (script : Script) (s : Counts) (cursor : Cursor) (at : IsAt script s cu
       })
 
   skip-past : (now : Cursor) → is_client item.kind ≡ false →
-      now ≡ record { item = i + 1; refusal = r; left = cursor.left } → IsSkipped script cursor now
+      now ≡ record { item = i + 1; refusal = r; left = cursor.left } → IsSkipped leg cursor now
   skip-past now other is =
-      let before = before-next script s cursor at item there some in
+      let before = before-next leg s cursor at item there some in
       let none = none-here other in
-      subst (λ (now : Cursor). IsSkipped script cursor now)
+      subst (λ (now : Cursor). IsSkipped leg cursor now)
       (sym (is ∙ ap (λ n. record { item = n + 1; refusal = r; left = cursor.left }) here)) (record {
         before = omega (arith, before, none);
-        rest = other-rest script s cursor at item there some other;
+        rest = other-rest leg s cursor at item there some other;
       })
 
   pub skipped : (now : Cursor) → is_client item.kind ≡ false →
-      now ≡ record { item = i + 1; refusal = r; left = cursor.left } → IsAt script s now × IsSkipped script cursor now
+      now ≡ record { item = i + 1; refusal = r; left = cursor.left } → IsAt leg s now × IsSkipped leg cursor now
   skipped now other is = (skip-at now other is, skip-past now other is)
 
 -- ---- the end
@@ -326,41 +326,41 @@ nothing : (a i : ℕ) → landed_from a 0 i [] ≡ []
 unfolding landed_from
 nothing a i = refl
 
-pub past-end : (script : Script) (s : Counts) (cursor : Cursor) → IsAt script s cursor →
-    (cursor.left ≡ 0) ⊎ (length script.items ≤ cursor.item) → IsPast script s cursor
-past-end script s cursor at (inl none) = record {
-  none = ap (λ a. landed_from a 0 cursor.item (drop cursor.item script.items)) none
-      ∙ ended-none cursor.item (drop cursor.item script.items);
-  late = λ j offer far there. frame-waits script s j offer at.walked
+pub past-end : (leg : Leg) (s : Counts) (cursor : Cursor) → IsAt leg s cursor →
+    (cursor.left ≡ 0) ⊎ (length leg.items ≤ cursor.item) → IsPast leg s cursor
+past-end leg s cursor at (inl none) = record {
+  none = ap (λ a. landed_from a 0 cursor.item (drop cursor.item leg.items)) none
+      ∙ ended-none cursor.item (drop cursor.item leg.items);
+  late = λ j offer far there. frame-waits leg s j offer at.walked
       (let left = at.left in omega (arith, left, none, far)) there;
 }
-past-end script s cursor at (inr past) =
-    let all : take cursor.item script.items ≡ script.items = take_all cursor.item script.items past in
-    let no : drop cursor.item script.items ≡ [] = drop_all cursor.item script.items past in
+past-end leg s cursor at (inr past) =
+    let all : take cursor.item leg.items ≡ leg.items = take_all cursor.item leg.items past in
+    let no : drop cursor.item leg.items ≡ [] = drop_all cursor.item leg.items past in
     record {
       none = ap (landed_from cursor.left 0 cursor.item) no ∙ nothing cursor.left cursor.item;
       late = λ j offer far there. absurd
           (let size = ap (λ items. length (offers_of items)) all in
-          let low = get-within (offers_of script.items) j offer there in omega (arith, size, low, far));
+          let low = get-within (offers_of leg.items) j offer there in omega (arith, size, low, far));
     }
 
-pub past-before : (script : Script) (s : Counts) (was now : Cursor) → IsSkipped script was now → IsPast script s now →
-    IsPast script s was
-past-before script s was now skipped past = record {
+pub past-before : (leg : Leg) (s : Counts) (was now : Cursor) → IsSkipped leg was now → IsPast leg s now →
+    IsPast leg s was
+past-before leg s was now skipped past = record {
   none = skipped.rest ∙ past.none;
   late = λ j offer far there. past.late j offer (let before = skipped.before in omega (arith, before, far)) there;
 }
 
-pub skipped-none : (script : Script) (cursor : Cursor) → IsSkipped script cursor cursor
-skipped-none script cursor = record { before = refl; rest = refl }
+pub skipped-none : (leg : Leg) (cursor : Cursor) → IsSkipped leg cursor cursor
+skipped-none leg cursor = record { before = refl; rest = refl }
 
-pub skipped-more : (script : Script) (was between now : Cursor) → IsSkipped script was between →
-    IsSkipped script between now → IsSkipped script was now
-skipped-more script was between now one two = record { before = two.before ∙ one.before; rest = one.rest ∙ two.rest }
+pub skipped-more : (leg : Leg) (was between now : Cursor) → IsSkipped leg was between →
+    IsSkipped leg between now → IsSkipped leg was now
+skipped-more leg was between now one two = record { before = two.before ∙ one.before; rest = one.rest ∙ two.rest }
 
-pub next-more : (script : Script) (was between now : Cursor) (frame : LandedFrame) → IsSkipped script was between →
-    IsNext script between now frame → IsNext script was now frame
-next-more script was between now frame one next = record {
+pub next-more : (leg : Leg) (was between now : Cursor) (frame : LandedFrame) → IsSkipped leg was between →
+    IsNext leg between now frame → IsNext leg was now frame
+next-more leg was between now frame one next = record {
   item = next.item;
   octets = next.octets;
   there = next.there;

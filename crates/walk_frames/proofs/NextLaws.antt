@@ -3,10 +3,10 @@ use Rattle.std.proofs.Common.{◌≡◌, ℕ, zero, suc, ◌+◌, ◌<◌, ◌�
 use Rattle.std.proofs.Common.{None, option_map, slice_get, refl, sym, ◌∙◌, ap, ap₂, arith}
 use Rattle.std.proofs.Common.{length-append}
 use Rattle.session_model.specs.declared.refusal.AcceptFault.{AcceptFault}
-use Rattle.session_model.specs.declared.script.Script.{Script}
-use Rattle.session_model.specs.Scenario.{DueFrame, scenario_of, offer_of, offers_of}
+use Rattle.session_model.specs.Leg.{Leg}
+use Rattle.session_model.specs.Scenario.{DueFrame, scenario_by, offer_of, offers_of}
 use Rattle.session_model.specs.Client.{frame_refusal, offered}
-use Rattle.session_model.specs.Valid.{IsValid}
+use Rattle.session_model.specs.Valid.{IsSound}
 use Rattle.script_law.proofs.ItemLaws.{offers_rise}
 use Rattle.report_text.specs.declared.report.Refusal.{Refusal}
 use Rattle.report_text.specs.declared.report.Refusal.TheVariants.{Frame as frame_fault}
@@ -27,19 +27,19 @@ get-inside (y ∷ xs) zero x there = (omega arith, λ d. let same : y ≡ x = cc
 get-inside (y ∷ xs) (suc k) x there = let rest = get-inside xs k x there in (omega (arith, rest.0), rest.1)
 
 -- frames are due in their order
-pub due-order : (script : Script) (i j : ℕ) (a b : DueFrame) → IsValid script → i ≤ j →
-    slice_get (offers_of script.items) i ≡ Some a → slice_get (offers_of script.items) j ≡ Some b → a.due ≤ b.due
-due-order script i j a b valid low here there =
-    let one = get-inside (offers_of script.items) i a here in
-    let two = get-inside (offers_of script.items) j b there in
-    let order = offers_rise script.items valid.items.frames i j a low two.0 in
+pub due-order : (leg : Leg) (i j : ℕ) (a b : DueFrame) → IsSound leg → i ≤ j →
+    slice_get (offers_of leg.items) i ≡ Some a → slice_get (offers_of leg.items) j ≡ Some b → a.due ≤ b.due
+due-order leg i j a b sound low here there =
+    let one = get-inside (offers_of leg.items) i a here in
+    let two = get-inside (offers_of leg.items) j b there in
+    let order = offers_rise leg.items sound.items.frames i j a low two.0 in
     let first = ap (λ (x : DueFrame). x.due) (one.1 a) in
     let second = ap (λ (x : DueFrame). x.due) (two.1 a) in
     omega (arith, order, first, second)
 
-module _ (script : Script) (was now : Cursor) (found : LandedFrame) (next : IsNext script was now found) where
+module _ (leg : Leg) (was now : Cursor) (found : LandedFrame) (next : IsNext leg was now found) where
   abbrev count : ℕ
-  count = frames_before_item script was.item
+  count = frames_before_item leg was.item
 
   abbrev pub own : DueFrame
   own = record { due = found.due; frame = next.octets }
@@ -48,72 +48,72 @@ module _ (script : Script) (was now : Cursor) (found : LandedFrame) (next : IsNe
   offer-is = ap (offer_of next.item.due) next.kind
       ∙ ap (λ due. record { due = due; frame = next.octets } ∷ []) (sym next.due)
 
-  at : (slice_get (offers_of script.items) count ≡ Some own) ×
-      (offers_of (take found.number script.items) ≡ take count (offers_of script.items))
-  at = offer-at script.items count (record { number = found.number; item = next.item }) own
+  at : (slice_get (offers_of leg.items) count ≡ Some own) ×
+      (offers_of (take found.number leg.items) ≡ take count (offers_of leg.items))
+  at = offer-at leg.items count (record { number = found.number; item = next.item }) own
       (record { there = next.there; is = offer-is; before = next.before })
 
-  pub next-offer : slice_get (offers_of script.items) count ≡ Some own
+  pub next-offer : slice_get (offers_of leg.items) count ≡ Some own
   next-offer = at.0
 
-  pub next-count : frames_before_item script now.item ≡ count + 1
+  pub next-count : frames_before_item leg now.item ≡ count + 1
   next-count =
-      let all = ap length (offers-next script.items found.number next.item next.there) in
-      let size = length-append (offers_of (take found.number script.items)) (offer_of next.item.due next.item.kind) in
+      let all = ap length (offers-next leg.items found.number next.item next.there) in
+      let size = length-append (offers_of (take found.number leg.items)) (offer_of next.item.due next.item.kind) in
       let one = ap length offer-is in
       let before = next.before in
-      let after = ap (frames_before_item script) next.after in
+      let after = ap (frames_before_item leg) next.after in
       omega (arith, all, size, one, before, after)
 
-  pub next-stream : stream_in script found.due (count + 1) ≡ offered (stream_in script found.due count) next.octets
+  pub next-stream : stream_in leg found.due (count + 1) ≡ offered (stream_in leg found.due count) next.octets
   next-stream =
-      ap (stream_met (scenario_of script) (session_of script) found.due)
-      (take-one (offers_of script.items) count own at.0)
-      ∙ met-next (scenario_of script) (session_of script) (take count (offers_of script.items)) own
+      ap (stream_met (scenario_by leg) (session_of leg) found.due)
+      (take-one (offers_of leg.items) count own at.0)
+      ∙ met-next (scenario_by leg) (session_of leg) (take count (offers_of leg.items)) own
 
   -- why it is refused, where it is
   pub next-refusal : found.refusal ≡ option_map frame_fault
-      (frame_refusal next.octets (stream_in script found.due count))
+      (frame_refusal next.octets (stream_in leg found.due count))
   next-refusal =
       next.refusal
-      ∙ ap (kind_refusal (scenario_of script) (session_of script) next.item.due (take found.number script.items))
+      ∙ ap (kind_refusal (scenario_by leg) (session_of leg) next.item.due (take found.number leg.items))
       next.kind
       ∙ ap₂ (λ due offers. option_map frame_fault
-      (frame_refusal next.octets (stream_met (scenario_of script) (session_of script) due offers)))
+      (frame_refusal next.octets (stream_met (scenario_by leg) (session_of leg) due offers)))
       (sym next.due) at.1
 
-  refused-by : (why : Option AcceptFault) → frame_refusal next.octets (stream_in script found.due count) ≡ why →
+  refused-by : (why : Option AcceptFault) → frame_refusal next.octets (stream_in leg found.due count) ≡ why →
       (refusal : Refusal) → option_map frame_fault why ≡ Some refusal →
-      offered (stream_in script found.due count) next.octets ≡ stream_in script found.due count
+      offered (stream_in leg found.due count) next.octets ≡ stream_in leg found.due count
   refused-by None is refusal there = absurd (let e : None ≡ Some refusal = there in cc)
-  refused-by (Some why) is refusal there = ruler-refused (stream_in script found.due count) next.octets why is
+  refused-by (Some why) is refusal there = ruler-refused (stream_in leg found.due count) next.octets why is
 
   pub next-refused : (refusal : Refusal) → found.refusal ≡ Some refusal →
-      ruler_of (stream_in script found.due (count + 1)) ≡ ruler_of (stream_in script found.due count)
+      ruler_of (stream_in leg found.due (count + 1)) ≡ ruler_of (stream_in leg found.due count)
   next-refused refusal is =
-      ap ruler_of (next-stream ∙ refused-by (frame_refusal next.octets (stream_in script found.due count)) refl refusal
+      ap ruler_of (next-stream ∙ refused-by (frame_refusal next.octets (stream_in leg found.due count)) refl refusal
       (sym next-refusal ∙ is))
 
-  accepted-by : (why : Option AcceptFault) → frame_refusal next.octets (stream_in script found.due count) ≡ why →
-      option_map frame_fault why ≡ None → frame_refusal next.octets (stream_in script found.due count) ≡ None
+  accepted-by : (why : Option AcceptFault) → frame_refusal next.octets (stream_in leg found.due count) ≡ why →
+      option_map frame_fault why ≡ None → frame_refusal next.octets (stream_in leg found.due count) ≡ None
   accepted-by None is none = is
   accepted-by (Some why) is none = absurd (let e : Some (frame_fault why) ≡ None = none in cc)
 
   pub next-accepted : found.refusal ≡ None →
-      ruler_of (stream_in script found.due (count + 1)) ≡ with_waiting (ruler_of (stream_in script found.due count))
+      ruler_of (stream_in leg found.due (count + 1)) ≡ with_waiting (ruler_of (stream_in leg found.due count))
       found.length
   next-accepted none =
-      let accepted = accepted-by (frame_refusal next.octets (stream_in script found.due count)) refl
+      let accepted = accepted-by (frame_refusal next.octets (stream_in leg found.due count)) refl
       (sym next-refusal ∙ none) in
-      ap ruler_of next-stream ∙ ruler-accepted (stream_in script found.due count) next.octets accepted
-      ∙ ap (with_waiting (ruler_of (stream_in script found.due count))) (sym next.length_is)
+      ap ruler_of next-stream ∙ ruler-accepted (stream_in leg found.due count) next.octets accepted
+      ∙ ap (with_waiting (ruler_of (stream_in leg found.due count))) (sym next.length_is)
 
-  pub next-between : (from : ℕ) → IsValid script → IsEarly script count from → Between script count from found.due
-  next-between from valid early =
-      record { early = early; late = λ j offer far there. due-order script count j own offer valid far at.0 there }
+  pub next-between : (from : ℕ) → IsSound leg → IsEarly leg count from → Between leg count from found.due
+  next-between from sound early =
+      record { early = early; late = λ j offer far there. due-order leg count j own offer sound far at.0 there }
 
-  pub next-early : IsValid script → IsEarly script (count + 1) found.due
-  next-early valid j offer low there = due-order script j count offer own valid (omega (arith, low)) there at.0
+  pub next-early : IsSound leg → IsEarly leg (count + 1) found.due
+  next-early sound j offer low there = due-order leg j count offer own sound (omega (arith, low)) there at.0
 
-  pub next-late : IsValid script → IsLate script (count + 1) found.due
-  next-late valid j offer far there = due-order script count j own offer valid (omega (arith, far)) at.0 there
+  pub next-late : IsSound leg → IsLate leg (count + 1) found.due
+  next-late sound j offer far there = due-order leg count j own offer sound (omega (arith, far)) at.0 there

@@ -4,8 +4,8 @@ use Rattle.std.proofs.Common.{if◌then◌else◌, List, [], ◌∷◌, ◌++◌
 use Rattle.std.proofs.Common.{refl, sym, ◌∙◌, ap, ap₂, subst, arith, inl, inr, length-take}
 use Rattle.std.specs.List.{list_any}
 use Rattle.std.proofs.lemmas.Bool.{cases_lt, lt-leb, le-ltb}
-use Rattle.session_model.specs.declared.script.Script.{Script}
-use Rattle.session_model.specs.Scenario.{scenario_of}
+use Rattle.session_model.specs.Leg.{Leg}
+use Rattle.session_model.specs.Scenario.{scenario_by}
 use Rattle.session_model.specs.Piece.{Piece, stream_of}
 use Rattle.session_model.specs.Client.{place_of, stream_before}
 use Rattle.session_model.specs.Segment.{StreamRow, Segment, segments, octets_of_rows}
@@ -142,15 +142,15 @@ fate-stays front more rows i reach =
         ∙ sym (ap (fate_if (fate_of front rows)) (get-beyond first i far))
 
 -- ---- of a session
-pub session-fate : (script : Script) (ticks rows i : ℕ) → rows ≤ ticks → ticks ≤ script.config.ticks →
-    fate_at (session_pieces script) (session_rows script rows) i ≡ fate_at
-    (stream_before (scenario_of script) (session_of script) ticks).pieces (session_rows script rows) i
-session-fate script ticks rows i low high =
-    let begins = pieces-begin (scenario_of script) (session_of script) ticks script.config.ticks high in
-    ap (λ pieces. fate_at pieces (session_rows script rows) i) begins.1
-    ∙ fate-stays (stream_before (scenario_of script) (session_of script) ticks).pieces begins.0
-    (session_rows script rows) i
-    (let octets = ap length (rows-octets (scenario_of script) (session_of script) rows ticks low) in
-    let part = length-take (place_of (scenario_of script) (session_of script) rows)
-    (stream_of (stream_before (scenario_of script) (session_of script) ticks).pieces) in
+pub session-fate : (leg : Leg) (ticks rows i : ℕ) → rows ≤ ticks → ticks ≤ leg.config.ticks →
+    fate_at (session_pieces leg) (session_rows leg rows) i ≡ fate_at
+    (stream_before (scenario_by leg) (session_of leg) ticks).pieces (session_rows leg rows) i
+session-fate leg ticks rows i low high =
+    let begins = pieces-begin (scenario_by leg) (session_of leg) ticks leg.config.ticks high in
+    ap (λ pieces. fate_at pieces (session_rows leg rows) i) begins.1
+    ∙ fate-stays (stream_before (scenario_by leg) (session_of leg) ticks).pieces begins.0
+    (session_rows leg rows) i
+    (let octets = ap length (rows-octets (scenario_by leg) (session_of leg) rows ticks low) in
+    let part = length-take (place_of (scenario_by leg) (session_of leg) rows)
+    (stream_of (stream_before (scenario_by leg) (session_of leg) ticks).pieces) in
     omega (arith, octets, part))

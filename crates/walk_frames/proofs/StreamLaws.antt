@@ -7,8 +7,8 @@ use Rattle.std.proofs.lemmas.List.{map-append}
 use Rattle.std.proofs.lemmas.List.Elements.{filter-append}
 use Rattle.std.proofs.lemmas.List.Sums.{fold-append}
 use Rattle.session_model.specs.declared.refusal.AcceptFault.{AcceptFault}
-use Rattle.session_model.specs.declared.script.Script.{Script}
-use Rattle.session_model.specs.Scenario.{scenario_of, Scenario, DueFrame, comes_at}
+use Rattle.session_model.specs.Leg.{Leg}
+use Rattle.session_model.specs.Scenario.{scenario_by, Scenario, DueFrame, comes_at}
 use Rattle.session_model.specs.Table.{Told}
 use Rattle.session_model.specs.Loss.{extents}
 use Rattle.session_model.specs.Client.{Stream, frame_refusal, offered_by, offered, reached, place_of, stream_before}
@@ -65,12 +65,12 @@ take-none test (suc k) (x ∷ xs) none =
     let first = none 0 x (omega arith) refl in
     rw first (take-none test k xs (λ j offer low there. none (suc j) offer (omega (arith, low)) there))
 
-pub met-tick : (script : Script) (k from t to : ℕ) → Between script k from to → from ≤ t → t < to →
-    reached (place_in script (t + 1)) (stream_in script t k) ≡ stream_in script (t + 1) k
+pub met-tick : (leg : Leg) (k from t to : ℕ) → Between leg k from to → from ≤ t → t < to →
+    reached (place_in leg (t + 1)) (stream_in leg t k) ≡ stream_in leg (t + 1) k
 unfolding stream_before
-met-tick script k from t to between low high =
-    let scenario : Scenario = scenario_of script in
-    let cells : List (Option Told) = session_of script in
+met-tick leg k from t to between low high =
+    let scenario : Scenario = scenario_by leg in
+    let cells : List (Option Told) = session_of leg in
     let frame_of = λ (offer : DueFrame). offer.frame in
     let all : filter (comes_at t) (take k scenario.offers) ≡ filter (comes_at t) scenario.offers =
     filter-first (comes_at t) k scenario.offers

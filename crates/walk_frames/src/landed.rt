@@ -1,6 +1,7 @@
 //! The client's items that have landed in a walk, one after another in item order, each with why it is
 //! refused where it is.
 ghost use Rattle.std.specs.Prelude.{◌≡◌, ℕ, ◌+◌, ◌<◌, List, ◌++◌, length, drop, All, Option, IfSome, IfNone};
+ghost use Rattle.session_model.specs.Leg.{leg_of};
 ghost use Rattle.report_text.specs.declared.report.Refusal.{Refusal as RefusalData};
 ghost use Rattle.session_model.specs.Valid.{IsValid};
 ghost use Rattle.walk_law.specs.Walk.{IsWalked};
@@ -48,8 +49,8 @@ impl FrameCursor {
     /// Before the first item.
     pub fn new(walk: &Walk) -> FrameCursor
         requires valid { IsValid walk.now.script }
-        requires walked { IsWalked walk.now.script walk.now.counts }
-        ensures at { IsAt walk.now.script walk.now.counts result }
+        requires walked { IsWalked (leg_of walk.now.script) walk.now.counts }
+        ensures at { IsAt (leg_of walk.now.script) walk.now.counts result }
         ensures first { result.item ≡ 0 }
     {
         FrameCursor {
@@ -61,10 +62,10 @@ impl FrameCursor {
 
     /// The next client item that has landed.
     pub fn next(&mut self, walk: &Walk) -> Option<LandedFrame>
-        requires { IsAt walk.now.script walk.now.counts self.old }
-        ensures at { IsAt walk.now.script walk.now.counts self.new }
-        ensures some { IfSome result (IsNext walk.now.script self.old self.new) }
-        ensures none { IfNone result (IsPast walk.now.script walk.now.counts self.old) }
+        requires { IsAt (leg_of walk.now.script) walk.now.counts self.old }
+        ensures at { IsAt (leg_of walk.now.script) walk.now.counts self.new }
+        ensures some { IfSome result (IsNext (leg_of walk.now.script) self.old self.new) }
+        ensures none { IfNone result (IsPast (leg_of walk.now.script) walk.now.counts self.old) }
     {
         while self.left > 0 && self.item < items_of(walk).len() {
             if let Some(frame) = self.pass(walk) {
@@ -76,12 +77,12 @@ impl FrameCursor {
 
     /// Passes the next item, which is there.
     fn pass(&mut self, walk: &Walk) -> Option<LandedFrame>
-        requires at { IsAt walk.now.script walk.now.counts self.old }
+        requires at { IsAt (leg_of walk.now.script) walk.now.counts self.old }
         requires some { 0 < self.old.left }
         requires there { self.old.item < length walk.now.script.items }
-        ensures at { IsAt walk.now.script walk.now.counts self.new }
-        ensures found { IfSome result (IsNext walk.now.script self.old self.new) }
-        ensures skipped { IfNone result (IsSkipped walk.now.script self.old self.new) }
+        ensures at { IsAt (leg_of walk.now.script) walk.now.counts self.new }
+        ensures found { IfSome result (IsNext (leg_of walk.now.script) self.old self.new) }
+        ensures skipped { IfNone result (IsSkipped (leg_of walk.now.script) self.old self.new) }
         ensures item { self.new.item ≡ self.old.item + 1 }
     {
         let i = self.item;

@@ -6,9 +6,9 @@
 
 ghost use Rattle.std.specs.Prelude.{◌≡◌, ℕ, ◌+◌, ◌<◌, ◌≤◌, ◌++◌, ◌∷◌, [], List, length, Option, Some, None};
 ghost use Rattle.session_model.specs.declared.refusal.AcceptFault.{AcceptFault};
-ghost use Rattle.session_model.specs.declared.script.Script.{Script};
+ghost use Rattle.session_model.specs.Leg.{Leg};
 ghost use Rattle.session_model.specs.Client.{Stream, frame_refusal, offered, reached, stream_before};
-ghost use Rattle.session_model.specs.Scenario.{scenario_of};
+ghost use Rattle.session_model.specs.Scenario.{scenario_by};
 ghost use Rattle.walk_law.specs.Walk.{session_of};
 ghost use Rattle.walk_law.specs.Delivered.{session_rows};
 ghost use Rattle.walk_law.specs.Promise.{session_pieces};
@@ -21,11 +21,11 @@ mod landed;
 
 pub use landed::{FrameCursor, LandedFrame};
 
-/// The stream of a script, frame by frame and tick by tick, and its ruler.
+/// The stream of a leg, frame by frame and tick by tick, and its ruler.
 pub fn stream_law()
-    ensures start { (script : Script) → ruler_of (stream_in script 0 0) ≡ new_ruler }
-    ensures tick { (script : Script) (frames from t to : ℕ) → Between script frames from to → from ≤ t → t < to →
-        reached (place_in script (t + 1)) (stream_in script t frames) ≡ stream_in script (t + 1) frames }
+    ensures start { (leg : Leg) → ruler_of (stream_in leg 0 0) ≡ new_ruler }
+    ensures tick { (leg : Leg) (frames from t to : ℕ) → Between leg frames from to → from ≤ t → t < to →
+        reached (place_in leg (t + 1)) (stream_in leg t frames) ≡ stream_in leg (t + 1) frames }
     ensures refused { (stream : Stream) (octets : List ℕ) (why : AcceptFault) →
         frame_refusal octets stream ≡ Some why → offered stream octets ≡ stream }
     ensures accepted { (stream : Stream) (octets : List ℕ) → frame_refusal octets stream ≡ None →
@@ -35,7 +35,7 @@ pub fn stream_law()
 /// What became of a frame in some rows is the same by the pieces of the ticks that were made and by those of
 /// the whole session.
 pub fn stay_law()
-    ensures { (script : Script) (ticks rows i : ℕ) → rows ≤ ticks → ticks ≤ script.config.ticks →
-        fate_at (session_pieces script) (session_rows script rows) i
-        ≡ fate_at (stream_before (scenario_of script) (session_of script) ticks).pieces (session_rows script rows) i }
+    ensures { (leg : Leg) (ticks rows i : ℕ) → rows ≤ ticks → ticks ≤ leg.config.ticks →
+        fate_at (session_pieces leg) (session_rows leg rows) i
+        ≡ fate_at (stream_before (scenario_by leg) (session_of leg) ticks).pieces (session_rows leg rows) i }
 {}

@@ -1,6 +1,6 @@
 -- The client frames that taken rows carry, as `gfp` writes them.
 use Rattle.std.specs.Prelude.{ℕ, ◌-◌, List, length, map, filter}
-use Rattle.session_model.specs.declared.script.Script.{Script}
+use Rattle.session_model.specs.Leg.{Leg}
 use Rattle.session_model.specs.Piece.{Piece}
 use Rattle.session_model.specs.Segment.{StreamRow, octets_of_rows}
 use Rattle.session_model.specs.Loss.{Extent, extents, is_carried}
@@ -24,5 +24,5 @@ abbrev pub carried_frames : List Piece → List StreamRow → List RowFrame
 carried_frames pieces rows = carried_among rows (extents 0 pieces)
 
 -- the GFP frames of the client's stream that the taken rows of a walk carry, as a capture
-abbrev pub sent_capture : Script → Counts → List ℕ
-sent_capture script s = gfp_capture (carried_frames (session_pieces script) (session_rows script s.rows))
+abbrev pub sent_capture : Leg → Counts → List ℕ
+sent_capture leg s = gfp_capture (carried_frames (session_pieces leg) (session_rows leg s.rows))

@@ -4,6 +4,7 @@ ghost use Rattle.outside_io.specs.Start.{Start};
 ghost use Rattle.outside_io.specs.Transfer.{Appends, AppendsPart};
 ghost use Rattle.session_model.specs.declared.script.Item.{Item as ItemData};
 ghost use Rattle.session_model.specs.declared.script.ItemKind.TheVariants.{Frame};
+ghost use Rattle.session_model.specs.Leg.{leg_of};
 ghost use Rattle.session_model.specs.Limits.{longest_frame};
 ghost use Rattle.walk_law.specs.Delivered.{session_rows};
 ghost use Rattle.walk_law.specs.Promise.{session_pieces};
@@ -60,10 +61,11 @@ fn write_accepted<K: ByteSink>(
     out: &mut GfpOut<K>,
 )
     requires few { length octets.now ≤ longest_frame }
-    requires seen { SeesWalk walk.now.script walk.now.counts seen.now }
+    requires seen { SeesWalk (leg_of walk.now.script) walk.now.counts seen.now }
     ensures { (start : Start) (before : List RowFrame) →
         HasGfp K.written K.faults out.old start before → HasGfp K.written K.faults out.new start
-        (before ++ frame_if (last_row (fates_in walk.now.script walk.now.counts.rows frame))
+        (before ++ frame_if
+        (last_row (fates_in (leg_of walk.now.script) walk.now.counts.rows frame))
         octets.now) }
 {
     if let Some(row) = last_row(accepted_fate(frame, walk, seen)) {
@@ -73,10 +75,11 @@ fn write_accepted<K: ByteSink>(
 
 /// Writes the records of all of them.
 fn write_records<K: ByteSink>(walk: &Walk, seen: &SeenWalk, out: &mut GfpOut<K>)
-    requires { SeesWalk walk.now.script walk.now.counts seen.now }
+    requires { SeesWalk (leg_of walk.now.script) walk.now.counts seen.now }
     ensures { (start : Start) → HasGfp K.written K.faults out.old start [] →
-        HasGfp K.written K.faults out.new start (carried_frames (session_pieces walk.now.script)
-        (session_rows walk.now.script walk.now.counts.rows)) }
+        HasGfp K.written K.faults out.new start
+        (carried_frames (session_pieces (leg_of walk.now.script))
+        (session_rows (leg_of walk.now.script) walk.now.counts.rows)) }
 {
     let mut accepted = 0;
     let mut cursor = FrameCursor::new(walk);
@@ -91,11 +94,11 @@ fn write_records<K: ByteSink>(walk: &Walk, seen: &SeenWalk, out: &mut GfpOut<K>)
 
 /// Writes the capture of the GFP frames that the taken rows of a walk carry.
 pub fn write_gfp<K: ByteSink>(walk: &Walk, seen: &SeenWalk, out: &mut K) -> Result<(), Failed>
-    requires { SeesWalk walk.now.script walk.now.counts seen.now }
+    requires { SeesWalk (leg_of walk.now.script) walk.now.counts seen.now }
     ensures ok { OnOk result (Appends K.written K.faults out.old out.new
-        (sent_capture walk.now.script walk.now.counts)) }
+        (sent_capture (leg_of walk.now.script) walk.now.counts)) }
     ensures err { OnErr result (AppendsPart K.written K.faults out.old out.new
-        (sent_capture walk.now.script walk.now.counts)) }
+        (sent_capture (leg_of walk.now.script) walk.now.counts)) }
 {
     let mut gfp = GfpOut::new(out);
     write_records(walk, seen, &mut gfp);

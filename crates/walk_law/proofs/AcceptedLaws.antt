@@ -13,14 +13,14 @@ use Rattle.session_model.specs.declared.refusal.AcceptFault.{AcceptFault}
 use Rattle.session_model.specs.declared.script.Item.{Item}
 use Rattle.session_model.specs.declared.script.ItemKind.{ItemKind}
 use Rattle.session_model.specs.declared.script.ItemKind.TheVariants.{Frame, Add, Remove}
-use Rattle.session_model.specs.declared.script.Script.{Script}
+use Rattle.session_model.specs.Leg.{Leg}
 use Rattle.session_model.specs.Accepted.{kept_by}
-use Rattle.session_model.specs.Scenario.{Scenario, DueFrame, offer_of, offers_of, scenario_of, comes_at}
+use Rattle.session_model.specs.Scenario.{Scenario, DueFrame, offer_of, offers_of, scenario_by, comes_at}
 use Rattle.session_model.specs.Table.{Told}
 use Rattle.session_model.specs.Back.{session_cells}
 use Rattle.session_model.specs.Client.{Stream, frame_refusal, offered, stream_before}
 use Rattle.session_model.specs.Journal.{accepted_offers, offers_before, frames_before}
-use Rattle.session_model.specs.Valid.{IsItem, IsValid}
+use Rattle.session_model.specs.Valid.{IsItem, IsSound}
 use Rattle.session_law.specs.Landing.{landed, is_come}
 use Rattle.session_law.proofs.LandingLaws.{comes_apart, offers_land}
 use Rattle.report_text.specs.declared.report.Refusal.{Refusal}
@@ -127,7 +127,7 @@ module _ (scenario : Scenario) (cells : List (Option Told)) where
       ∙ sym (map-append frame_of (offers_before scenario cells n)
       (accepted_offers (stream_before scenario cells n) now))
 
--- ---- the items of a script
+-- ---- the items of a leg
 abbrev pub offers_by : Item → List DueFrame
 offers_by item = offer_of item.due item.kind
 
@@ -160,23 +160,23 @@ kind-judged scenario cells due front (Remove line) more =
     ap₂ (λ l (before : List DueFrame). l ++ judged scenario cells before more)
     (no-frame-remove (kind_refusal scenario cells due front (Remove line)) line) (append-nil (offers_of front))
 
-pub items-judged : (script : Script) (rest front : List Item) → script.items ≡ front ++ rest →
-    flat_map (λ (item : Numbered). frame_by (refusal_at script item) item.item.kind) (numbered (length front) rest)
-    ≡ judged (scenario_of script) (session_cells (scenario_of script)) (offers_of front) (offers_of rest)
+pub items-judged : (leg : Leg) (rest front : List Item) → leg.items ≡ front ++ rest →
+    flat_map (λ (item : Numbered). frame_by (refusal_at leg item) item.item.kind) (numbered (length front) rest)
+    ≡ judged (scenario_by leg) (session_cells (scenario_by leg)) (offers_of front) (offers_of rest)
 unfolding numbered judged
-items-judged script [] front parts = refl
-items-judged script (item ∷ rest) front parts =
-    let scenario : Scenario = scenario_of script in
-    let cells : List (Option Told) = session_cells (scenario_of script) in
-    let first : take (length front) script.items ≡ front = ap (take (length front)) parts
+items-judged leg [] front parts = refl
+items-judged leg (item ∷ rest) front parts =
+    let scenario : Scenario = scenario_by leg in
+    let cells : List (Option Told) = session_cells (scenario_by leg) in
+    let first : take (length front) leg.items ≡ front = ap (take (length front)) parts
     ∙ take_at front (item ∷ rest) (length front) refl in
     let size : suc (length front) ≡ length (front ++ item ∷ []) = let e = length-append front (item ∷ []) in omega arith in
-    let next = items-judged script rest (front ++ item ∷ []) (parts ∙ sym (append_assoc front (item ∷ []) rest)) in
+    let next = items-judged leg rest (front ++ item ∷ []) (parts ∙ sym (append_assoc front (item ∷ []) rest)) in
     let offers : offers_of (front ++ item ∷ []) ≡ offers_of front ++ offers_by item =
     flat_map-append offers_by front (item ∷ [])
     ∙ ap (λ l. offers_of front ++ l) (append-nil (offers_by item)) in
     ap₂ ◌++◌ (ap (λ earlier. frame_by (kind_refusal scenario cells item.due earlier item.kind) item.kind) first)
-    (ap (λ n. flat_map (λ (item : Numbered). frame_by (refusal_at script item) item.item.kind) (numbered n rest)) size
+    (ap (λ n. flat_map (λ (item : Numbered). frame_by (refusal_at leg item) item.item.kind) (numbered n rest)) size
     ∙ next
     ∙ ap (λ before. judged scenario cells before (offers_of rest)) offers)
     ∙ kind-judged scenario cells item.due front item.kind (offers_of rest)
@@ -197,15 +197,15 @@ all-come ticks (item ∷ items) each =
     ∙ ap₂ ◌++◌ (kind-comes ticks item.due item.kind (each 0 item (omega arith)).0)
     (all-come ticks items (λ k d inside. each (suc k) d (omega arith)))
 
-pub frames-accepted : (script : Script) → IsValid script →
-    frames_before (scenario_of script) (session_cells (scenario_of script)) script.config.ticks ≡ accepted_frames script
+pub frames-accepted : (leg : Leg) → IsSound leg →
+    frames_before (scenario_by leg) (session_cells (scenario_by leg)) leg.config.ticks ≡ accepted_frames leg
 unfolding numbered
-frames-accepted script valid =
-    let scenario : Scenario = scenario_of script in
-    let cells : List (Option Told) = session_cells (scenario_of script) in
-    let sorted = offers_rise script.items valid.items.frames in
-    sym (landed-judged scenario cells script.config.ticks)
+frames-accepted leg sound =
+    let scenario : Scenario = scenario_by leg in
+    let cells : List (Option Told) = session_cells (scenario_by leg) in
+    let sorted = offers_rise leg.items sound.items.frames in
+    sym (landed-judged scenario cells leg.config.ticks)
     ∙ ap (judged scenario cells [])
-    (offers_land scenario.offers script.config.ticks sorted
-    ∙ all-come script.config.ticks script.items valid.items.each)
-    ∙ sym (items-judged script script.items [] refl)
+    (offers_land scenario.offers leg.config.ticks sorted
+    ∙ all-come leg.config.ticks leg.items sound.items.each)
+    ∙ sym (items-judged leg leg.items [] refl)

@@ -8,7 +8,7 @@ use Rattle.std.proofs.Math.Nat.{mul-le-mul_left, mul-le-mul_right}
 use Rattle.std.proofs.lemmas.Bool.{leb-true, cases_Bool}
 use Rattle.std.proofs.lemmas.List.{length-map}
 use Rattle.std.proofs.lemmas.List.Sums.{sum_by-cons, sum_by-append, length-filter, count_by-le-length}
-use Rattle.session_model.specs.declared.script.Script.{Script}
+use Rattle.session_model.specs.Leg.{Leg}
 use Rattle.session_model.specs.Core.{head}
 use Rattle.session_model.specs.Piece.{joined}
 use Rattle.session_model.specs.Scramble.{descrambled_octets}
@@ -20,13 +20,13 @@ use Rattle.session_model.specs.Outcome.{descrambled_areas, run_outcomes_with, ou
 use Rattle.session_model.specs.Delivery.{frame_in}
 use Rattle.session_model.specs.Segment.{StreamRow, Segment, Segments, row_by, segments_on, segments_of, segments}
 use Rattle.session_model.specs.Segment.{segment_frames, deliver, octets_of_rows}
-use Rattle.session_model.specs.Scenario.{Scenario, scenario_of}
+use Rattle.session_model.specs.Scenario.{Scenario, scenario_by}
 use Rattle.session_model.specs.Table.{Told, is_normal}
 use Rattle.session_model.specs.Source.{table_of}
 use Rattle.session_model.specs.Back.{session_cells}
 use Rattle.session_model.specs.Client.{width, place_of}
 use Rattle.session_model.specs.SessionStream.{rows_of}
-use Rattle.session_model.specs.Valid.{IsValid}
+use Rattle.session_model.specs.Valid.{IsSound}
 use Rattle.session_model.proofs.CutLaws.{length-cut}
 use Rattle.session_law.proofs.PlanLaws.{order-length}
 use Rattle.loss_law.proofs.SessionStreamLaws.{rows-length}
@@ -254,25 +254,25 @@ product-few t size lines ticks octets few =
     let e = mul-le-mul_left 1000000 c in
     omega (arith, d, e)
 
--- the octets of a script's session are counted in fewer than 64 bits
-pub place-most : (script : Script) (rows : ℕ) → IsValid script → rows ≤ script.config.ticks →
-    place_of (scenario_of script) (session_cells (scenario_of script)) rows ≤ 299520000000
-place-most script rows valid low =
-    let network = valid.network in
+-- the octets of a leg's session are counted in fewer than 64 bits
+pub place-most : (leg : Leg) (rows : ℕ) → IsSound leg → rows ≤ leg.config.ticks →
+    place_of (scenario_by leg) (session_cells (scenario_by leg)) rows ≤ 299520000000
+place-most leg rows sound low =
+    let network = sound.network in
     let ticks = network.ticks in
     let lines = network.lines in
     let each = network.windows_each in
-    let place = place-few (scenario_of script) (session_cells (scenario_of script)) rows in
-    let size : script.config.size ≤ 2340 = elim network.size [ inl small ↦ omega arith | inr large ↦ omega arith ] in
-    let most = product-few rows script.config.size (length script.config.windows) (omega arith) size (omega arith) in
+    let place = place-few (scenario_by leg) (session_cells (scenario_by leg)) rows in
+    let size : leg.config.size ≤ 2340 = elim network.size [ inl small ↦ omega arith | inr large ↦ omega arith ] in
+    let most = product-few rows leg.config.size (length leg.config.windows) (omega arith) size (omega arith) in
     omega (arith, place, most)
 
-pub delivered-few : (script : Script) (rows : ℕ) → IsValid script → rows ≤ script.config.ticks →
-    length (delivered_of script rows) ≤ 299520000000
-delivered-few script rows valid low =
-    let scenario : Scenario = scenario_of script in
+pub delivered-few : (leg : Leg) (rows : ℕ) → IsSound leg → rows ≤ leg.config.ticks →
+    length (delivered_of leg rows) ≤ 299520000000
+delivered-few leg rows sound low =
+    let scenario : Scenario = scenario_by leg in
     let cells : List (Option Told) = session_cells scenario in
     let few = deliver-few 9600 (rows_of scenario cells rows) in
     let octets = rows-length scenario cells rows rows (omega arith) in
-    let place = place-most script rows valid low in
+    let place = place-most leg rows sound low in
     omega (arith, few, octets, place)

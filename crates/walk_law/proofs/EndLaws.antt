@@ -10,10 +10,10 @@ use Rattle.std.proofs.lemmas.List.{length-map}
 use Rattle.session_model.specs.declared.script.Item.{Item}
 use Rattle.session_model.specs.declared.script.ItemKind.{ItemKind}
 use Rattle.session_model.specs.declared.script.ItemKind.TheVariants.{Frame, Add, Remove}
-use Rattle.session_model.specs.declared.script.Script.{Script}
+use Rattle.session_model.specs.Leg.{Leg}
 use Rattle.session_model.specs.Scenario.{DueCommand, DueFrame, order_of, offer_of, orders_of, offers_of}
 use Rattle.session_model.specs.Counts.{due_of, dues_of, frame_dues, command_dues, Counts}
-use Rattle.session_model.specs.Valid.{IsItem, IsValid}
+use Rattle.session_model.specs.Valid.{IsItem, IsSound}
 use Rattle.line_law.proofs.ListLaws.{slice_get-inside}
 use Rattle.progress_law.proofs.MoveLaws.{rows-ticks}
 use Rattle.report_text.specs.declared.report.Refusal.{Refusal}
@@ -22,18 +22,18 @@ use Rattle.walk_law.specs.Landed.{Numbered, is_client, landed_from, landed_items
 use Rattle.walk_law.specs.Landed.{totals_of}
 use Rattle.walk_law.specs.Report.{report_among, report_of, final_report}
 use Rattle.walk_law.specs.Promise.{numbered, frame_by, accepted_frames, drained}
-use Rattle.walk_law.proofs.PlanLaws.{has-plan, valid-walks}
+use Rattle.walk_law.proofs.PlanLaws.{has-plan, sound-walks}
 use Rattle.walk_law.proofs.WalkLaws.{fits, drains-walked}
 use Rattle.walk_law.proofs.LandLaws.{Ahead, frame-dues, command-dues, walked-ahead}
 use Rattle.walk_law.proofs.ReportLaws.{offers-size, orders-size}
 use Rattle.walk_law.proofs.PromiseLaws.{drain-ends}
 
-pub counts-within : (script : Script) (s : Counts) → CanWalk script → IsWalked script s → (s.rows ≤ s.ticks) ×
-    (s.ticks ≤ script.config.ticks)
-counts-within script s can walked =
-    let plan = has-plan script can in
-    let f = fits script s can walked in
-    (rows-ticks plan.slow plan.fast plan.slip (walk_plan script) plan.is s f, f.ticks)
+pub counts-within : (leg : Leg) (s : Counts) → CanWalk leg → IsWalked leg s → (s.rows ≤ s.ticks) ×
+    (s.ticks ≤ leg.config.ticks)
+counts-within leg s can walked =
+    let plan = has-plan leg can in
+    let f = fits leg s can walked in
+    (rows-ticks plan.slow plan.fast plan.slip (walk_plan leg) plan.is s f, f.ticks)
 
 -- ---- due ticks
 frames-due : (ticks : ℕ) (items : List Item) → All (IsItem ticks) items →
@@ -107,88 +107,88 @@ all-landed (item ∷ items) a b i frames commands =
     ]
 
 -- where nothing waits that is due before the last tick
-pub ended-landed : (script : Script) → IsValid script → (frames commands : ℕ) →
-    Ahead (dues_of script.items) script.config.ticks frames commands →
-    (length (offers_of script.items) ≤ frames) × (length (orders_of script.items) ≤ commands) ×
-    (landed_from frames commands 0 script.items ≡ numbered 0 script.items)
-ended-landed script valid frames commands ahead =
-    let dues = past-end (frame_dues (dues_of script.items)) script.config.ticks frames
-    (frames-due script.config.ticks script.items valid.items.each)
+pub ended-landed : (leg : Leg) → IsSound leg → (frames commands : ℕ) →
+    Ahead (dues_of leg.items) leg.config.ticks frames commands →
+    (length (offers_of leg.items) ≤ frames) × (length (orders_of leg.items) ≤ commands) ×
+    (landed_from frames commands 0 leg.items ≡ numbered 0 leg.items)
+ended-landed leg sound frames commands ahead =
+    let dues = past-end (frame_dues (dues_of leg.items)) leg.config.ticks frames
+    (frames-due leg.config.ticks leg.items sound.items.each)
     (λ due there. ahead.of_frames frames due (omega arith) there) in
-    let others = past-end (command_dues (dues_of script.items)) script.config.ticks commands
-    (commands-due script.config.ticks script.items valid.items.each)
+    let others = past-end (command_dues (dues_of leg.items)) leg.config.ticks commands
+    (commands-due leg.config.ticks leg.items sound.items.each)
     (λ due there. ahead.of_commands commands due (omega arith) there) in
-    let offers = ap length (frame-dues script.items)
-    ∙ length-map (offers_of script.items) (λ (offer : DueFrame). offer.due) in
-    let orders = ap length (command-dues script.items)
-    ∙ length-map (orders_of script.items) (λ (order : DueCommand). order.due) in
-    let most : length (offers_of script.items) ≤ frames = omega arith in
-    let most_orders : length (orders_of script.items) ≤ commands = omega arith in
-    (most, most_orders, all-landed script.items frames commands 0 most most_orders)
+    let offers = ap length (frame-dues leg.items)
+    ∙ length-map (offers_of leg.items) (λ (offer : DueFrame). offer.due) in
+    let orders = ap length (command-dues leg.items)
+    ∙ length-map (orders_of leg.items) (λ (order : DueCommand). order.due) in
+    let most : length (offers_of leg.items) ≤ frames = omega arith in
+    let most_orders : length (orders_of leg.items) ≤ commands = omega arith in
+    (most, most_orders, all-landed leg.items frames commands 0 most most_orders)
 
-module _ (script : Script) (s : Counts) (valid : IsValid script) (walked : IsWalked script s) where
-  can : CanWalk script
-  can = valid-walks script valid
+module _ (leg : Leg) (s : Counts) (sound : IsSound leg) (walked : IsWalked leg s) where
+  can : CanWalk leg
+  can = sound-walks leg sound
 
-  pub items-landed : s.ticks ≡ script.config.ticks → landed_items script s ≡ numbered 0 script.items
+  pub items-landed : s.ticks ≡ leg.config.ticks → landed_items leg s ≡ numbered 0 leg.items
   items-landed made =
-      (ended-landed script valid s.frames s.commands
-      (subst (λ ticks. Ahead (dues_of script.items) ticks s.frames s.commands) made
-      (walked-ahead script s walked))).2
+      (ended-landed leg sound s.frames s.commands
+      (subst (λ ticks. Ahead (dues_of leg.items) ticks s.frames s.commands) made
+      (walked-ahead leg s walked))).2
 
-  pub ticks-made : s.rows ≡ script.config.ticks → s.ticks ≡ script.config.ticks
+  pub ticks-made : s.rows ≡ leg.config.ticks → s.ticks ≡ leg.config.ticks
   ticks-made taken =
-      let (low, high) = counts-within script s can walked in
+      let (low, high) = counts-within leg s can walked in
       omega arith
 
 -- ---- as many frames are accepted as the totals say
-frame-counted : (script : Script) (item : Numbered) (why : Option Refusal) (kind : ItemKind) →
+frame-counted : (leg : Leg) (item : Numbered) (why : Option Refusal) (kind : ItemKind) →
     length (frame_by why kind) ≡ (if is_client kind && is_none why then 1 else 0)
-frame-counted script item None (Frame octets) = refl
-frame-counted script item None (Add line) = refl
-frame-counted script item None (Remove line) = refl
-frame-counted script item (Some why) (Frame octets) = refl
-frame-counted script item (Some why) (Add line) = refl
-frame-counted script item (Some why) (Remove line) = refl
+frame-counted leg item None (Frame octets) = refl
+frame-counted leg item None (Add line) = refl
+frame-counted leg item None (Remove line) = refl
+frame-counted leg item (Some why) (Frame octets) = refl
+frame-counted leg item (Some why) (Add line) = refl
+frame-counted leg item (Some why) (Remove line) = refl
 
-frames-counted : (script : Script) (items : List Numbered) →
-    length (filter (is_accepted_frame script) items) ≡ length
-    (flat_map (λ item. frame_by (refusal_at script item) item.item.kind) items)
-frames-counted script [] = refl
-frames-counted script (item ∷ items) =
-    let own : List (List ℕ) = frame_by (refusal_at script item) item.item.kind in
-    let one = frame-counted script item (refusal_at script item) item.item.kind in
-    let rest = frames-counted script items in
-    let sum = length-append own (flat_map (λ (item : Numbered). frame_by (refusal_at script item) item.item.kind) items)
+frames-counted : (leg : Leg) (items : List Numbered) →
+    length (filter (is_accepted_frame leg) items) ≡ length
+    (flat_map (λ item. frame_by (refusal_at leg item) item.item.kind) items)
+frames-counted leg [] = refl
+frames-counted leg (item ∷ items) =
+    let own : List (List ℕ) = frame_by (refusal_at leg item) item.item.kind in
+    let one = frame-counted leg item (refusal_at leg item) item.item.kind in
+    let rest = frames-counted leg items in
+    let sum = length-append own (flat_map (λ (item : Numbered). frame_by (refusal_at leg item) item.item.kind) items)
     in
-    elim (cases_Bool (is_accepted_frame script item)) [
+    elim (cases_Bool (is_accepted_frame leg item)) [
       | inl e ↦ let size : length own ≡ 1 = one ∙ ap (λ c. if c then 1 else 0) e in rw e (omega arith)
       | inr e ↦ let size : length own ≡ 0 = one ∙ ap (λ c. if c then 1 else 0) e in rw e (omega arith)
     ]
 
-module _ (script : Script) (s : Counts) (valid : IsValid script) (walked : IsWalked script s) where
+module _ (leg : Leg) (s : Counts) (sound : IsSound leg) (walked : IsWalked leg s) where
   end : Counts
-  end = drained script s
+  end = drained leg s
 
-  end-walked : IsWalked script (drained script s)
-  end-walked = drains-walked script s _ walked
+  end-walked : IsWalked leg (drained leg s)
+  end-walked = drains-walked leg s _ walked
 
-  pub drained-ticks : (drained script s).ticks ≡ script.config.ticks
-  drained-ticks = ticks-made script (drained script s) valid end-walked
-      (drain-ends script s (valid-walks script valid) walked)
+  pub drained-ticks : (drained leg s).ticks ≡ leg.config.ticks
+  drained-ticks = ticks-made leg (drained leg s) sound end-walked
+      (drain-ends leg s (sound-walks leg sound) walked)
 
-  pub drained-landed : landed_items script (drained script s) ≡ numbered 0 script.items
-  drained-landed = items-landed script (drained script s) valid end-walked drained-ticks
+  pub drained-landed : landed_items leg (drained leg s) ≡ numbered 0 leg.items
+  drained-landed = items-landed leg (drained leg s) sound end-walked drained-ticks
 
-  pub drained-accepted : (totals_of script (drained script s)).frames ≡ length (accepted_frames script)
-  drained-accepted = ap (λ items. length (filter (is_accepted_frame script) items)) drained-landed
-      ∙ frames-counted script (numbered 0 script.items)
+  pub drained-accepted : (totals_of leg (drained leg s)).frames ≡ length (accepted_frames leg)
+  drained-accepted = ap (λ items. length (filter (is_accepted_frame leg) items)) drained-landed
+      ∙ frames-counted leg (numbered 0 leg.items)
 
-  pub drained-report : report_of script (drained script s) ≡ final_report script
+  pub drained-report : report_of leg (drained leg s) ≡ final_report leg
   drained-report =
-      let rows : (drained script s).rows ≡ script.config.ticks =
-      drain-ends script s (valid-walks script valid) walked in
-      ap (λ ticks. report_among script ticks (drained script s).rows (landed_items script (drained script s)))
+      let rows : (drained leg s).rows ≡ leg.config.ticks =
+      drain-ends leg s (sound-walks leg sound) walked in
+      ap (λ ticks. report_among leg ticks (drained leg s).rows (landed_items leg (drained leg s)))
       drained-ticks
-      ∙ ap (λ n. report_among script script.config.ticks n (landed_items script (drained script s))) rows
-      ∙ ap (report_among script script.config.ticks script.config.ticks) drained-landed
+      ∙ ap (λ n. report_among leg leg.config.ticks n (landed_items leg (drained leg s))) rows
+      ∙ ap (report_among leg leg.config.ticks leg.config.ticks) drained-landed

@@ -4,8 +4,8 @@ use Rattle.std.proofs.Common.{drop, length, Option, Some, None, refl, sym, ◌�
 use Rattle.std.specs.List.{range_with_len}
 use Rattle.std.proofs.lemmas.List.{append-nil}
 use Rattle.std.proofs.lemmas.List.FromFn.{map-range_with_len_more}
-use Rattle.session_model.specs.declared.script.Script.{Script}
-use Rattle.session_model.specs.Scenario.{Scenario, scenario_of}
+use Rattle.session_model.specs.Leg.{Leg}
+use Rattle.session_model.specs.Scenario.{Scenario, scenario_by}
 use Rattle.session_model.specs.Table.{Told}
 use Rattle.session_model.specs.Back.{session_cells}
 use Rattle.session_model.specs.Payload.{payload_of}
@@ -69,16 +69,16 @@ with-row receive is a b false octets same =
     subst (λ row. SameFrames (a ++ row ∷ []) (b ++ lost_row octets ∷ [])) (sym (lost-as (receive None) is.lost))
     (with-lost a b (receive None).octets octets same)
 
-module _ (script : Script) (s : Counts) (can : CanWalk script) (walked : IsWalked script s)
+module _ (leg : Leg) (s : Counts) (can : CanWalk leg) (walked : IsWalked leg s)
     (receive : Option (List ℕ) → StreamRow) (is : IsReceived receive) where
   abbrev read : ℕ → StreamRow
-  read t = receive (row_at script.config.size (popped_cells script s.lines) t)
+  read t = receive (row_at leg.config.size (popped_cells leg s.lines) t)
 
   abbrev scenario : Scenario
-  scenario = scenario_of script
+  scenario = scenario_by leg
 
   abbrev session : List (Option Told)
-  session = session_cells (scenario_of script)
+  session = session_cells (scenario_by leg)
 
   same-frames : (n : ℕ) → n ≤ s.rows → SameFrames (map read (range_with_len 0 n)) (rows_of scenario session n)
   unfolding rows_of
@@ -87,14 +87,14 @@ module _ (script : Script) (s : Counts) (can : CanWalk script) (walked : IsWalke
       let e : suc n ≡ n + 1 = omega arith in
       let rows : map read (range_with_len 0 (suc n)) ≡ map read (range_with_len 0 n) ++ read n ∷ [] =
       ap (λ k. map read (range_with_len 0 k)) e ∙ map-range_with_len_more read 0 n n (omega arith) in
-      let row = rows-are script s can walked n (omega arith) in
+      let row = rows-are leg s can walked n (omega arith) in
       subst (λ l. SameFrames l (rows_of scenario session n ++ row_of scenario session n ∷ [])) (sym rows)
       (subst (λ (found : Option (List ℕ)). SameFrames (map read (range_with_len 0 n) ++ receive found ∷ [])
       (rows_of scenario session n ++ row_of scenario session n ∷ [])) (sym row)
       (with-row receive is (map read (range_with_len 0 n)) (rows_of scenario session n)
       (is_whole_row scenario session n) (payload_of scenario session n) (same-frames n (omega arith))))
 
-  pub frames-received : (n : ℕ) → n ≤ s.rows → deliver 9600 (map read (range_with_len 0 n)) ≡ delivered_of script n
+  pub frames-received : (n : ℕ) → n ≤ s.rows → deliver 9600 (map read (range_with_len 0 n)) ≡ delivered_of leg n
   frames-received n low = (same-frames n low).frames
 
 -- ---- more rows
@@ -114,12 +114,12 @@ rows-longer scenario cells n (suc more) =
           ∙ append_assoc (rows_of scenario cells n) rows (row_of scenario cells (more + n) ∷ []),
     )
 
-pub frames-grow : (script : Script) (n more : ℕ) →
-    delivered_of script (n + more) ≡ delivered_of script n ++ drop (length (delivered_of script n))
-    (delivered_of script (n + more))
-frames-grow script n more =
-    let (rows, longer) = rows-longer (scenario_of script) (session_cells (scenario_of script)) n more in
+pub frames-grow : (leg : Leg) (n more : ℕ) →
+    delivered_of leg (n + more) ≡ delivered_of leg n ++ drop (length (delivered_of leg n))
+    (delivered_of leg (n + more))
+frames-grow leg n more =
+    let (rows, longer) = rows-longer (scenario_by leg) (session_cells (scenario_by leg)) n more in
     let e : n + more ≡ more + n = omega arith in
-    let all : session_rows script (n + more) ≡ session_rows script n ++ rows = ap (session_rows script) e ∙ longer in
-    subst (λ l. deliver 9600 l ≡ delivered_of script n ++ drop (length (delivered_of script n)) (deliver 9600 l))
-    (sym all) (deliver-grows 9600 (session_rows script n) rows)
+    let all : session_rows leg (n + more) ≡ session_rows leg n ++ rows = ap (session_rows leg) e ∙ longer in
+    subst (λ l. deliver 9600 l ≡ delivered_of leg n ++ drop (length (delivered_of leg n)) (deliver 9600 l))
+    (sym all) (deliver-grows 9600 (session_rows leg n) rows)

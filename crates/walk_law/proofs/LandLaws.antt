@@ -8,10 +8,10 @@ use Rattle.std.proofs.lemmas.List.{take_at}
 use Rattle.std.specs.List.{flat_map}
 use Rattle.vc_bits.proofs.LockLaws.{slice_get-append_seam}
 use Rattle.session_model.specs.declared.script.Item.{Item}
-use Rattle.session_model.specs.declared.script.Script.{Script}
+use Rattle.session_model.specs.Leg.{Leg}
 use Rattle.session_model.specs.declared.walk.Event.{Event}
 use Rattle.session_model.specs.declared.walk.Event.TheVariants.{Accept, Command, Tick, Carry, Back, Take}
-use Rattle.session_model.specs.Scenario.{DueCommand, DueFrame, order_of, offer_of, orders_of, offers_of, scenario_of}
+use Rattle.session_model.specs.Scenario.{DueCommand, DueFrame, order_of, offer_of, orders_of, offers_of, scenario_by}
 use Rattle.session_model.specs.Scenario.{lands_at, comes_at, orders_at, frames_at}
 use Rattle.session_model.specs.Counts.{Due, frame_due, command_due, dues_of, frame_dues, command_dues, LinePath}
 use Rattle.session_model.specs.Counts.{LineCounts, Plan, Counts, land_due, held, full, is_missing, tick_full, tick_held}
@@ -176,10 +176,10 @@ unfolding run
 ahead-run plan s [] here = here
 ahead-run plan s (event ∷ events) here = ahead-run plan (step plan s event).counts events (ahead-step plan s event here)
 
-pub walked-ahead : (script : Script) (s : Counts) → IsWalked script s → IsAhead (walk_plan script) s
-walked-ahead script s walked =
-    subst (IsAhead (walk_plan script)) (sym walked.1)
-    (ahead-run (walk_plan script) (begin (walk_plan script)) walked.0 (record {
+pub walked-ahead : (leg : Leg) (s : Counts) → IsWalked leg s → IsAhead (walk_plan leg) s
+walked-ahead leg s walked =
+    subst (IsAhead (walk_plan leg)) (sym walked.1)
+    (ahead-run (walk_plan leg) (begin (walk_plan leg)) walked.0 (record {
       of_frames = λ k due low there. omega arith;
       of_commands = λ k due low there. omega arith;
     }))
@@ -193,20 +193,20 @@ pub command-dues : (items : List Item) →
     command_dues (dues_of items) ≡ map (λ (order : DueCommand). order.due) (orders_of items)
 command-dues items = sym (order_dues items)
 
-pub frame-waits : (script : Script) (s : Counts) (k : ℕ) (offer : DueFrame) → IsWalked script s → s.frames ≤ k →
-    slice_get (offers_of script.items) k ≡ Some offer → s.ticks ≤ offer.due
-frame-waits script s k offer walked low there =
-    (walked-ahead script s walked).of_frames k offer.due low
-    (ap (λ l. slice_get l k) (frame-dues script.items)
-    ∙ slice_get-map (λ (offer : DueFrame). offer.due) (offers_of script.items) k
+pub frame-waits : (leg : Leg) (s : Counts) (k : ℕ) (offer : DueFrame) → IsWalked leg s → s.frames ≤ k →
+    slice_get (offers_of leg.items) k ≡ Some offer → s.ticks ≤ offer.due
+frame-waits leg s k offer walked low there =
+    (walked-ahead leg s walked).of_frames k offer.due low
+    (ap (λ l. slice_get l k) (frame-dues leg.items)
+    ∙ slice_get-map (λ (offer : DueFrame). offer.due) (offers_of leg.items) k
     ∙ ap (option_map (λ (offer : DueFrame). offer.due)) there)
 
-pub command-waits : (script : Script) (s : Counts) (k : ℕ) (order : DueCommand) → IsWalked script s → s.commands ≤ k →
-    slice_get (orders_of script.items) k ≡ Some order → s.ticks ≤ order.due
-command-waits script s k order walked low there =
-    (walked-ahead script s walked).of_commands k order.due low
-    (ap (λ l. slice_get l k) (command-dues script.items)
-    ∙ slice_get-map (λ (order : DueCommand). order.due) (orders_of script.items) k
+pub command-waits : (leg : Leg) (s : Counts) (k : ℕ) (order : DueCommand) → IsWalked leg s → s.commands ≤ k →
+    slice_get (orders_of leg.items) k ≡ Some order → s.ticks ≤ order.due
+command-waits leg s k order walked low there =
+    (walked-ahead leg s walked).of_commands k order.due low
+    (ap (λ l. slice_get l k) (command-dues leg.items)
+    ∙ slice_get-map (λ (order : DueCommand). order.due) (orders_of leg.items) k
     ∙ ap (option_map (λ (order : DueCommand). order.due)) there)
 
 -- ---- the session of what has landed
@@ -222,20 +222,20 @@ filter-first p (suc a) (x ∷ xs) none =
     let rest = filter-first p a xs (λ k y low there. none (suc k) y (omega arith) there) in
     elim (cases_Bool (p x)) [ inl e ↦ rw e (ap (λ l. x ∷ l) rest) | inr e ↦ rw e rest ]
 
-pub frames-landed : (script : Script) (s : Counts) (t : ℕ) → IsWalked script s → t < s.ticks →
-    frames_at (landed_scenario script s) t ≡ frames_at (scenario_of script) t
-frames-landed script s t walked low =
+pub frames-landed : (leg : Leg) (s : Counts) (t : ℕ) → IsWalked leg s → t < s.ticks →
+    frames_at (landed_scenario leg s) t ≡ frames_at (scenario_by leg) t
+frames-landed leg s t walked low =
     ap (map (λ (offer : DueFrame). offer.frame))
-    (filter-first (comes_at t) s.frames (offers_of script.items) (λ k offer waits there.
-    let late = frame-waits script s k offer walked waits there in
+    (filter-first (comes_at t) s.frames (offers_of leg.items) (λ k offer waits there.
+    let late = frame-waits leg s k offer walked waits there in
     ap (λ b. b && nat_le t offer.due) (lt-leb offer.due t (omega arith))))
 
-pub orders-landed : (script : Script) (s : Counts) (j : ℕ) → IsWalked script s → 16 * j + 8 < s.ticks →
-    orders_at (landed_scenario script s) j ≡ orders_at (scenario_of script) j
-orders-landed script s j walked low =
+pub orders-landed : (leg : Leg) (s : Counts) (j : ℕ) → IsWalked leg s → 16 * j + 8 < s.ticks →
+    orders_at (landed_scenario leg s) j ≡ orders_at (scenario_by leg) j
+orders-landed leg s j walked low =
     ap (map (λ (order : DueCommand). order.command))
-    (filter-first (lands_at j) s.commands (orders_of script.items) (λ k order waits there.
-    let late = command-waits script s k order walked waits there in
+    (filter-first (lands_at j) s.commands (orders_of leg.items) (λ k order waits there.
+    let late = command-waits leg s k order walked waits there in
     ap (λ b. nat_lt (16 * j) (order.due + 8) && b) (lt-leb order.due (16 * j + 8) (omega arith))
     ∙ and_false (nat_lt (16 * j) (order.due + 8))))
 

@@ -1,4 +1,4 @@
--- Two scripts that meet what is asked of one.
+-- Two legs that meet what is asked of one.
 use Rattle.std.proofs.Common.{◌≡◌, ◌⊎◌, ℕ, zero, suc, ◌+◌, ◌*◌, ◌<◌, ◌≤◌, true, false, inl, inr, List, [], ◌∷◌, map}
 use Rattle.std.proofs.Common.{length, replicate, slice_get, slice_index_or, All, Option, Some, None, refl, sym, ◌∙◌, ap}
 use Rattle.std.proofs.Common.{subst, arith}
@@ -16,20 +16,20 @@ use Rattle.session_model.specs.declared.script.ItemKind.TheVariants.{Frame, Add}
 use Rattle.session_model.specs.declared.table.Command.{Command}
 use Rattle.session_model.specs.declared.table.Command.TheVariants.{Add as add}
 use Rattle.session_model.specs.declared.table.Standing.TheVariants.{Add as adding}
-use Rattle.session_model.specs.Valid.{IsWithin, AreApart, HasFailures, IsNetwork, IsItem, IsEvent, IsValid}
+use Rattle.session_model.specs.Valid.{IsWithin, AreApart, HasFailures, IsNetwork, IsItem, IsSound}
 use Rattle.session_model.specs.Counts.{frame_dues, command_dues}
 use Rattle.session_model.specs.Plan.{FitsRing, FitsLag}
 use Rattle.session_model.specs.Damage.{carried, are_whole, AreWindows, slip_after}
 use Rattle.session_model.specs.declared.table.Member.{Member}
 use Rattle.session_model.specs.Table.{member_of, keep, none_kept, admit, turned, take_out, exchange}
-use Rattle.session_model.specs.Scenario.{DueFrame, Scenario, scenario_of, offers_of, carried_by, is_read}
+use Rattle.session_model.specs.Scenario.{DueFrame, Scenario, scenario_by, offers_of, carried_by, is_read}
 use Rattle.session_model.specs.Source.{after, table_of}
 use Rattle.session_model.specs.Source.{carried as carried_out}
 use Rattle.session_model.specs.Back.{said_before, cells_before, session_cells}
 use Rattle.session_law.specs.Use.{AddsUndamaged, AddsAmongSilent}
 use Rattle.session_law.proofs.DamageLaws.{readable-whole}
 use Rattle.walk_law.specs.Promise.{IsClear, row_from, ConfirmsTrue}
-use Rattle.walk_law.specs.Worked.{item, plain, failing_windows, failing_script, silent_windows, silent_script}
+use Rattle.walk_law.specs.Worked.{item, plain, failing_windows, failing_leg, silent_windows, silent_leg}
 use Rattle.walk_law.proofs.WholeLaws.{clear-whole, row-whole}
 use Rattle.walk_law.proofs.QuietLaws.{quiet-true}
 
@@ -119,9 +119,9 @@ frame-fits octet low = (
   ((omega arith, omega arith), All-replicate (λ o. o < 256) 64 octet low),
 )
 
-pub failing-valid : IsValid failing_script
+pub failing-sound : IsSound failing_leg
 unfolding frame_dues command_dues
-failing-valid = record {
+failing-sound = record {
   network = failing-network;
   items = record {
     each = All-cons (IsItem 1100) (item 0 (Add 0)) (late_frame 1 ∷ late_frame 2 ∷ late_frame 3 ∷ [])
@@ -133,13 +133,12 @@ failing-valid = record {
     commands = IsNonDecreasingBy-short (λ (n : ℕ). n) (0 ∷ []) (omega arith);
   };
   few = omega arith;
-  events = All-nil (IsEvent 1);
 }
 
 abbrev IsLate : DueFrame → Type 0
 IsLate offer = 1032 ≤ offer.due
 
-all-late : All IsLate (offers_of failing_script.items)
+all-late : All IsLate (offers_of failing_leg.items)
 all-late =
     let one : DueFrame = record { due = 1040; frame = replicate 64 1 } in
     let two : DueFrame = record { due = 1040; frame = replicate 64 2 } in
@@ -148,7 +147,7 @@ all-late =
     (All-cons IsLate two (three ∷ []) (omega arith) (All-cons IsLate three [] (omega arith) (All-nil IsLate)))
 
 clear-later : (t line : ℕ) → 1032 ≤ t → line < 1 →
-    IsClear (slice_index_or failing_script.config.windows line []) (row_from t) (t + 1)
+    IsClear (slice_index_or failing_leg.config.windows line []) (row_from t) (t + 1)
 unfolding window
 clear-later t zero late low = λ k d inside. later k d inside
   where
@@ -157,13 +156,13 @@ clear-later t zero late low = λ k d inside. later k d inside
     later (suc k) d inside = absurd (omega (arith, inside))
 clear-later t (suc line) late low = absurd (omega (arith, low))
 
-pub failing-starts : ConfirmsTrue failing_script failing_script.config.ticks
+pub failing-starts : ConfirmsTrue failing_leg failing_leg.config.ticks
 failing-starts =
-    quiet-true failing_script 1100 1032 failing-valid (omega arith) (omega arith) all-late
-    (λ t late low. row-whole failing_script (omega arith) t (λ line inside. clear-later t line late inside))
+    quiet-true failing_leg 1100 1032 failing-sound (omega arith) (omega arith) all-late
+    (λ t late low. row-whole failing_leg (omega arith) t (λ line inside. clear-later t line late inside))
 
 abbrev failing : Scenario
-failing = scenario_of failing_script
+failing = scenario_by failing_leg
 
 failing-first : carried_out failing (session_cells failing) 0 ≡ Some (add 0)
 unfolding carried are_whole after keep none_kept cells_before said_before exchange take_out turned admit
@@ -210,9 +209,9 @@ silent-network =
     (All-cons (HasFailures 600) [] [] (no_failure 600) (All-nil (HasFailures 600))))
     (omega arith, omega arith) (omega arith, omega arith) (omega arith, omega arith) (omega arith) (omega arith)
 
-pub silent-valid : IsValid silent_script
+pub silent-sound : IsSound silent_leg
 unfolding frame_dues command_dues
-silent-valid = record {
+silent-sound = record {
   network = silent-network;
   items = record {
     each = All-cons (IsItem 600) (item 0 (Add 0)) (item 0 (Add 1) ∷ []) (omega arith, omega arith)
@@ -221,11 +220,10 @@ silent-valid = record {
     commands = equal-rise 2 0;
   };
   few = omega arith;
-  events = All-nil (IsEvent 2);
 }
 
 abbrev silent : Scenario
-silent = scenario_of silent_script
+silent = scenario_by silent_leg
 
 silent-first : carried_out silent (session_cells silent) 1 ≡ Some (add 1)
 unfolding carried are_whole after keep none_kept cells_before said_before exchange take_out turned admit

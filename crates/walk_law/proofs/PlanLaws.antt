@@ -1,14 +1,14 @@
--- The plan of a script's walk, and its lines.
+-- The plan of a leg's walk, and its lines.
 use Rattle.std.proofs.Common.{◌≡◌, ℕ, zero, suc, ◌+◌, ◌<◌, ◌≤◌, List, [], ◌∷◌, map, length, slice_get, slice_index_or}
 use Rattle.std.proofs.Common.{Some, refl, sym, ◌∙◌, ap, subst, arith}
 use Rattle.std.specs.List.{range_with_len}
 use Rattle.vc_cell.specs.declared.Container.{Container}
 use Rattle.session_model.specs.declared.window.Window.{Window}
-use Rattle.session_model.specs.declared.script.Script.{Script}
-use Rattle.session_model.specs.Valid.{IsValid}
+use Rattle.session_model.specs.Leg.{Leg}
+use Rattle.session_model.specs.Valid.{IsSound}
 use Rattle.session_model.specs.Damage.{carried, slip_of}
 use Rattle.session_model.specs.Line.{IsLine}
-use Rattle.session_model.specs.Scenario.{Scenario, scenario_of}
+use Rattle.session_model.specs.Scenario.{Scenario, scenario_by}
 use Rattle.session_model.specs.Back.{session_cells}
 use Rattle.session_model.specs.Plan.{path_of, paths_of, greatest_slip}
 use Rattle.progress_law.specs.Progress.{IsPlan}
@@ -26,14 +26,14 @@ slip-least [] line d inside = absurd (omega arith)
 slip-least (windows ∷ lists) zero d inside = omega arith
 slip-least (windows ∷ lists) (suc line) d inside = let rest = slip-least lists line d (omega arith) in omega arith
 
-pub has-lines : (script : Script) → CanWalk script → HasLines (scenario_of script)
-has-lines script can =
+pub has-lines : (leg : Leg) → CanWalk leg → HasLines (scenario_by leg)
+has-lines leg can =
     let ring = can.ring in
     let room = can.room in
     record {
       few = can.few;
       apart = can.apart;
-      slip = λ line d inside. let most = slip-least script.config.windows line d inside in omega arith;
+      slip = λ line d inside. let most = slip-least leg.config.windows line d inside in omega arith;
     }
 
 -- ---- the plan
@@ -61,20 +61,20 @@ own-at (windows ∷ lists) zero own here = (omega arith, cc)
 own-at (windows ∷ lists) (suc m) own here = let rest = own-at lists m own here in
     (let low = rest.0 in omega arith, rest.1)
 
-pub has-plan : (script : Script) → CanWalk script → IsPlan (walk_plan script)
-has-plan script can =
-    let scenario : Scenario = scenario_of script in
+pub has-plan : (leg : Leg) → CanWalk leg → IsPlan (walk_plan leg)
+has-plan leg can =
+    let scenario : Scenario = scenario_by leg in
     let some = can.some in
     let size = can.delays in
-    can_run-plan script.config script.items (sent_of scenario) (record {
+    can_run-plan leg.config leg.items (sent_of scenario) (record {
       some_line = omega arith;
-      sent_all = sent-by script.config.ticks (sent_on scenario) script.config.windows script.config.delays 0 can.delays
+      sent_all = sent-by leg.config.ticks (sent_on scenario) leg.config.windows leg.config.delays 0 can.delays
           (λ m own here.
-          let (low, same) = own-at script.config.windows m own here in
+          let (low, same) = own-at leg.config.windows m own here in
           let e : m ≡ 0 + m = omega arith in
           subst (λ k. IsLine own (sent_on scenario k)) e
           (subst (λ windows. IsLine windows (sent_on scenario m)) same
-          (is-line scenario (session_cells scenario) (has-lines script can) m low)))
+          (is-line scenario (session_cells scenario) (has-lines leg can) m low)))
           (λ m. containers-size scenario (session_cells scenario) m scenario.ticks);
       frames = can.frames;
       commands = can.commands;
@@ -98,15 +98,15 @@ path-at sent (windows ∷ lists) (delay ∷ delays) from (suc m) size inside =
     omega arith in ap (λ k. Some (path_of (carried (slice_index_or lists m [])) (slice_index_or delays m 0)
     (sent k))) e)
 
-pub line-path : (script : Script) → CanWalk script → (line : ℕ) → line < length script.config.windows →
-    slice_get (walk_plan script).paths line
-    ≡ Some (path_of (carried (slice_index_or script.config.windows line []))
-    (slice_index_or script.config.delays line 0) (sent_on (scenario_of script) line))
-line-path script can line inside =
-    path-at (sent_on (scenario_of script)) script.config.windows script.config.delays 0 line can.delays inside
+pub line-path : (leg : Leg) → CanWalk leg → (line : ℕ) → line < length leg.config.windows →
+    slice_get (walk_plan leg).paths line
+    ≡ Some (path_of (carried (slice_index_or leg.config.windows line []))
+    (slice_index_or leg.config.delays line 0) (sent_on (scenario_by leg) line))
+line-path leg can line inside =
+    path-at (sent_on (scenario_by leg)) leg.config.windows leg.config.delays 0 line can.delays inside
     ∙ (let e : 0 + line ≡ line = omega arith in
-    ap (λ k. Some (path_of (carried (slice_index_or script.config.windows line []))
-    (slice_index_or script.config.delays line 0) (sent_on (scenario_of script) k))) e)
+    ap (λ k. Some (path_of (carried (slice_index_or leg.config.windows line []))
+    (slice_index_or leg.config.delays line 0) (sent_on (scenario_by leg) k))) e)
 
 paths-size : (sent : ℕ → List Container) (lists : List (List Window)) (delays : List ℕ) (from : ℕ) →
     length delays ≡ length lists →
@@ -116,13 +116,13 @@ paths-size sent (windows ∷ lists) [] from size = absurd (omega arith)
 paths-size sent (windows ∷ lists) (delay ∷ delays) from size =
     ap suc (paths-size sent lists delays (from + 1) (omega arith))
 
-pub has-paths : (script : Script) → CanWalk script → length (walk_plan script).paths ≡ length script.config.windows
-has-paths script can = paths-size (sent_on (scenario_of script)) script.config.windows script.config.delays 0 can.delays
+pub has-paths : (leg : Leg) → CanWalk leg → length (walk_plan leg).paths ≡ length leg.config.windows
+has-paths leg can = paths-size (sent_on (scenario_by leg)) leg.config.windows leg.config.delays 0 can.delays
 
--- ---- a script that was read
-pub valid-walks : (script : Script) → IsValid script → CanWalk script
-valid-walks script valid =
-    let network = valid.network in
+-- ---- a sound leg
+pub sound-walks : (leg : Leg) → IsSound leg → CanWalk leg
+sound-walks leg sound =
+    let network = sound.network in
     let lines = network.lines in
     let windows = network.windows_each in
     let delays = network.delay_each in
@@ -132,8 +132,8 @@ valid-walks script valid =
       few = omega arith;
       delays = delays ∙ sym windows;
       apart = λ line d inside. (network.windows line d inside).apart;
-      frames = valid.items.frames;
-      commands = valid.items.commands;
+      frames = sound.items.frames;
+      commands = sound.items.commands;
       some_room = ring.0;
       room = ring.1;
       ring = network.fits_ring;

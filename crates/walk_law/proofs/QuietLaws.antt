@@ -5,16 +5,16 @@ use Rattle.std.proofs.Common.{◌≡◌, ℕ, zero, suc, ◌+◌, ◌*◌, ◌<�
 use Rattle.std.proofs.Common.{map, filter, length, All, Option, refl, sym, ◌∙◌, ap, ap₂, subst, arith, append_assoc}
 use Rattle.std.proofs.lemmas.Bool.{lt-leb, cases_lt}
 use Rattle.std.proofs.lemmas.List.Elements.{All-head, All-tail}
-use Rattle.session_model.specs.declared.script.Script.{Script}
+use Rattle.session_model.specs.Leg.{Leg}
 use Rattle.session_model.specs.Piece.{Piece, idle, client, cut, stream_of}
-use Rattle.session_model.specs.Scenario.{DueFrame, Scenario, scenario_of, offers_of, comes_at}
+use Rattle.session_model.specs.Scenario.{DueFrame, Scenario, scenario_by, offers_of, comes_at}
 use Rattle.session_model.specs.Table.{Told}
 use Rattle.session_model.specs.Client.{frames_in, width, place_of, stream_before}
 use Rattle.session_model.specs.Journal.{accepted_offers, offers_before}
 use Rattle.session_model.specs.Back.{session_cells}
 use Rattle.session_model.specs.SessionRows.{is_whole_row}
 use Rattle.session_model.specs.Loss.{IsPlaceOfPiece}
-use Rattle.session_model.specs.Valid.{IsSize, IsValid}
+use Rattle.session_model.specs.Valid.{IsSize, IsSound}
 use Rattle.session_model.proofs.StreamLaws.{length-stream_of-cons}
 use Rattle.session_law.proofs.ClientLaws.{stream-reaches, stream_before-frames}
 use Rattle.loss_law.proofs.SessionStreamLaws.{pieces-begin}
@@ -23,13 +23,13 @@ use Rattle.script_law.proofs.ItemLaws.{are_octets}
 use Rattle.walk_law.specs.Promise.{session_pieces, place_after, ConfirmsTrue}
 
 -- ---- rows that end at the place of a piece
-pub aligned-true : (script : Script) (rows : ℕ) → IsValid script → rows ≤ script.config.ticks →
-    ((t : ℕ) → t < rows → is_whole_row (scenario_of script) (session_cells (scenario_of script)) t ≡ false →
-    IsPlaceOfPiece (session_pieces script) (place_after script (suc t))) →
-    ConfirmsTrue script rows
-aligned-true script rows valid low each =
-    aligned-starts (scenario_of script) (session_cells (scenario_of script)) rows script.config.ticks
-    (are_octets script valid) low each
+pub aligned-true : (leg : Leg) (rows : ℕ) → IsSound leg → rows ≤ leg.config.ticks →
+    ((t : ℕ) → t < rows → is_whole_row (scenario_by leg) (session_cells (scenario_by leg)) t ≡ false →
+    IsPlaceOfPiece (session_pieces leg) (place_after leg (suc t))) →
+    ConfirmsTrue leg rows
+aligned-true leg rows sound low each =
+    aligned-starts (scenario_by leg) (session_cells (scenario_by leg)) rows leg.config.ticks
+    (are_octets leg sound) low each
 
 -- ---- no frame yet
 -- no offer comes before a tick
@@ -91,7 +91,7 @@ later-place front whole place begins is = record {
   ends = is.ends;
 }
 
--- the rows of a script carry whole idles
+-- the rows of a leg carry whole idles
 fourth : (size w : ℕ) → IsSize size → (n : ℕ) × (size * w ≡ 4 * n)
 fourth size w (inl three) = (189 * w, rw three (omega arith))
 fourth size w (inr four) = (585 * w, rw four (omega arith))
@@ -105,25 +105,25 @@ place-fourth scenario cells (suc t) is =
     let row = fourth scenario.size (width scenario cells t) is in
     (before.0 + row.0, omega (arith, before.1, row.1))
 
-pub quiet-true : (script : Script) (rows from : ℕ) → IsValid script → rows ≤ script.config.ticks →
-    from ≤ script.config.ticks →
-    All (λ (offer : DueFrame). from ≤ offer.due) (offers_of script.items) →
+pub quiet-true : (leg : Leg) (rows from : ℕ) → IsSound leg → rows ≤ leg.config.ticks →
+    from ≤ leg.config.ticks →
+    All (λ (offer : DueFrame). from ≤ offer.due) (offers_of leg.items) →
     ((t : ℕ) → from ≤ t → t < rows →
-    is_whole_row (scenario_of script) (session_cells (scenario_of script)) t ≡ true) → ConfirmsTrue script rows
-quiet-true script rows from valid low within late whole =
-    let scenario : Scenario = scenario_of script in
+    is_whole_row (scenario_by leg) (session_cells (scenario_by leg)) t ≡ true) → ConfirmsTrue leg rows
+quiet-true leg rows from sound low within late whole =
+    let scenario : Scenario = scenario_by leg in
     let cells : List (Option Told) = session_cells scenario in
-    aligned-true script rows valid low
+    aligned-true leg rows sound low
     (λ t inside lost. elim (cases_lt t from) [
       | inr past ↦ absurd (let wrong : true ≡ false = sym (whole t past inside) ∙ lost in cc)
       | inl early ↦
           let pieces : List Piece = (stream_before scenario cells (suc t)).pieces in
-          let place = place-fourth scenario cells (suc t) valid.network.size in
+          let place = place-fourth scenario cells (suc t) sound.network.size in
           let reaches = stream-reaches scenario cells (suc t) in
           let here : IsPlaceOfPiece pieces (4 * place.0) =
           idle-place place.0 pieces (no-frames scenario cells from late (suc t) (omega (arith, early)))
           (omega (arith, reaches, place.1)) in
-          later-place pieces (session_pieces script) (place_of scenario cells (suc t))
-          (pieces-begin scenario cells (suc t) script.config.ticks (omega (arith, early, within)))
+          later-place pieces (session_pieces leg) (place_of scenario cells (suc t))
+          (pieces-begin scenario cells (suc t) leg.config.ticks (omega (arith, early, within)))
           (subst (IsPlaceOfPiece pieces) (sym place.1) here)
     ])

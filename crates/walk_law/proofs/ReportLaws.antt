@@ -10,7 +10,7 @@ use Rattle.std.specs.List.{flat_map}
 use Rattle.session_model.specs.declared.script.Item.{Item}
 use Rattle.session_model.specs.declared.script.ItemKind.{ItemKind}
 use Rattle.session_model.specs.declared.script.ItemKind.TheVariants.{Frame, Add, Remove}
-use Rattle.session_model.specs.declared.script.Script.{Script}
+use Rattle.session_model.specs.Leg.{Leg}
 use Rattle.session_model.specs.Scenario.{DueCommand, DueFrame, order_of, offer_of, orders_of, offers_of}
 use Rattle.session_model.specs.Counts.{Counts}
 use Rattle.report_text.specs.declared.report.Refusal.{Refusal}
@@ -177,31 +177,31 @@ order-put (first ∷ items) a b i (suc k) item order there is before =
           (order-put items (a - 1) b (suc i) k item order there is less))
     ]
 
-pub landed-frame : (script : Script) (s : Counts) (item : Numbered) (offer : DueFrame) →
-    IsOfferAt script.items s.frames item offer →
-    IsInserted item (landed_items script s) (landed_items script (record s { frames = s.frames + 1 }))
-landed-frame script s item offer at =
+pub landed-frame : (leg : Leg) (s : Counts) (item : Numbered) (offer : DueFrame) →
+    IsOfferAt leg.items s.frames item offer →
+    IsInserted item (landed_items leg s) (landed_items leg (record s { frames = s.frames + 1 }))
+landed-frame leg s item offer at =
     let e : suc s.frames ≡ s.frames + 1 = omega arith in
     let n : 0 + item.number ≡ item.number = omega arith in
-    subst (λ (found : Numbered). IsInserted found (landed_items script s)
-    (landed_items script (record s { frames = s.frames + 1 })))
+    subst (λ (found : Numbered). IsInserted found (landed_items leg s)
+    (landed_items leg (record s { frames = s.frames + 1 })))
     (ap (λ number. record { number = number; item = item.item }) n)
     (subst (λ a. IsInserted (record { number = 0 + item.number; item = item.item })
-    (landed_from s.frames s.commands 0 script.items) (landed_from a s.commands 0 script.items)) e
-    (offer-put script.items s.frames s.commands 0 item.number item.item offer at.there at.is at.before))
+    (landed_from s.frames s.commands 0 leg.items) (landed_from a s.commands 0 leg.items)) e
+    (offer-put leg.items s.frames s.commands 0 item.number item.item offer at.there at.is at.before))
 
-pub landed-command : (script : Script) (s : Counts) (item : Numbered) (order : DueCommand) →
-    IsOrderAt script.items s.commands item order →
-    IsInserted item (landed_items script s) (landed_items script (record s { commands = s.commands + 1 }))
-landed-command script s item order at =
+pub landed-command : (leg : Leg) (s : Counts) (item : Numbered) (order : DueCommand) →
+    IsOrderAt leg.items s.commands item order →
+    IsInserted item (landed_items leg s) (landed_items leg (record s { commands = s.commands + 1 }))
+landed-command leg s item order at =
     let e : suc s.commands ≡ s.commands + 1 = omega arith in
     let n : 0 + item.number ≡ item.number = omega arith in
-    subst (λ (found : Numbered). IsInserted found (landed_items script s)
-    (landed_items script (record s { commands = s.commands + 1 })))
+    subst (λ (found : Numbered). IsInserted found (landed_items leg s)
+    (landed_items leg (record s { commands = s.commands + 1 })))
     (ap (λ number. record { number = number; item = item.item }) n)
     (subst (λ b. IsInserted (record { number = 0 + item.number; item = item.item })
-    (landed_from s.frames s.commands 0 script.items) (landed_from s.frames b 0 script.items)) e
-    (order-put script.items s.frames s.commands 0 item.number item.item order at.there at.is at.before))
+    (landed_from s.frames s.commands 0 leg.items) (landed_from s.frames b 0 leg.items)) e
+    (order-put leg.items s.frames s.commands 0 item.number item.item order at.there at.is at.before))
 
 -- ---- refusals
 refused-within : (P : ℕ → Type 0) (number : ℕ) (why : Option Refusal) → P number →
@@ -238,21 +238,21 @@ placed why item was now put =
       after = list-within (λ number. item.number < number) why put.back put.after;
     }
 
-pub frame-placed : (script : Script) (s : Counts) (item : Numbered) (offer : DueFrame) →
-    IsOfferAt script.items s.frames item offer →
-    IsPlaced item.number (refused_by item.number (refusal_at script item)) (refusals_of script s)
-    (refusals_of script (record s { frames = s.frames + 1 }))
-frame-placed script s item offer at =
-    placed (refusal_at script) item (landed_items script s) (landed_items script (record s { frames = s.frames + 1 }))
-    (landed-frame script s item offer at)
+pub frame-placed : (leg : Leg) (s : Counts) (item : Numbered) (offer : DueFrame) →
+    IsOfferAt leg.items s.frames item offer →
+    IsPlaced item.number (refused_by item.number (refusal_at leg item)) (refusals_of leg s)
+    (refusals_of leg (record s { frames = s.frames + 1 }))
+frame-placed leg s item offer at =
+    placed (refusal_at leg) item (landed_items leg s) (landed_items leg (record s { frames = s.frames + 1 }))
+    (landed-frame leg s item offer at)
 
-pub command-placed : (script : Script) (s : Counts) (item : Numbered) (order : DueCommand) →
-    IsOrderAt script.items s.commands item order →
-    IsPlaced item.number (refused_by item.number (refusal_at script item)) (refusals_of script s)
-    (refusals_of script (record s { commands = s.commands + 1 }))
-command-placed script s item order at =
-    placed (refusal_at script) item (landed_items script s)
-    (landed_items script (record s { commands = s.commands + 1 })) (landed-command script s item order at)
+pub command-placed : (leg : Leg) (s : Counts) (item : Numbered) (order : DueCommand) →
+    IsOrderAt leg.items s.commands item order →
+    IsPlaced item.number (refused_by item.number (refusal_at leg item)) (refusals_of leg s)
+    (refusals_of leg (record s { commands = s.commands + 1 }))
+command-placed leg s item order at =
+    placed (refusal_at leg) item (landed_items leg s)
+    (landed_items leg (record s { commands = s.commands + 1 })) (landed-command leg s item order at)
 
 -- ---- totals
 pub one-more : (p : Numbered → Bool) (item : Numbered) (was now : List Numbered) → IsInserted item was now →
@@ -273,88 +273,88 @@ one-more p item was now put =
         length (filter p (item ∷ items)) ≡ length (filter p items) + (if p item then 1 else 0)
     one-here p item items = elim (cases_Bool (p item)) [ inl e ↦ rw e (omega arith) | inr e ↦ rw e (omega arith) ]
 
-more-refused : (script : Script) (item : Numbered) (was now : List Numbered) → IsInserted item was now →
-    length (refusals_among script now) ≡ length (refusals_among script was) + length
-    (refused_by item.number (refusal_at script item))
-more-refused script item was now put =
-    let place = placed (refusal_at script) item was now put in
-    let own : List (ℕ × Refusal) = refused_by item.number (refusal_at script item) in
+more-refused : (leg : Leg) (item : Numbered) (was now : List Numbered) → IsInserted item was now →
+    length (refusals_among leg now) ≡ length (refusals_among leg was) + length
+    (refused_by item.number (refusal_at leg item))
+more-refused leg item was now put =
+    let place = placed (refusal_at leg) item was now put in
+    let own : List (ℕ × Refusal) = refused_by item.number (refusal_at leg item) in
     let old = ap length place.was_so ∙ length-append place.front place.back in
     let new = ap length place.is_so ∙ length-append (place.front ++ own) place.back in
     let rest = length-append place.front own in
     omega arith
 
-abbrev totals_by : Script → Counts → ℕ → ℕ → ℕ → Totals
-totals_by script s frames commands refused = record {
+abbrev totals_by : Leg → Counts → ℕ → ℕ → ℕ → Totals
+totals_by leg s frames commands refused = record {
   ticks = s.ticks;
   taken = s.rows;
   frames = frames;
   commands = commands;
   refused = refused;
-  got = length (delivered_of script s.rows);
+  got = length (delivered_of leg s.rows);
 }
 
-frame-told : (script : Script) (s : Counts) (why : Option Refusal) (number frames commands refused : ℕ) →
-    totals_by script s (frames + (if is_none why then 1 else 0)) (commands + 0)
-    (refused + length (refused_by number why)) ≡ with_frame_told why (totals_by script s frames commands refused)
-frame-told script s None number frames commands refused =
+frame-told : (leg : Leg) (s : Counts) (why : Option Refusal) (number frames commands refused : ℕ) →
+    totals_by leg s (frames + (if is_none why then 1 else 0)) (commands + 0)
+    (refused + length (refused_by number why)) ≡ with_frame_told why (totals_by leg s frames commands refused)
+frame-told leg s None number frames commands refused =
     let a : commands + 0 ≡ commands = omega arith in let b : refused + 0 ≡ refused = omega arith in rw (a, b) refl
-frame-told script s (Some why) number frames commands refused =
+frame-told leg s (Some why) number frames commands refused =
     let a : commands + 0 ≡ commands = omega arith in let b : frames + 0 ≡ frames = omega arith in rw (a, b) refl
 
-command-told : (script : Script) (s : Counts) (why : Option Refusal) (number frames commands refused : ℕ) →
-    totals_by script s (frames + 0) (commands + (if is_none why then 1 else 0))
-    (refused + length (refused_by number why)) ≡ with_command_told why (totals_by script s frames commands refused)
-command-told script s None number frames commands refused =
+command-told : (leg : Leg) (s : Counts) (why : Option Refusal) (number frames commands refused : ℕ) →
+    totals_by leg s (frames + 0) (commands + (if is_none why then 1 else 0))
+    (refused + length (refused_by number why)) ≡ with_command_told why (totals_by leg s frames commands refused)
+command-told leg s None number frames commands refused =
     let a : frames + 0 ≡ frames = omega arith in let b : refused + 0 ≡ refused = omega arith in rw (a, b) refl
-command-told script s (Some why) number frames commands refused =
+command-told leg s (Some why) number frames commands refused =
     let a : frames + 0 ≡ frames = omega arith in let b : commands + 0 ≡ commands = omega arith in rw (a, b) refl
 
-counted : (script : Script) (s : Counts) (a b c d e f : ℕ) → a ≡ b → c ≡ d → e ≡ f →
-    totals_by script s a c e ≡ totals_by script s b d f
-counted script s a b c d e f one two three = rw (one, two, three) refl
+counted : (leg : Leg) (s : Counts) (a b c d e f : ℕ) → a ≡ b → c ≡ d → e ≡ f →
+    totals_by leg s a c e ≡ totals_by leg s b d f
+counted leg s a b c d e f one two three = rw (one, two, three) refl
 
-pub frame-totals : (script : Script) (s : Counts) (item : Numbered) (offer : DueFrame) →
-    IsOfferAt script.items s.frames item offer →
-    totals_of script (record s { frames = s.frames + 1 }) ≡ with_frame_told (refusal_at script item)
-    (totals_of script s)
-frame-totals script s item offer at =
-    let was : List Numbered = landed_items script s in
-    let now : List Numbered = landed_items script (record s { frames = s.frames + 1 }) in
-    let put = landed-frame script s item offer at in
-    let why : Option Refusal = refusal_at script item in
+pub frame-totals : (leg : Leg) (s : Counts) (item : Numbered) (offer : DueFrame) →
+    IsOfferAt leg.items s.frames item offer →
+    totals_of leg (record s { frames = s.frames + 1 }) ≡ with_frame_told (refusal_at leg item)
+    (totals_of leg s)
+frame-totals leg s item offer at =
+    let was : List Numbered = landed_items leg s in
+    let now : List Numbered = landed_items leg (record s { frames = s.frames + 1 }) in
+    let put = landed-frame leg s item offer at in
+    let why : Option Refusal = refusal_at leg item in
     let client = client-offer item.item.due item.item.kind offer at.is in
-    counted script s (length (filter (is_accepted_frame script) now))
-    (length (filter (is_accepted_frame script) was) + (if is_none why then 1 else 0))
-    (length (filter (is_accepted_command script) now)) (length (filter (is_accepted_command script) was) + 0)
-    (length (refusals_among script now)) (length (refusals_among script was) + length (refused_by item.number why))
-    (one-more (is_accepted_frame script) item was now put
-    ∙ ap (λ c. length (filter (is_accepted_frame script) was) + (if c && is_none why then 1 else 0)) client)
-    (one-more (is_accepted_command script) item was now put
-    ∙ ap (λ c. length (filter (is_accepted_command script) was) + (if not c && is_none why then 1 else 0)) client)
-    (more-refused script item was now put)
-    ∙ frame-told script s why item.number (length (filter (is_accepted_frame script) was))
-    (length (filter (is_accepted_command script) was)) (length (refusals_among script was))
+    counted leg s (length (filter (is_accepted_frame leg) now))
+    (length (filter (is_accepted_frame leg) was) + (if is_none why then 1 else 0))
+    (length (filter (is_accepted_command leg) now)) (length (filter (is_accepted_command leg) was) + 0)
+    (length (refusals_among leg now)) (length (refusals_among leg was) + length (refused_by item.number why))
+    (one-more (is_accepted_frame leg) item was now put
+    ∙ ap (λ c. length (filter (is_accepted_frame leg) was) + (if c && is_none why then 1 else 0)) client)
+    (one-more (is_accepted_command leg) item was now put
+    ∙ ap (λ c. length (filter (is_accepted_command leg) was) + (if not c && is_none why then 1 else 0)) client)
+    (more-refused leg item was now put)
+    ∙ frame-told leg s why item.number (length (filter (is_accepted_frame leg) was))
+    (length (filter (is_accepted_command leg) was)) (length (refusals_among leg was))
 
-pub command-totals : (script : Script) (s : Counts) (item : Numbered) (order : DueCommand) →
-    IsOrderAt script.items s.commands item order →
-    totals_of script (record s { commands = s.commands + 1 }) ≡ with_command_told (refusal_at script item)
-    (totals_of script s)
-command-totals script s item order at =
-    let was : List Numbered = landed_items script s in
-    let now : List Numbered = landed_items script (record s { commands = s.commands + 1 }) in
-    let put = landed-command script s item order at in
-    let why : Option Refusal = refusal_at script item in
+pub command-totals : (leg : Leg) (s : Counts) (item : Numbered) (order : DueCommand) →
+    IsOrderAt leg.items s.commands item order →
+    totals_of leg (record s { commands = s.commands + 1 }) ≡ with_command_told (refusal_at leg item)
+    (totals_of leg s)
+command-totals leg s item order at =
+    let was : List Numbered = landed_items leg s in
+    let now : List Numbered = landed_items leg (record s { commands = s.commands + 1 }) in
+    let put = landed-command leg s item order at in
+    let why : Option Refusal = refusal_at leg item in
     let operator = operator-order item.item.due item.item.kind order at.is in
-    counted script s (length (filter (is_accepted_frame script) now))
-    (length (filter (is_accepted_frame script) was) + 0)
-    (length (filter (is_accepted_command script) now))
-    (length (filter (is_accepted_command script) was) + (if is_none why then 1 else 0))
-    (length (refusals_among script now)) (length (refusals_among script was) + length (refused_by item.number why))
-    (one-more (is_accepted_frame script) item was now put
-    ∙ ap (λ c. length (filter (is_accepted_frame script) was) + (if c && is_none why then 1 else 0)) operator)
-    (one-more (is_accepted_command script) item was now put
-    ∙ ap (λ c. length (filter (is_accepted_command script) was) + (if not c && is_none why then 1 else 0)) operator)
-    (more-refused script item was now put)
-    ∙ command-told script s why item.number (length (filter (is_accepted_frame script) was))
-    (length (filter (is_accepted_command script) was)) (length (refusals_among script was))
+    counted leg s (length (filter (is_accepted_frame leg) now))
+    (length (filter (is_accepted_frame leg) was) + 0)
+    (length (filter (is_accepted_command leg) now))
+    (length (filter (is_accepted_command leg) was) + (if is_none why then 1 else 0))
+    (length (refusals_among leg now)) (length (refusals_among leg was) + length (refused_by item.number why))
+    (one-more (is_accepted_frame leg) item was now put
+    ∙ ap (λ c. length (filter (is_accepted_frame leg) was) + (if c && is_none why then 1 else 0)) operator)
+    (one-more (is_accepted_command leg) item was now put
+    ∙ ap (λ c. length (filter (is_accepted_command leg) was) + (if not c && is_none why then 1 else 0)) operator)
+    (more-refused leg item was now put)
+    ∙ command-told leg s why item.number (length (filter (is_accepted_frame leg) was))
+    (length (filter (is_accepted_command leg) was)) (length (refusals_among leg was))

@@ -9,10 +9,10 @@ use Rattle.std.proofs.lemmas.List.{append-nil, take-append-drop, take_all}
 use Rattle.std.proofs.lemmas.List.FromFn.{length-map-range_with_len, map-range_with_len_more}
 use Rattle.std.proofs.lemmas.Option.{slice_get-map, slice_get_within}
 use Rattle.vc_cell.specs.declared.Cell.{Cell}
-use Rattle.session_model.specs.declared.script.Script.{Script}
+use Rattle.session_model.specs.Leg.{Leg}
 use Rattle.session_model.specs.Path.{cells}
 use Rattle.session_model.specs.Number.{verdict}
-use Rattle.session_model.specs.Scenario.{scenario_of, carried_by, packets_in}
+use Rattle.session_model.specs.Scenario.{scenario_by, carried_by, packets_in}
 use Rattle.session_model.specs.Told.{told_in}
 use Rattle.session_model.specs.Back.{return_cell, cells_before, session_cells}
 use Rattle.session_model.specs.Rows.{return_at}
@@ -50,100 +50,100 @@ at-line f n line low =
     slice_get-map f (range_with_len 0 n) line
     ∙ ap (option_map f) (range-at 0 n line low ∙ ap Some (let e : 0 + line ≡ line = omega arith in e))
 
-pub all-longer : (script : Script) (lines : List LineCounts) → IsLonger (popped_cells script lines) (all_lines script)
-all-longer script lines =
-    let n : ℕ = length script.config.windows in
+pub all-longer : (leg : Leg) (lines : List LineCounts) → IsLonger (popped_cells leg lines) (all_lines leg)
+all-longer leg lines =
+    let n : ℕ = length leg.config.windows in
     record {
-      size = length-map-range_with_len (line_cells script) 0 n
-          ∙ sym (length-map-range_with_len (popped_on script lines) 0 n);
+      size = length-map-range_with_len (line_cells leg) 0 n
+          ∙ sym (length-map-range_with_len (popped_on leg lines) 0 n);
       each = λ line own here.
-          let (low, same) = line-at (popped_on script lines) n line own here in
+          let (low, same) = line-at (popped_on leg lines) n line own here in
           let y : ℕ = (counts_at lines line).popped in (
-            drop y (line_cells script line),
-            at-line (line_cells script) n line low
-                ∙ ap Some (sym (take-append-drop y (line_cells script line))
-                ∙ ap (λ l. l ++ drop y (line_cells script line)) same),
+            drop y (line_cells leg line),
+            at-line (line_cells leg) n line low
+                ∙ ap Some (sym (take-append-drop y (line_cells leg line))
+                ∙ ap (λ l. l ++ drop y (line_cells leg line)) same),
           );
     }
 
-module _ (script : Script) (can : CanWalk script) where
-  size : (line : ℕ) → length (sent_on (scenario_of script) line) ≡ script.config.ticks
-  size line = containers-size (scenario_of script) (session_cells (scenario_of script)) line script.config.ticks
+module _ (leg : Leg) (can : CanWalk leg) where
+  size : (line : ℕ) → length (sent_on (scenario_by leg) line) ≡ leg.config.ticks
+  size line = containers-size (scenario_by leg) (session_cells (scenario_by leg)) line leg.config.ticks
 
-  line-decides : (line t : ℕ) → line < length script.config.windows → t < script.config.ticks →
-      IsSome (verdict (line_cells script line) t)
+  line-decides : (line t : ℕ) → line < length leg.config.windows → t < leg.config.ticks →
+      IsSome (verdict (line_cells leg line) t)
   line-decides line t inside low =
-      let path = is_path (slice_index_or script.config.windows line []) (sent_on (scenario_of script) line)
-      (delay_on script line)
-      (is-line (scenario_of script) (session_cells (scenario_of script)) (has-lines script can) line inside) in
-      let y : ℕ = length (line_cells script line) in
+      let path = is_path (slice_index_or leg.config.windows line []) (sent_on (scenario_by leg) line)
+      (delay_on leg line)
+      (is-line (scenario_by leg) (session_cells (scenario_by leg)) (has-lines leg can) line inside) in
+      let y : ℕ = length (line_cells leg line) in
       let all = size line in
       let ended = path.ended in
-      let past : t < (path_on script line).decided y = omega arith in
-      subst (λ own. IsSome (verdict own t)) (take_all y (line_cells script line) (omega arith))
-      ((popped-decides script line y t low).1 past)
+      let past : t < (path_on leg line).decided y = omega arith in
+      subst (λ own. IsSome (verdict own t)) (take_all y (line_cells leg line) (omega arith))
+      ((popped-decides leg line y t low).1 past)
 
-  pub all-decided : (t : ℕ) → t < script.config.ticks → AreDecidedAt (all_lines script) t
+  pub all-decided : (t : ℕ) → t < leg.config.ticks → AreDecidedAt (all_lines leg) t
   all-decided t low line own here =
-      let (inside, same) = line-at (line_cells script) (length script.config.windows) line own here in
+      let (inside, same) = line-at (line_cells leg) (length leg.config.windows) line own here in
       subst (λ own. IsSome (verdict own t)) same (line-decides line t inside low)
 
-  line-comes : (line : ℕ) → ComesOfLine (scenario_of script) (session_cells (scenario_of script)) line
-      script.config.ticks (line_cells script line)
+  line-comes : (line : ℕ) → ComesOfLine (scenario_by leg) (session_cells (scenario_by leg)) line
+      leg.config.ticks (line_cells leg line)
   line-comes line =
-      let delay : ℕ = delay_on script line in
+      let delay : ℕ = delay_on leg line in
       record {
         delay = delay;
-        carries = script.config.ticks + delay + 1;
+        carries = leg.config.ticks + delay + 1;
         later = [];
         taken = omega arith;
-        first = ap (λ n. cells (carried_by (scenario_of script) line) delay n (sent_on (scenario_of script) line)
+        first = ap (λ n. cells (carried_by (scenario_by leg) line) delay n (sent_on (scenario_by leg) line)
             (n + delay + 1)) (sym (size line))
-            ∙ sym (append-nil (line_cells script line));
+            ∙ sym (append-nil (line_cells leg line));
       }
 
-  pub all-come : ComeOfLines (scenario_of script) (session_cells (scenario_of script)) script.config.ticks
-      (all_lines script)
+  pub all-come : ComeOfLines (scenario_by leg) (session_cells (scenario_by leg)) leg.config.ticks
+      (all_lines leg)
   all-come = record {
     made = omega arith;
-    lines = length-map-range_with_len (line_cells script) 0 (length script.config.windows);
+    lines = length-map-range_with_len (line_cells leg) 0 (length leg.config.windows);
     each = λ line own here.
-        let (inside, same) = line-at (line_cells script) (length script.config.windows) line own here in
-        subst (λ own. ComesOfLine (scenario_of script) (session_cells (scenario_of script)) line script.config.ticks
+        let (inside, same) = line-at (line_cells leg) (length leg.config.windows) line own here in
+        subst (λ own. ComesOfLine (scenario_by leg) (session_cells (scenario_by leg)) line leg.config.ticks
         own) same (line-comes line);
   }
 
-  pub cell-told : (k : ℕ) → 16 * k + 23 < script.config.ticks →
-      told_in (back_cell script k) ≡ return_cell (scenario_of script) (session_cells (scenario_of script)) k
+  pub cell-told : (k : ℕ) → 16 * k + 23 < leg.config.ticks →
+      told_in (back_cell leg k) ≡ return_cell (scenario_by leg) (session_cells (scenario_by leg)) k
   cell-told k low =
-      back-told (scenario_of script) (session_cells (scenario_of script)) script.config.ticks (all_lines script) k
-      (has-lines script can) all-come low (all-decided (16 * k + 23) low)
+      back-told (scenario_by leg) (session_cells (scenario_by leg)) leg.config.ticks (all_lines leg) k
+      (has-lines leg can) all-come low (all-decided (16 * k + 23) low)
 
-  pub packet-is : (k : ℕ) → 16 * k + 23 < script.config.ticks →
-      said_packet script k ≡ packet_by (scenario_of script) (session_cells (scenario_of script)) k
+  pub packet-is : (k : ℕ) → 16 * k + 23 < leg.config.ticks →
+      said_packet leg k ≡ packet_by (scenario_by leg) (session_cells (scenario_by leg)) k
   packet-is k low =
-      packet-told (scenario_of script) (session_cells (scenario_of script)) script.config.ticks (all_lines script) k
-      (has-lines script can) all-come low (all-decided (16 * k + 23) low)
+      packet-told (scenario_by leg) (session_cells (scenario_by leg)) leg.config.ticks (all_lines leg) k
+      (has-lines leg can) all-come low (all-decided (16 * k + 23) low)
 
   few-packets : (ticks k : ℕ) → 16 * k + 23 < ticks → k < (ticks - 8) / 16
   few-packets ticks k low = omega arith
 
-  pub cells-next : (k : ℕ) → 16 * k + 23 < script.config.ticks →
-      cells_before (scenario_of script) (k + 1) ≡ cells_before (scenario_of script) k ++ told_in
-      (back_cell script k) ∷ []
+  pub cells-next : (k : ℕ) → 16 * k + 23 < leg.config.ticks →
+      cells_before (scenario_by leg) (k + 1) ≡ cells_before (scenario_by leg) k ++ told_in
+      (back_cell leg k) ∷ []
   cells-next k low =
       let e : k + 1 ≡ suc k = omega arith in
       let fits_lag = can.lag in
-      let lag : 0 < script.config.lag = omega arith in
-      ap (cells_before (scenario_of script)) e
-      ∙ next-cell (scenario_of script) script.config.ticks k (all_lines script) (has-lines script can) lag
-      (few-packets script.config.ticks k low) all-come (all-decided (16 * k + 23) low)
+      let lag : 0 < leg.config.lag = omega arith in
+      ap (cells_before (scenario_by leg)) e
+      ∙ next-cell (scenario_by leg) leg.config.ticks k (all_lines leg) (has-lines leg can) lag
+      (few-packets leg.config.ticks k low) all-come (all-decided (16 * k + 23) low)
 
-pub packet-said : (script : Script) (s : Counts) (k : ℕ) → CanWalk script → IsWalked script s → 16 * k + 23 < s.rows →
-    return_at (popped_cells script s.lines) k ≡ said_packet script k
-packet-said script s k can walked low =
-    sym (returns_stay (popped_cells script s.lines) (all_lines script) k (all-longer script s.lines)
-    (cells-decide script s can walked (16 * k + 23) low))
+pub packet-said : (leg : Leg) (s : Counts) (k : ℕ) → CanWalk leg → IsWalked leg s → 16 * k + 23 < s.rows →
+    return_at (popped_cells leg s.lines) k ≡ said_packet leg k
+packet-said leg s k can walked low =
+    sym (returns_stay (popped_cells leg s.lines) (all_lines leg) k (all-longer leg s.lines)
+    (cells-decide leg s can walked (16 * k + 23) low))
 
 -- ---- numbers
 pub not-equal : (a b : ℕ) → (a == b) ≡ false → a ≡ b → ⊥
@@ -199,22 +199,22 @@ ring-less f z w n low next =
     let e : n - z ≡ suc (n - w) = omega arith in
     ap (λ k. map f (range_with_len z k)) e ∙ ap (λ k. f z ∷ map f (range_with_len k (n - w))) (sym next)
 
-pub ring-says : (script : Script) (s : Counts) (rows : ℕ) → s.backs ≤ packets_in s.rows →
+pub ring-says : (leg : Leg) (s : Counts) (rows : ℕ) → s.backs ≤ packets_in s.rows →
     packets_in rows ≡ packets_in s.rows + 1 →
-    return_ring script (record s { rows = rows }) ≡ return_ring script s ++ said_packet script (packets_in s.rows) ∷ []
-ring-says script s rows low next = ring-more (said_packet script) s.backs (packets_in s.rows) (packets_in rows) low next
+    return_ring leg (record s { rows = rows }) ≡ return_ring leg s ++ said_packet leg (packets_in s.rows) ∷ []
+ring-says leg s rows low next = ring-more (said_packet leg) s.backs (packets_in s.rows) (packets_in rows) low next
 
-pub ring-goes : (script : Script) (s : Counts) → s.backs < packets_in s.rows →
-    return_ring script s ≡ said_packet script s.backs ∷ return_ring script (record s { backs = s.backs + 1 })
-ring-goes script s low = ring-less (said_packet script) s.backs (s.backs + 1) (packets_in s.rows) low refl
+pub ring-goes : (leg : Leg) (s : Counts) → s.backs < packets_in s.rows →
+    return_ring leg s ≡ said_packet leg s.backs ∷ return_ring leg (record s { backs = s.backs + 1 })
+ring-goes leg s low = ring-less (said_packet leg) s.backs (s.backs + 1) (packets_in s.rows) low refl
 
-pub inbox-comes : (script : Script) (s : Counts) → used_in script.config.lag s.ticks ≤ s.backs →
-    inbox script (record s { backs = s.backs + 1 }) ≡ inbox script s ++ back_cell script s.backs ∷ []
-inbox-comes script s low = ring-more (back_cell script) (used_in script.config.lag s.ticks) s.backs
+pub inbox-comes : (leg : Leg) (s : Counts) → used_in leg.config.lag s.ticks ≤ s.backs →
+    inbox leg (record s { backs = s.backs + 1 }) ≡ inbox leg s ++ back_cell leg s.backs ∷ []
+inbox-comes leg s low = ring-more (back_cell leg) (used_in leg.config.lag s.ticks) s.backs
     (s.backs + 1) low refl
 
-pub inbox-taken : (script : Script) (s : Counts) (ticks : ℕ) → used_in script.config.lag s.ticks < s.backs →
-    used_in script.config.lag ticks ≡ used_in script.config.lag s.ticks + 1 →
-    inbox script s ≡ back_cell script (used_in script.config.lag s.ticks) ∷ inbox script (record s { ticks = ticks })
-inbox-taken script s ticks low next =
-    ring-less (back_cell script) (used_in script.config.lag s.ticks) (used_in script.config.lag ticks) s.backs low next
+pub inbox-taken : (leg : Leg) (s : Counts) (ticks : ℕ) → used_in leg.config.lag s.ticks < s.backs →
+    used_in leg.config.lag ticks ≡ used_in leg.config.lag s.ticks + 1 →
+    inbox leg s ≡ back_cell leg (used_in leg.config.lag s.ticks) ∷ inbox leg (record s { ticks = ticks })
+inbox-taken leg s ticks low next =
+    ring-less (back_cell leg) (used_in leg.config.lag s.ticks) (used_in leg.config.lag ticks) s.backs low next

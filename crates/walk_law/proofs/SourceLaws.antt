@@ -4,10 +4,10 @@ use Rattle.std.proofs.Common.{refl, sym, ◌∙◌, ap, arith}
 use Rattle.session_model.specs.declared.script.Item.{Item}
 use Rattle.session_model.specs.declared.script.ItemKind.{ItemKind}
 use Rattle.session_model.specs.declared.script.ItemKind.TheVariants.{Frame, Add, Remove}
-use Rattle.session_model.specs.declared.script.Script.{Script}
+use Rattle.session_model.specs.Leg.{Leg}
 use Rattle.session_model.specs.declared.table.Command.TheVariants.{Add as add, Remove as remove}
 use Rattle.session_model.specs.Scenario.{Scenario, DueCommand, DueFrame, order_of, offer_of, orders_of, offers_of}
-use Rattle.session_model.specs.Scenario.{scenario_of, steps_in, packets, orders_at, frames_at}
+use Rattle.session_model.specs.Scenario.{scenario_by, steps_in, packets, orders_at, frames_at}
 use Rattle.session_model.specs.Table.{Told}
 use Rattle.session_model.specs.Source.{Source, asked_all, refusal, after, source_at}
 use Rattle.session_model.specs.Client.{Stream, frame_refusal, offered, stream_before}
@@ -57,82 +57,82 @@ order-refusal scenario cells due earlier (Remove line) order is =
     (refusal (length scenario.windows) o.command (source_met scenario cells o.due (orders_of earlier))))
     (same-first (record { due = due; command = remove line }) order is)
 
-module _ (script : Script) (s : Counts) (can : CanWalk script) (walked : IsWalked script s) where
+module _ (leg : Leg) (s : Counts) (can : CanWalk leg) (walked : IsWalked leg s) where
   abbrev session : List (Option Told)
-  session = session_cells (scenario_of script)
+  session = session_cells (scenario_by leg)
 
-  few : used_in script.config.lag s.ticks ≤ packets (scenario_of script)
+  few : used_in leg.config.lag s.ticks ≤ packets (scenario_by leg)
   few =
-      let f = fits script s can walked in
-      few-used s.rows script.config.ticks s.backs (used_in script.config.lag s.ticks) f.rows f.backs f.used
+      let f = fits leg s can walked in
+      few-used s.rows leg.config.ticks s.backs (used_in leg.config.lag s.ticks) f.rows f.backs f.used
 
-  told-alike : Alike (landed_scenario script s) (told_before script s.ticks) (scenario_of script) session s.ticks
+  told-alike : Alike (landed_scenario leg s) (told_before leg s.ticks) (scenario_by leg) session s.ticks
   told-alike = record {
     lines = refl;
     lag = refl;
     size = refl;
-    orders = λ j low. orders-landed script s j walked (omega arith);
-    cells = Agree-first (scenario_of script) (told_before script s.ticks) session (steps_in s.ticks)
-        (session-agree (scenario_of script) (used_in script.config.lag s.ticks) (used_in script.config.lag s.ticks) few
+    orders = λ j low. orders-landed leg s j walked (omega arith);
+    cells = Agree-first (scenario_by leg) (told_before leg s.ticks) session (steps_in s.ticks)
+        (session-agree (scenario_by leg) (used_in leg.config.lag s.ticks) (used_in leg.config.lag s.ticks) few
         (omega arith));
-    offers = λ u low. frames-landed script s u walked low;
+    offers = λ u low. frames-landed leg s u walked low;
     tells = λ k low. refl;
   }
 
   pub told-tables : (j : ℕ) → j ≤ steps_in s.ticks →
-      after (landed_scenario script s) (told_before script s.ticks) j ≡ after (scenario_of script) session j
-  told-tables j low = alike-after (landed_scenario script s) (told_before script s.ticks)
-      (scenario_of script) session s.ticks j told-alike low
+      after (landed_scenario leg s) (told_before leg s.ticks) j ≡ after (scenario_by leg) session j
+  told-tables j low = alike-after (landed_scenario leg s) (told_before leg s.ticks)
+      (scenario_by leg) session s.ticks j told-alike low
 
   pub told-streams : (t : ℕ) → t ≤ s.ticks →
-      stream_before (landed_scenario script s) (told_before script s.ticks) t ≡ stream_before
-      (scenario_of script) session t
+      stream_before (landed_scenario leg s) (told_before leg s.ticks) t ≡ stream_before
+      (scenario_by leg) session t
   told-streams t low =
-      alike-stream (landed_scenario script s) (told_before script s.ticks) (scenario_of script) session t
-      (Alike-sooner (landed_scenario script s) (told_before script s.ticks) (scenario_of script) session t s.ticks low
+      alike-stream (landed_scenario leg s) (told_before leg s.ticks) (scenario_by leg) session t
+      (Alike-sooner (landed_scenario leg s) (told_before leg s.ticks) (scenario_by leg) session t s.ticks low
       told-alike)
 
   pub told-frames : (t : ℕ) → t < s.ticks →
-      frame_of (landed_scenario script s) (told_before script s.ticks) t ≡ frame_of (scenario_of script) session t
+      frame_of (landed_scenario leg s) (told_before leg s.ticks) t ≡ frame_of (scenario_by leg) session t
   told-frames t low =
-      alike-frame (landed_scenario script s) (told_before script s.ticks) (scenario_of script) session t
-      (Alike-sooner (landed_scenario script s) (told_before script s.ticks) (scenario_of script) session (suc t) s.ticks
+      alike-frame (landed_scenario leg s) (told_before leg s.ticks) (scenario_by leg) session t
+      (Alike-sooner (landed_scenario leg s) (told_before leg s.ticks) (scenario_by leg) session (suc t) s.ticks
       (omega arith) told-alike)
 
   -- ---- the next item
-  pub meets-stream : (item : Numbered) (offer : DueFrame) → IsOfferAt script.items s.frames item offer →
+  pub meets-stream : (item : Numbered) (offer : DueFrame) → IsOfferAt leg.items s.frames item offer →
       offer.due ≤ s.ticks →
-      refusal_at script item
+      refusal_at leg item
       ≡ option_map frame_fault (frame_refusal offer.frame
-      (fold offered (stream_before (landed_scenario script s) (told_before script s.ticks) s.ticks)
-      (frames_at (landed_scenario script s) s.ticks)))
+      (fold offered (stream_before (landed_scenario leg s) (told_before leg s.ticks) s.ticks)
+      (frames_at (landed_scenario leg s) s.ticks)))
   meets-stream item offer at due =
-      let (there, earlier) = offer-at script.items s.frames item offer at in
-      let late = frame-waits script s s.frames offer walked (omega arith) there in
+      let (there, earlier) = offer-at leg.items s.frames item offer at in
+      let late = frame-waits leg s s.frames offer walked (omega arith) there in
       let now : offer.due ≡ s.ticks = omega arith in
       let answer = λ (stream : Stream). option_map frame_fault (frame_refusal offer.frame stream) in
-      offer-refusal (scenario_of script) session item.item.due (take item.number script.items) item.item.kind offer
+      offer-refusal (scenario_by leg) session item.item.due (take item.number leg.items) item.item.kind offer
       at.is
-      ∙ ap (λ (offers : List DueFrame). answer (stream_met (scenario_of script) session offer.due offers)) earlier
-      ∙ ap (λ t. answer (stream_met (scenario_of script) session t (take s.frames (offers_of script.items)))) now
-      ∙ ap (λ (stream : Stream). answer (fold offered stream (frames_at (landed_scenario script s) s.ticks)))
+      ∙ ap (λ (offers : List DueFrame). answer (stream_met (scenario_by leg) session offer.due offers)) earlier
+      ∙ ap (λ t. answer (stream_met (scenario_by leg) session t (take s.frames (offers_of leg.items)))) now
+      ∙ ap (λ (stream : Stream). answer (fold offered stream (frames_at (landed_scenario leg s) s.ticks)))
       (sym (told-streams s.ticks (omega arith)))
 
-  pub meets-source : (item : Numbered) (order : DueCommand) → IsOrderAt script.items s.commands item order →
+  pub meets-source : (item : Numbered) (order : DueCommand) → IsOrderAt leg.items s.commands item order →
       order.due ≤ s.ticks →
-      refusal_at script item
-      ≡ option_map command_fault (refusal (length script.config.windows) order.command
-      (source_at (landed_scenario script s) (told_before script s.ticks) (steps_in s.ticks)))
+      refusal_at leg item
+      ≡ option_map command_fault (refusal (length leg.config.windows) order.command
+      (source_at (landed_scenario leg s) (told_before leg s.ticks) (steps_in s.ticks)))
   meets-source item order at due =
-      let (there, earlier) = order-at script.items s.commands item order at in
-      let late = command-waits script s s.commands order walked (omega arith) there in
+      let (there, earlier) = order-at leg.items s.commands item order at in
+      let late = command-waits leg s s.commands order walked (omega arith) there in
       let now : order.due ≡ s.ticks = omega arith in
       let answer = λ (source : Source). option_map command_fault
-      (refusal (length script.config.windows) order.command source) in
-      order-refusal (scenario_of script) session item.item.due (take item.number script.items) item.item.kind order
+      (refusal (length leg.config.windows) order.command source) in
+      order-refusal (scenario_by leg) session item.item.due (take item.number leg.items) item.item.kind order
       at.is
-      ∙ ap (λ (orders : List DueCommand). answer (source_met (scenario_of script) session order.due orders)) earlier
-      ∙ ap (λ t. answer (source_met (scenario_of script) session t (take s.commands (orders_of script.items)))) now
+      ∙ ap (λ (orders : List DueCommand). answer (source_met (scenario_by leg) session order.due orders)) earlier
+      ∙ ap (λ t. answer (source_met (scenario_by leg) session t (take s.commands (orders_of leg.items)))) now
       ∙ ap (λ (source : Source). answer
-      (asked_all (length script.config.windows) (orders_at (landed_scenario script s) (steps_in s.ticks)) source))
+      (asked_all (length leg.config.windows) (orders_at (landed_scenario leg s) (steps_in s.ticks)) source))
       (sym (told-tables (steps_in s.ticks) (omega arith)))

@@ -2,7 +2,7 @@
 use Rattle.std.proofs.Common.{◌≡◌, ℕ, suc, ◌+◌, ◌-◌, ◌*◌, ◌/◌, ◌%◌, ◌==◌, ◌<◌, ◌≤◌, nat_lt, if◌then◌else◌, true, inl}
 use Rattle.std.proofs.Common.{inr, Some, refl, ◌∙◌, ap, arith}
 use Rattle.std.proofs.lemmas.Bool.{eqb-true, lt-ltb, cases_Bool, cases_lt}
-use Rattle.session_model.specs.declared.script.Script.{Script}
+use Rattle.session_model.specs.Leg.{Leg}
 use Rattle.session_model.specs.Scenario.{steps_in, packets_in, orders_at}
 use Rattle.session_model.specs.Source.{Source, after, source_at}
 use Rattle.session_model.specs.Counts.{Counts, used_in}
@@ -45,14 +45,14 @@ packet-now t late place = omega arith
 ends : (rows backs k : ℕ) → backs ≤ (rows - 8) / 16 → k < backs → 16 * k + 23 < rows
 ends rows backs k most low = omega arith
 
-pub said-ends : (script : Script) (s : Counts) (k : ℕ) → CanWalk script → IsWalked script s → k < s.backs →
+pub said-ends : (leg : Leg) (s : Counts) (k : ℕ) → CanWalk leg → IsWalked leg s → k < s.backs →
     16 * k + 23 < s.rows
-said-ends script s k can walked low = ends s.rows s.backs k (fits script s can walked).backs low
+said-ends leg s k can walked low = ends s.rows s.backs k (fits leg s can walked).backs low
 
-pub table-now : (script : Script) (s : Counts) → CanWalk script → IsWalked script s →
-    (source_at (landed_scenario script s) (told_before script s.ticks) (steps_in s.ticks)).table
-    ≡ table_in script s.ticks
-table-now script s can walked =
-    asked_all-table _ (orders_at (landed_scenario script s) (steps_in s.ticks))
-    (after (landed_scenario script s) (told_before script s.ticks) (steps_in s.ticks))
-    ∙ ap (λ (source : Source). source.table) (told-tables script s can walked (steps_in s.ticks) (omega arith))
+pub table-now : (leg : Leg) (s : Counts) → CanWalk leg → IsWalked leg s →
+    (source_at (landed_scenario leg s) (told_before leg s.ticks) (steps_in s.ticks)).table
+    ≡ table_in leg s.ticks
+table-now leg s can walked =
+    asked_all-table _ (orders_at (landed_scenario leg s) (steps_in s.ticks))
+    (after (landed_scenario leg s) (told_before leg s.ticks) (steps_in s.ticks))
+    ∙ ap (λ (source : Source). source.table) (told-tables leg s can walked (steps_in s.ticks) (omega arith))

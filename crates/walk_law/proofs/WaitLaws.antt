@@ -8,9 +8,9 @@ use Rattle.std.proofs.lemmas.Bool.{leb-true, leb-false, cases_Bool, cases_lt}
 use Rattle.std.proofs.lemmas.Option.{slice_get_within}
 use Rattle.vc_cell.specs.declared.Container.{Container}
 use Rattle.vc_cell.specs.declared.Cell.{Cell}
-use Rattle.session_model.specs.declared.script.Script.{Script}
+use Rattle.session_model.specs.Leg.{Leg}
 use Rattle.session_model.specs.Number.{verdict}
-use Rattle.session_model.specs.Scenario.{scenario_of, carried_by}
+use Rattle.session_model.specs.Scenario.{scenario_by, carried_by}
 use Rattle.session_model.specs.Back.{session_cells}
 use Rattle.session_model.specs.Rows.{first_open}
 use Rattle.session_model.specs.Counts.{LinePath, LineCounts, popped_line, pop_lines}
@@ -20,11 +20,11 @@ use Rattle.walk_law.specs.Walk.{sent_on, walk_plan, CanWalk, counts_at, popped_o
 use Rattle.walk_law.specs.Rings.{delay_on, line_cells, AreDecidedBefore}
 use Rattle.walk_law.proofs.PlanLaws.{has-paths, line-path}
 
-pub popped-decides : (script : Script) (line y t : ℕ) → t < script.config.ticks →
-    IsSome (verdict (take y (line_cells script line)) t) ↔ (t < (path_on script line).decided y)
-popped-decides script line y t low =
-    let size = containers-size (scenario_of script) (session_cells (scenario_of script)) line script.config.ticks in
-    is_decided (carried_by (scenario_of script) line) (sent_on (scenario_of script) line) (delay_on script line) y t
+pub popped-decides : (leg : Leg) (line y t : ℕ) → t < leg.config.ticks →
+    IsSome (verdict (take y (line_cells leg line)) t) ↔ (t < (path_on leg line).decided y)
+popped-decides leg line y t low =
+    let size = containers-size (scenario_by leg) (session_cells (scenario_by leg)) line leg.config.ticks in
+    is_decided (carried_by (scenario_by leg) line) (sent_on (scenario_by leg) line) (delay_on leg line) y t
     (omega arith)
 
 -- ---- line by line
@@ -49,13 +49,13 @@ map-from f all from (line ∷ lines) same =
     (λ k low. subst (λ m. f m ≡ take (slice_index_or lines k no_counts).popped (all m))
     (let e : from + suc k ≡ suc from + k = omega arith in e) (same (suc k) (omega arith))))
 
-popped-list : (script : Script) (lines : List LineCounts) → length lines ≡ length script.config.windows →
-    popped_cells script lines ≡ cells_from (line_cells script) 0 lines
-popped-list script lines size =
-    ap (λ n. map (popped_on script lines) (range_with_len 0 n)) (sym size)
-    ∙ map-from (popped_on script lines) (line_cells script) 0 lines
+popped-list : (leg : Leg) (lines : List LineCounts) → length lines ≡ length leg.config.windows →
+    popped_cells leg lines ≡ cells_from (line_cells leg) 0 lines
+popped-list leg lines size =
+    ap (λ n. map (popped_on leg lines) (range_with_len 0 n)) (sym size)
+    ∙ map-from (popped_on leg lines) (line_cells leg) 0 lines
     (λ k low. let e : 0 + k ≡ k = omega arith in
-    subst (λ m. popped_on script lines m ≡ take (slice_index_or lines k no_counts).popped (line_cells script m))
+    subst (λ m. popped_on leg lines m ≡ take (slice_index_or lines k no_counts).popped (line_cells leg m))
     (sym e) refl)
 
 -- the paths from one on say which numbers the cells decide
@@ -129,31 +129,31 @@ pop-size t m (path ∷ paths) (line ∷ lines) size =
 some-same : (a b : LinePath) → Some a ≡ Some b → a ≡ b
 some-same a b e = cc
 
-pub take-waits : (script : Script) (lines : List LineCounts) (t : ℕ) → CanWalk script →
-    length lines ≡ length script.config.windows → t < script.config.ticks →
-    first_open (popped_cells script (pop_lines t 0 (walk_plan script).paths lines).lines) t ≡
-    (pop_lines t 0 (walk_plan script).paths lines).waiting
-take-waits script lines t can size low =
-    let paths : List LinePath = (walk_plan script).paths in
-    let count = has-paths script can in
-    let after : List LineCounts = (pop_lines t 0 (walk_plan script).paths lines).lines in
-    ap (λ cells. first_open cells t) (popped-list script after (pop-size t 0 paths lines (size ∙ sym count) ∙ size))
-    ∙ first-waits t (line_cells script) 0 paths lines (size ∙ sym count)
-    (decide-from t (line_cells script) 0 paths (λ k path there y.
+pub take-waits : (leg : Leg) (lines : List LineCounts) (t : ℕ) → CanWalk leg →
+    length lines ≡ length leg.config.windows → t < leg.config.ticks →
+    first_open (popped_cells leg (pop_lines t 0 (walk_plan leg).paths lines).lines) t ≡
+    (pop_lines t 0 (walk_plan leg).paths lines).waiting
+take-waits leg lines t can size low =
+    let paths : List LinePath = (walk_plan leg).paths in
+    let count = has-paths leg can in
+    let after : List LineCounts = (pop_lines t 0 (walk_plan leg).paths lines).lines in
+    ap (λ cells. first_open cells t) (popped-list leg after (pop-size t 0 paths lines (size ∙ sym count) ∙ size))
+    ∙ first-waits t (line_cells leg) 0 paths lines (size ∙ sym count)
+    (decide-from t (line_cells leg) 0 paths (λ k path there y.
     let inside = slice_get_within paths k path there in
-    let same : path_on script k ≡ path =
-    some-same (path_on script k) path (sym (line-path script can k (omega arith)) ∙ there) in
+    let same : path_on leg k ≡ path =
+    some-same (path_on leg k) path (sym (line-path leg can k (omega arith)) ∙ there) in
     let e : 0 + k ≡ k = omega arith in
-    subst (λ i. IsSome (verdict (take y (line_cells script i)) t) ↔ (t < path.decided y)) (sym e)
-    (subst (λ p. IsSome (verdict (take y (line_cells script k)) t) ↔ (t < p.decided y)) same
-    (popped-decides script k y t low))))
+    subst (λ i. IsSome (verdict (take y (line_cells leg i)) t) ↔ (t < path.decided y)) (sym e)
+    (subst (λ p. IsSome (verdict (take y (line_cells leg k)) t) ↔ (t < p.decided y)) same
+    (popped-decides leg k y t low))))
 
 -- ---- the first line whose cells don't decide a row, where those before it do
-told-line : (script : Script) (lines : List LineCounts) (i t : ℕ) → t < script.config.ticks →
-    t < (path_on script i).decided (counts_at lines i).popped →
-    is_none (verdict (popped_on script lines i) t) ≡ false
-told-line script lines i t low past =
-    is-told (verdict (popped_on script lines i) t) ((popped-decides script i (counts_at lines i).popped t low).1 past)
+told-line : (leg : Leg) (lines : List LineCounts) (i t : ℕ) → t < leg.config.ticks →
+    t < (path_on leg i).decided (counts_at lines i).popped →
+    is_none (verdict (popped_on leg lines i) t) ≡ false
+told-line leg lines i t low past =
+    is-told (verdict (popped_on leg lines i) t) ((popped-decides leg i (counts_at lines i).popped t low).1 past)
 
 position-at : (test : List Cell → Bool) (f : ℕ → List Cell) (from n m : ℕ) → m < n →
     ((i : ℕ) → i < m → test (f (from + i)) ≡ false) → test (f (from + m)) ≡ true →
@@ -208,40 +208,40 @@ position-past test f from (suc n) (suc m) k inside before is =
     (before (suc i) (omega arith))) (rw first at is) in
     omega arith
 
-pub first-open : (script : Script) (lines : List LineCounts) (m t : ℕ) → length lines ≡ length script.config.windows →
-    m < length lines → t < script.config.ticks →
-    AreDecidedBefore script lines m t →
-    (first_open (popped_cells script lines) t ≡ Some m) ↔
-    ((path_on script m).decided (counts_at lines m).popped ≤ t)
-first-open script lines m t size inside low before =
-    let n : ℕ = length script.config.windows in
+pub first-open : (leg : Leg) (lines : List LineCounts) (m t : ℕ) → length lines ≡ length leg.config.windows →
+    m < length lines → t < leg.config.ticks →
+    AreDecidedBefore leg lines m t →
+    (first_open (popped_cells leg lines) t ≡ Some m) ↔
+    ((path_on leg m).decided (counts_at lines m).popped ≤ t)
+first-open leg lines m t size inside low before =
+    let n : ℕ = length leg.config.windows in
     let y : ℕ = (counts_at lines m).popped in
-    let told = λ (i : ℕ) (under : i < m). told-line script lines i t low (before i under) in (
-      λ is. elim (cases_lt t ((path_on script m).decided y)) [
+    let told = λ (i : ℕ) (under : i < m). told-line leg lines i t low (before i under) in (
+      λ is. elim (cases_lt t ((path_on leg m).decided y)) [
         | inr late ↦ late
         | inl past ↦
-            let beyond = position-past (is_open t) (popped_on script lines) 0 n m m (omega arith)
+            let beyond = position-past (is_open t) (popped_on leg lines) 0 n m m (omega arith)
             (λ i under. elim (cases_lt i m) [
-              | inl less ↦ subst (λ k. is_open t (popped_on script lines k) ≡ false)
+              | inl less ↦ subst (λ k. is_open t (popped_on leg lines k) ≡ false)
                   (let g : i ≡ 0 + i = omega arith in g) (told i less)
-              | inr more ↦ subst (λ k. is_open t (popped_on script lines k) ≡ false)
-                  (let g : m ≡ 0 + i = omega arith in g) (told-line script lines m t low past)
+              | inr more ↦ subst (λ k. is_open t (popped_on leg lines k) ≡ false)
+                  (let g : m ≡ 0 + i = omega arith in g) (told-line leg lines m t low past)
             ]) is in
             absurd (omega arith)
       ],
-      λ late. position-at (is_open t) (popped_on script lines) 0 n m (omega arith)
-          (λ i under. subst (λ k. is_open t (popped_on script lines k) ≡ false) (let g : i ≡ 0 + i = omega arith in g)
+      λ late. position-at (is_open t) (popped_on leg lines) 0 n m (omega arith)
+          (λ i under. subst (λ k. is_open t (popped_on leg lines k) ≡ false) (let g : i ≡ 0 + i = omega arith in g)
           (told i under))
-          (subst (λ k. is_open t (popped_on script lines k) ≡ true) (let g : m ≡ 0 + m = omega arith in g)
-          (is-open (verdict (popped_on script lines m) t)
-          (λ some. let past = (popped-decides script m y t low).0 some in omega arith)))
+          (subst (λ k. is_open t (popped_on leg lines k) ≡ true) (let g : m ≡ 0 + m = omega arith in g)
+          (is-open (verdict (popped_on leg lines m) t)
+          (λ some. let past = (popped-decides leg m y t low).0 some in omega arith)))
           ∙ ap Some (let g : 0 + m ≡ m = omega arith in g),
     )
 
-pub none-open : (script : Script) (lines : List LineCounts) (t : ℕ) → length lines ≡ length script.config.windows →
-    t < script.config.ticks →
-    AreDecidedBefore script lines (length lines) t → first_open (popped_cells script lines) t ≡ None
-none-open script lines t size low before =
-    position-none (is_open t) (popped_on script lines) 0 (length script.config.windows)
-    (λ i under. subst (λ k. is_open t (popped_on script lines k) ≡ false) (let g : i ≡ 0 + i = omega arith in g)
-    (told-line script lines i t low (before i (omega arith))))
+pub none-open : (leg : Leg) (lines : List LineCounts) (t : ℕ) → length lines ≡ length leg.config.windows →
+    t < leg.config.ticks →
+    AreDecidedBefore leg lines (length lines) t → first_open (popped_cells leg lines) t ≡ None
+none-open leg lines t size low before =
+    position-none (is_open t) (popped_on leg lines) 0 (length leg.config.windows)
+    (λ i under. subst (λ k. is_open t (popped_on leg lines k) ≡ false) (let g : i ≡ 0 + i = omega arith in g)
+    (told-line leg lines i t low (before i (omega arith))))

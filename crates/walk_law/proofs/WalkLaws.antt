@@ -11,11 +11,11 @@ use Rattle.std.proofs.lemmas.Option.{slice_get-map, slice_get_within}
 use Rattle.vc_cell.specs.declared.Container.{Container}
 use Rattle.vc_cell.specs.declared.Cell.{Cell}
 use Rattle.session_model.specs.declared.window.Carried.{Carried}
-use Rattle.session_model.specs.declared.script.Script.{Script}
+use Rattle.session_model.specs.Leg.{Leg}
 use Rattle.session_model.specs.declared.walk.Event.{Event}
 use Rattle.session_model.specs.Path.{cells}
 use Rattle.session_model.specs.Number.{verdict}
-use Rattle.session_model.specs.Scenario.{Scenario, scenario_of, carried_by, packets_in, packets, steps_in}
+use Rattle.session_model.specs.Scenario.{Scenario, scenario_by, carried_by, packets_in, packets, steps_in}
 use Rattle.session_model.specs.Table.{Told}
 use Rattle.session_model.specs.Told.{told_in}
 use Rattle.session_model.specs.Source.{after}
@@ -73,63 +73,63 @@ open-or None d t same = elim (cases_lt t d) [
 ]
 open-or (Some told) d t same = let low = same.0 refl in sym (lt-leb d t low)
 
-pub line-open : (script : Script) (lines : List LineCounts) (line t : ℕ) → t < script.config.ticks →
-    is_none (verdict (popped_on script lines line) t) ≡ nat_le
-    ((path_on script line).decided (counts_at lines line).popped) t
-line-open script lines line t low =
-    let scenario : Scenario = scenario_of script in
-    let delay : ℕ = slice_index_or script.config.delays line 0 in
+pub line-open : (leg : Leg) (lines : List LineCounts) (line t : ℕ) → t < leg.config.ticks →
+    is_none (verdict (popped_on leg lines line) t) ≡ nat_le
+    ((path_on leg line).decided (counts_at lines line).popped) t
+line-open leg lines line t low =
+    let scenario : Scenario = scenario_by leg in
+    let delay : ℕ = slice_index_or leg.config.delays line 0 in
     let y : ℕ = (counts_at lines line).popped in
-    let size : length (sent_on scenario line) ≡ script.config.ticks =
+    let size : length (sent_on scenario line) ≡ leg.config.ticks =
     containers-size scenario (session_cells scenario) line scenario.ticks in
-    open-or (verdict (popped_on script lines line) t) ((path_on script line).decided y) t
+    open-or (verdict (popped_on leg lines line) t) ((path_on leg line).decided y) t
     (is_decided (carried_by scenario line) (sent_on scenario line) delay y t (omega arith))
 
 -- the first cells of a line are those that its carries give
-pub line-first : (script : Script) (line carries popped : ℕ) →
-    carries ≤ script.config.ticks + (path_on script line).delay + 1 →
-    popped ≤ (path_on script line).given carries →
-    take popped (cells_on (scenario_of script) (path_on script line).delay line)
-    ≡ take popped (given (scenario_of script) (session_cells (scenario_of script)) line script.config.ticks
-    (path_on script line).delay carries)
-line-first script line carries popped low fits =
-    let scenario : Scenario = scenario_of script in
+pub line-first : (leg : Leg) (line carries popped : ℕ) →
+    carries ≤ leg.config.ticks + (path_on leg line).delay + 1 →
+    popped ≤ (path_on leg line).given carries →
+    take popped (cells_on (scenario_by leg) (path_on leg line).delay line)
+    ≡ take popped (given (scenario_by leg) (session_cells (scenario_by leg)) line leg.config.ticks
+    (path_on leg line).delay carries)
+line-first leg line carries popped low fits =
+    let scenario : Scenario = scenario_by leg in
     let containers : List Container = sent_on scenario line in
-    let delay : ℕ = slice_index_or script.config.delays line 0 in
-    let size : length containers ≡ script.config.ticks =
+    let delay : ℕ = slice_index_or leg.config.delays line 0 in
+    let size : length containers ≡ leg.config.ticks =
     containers-size scenario (session_cells scenario) line scenario.ticks in
     first-given (carried_by scenario line) delay containers carries popped (omega arith) fits
     ∙ ap (λ n. take popped (cells (carried_by scenario line) delay n containers carries)) size
 
-module _ (script : Script) (s : Counts) (can : CanWalk script) (walked : IsWalked script s) where
+module _ (leg : Leg) (s : Counts) (can : CanWalk leg) (walked : IsWalked leg s) where
   abbrev scenario : Scenario
-  scenario = scenario_of script
+  scenario = scenario_by leg
 
   abbrev session : List (Option Told)
-  session = session_cells (scenario_of script)
+  session = session_cells (scenario_by leg)
 
-  pub fits : Fits (walk_plan script) s
-  fits = reached-fits (walk_plan script) s (has-plan script can) walked
+  pub fits : Fits (walk_plan leg) s
+  fits = reached-fits (walk_plan leg) s (has-plan leg can) walked
 
   abbrev delay_of : ℕ → ℕ
-  delay_of line = slice_index_or script.config.delays line 0
+  delay_of line = slice_index_or leg.config.delays line 0
 
-  pub line-fits : (line : ℕ) → line < length script.config.windows →
-      LineFits script.config.ticks script.config.ring s.ticks s.rows
+  pub line-fits : (line : ℕ) → line < length leg.config.windows →
+      LineFits leg.config.ticks leg.config.ring s.ticks s.rows
       (path_of (carried_by scenario line) (delay_of line) (sent_on scenario line)) (counts_at s.lines line)
   line-fits line inside =
-      each-there (LineFits script.config.ticks script.config.ring s.ticks s.rows) (walk_plan script).paths s.lines line
+      each-there (LineFits leg.config.ticks leg.config.ring s.ticks s.rows) (walk_plan leg).paths s.lines line
       (path_of (carried_by scenario line) (delay_of line) (sent_on scenario line))
-      (record { carried = 0; popped = 0 }) fits.lines (line-path script can line inside)
+      (record { carried = 0; popped = 0 }) fits.lines (line-path leg can line inside)
 
-  popped-comes : (line : ℕ) → line < length script.config.windows →
-      ComesOfLine scenario session line s.ticks (popped_on script s.lines line)
+  popped-comes : (line : ℕ) → line < length leg.config.windows →
+      ComesOfLine scenario session line s.ticks (popped_on leg s.lines line)
   popped-comes line inside =
       let is = line-fits line inside in
       let ticks = fits.ticks in
       let containers : List Container = sent_on scenario line in
       let carries = carried_by scenario line in
-      let size : length containers ≡ script.config.ticks = containers-size scenario session line scenario.ticks in
+      let size : length containers ≡ leg.config.ticks = containers-size scenario session line scenario.ticks in
       let x : ℕ = (counts_at s.lines line).carried in
       let y : ℕ = (counts_at s.lines line).popped in
       let own : List Cell = cells carries (delay_of line) (length containers) containers x in
@@ -148,51 +148,51 @@ module _ (script : Script) (s : Counts) (can : CanWalk script) (walked : IsWalke
             (first-given carries (delay_of line) containers x y (omega arith) is.pops));
       }
 
-  popped-decided : (line t : ℕ) → line < length script.config.windows → t < s.rows →
-      IsSome (verdict (popped_on script s.lines line) t)
+  popped-decided : (line t : ℕ) → line < length leg.config.windows → t < s.rows →
+      IsSome (verdict (popped_on leg s.lines line) t)
   popped-decided line t inside low =
       let is = line-fits line inside in
       let rows = fits.rows in
       let decides = is.decides in
-      let size : length (sent_on scenario line) ≡ script.config.ticks =
+      let size : length (sent_on scenario line) ≡ leg.config.ticks =
       containers-size scenario session line scenario.ticks in
       (is_decided (carried_by scenario line) (sent_on scenario line) (delay_of line) (counts_at s.lines line).popped t
       (omega arith)).1 (omega arith)
 
   -- ---- all lines
-  popped-at : (line : ℕ) (own : List Cell) → slice_get (popped_cells script s.lines) line ≡ Some own →
-      (line < length script.config.windows) × (popped_on script s.lines line ≡ own)
+  popped-at : (line : ℕ) (own : List Cell) → slice_get (popped_cells leg s.lines) line ≡ Some own →
+      (line < length leg.config.windows) × (popped_on leg s.lines line ≡ own)
   popped-at line own here =
-      let lines : ℕ = length script.config.windows in
-      let size = length-map-range_with_len (popped_on script s.lines) 0 lines in
-      let within = slice_get_within (popped_cells script s.lines) line own here in
+      let lines : ℕ = length leg.config.windows in
+      let size = length-map-range_with_len (popped_on leg s.lines) 0 lines in
+      let within = slice_get_within (popped_cells leg s.lines) line own here in
       let low : line < lines = omega arith in
-      let there : slice_get (popped_cells script s.lines) line ≡ Some (popped_on script s.lines line) =
-      slice_get-map (popped_on script s.lines) (range_with_len 0 lines) line
-      ∙ ap (option_map (popped_on script s.lines))
+      let there : slice_get (popped_cells leg s.lines) line ≡ Some (popped_on leg s.lines line) =
+      slice_get-map (popped_on leg s.lines) (range_with_len 0 lines) line
+      ∙ ap (option_map (popped_on leg s.lines))
       (range-at 0 lines line low ∙ ap Some (let e : 0 + line ≡ line = omega arith in e)) in
       (low, cc)
 
-  pub cells-come : ComeOfLines scenario session s.ticks (popped_cells script s.lines)
+  pub cells-come : ComeOfLines scenario session s.ticks (popped_cells leg s.lines)
   cells-come = record {
     made = fits.ticks;
-    lines = length-map-range_with_len (popped_on script s.lines) 0 (length script.config.windows);
+    lines = length-map-range_with_len (popped_on leg s.lines) 0 (length leg.config.windows);
     each = λ line own here.
         let (inside, same) = popped-at line own here in
         subst (λ own. ComesOfLine scenario session line s.ticks own) same (popped-comes line inside);
   }
 
-  pub cells-decide : (t : ℕ) → t < s.rows → AreDecidedAt (popped_cells script s.lines) t
+  pub cells-decide : (t : ℕ) → t < s.rows → AreDecidedAt (popped_cells leg s.lines) t
   cells-decide t low line own here =
       let (inside, same) = popped-at line own here in
       subst (λ own. IsSome (verdict own t)) same (popped-decided line t inside low)
 
   pub rows-are : (t : ℕ) → t < s.rows →
-      row_at script.config.size (popped_cells script s.lines) t ≡
+      row_at leg.config.size (popped_cells leg s.lines) t ≡
       (if is_whole_row scenario session t then Some (payload_of scenario session t) else None)
   rows-are t low =
       let rows = fits.rows in
-      row-told scenario session s.ticks (popped_cells script s.lines) t (has-lines script can) cells-come (omega arith)
+      row-told scenario session s.ticks (popped_cells leg s.lines) t (has-lines leg can) cells-come (omega arith)
       (cells-decide t low)
 
   -- ---- the return path
@@ -209,11 +209,11 @@ module _ (script : Script) (s : Counts) (can : CanWalk script) (walked : IsWalke
       frame_of scenario (cells_before scenario s.backs) t ≡ frame_of scenario session t
   frames-are t low =
       let used = fits.used in
-      frame-same scenario s.backs s.ticks t (few-packets s.rows script.config.ticks s.backs fits.rows fits.backs)
+      frame-same scenario s.backs s.ticks t (few-packets s.rows leg.config.ticks s.backs fits.rows fits.backs)
       (omega arith) low
 
   few : s.backs ≤ packets scenario
-  few = few-packets s.rows script.config.ticks s.backs fits.rows fits.backs
+  few = few-packets s.rows leg.config.ticks s.backs fits.rows fits.backs
 
   pub sources-are : (j : ℕ) → j ≤ steps_in s.ticks →
       after scenario (cells_before scenario s.backs) j ≡ after scenario session j
@@ -223,11 +223,11 @@ module _ (script : Script) (s : Counts) (can : CanWalk script) (walked : IsWalke
       stream_before scenario (cells_before scenario s.backs) t ≡ stream_before scenario session t
   streams-are t low = let used = fits.used in stream-same scenario s.backs s.ticks t few (omega arith) low
 
-  told-first : (n : ℕ) → n ≤ s.backs → told_of scenario (popped_cells script s.lines) n ≡ cells_before scenario n
+  told-first : (n : ℕ) → n ≤ s.backs → told_of scenario (popped_cells leg s.lines) n ≡ cells_before scenario n
   unfolding cells_before
   told-first zero low = refl
   told-first (suc n) low =
-      let popped : List (List Cell) = popped_cells script s.lines in
+      let popped : List (List Cell) = popped_cells leg s.lines in
       let backs = fits.backs in
       let f = λ (k : ℕ). told_in (back_of scenario popped k) in
       let e : suc n ≡ n + 1 = omega arith in
@@ -235,23 +235,23 @@ module _ (script : Script) (s : Counts) (can : CanWalk script) (walked : IsWalke
       ap (λ k. map f (range_with_len 0 k)) e
       ∙ map-range_with_len_more f 0 n n (omega arith)
       ∙ ap (λ l. l ++ f n ∷ []) (told-first n (omega arith))
-      ∙ sym (next-cell scenario s.ticks n popped (has-lines script can) lag
-      (few-packets s.rows script.config.ticks (suc n) fits.rows inside) cells-come
+      ∙ sym (next-cell scenario s.ticks n popped (has-lines leg can) lag
+      (few-packets s.rows leg.config.ticks (suc n) fits.rows inside) cells-come
       (cells-decide (16 * n + 23) (ends s.rows n inside)))
 
-  pub backs-are : told_of scenario (popped_cells script s.lines) s.backs ≡ cells_before scenario s.backs
+  pub backs-are : told_of scenario (popped_cells leg s.lines) s.backs ≡ cells_before scenario s.backs
   backs-are = told-first s.backs (omega arith)
 
-  pub is-course : IsCourse scenario s.ticks s.backs (popped_cells script s.lines)
+  pub is-course : IsCourse scenario s.ticks s.backs (popped_cells leg s.lines)
   is-course =
       let used = fits.used in
-      let most = few-packets s.rows script.config.ticks s.backs fits.rows fits.backs in
+      let most = few-packets s.rows leg.config.ticks s.backs fits.rows fits.backs in
       let agree = session-agree scenario s.backs s.backs most (omega arith) in
       record {
         most = most;
         used = omega arith;
-        come = subst (λ returns. ComeOfLines scenario returns s.ticks (popped_cells script s.lines)) (sym backs-are)
-            (come-same scenario session (cells_before scenario s.backs) s.ticks s.backs (popped_cells script s.lines)
+        come = subst (λ returns. ComeOfLines scenario returns s.ticks (popped_cells leg s.lines)) (sym backs-are)
+            (come-same scenario session (cells_before scenario s.backs) s.ticks s.backs (popped_cells leg s.lines)
             (omega arith) (sym agree) cells-come);
         decided = λ k low.
             let backs = fits.backs in
@@ -259,18 +259,18 @@ module _ (script : Script) (s : Counts) (can : CanWalk script) (walked : IsWalke
       }
 
 -- ---- what is walked
-pub begins-walked : (script : Script) → IsWalked script (begin (walk_plan script))
-begins-walked script = ([], sym (run-none (walk_plan script) (begin (walk_plan script))))
+pub begins-walked : (leg : Leg) → IsWalked leg (begin (walk_plan leg))
+begins-walked leg = ([], sym (run-none (walk_plan leg) (begin (walk_plan leg))))
 
-pub steps-walked : (script : Script) (s : Counts) (event : Event) → IsWalked script s →
-    IsWalked script (step (walk_plan script) s event).counts
+pub steps-walked : (leg : Leg) (s : Counts) (event : Event) → IsWalked leg s →
+    IsWalked leg (step (walk_plan leg) s event).counts
 unfolding run
-steps-walked script s event walked =
-    Leads-then (walk_plan script) (begin (walk_plan script)) s (step (walk_plan script) s event).counts walked
+steps-walked leg s event walked =
+    Leads-then (walk_plan leg) (begin (walk_plan leg)) s (step (walk_plan leg) s event).counts walked
     (event ∷ [], refl)
 
-pub drains-walked : (script : Script) (s : Counts) (k : ℕ) → IsWalked script s →
-    IsWalked script (drain k (walk_plan script) s)
-drains-walked script s k walked =
-    Leads-then (walk_plan script) (begin (walk_plan script)) s (drain k (walk_plan script) s) walked
-    (Leads-drain k (walk_plan script) s)
+pub drains-walked : (leg : Leg) (s : Counts) (k : ℕ) → IsWalked leg s →
+    IsWalked leg (drain k (walk_plan leg) s)
+drains-walked leg s k walked =
+    Leads-then (walk_plan leg) (begin (walk_plan leg)) s (drain k (walk_plan leg) s) walked
+    (Leads-drain k (walk_plan leg) s)

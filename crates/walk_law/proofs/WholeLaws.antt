@@ -9,10 +9,10 @@ use Rattle.std.proofs.lemmas.List.Elements.{All-nil, All-cons}
 use Rattle.session_model.specs.declared.window.Window.{Window}
 use Rattle.session_model.specs.declared.window.Carried.{Carried}
 use Rattle.session_model.specs.declared.window.Carried.TheVariants.{Whole}
-use Rattle.session_model.specs.declared.script.Script.{Script}
+use Rattle.session_model.specs.Leg.{Leg}
 use Rattle.session_model.specs.Damage.{carried, is_good}
 use Rattle.session_model.specs.Piece.{Piece, idle, frames_by}
-use Rattle.session_model.specs.Scenario.{Scenario, scenario_of, carried_by, is_read, is_heard}
+use Rattle.session_model.specs.Scenario.{Scenario, scenario_by, carried_by, is_read, is_heard}
 use Rattle.session_model.specs.Table.{Told, active}
 use Rattle.session_model.specs.Source.{table_of}
 use Rattle.session_model.specs.Back.{session_cells}
@@ -20,7 +20,7 @@ use Rattle.session_model.specs.SessionRows.{is_whole_row}
 use Rattle.session_model.specs.Segment.{Segment, octets_of_rows}
 use Rattle.session_model.specs.Loss.{StartsTrue}
 use Rattle.session_model.specs.SessionStream.{rows_of}
-use Rattle.session_model.specs.Valid.{IsValid}
+use Rattle.session_model.specs.Valid.{IsSound}
 use Rattle.session_law.specs.Session.{AreWhole}
 use Rattle.session_law.proofs.DamageLaws.{readable-whole, good-whole, heard-line}
 use Rattle.loss_law.specs.Carried.{CarriesStream, IsSentPiece}
@@ -61,23 +61,23 @@ sooner-whole : (carries : ℕ → Carried) (a from b end : ℕ) → a ≤ from �
     AreWhole carries from end
 sooner-whole carries a from b end low high whole n above below = whole n (omega arith) (omega arith)
 
-module _ (script : Script) (some : 0 < length script.config.windows) (t : ℕ)
-    (clear : (line : ℕ) → line < length script.config.windows →
-    IsClear (slice_index_or script.config.windows line []) (row_from t) (t + 1)) where
+module _ (leg : Leg) (some : 0 < length leg.config.windows) (t : ℕ)
+    (clear : (line : ℕ) → line < length leg.config.windows →
+    IsClear (slice_index_or leg.config.windows line []) (row_from t) (t + 1)) where
   abbrev scenario : Scenario
-  scenario = scenario_of script
+  scenario = scenario_by leg
 
-  line-clear : (line : ℕ) → IsClear (slice_index_or script.config.windows line []) (row_from t) (t + 1)
+  line-clear : (line : ℕ) → IsClear (slice_index_or leg.config.windows line []) (row_from t) (t + 1)
   line-clear line =
-      elim (cases_lt line (length script.config.windows)) [
+      elim (cases_lt line (length leg.config.windows)) [
         | inl inside ↦ clear line inside
         | inr beyond ↦
             subst (λ windows. IsClear windows (row_from t) (t + 1))
-            (sym (get_or_past script.config.windows line [] beyond)) (λ k d inside. absurd (omega arith))
+            (sym (get_or_past leg.config.windows line [] beyond)) (λ k d inside. absurd (omega arith))
       ]
 
   line-whole : (line : ℕ) → AreWhole (carried_by scenario line) (row_from t) (t + 1)
-  line-whole line = clear-whole (slice_index_or script.config.windows line []) (row_from t) (t + 1) (line-clear line)
+  line-whole line = clear-whole (slice_index_or leg.config.windows line []) (row_from t) (t + 1) (line-clear line)
 
   line-read : (line : ℕ) → 24 ≤ t → is_read scenario line ((t - 24) / 16) ≡ true
   line-read line late =
@@ -109,31 +109,31 @@ module _ (script : Script) (some : 0 < length script.config.windows) (t : ℕ)
       ]
 
 -- ---- the rows before the first that isn't whole
-pub delivered-before : (script : Script) (rows : ℕ) → IsValid script → rows ≤ script.config.ticks →
-    AreWholeBefore script rows →
-    delivered_of script rows ≡ frames_by (place_after script rows) (session_pieces script)
-delivered-before script rows valid low whole =
-    let scenario : Scenario = scenario_of script in
+pub delivered-before : (leg : Leg) (rows : ℕ) → IsSound leg → rows ≤ leg.config.ticks →
+    AreWholeBefore leg rows →
+    delivered_of leg rows ≡ frames_by (place_after leg rows) (session_pieces leg)
+delivered-before leg rows sound low whole =
+    let scenario : Scenario = scenario_by leg in
     let cells : List (Option Told) = session_cells scenario in
-    let pieces : List Piece = session_pieces script in
-    let opens = pieces-open scenario cells script.config.ticks in
+    let pieces : List Piece = session_pieces leg in
+    let opens = pieces-open scenario cells leg.config.ticks in
     let all : All (IsSentPiece 9600) (idle ∷ idle ∷ opens.0) =
     subst (All (IsSentPiece 9600)) opens.1
-    (pieces-sent scenario cells script.config.ticks (are_octets script valid)) in
+    (pieces-sent scenario cells leg.config.ticks (are_octets leg sound)) in
     let sent : All (IsSentPiece 9600) opens.0 = λ k d inside. all (suc (suc k)) d (omega arith) in
     let carry : CarriesStream (rows_of scenario cells rows) (idle ∷ idle ∷ opens.0) =
     subst (CarriesStream (rows_of scenario cells rows)) opens.1
-    (rows-carry scenario cells rows script.config.ticks low) in
+    (rows-carry scenario cells rows leg.config.ticks low) in
     deliver-whole 9600 opens.0 (rows_of scenario cells rows) (omega arith) sent carry
     (rows-whole scenario cells rows whole)
-    ∙ ap₂ frames_by (rows-length scenario cells rows script.config.ticks low) (sym opens.1)
+    ∙ ap₂ frames_by (rows-length scenario cells rows leg.config.ticks low) (sym opens.1)
 
 -- whole rows have one segment, so nothing is confirmed after a break
-pub whole-starts : (script : Script) (rows : ℕ) → AreWholeBefore script rows → ConfirmsTrue script rows
-whole-starts script rows whole =
-    let scenario : Scenario = scenario_of script in
+pub whole-starts : (leg : Leg) (rows : ℕ) → AreWholeBefore leg rows → ConfirmsTrue leg rows
+whole-starts leg rows whole =
+    let scenario : Scenario = scenario_by leg in
     let cells : List (Option Told) = session_cells scenario in
-    let pieces : List Piece = session_pieces script in
+    let pieces : List Piece = session_pieces leg in
     let only : Segment = record { first = true; base = 0; octets = octets_of_rows (rows_of scenario cells rows) } in
     subst (All (StartsTrue pieces))
     (sym (only_segment (rows_of scenario cells rows) (rows-whole scenario cells rows whole)))

@@ -1,4 +1,4 @@
--- The items of a script that have landed: which they are, why those are refused that are, and what a walk counts of all
+-- The items of a leg that have landed: which they are, why those are refused that are, and what a walk counts of all
 -- that.
 use Rattle.std.specs.Prelude.{◌≡◌, ℕ, suc, ◌+◌, ◌-◌, ◌<◌, ◌&&◌, not, nat_lt, Bool, true, false, if◌then◌else◌, List, []}
 use Rattle.std.specs.Prelude.{◌∷◌, ◌++◌, map, filter, fold, length, take, slice_get, All, Option, Some, None}
@@ -7,10 +7,10 @@ use Rattle.std.specs.List.{flat_map}
 use Rattle.session_model.specs.declared.script.Item.{Item}
 use Rattle.session_model.specs.declared.script.ItemKind.{ItemKind}
 use Rattle.session_model.specs.declared.script.ItemKind.TheVariants.{Frame, Add, Remove}
-use Rattle.session_model.specs.declared.script.Script.{Script}
+use Rattle.session_model.specs.Leg.{Leg}
 use Rattle.session_model.specs.declared.table.Command.TheVariants.{Add as add, Remove as remove}
 use Rattle.session_model.specs.Scenario.{DueCommand, DueFrame, Scenario, order_of, offer_of, orders_of, offers_of}
-use Rattle.session_model.specs.Scenario.{scenario_of, steps_in, lands_at, comes_at}
+use Rattle.session_model.specs.Scenario.{scenario_by, steps_in, lands_at, comes_at}
 use Rattle.session_model.specs.Journal.{with_items}
 use Rattle.session_model.specs.Table.{Told}
 use Rattle.session_model.specs.Source.{Source, after, asked_all, refusal}
@@ -47,17 +47,17 @@ landed_from a b i (item ∷ items) =
     else with_if (nat_lt 0 b) (record { number = i; item = item }) (landed_from a (b - 1) (suc i) items)
 
 -- those of a walk, in item order
-abbrev pub landed_items : Script → Counts → List Numbered
-landed_items script s = landed_from s.frames s.commands 0 script.items
+abbrev pub landed_items : Leg → Counts → List Numbered
+landed_items leg s = landed_from s.frames s.commands 0 leg.items
 
 -- the session of these alone
-abbrev pub landed_scenario : Script → Counts → Scenario
-landed_scenario script s =
-    with_items (scenario_of script) (take s.commands (orders_of script.items)) (take s.frames (offers_of script.items))
+abbrev pub landed_scenario : Leg → Counts → Scenario
+landed_scenario leg s =
+    with_items (scenario_by leg) (take s.commands (orders_of leg.items)) (take s.frames (offers_of leg.items))
 
 -- the return cells that the decision steps of some ticks have taken
-abbrev pub told_before : Script → ℕ → List (Option Told)
-told_before script ticks = told_first script (used_in script.config.lag ticks)
+abbrev pub told_before : Leg → ℕ → List (Option Told)
+told_before leg ticks = told_first leg (used_in leg.config.lag ticks)
 
 -- an item of a list is this offer, and so many offers are before it; or this order, and so many orders
 pub record IsOfferAt (items : List Item) (count : ℕ) (item : Numbered) (offer : DueFrame) : Type 0 where
@@ -93,22 +93,22 @@ kind_refusal scenario cells due earlier (Remove line) =
     option_map command_fault (refusal (length scenario.windows) (remove line)
     (source_met scenario cells due (orders_of earlier)))
 
--- why an item of a script is
-abbrev pub refusal_at : Script → Numbered → Option Refusal
-refusal_at script item =
-    kind_refusal (scenario_of script) (session_of script) item.item.due (take item.number script.items) item.item.kind
+-- why an item of a leg is
+abbrev pub refusal_at : Leg → Numbered → Option Refusal
+refusal_at leg item =
+    kind_refusal (scenario_by leg) (session_of leg) item.item.due (take item.number leg.items) item.item.kind
 
 abbrev pub refused_by : ℕ → Option Refusal → List (ℕ × Refusal)
 refused_by number None = []
 refused_by number (Some why) = (number, why) ∷ []
 
 -- of items those that are refused, in their order, and why
-abbrev pub refusals_among : Script → List Numbered → List (ℕ × Refusal)
-refusals_among script items = flat_map (λ item. refused_by item.number (refusal_at script item)) items
+abbrev pub refusals_among : Leg → List Numbered → List (ℕ × Refusal)
+refusals_among leg items = flat_map (λ item. refused_by item.number (refusal_at leg item)) items
 
 -- and of the items that have landed
-abbrev pub refusals_of : Script → Counts → List (ℕ × Refusal)
-refusals_of script s = refusals_among script (landed_items script s)
+abbrev pub refusals_of : Leg → Counts → List (ℕ × Refusal)
+refusals_of leg s = refusals_among leg (landed_items leg s)
 
 -- refusals of an item of some number are put in their place among those of other items
 pub record IsPlaced (number : ℕ) (put was now : List (ℕ × Refusal)) : Type 0 where
@@ -120,28 +120,28 @@ pub record IsPlaced (number : ℕ) (put was now : List (ℕ × Refusal)) : Type 
   pub after : All (λ (refused : ℕ × Refusal). number < refused.0) back
 
 -- ---- totals
-abbrev pub is_accepted_frame : Script → Numbered → Bool
-is_accepted_frame script item = is_client item.item.kind && is_none (refusal_at script item)
+abbrev pub is_accepted_frame : Leg → Numbered → Bool
+is_accepted_frame leg item = is_client item.item.kind && is_none (refusal_at leg item)
 
-abbrev pub is_accepted_command : Script → Numbered → Bool
-is_accepted_command script item = not (is_client item.item.kind) && is_none (refusal_at script item)
+abbrev pub is_accepted_command : Leg → Numbered → Bool
+is_accepted_command leg item = not (is_client item.item.kind) && is_none (refusal_at leg item)
 
 -- how many ticks were made and rows taken; of items how many frames and commands are accepted, and how many items are
 -- refused; how
 -- many frames were delivered
-abbrev pub totals_among : Script → ℕ → ℕ → List Numbered → Totals
-totals_among script ticks rows items = record {
+abbrev pub totals_among : Leg → ℕ → ℕ → List Numbered → Totals
+totals_among leg ticks rows items = record {
   ticks = ticks;
   taken = rows;
-  frames = length (filter (is_accepted_frame script) items);
-  commands = length (filter (is_accepted_command script) items);
-  refused = length (refusals_among script items);
-  got = length (delivered_of script rows);
+  frames = length (filter (is_accepted_frame leg) items);
+  commands = length (filter (is_accepted_command leg) items);
+  refused = length (refusals_among leg items);
+  got = length (delivered_of leg rows);
 }
 
 -- and of the items that have landed
-abbrev pub totals_of : Script → Counts → Totals
-totals_of script s = totals_among script s.ticks s.rows (landed_items script s)
+abbrev pub totals_of : Leg → Counts → Totals
+totals_of leg s = totals_among leg s.ticks s.rows (landed_items leg s)
 
 -- the totals after one more frame, or one more command, is accepted or refused
 abbrev pub with_frame_told : Option Refusal → Totals → Totals

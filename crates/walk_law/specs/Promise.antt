@@ -1,4 +1,4 @@
--- What is promised of a script, in the words of whoever wrote it.
+-- What is promised of a leg, in the words of whoever wrote it.
 use Rattle.std.specs.Prelude.{◌≡◌, ◌⊎◌, ℕ, suc, ◌+◌, ◌-◌, ◌*◌, ◌/◌, ◌<◌, ◌≤◌, true, List, [], ◌∷◌, All, Option, Some}
 use Rattle.std.specs.Prelude.{None}
 use Rattle.std.specs.List.{flat_map}
@@ -6,9 +6,9 @@ use Rattle.session_model.specs.declared.window.Window.{Window}
 use Rattle.session_model.specs.declared.script.Item.{Item}
 use Rattle.session_model.specs.declared.script.ItemKind.{ItemKind}
 use Rattle.session_model.specs.declared.script.ItemKind.TheVariants.{Frame, Add, Remove}
-use Rattle.session_model.specs.declared.script.Script.{Script}
+use Rattle.session_model.specs.Leg.{Leg}
 use Rattle.session_model.specs.Piece.{Piece}
-use Rattle.session_model.specs.Scenario.{scenario_of}
+use Rattle.session_model.specs.Scenario.{scenario_by}
 use Rattle.session_model.specs.Client.{place_of, stream_before}
 use Rattle.session_model.specs.SessionRows.{is_whole_row}
 use Rattle.session_model.specs.Counts.{Counts, bound, drain}
@@ -33,33 +33,33 @@ frame_by None (Add line) = []
 frame_by None (Remove line) = []
 frame_by (Some why) kind = []
 
--- those of a script, in item order
-abbrev pub accepted_frames : Script → List (List ℕ)
-accepted_frames script = flat_map (λ item. frame_by (refusal_at script item) item.item.kind) (numbered 0 script.items)
+-- those of a leg, in item order
+abbrev pub accepted_frames : Leg → List (List ℕ)
+accepted_frames leg = flat_map (λ item. frame_by (refusal_at leg item) item.item.kind) (numbered 0 leg.items)
 
 -- ---- what of them is carried
 -- the stream of the session in pieces
-abbrev pub session_pieces : Script → List Piece
-session_pieces script =
-    (stream_before (scenario_of script) (session_of script) script.config.ticks).pieces
+abbrev pub session_pieces : Leg → List Piece
+session_pieces leg =
+    (stream_before (scenario_by leg) (session_of leg) leg.config.ticks).pieces
 
 -- its client frames, with the places at which their pieces begin and end
-abbrev pub session_extents : Script → List Extent
-session_extents script = extents 0 (session_pieces script)
+abbrev pub session_extents : Leg → List Extent
+session_extents leg = extents 0 (session_pieces leg)
 
 -- the frames that still wait when all ticks are made
-abbrev pub session_waiting : Script → List (List ℕ)
-session_waiting script =
-    (stream_before (scenario_of script) (session_of script) script.config.ticks).waiting
+abbrev pub session_waiting : Leg → List (List ℕ)
+session_waiting leg =
+    (stream_before (scenario_by leg) (session_of leg) leg.config.ticks).waiting
 
 -- the place of the stream at which some rows end
-abbrev pub place_after : Script → ℕ → ℕ
-place_after script rows = place_of (scenario_of script) (session_of script) rows
+abbrev pub place_after : Leg → ℕ → ℕ
+place_after leg rows = place_of (scenario_by leg) (session_of leg) rows
 
 -- ---- premises
 -- no line has a window of failure
-abbrev pub HasNoFailure : Script → Type 0
-HasNoFailure script = All (λ windows. windows ≡ []) script.config.windows
+abbrev pub HasNoFailure : Leg → Type 0
+HasNoFailure leg = All (λ windows. windows ≡ []) leg.config.windows
 
 -- no window of a line touches the containers from a number on and before another
 abbrev pub IsClear : List Window → ℕ → ℕ → Type 0
@@ -70,23 +70,23 @@ abbrev pub row_from : ℕ → ℕ
 row_from t = 16 * ((t - 24) / 16)
 
 -- the first rows are whole
-abbrev pub AreWholeBefore : Script → ℕ → Type 0
-AreWholeBefore script rows = (t : ℕ) → t < rows → is_whole_row (scenario_of script) (session_of script) t ≡ true
+abbrev pub AreWholeBefore : Leg → ℕ → Type 0
+AreWholeBefore leg rows = (t : ℕ) → t < rows → is_whole_row (scenario_by leg) (session_of leg) t ≡ true
 
 -- what is confirmed first after each break in some rows is the place of a piece
-abbrev pub ConfirmsTrue : Script → ℕ → Type 0
-ConfirmsTrue script rows = TrueStarts (session_pieces script) (session_rows script rows)
+abbrev pub ConfirmsTrue : Leg → ℕ → Type 0
+ConfirmsTrue leg rows = TrueStarts (session_pieces leg) (session_rows leg rows)
 
 -- ---- conclusions
 -- the counts after rounds until all rows are taken
-abbrev pub drained : Script → Counts → Counts
-drained script s = drain (bound (walk_plan script)) (walk_plan script) s
+abbrev pub drained : Leg → Counts → Counts
+drained leg s = drain (bound (walk_plan leg)) (walk_plan leg) s
 
 -- a line carries payload by the table that some packet from one number up to another says: the table of a walk that has
 -- made that
 -- packet's decision step, in frame 16 k + 8, and not the next one's
-pub record InUseBy (script : Script) (line first last : ℕ) : Type 0 where
+pub record InUseBy (leg : Leg) (line first last : ℕ) : Type 0 where
   pub packet : ℕ
   pub from : first ≤ packet
   pub until : packet ≤ last
-  pub in_use : IsInUse (table_in script (16 * packet + 9)) line
+  pub in_use : IsInUse (table_in leg (16 * packet + 9)) line

@@ -2,7 +2,7 @@
 -- totals.
 use Rattle.std.specs.Prelude.{ℕ, List, ◌++◌}
 use Rattle.std.specs.List.{flat_map}
-use Rattle.session_model.specs.declared.script.Script.{Script}
+use Rattle.session_model.specs.Leg.{Leg}
 use Rattle.session_model.specs.Counts.{Counts}
 use Rattle.report_text.specs.declared.report.Refusal.{Refusal}
 use Rattle.report_text.specs.Report.{got_texts, refused_text, total_text}
@@ -14,15 +14,15 @@ abbrev pub refused_texts : List (ℕ × Refusal) → List ℕ
 refused_texts refusals = flat_map (λ (refused : ℕ × Refusal). refused_text refused.0 refused.1) refusals
 
 -- after some ticks and rows, where these items have landed
-abbrev pub report_among : Script → ℕ → ℕ → List Numbered → List ℕ
-report_among script ticks rows items =
-    got_texts (delivered_of script rows) ++ refused_texts (refusals_among script items) ++ total_text
-    (totals_among script ticks rows items)
+abbrev pub report_among : Leg → ℕ → ℕ → List Numbered → List ℕ
+report_among leg ticks rows items =
+    got_texts (delivered_of leg rows) ++ refused_texts (refusals_among leg items) ++ total_text
+    (totals_among leg ticks rows items)
 
 -- by the counts of a walk
-abbrev pub report_of : Script → Counts → List ℕ
-report_of script s = report_among script s.ticks s.rows (landed_items script s)
+abbrev pub report_of : Leg → Counts → List ℕ
+report_of leg s = report_among leg s.ticks s.rows (landed_items leg s)
 
 -- of a session whose ticks are all made, whose rows are all taken and whose items have all landed
-abbrev pub final_report : Script → List ℕ
-final_report script = report_among script script.config.ticks script.config.ticks (numbered 0 script.items)
+abbrev pub final_report : Leg → List ℕ
+final_report leg = report_among leg leg.config.ticks leg.config.ticks (numbered 0 leg.items)

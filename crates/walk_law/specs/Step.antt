@@ -1,8 +1,8 @@
 -- The last decision step of a walk.
 use Rattle.std.specs.Prelude.{ℕ, ◌-◌, nat_lt, nat_le, if◌then◌else◌, Option, Some, None}
 use Rattle.vc_cell.specs.declared.BackCell.{BackCell}
-use Rattle.session_model.specs.declared.script.Script.{Script}
-use Rattle.session_model.specs.Scenario.{scenario_of, steps_in}
+use Rattle.session_model.specs.Leg.{Leg}
+use Rattle.session_model.specs.Scenario.{scenario_by, steps_in}
 use Rattle.session_model.specs.Table.{Table}
 use Rattle.session_model.specs.Source.{after}
 use Rattle.walk_law.specs.Walk.{session_of}
@@ -13,9 +13,9 @@ abbrev pub last_packet : ℕ → Option ℕ
 last_packet ticks = if nat_lt 0 (steps_in ticks) then Some (steps_in ticks - 1) else None
 
 -- the return cell that decision step j took, where it took one
-abbrev pub cell_taken : Script → ℕ → Option BackCell
-cell_taken script j = if nat_le script.config.lag j then Some (back_cell script (j - script.config.lag)) else None
+abbrev pub cell_taken : Leg → ℕ → Option BackCell
+cell_taken leg j = if nat_le leg.config.lag j then Some (back_cell leg (j - leg.config.lag)) else None
 
 -- the source's table after the decision steps of some ticks
-abbrev pub table_in : Script → ℕ → Table
-table_in script ticks = (after (scenario_of script) (session_of script) (steps_in ticks)).table
+abbrev pub table_in : Leg → ℕ → Table
+table_in leg ticks = (after (scenario_by leg) (session_of leg) (steps_in ticks)).table

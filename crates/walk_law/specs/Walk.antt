@@ -1,12 +1,12 @@
--- A walk of a script: its counts, and the cells that they speak of.
+-- A walk of a leg: its counts, and the cells that they speak of.
 use Rattle.std.specs.Prelude.{◌≡◌, ℕ, ◌<◌, ◌≤◌, List, map, take, length, slice_index_or, All, Option}
 use Rattle.std.specs.List.{range_with_len}
 use Rattle.std.specs.List.Sorted.{IsNonDecreasing}
 use Rattle.vc_cell.specs.declared.Container.{Container}
 use Rattle.vc_cell.specs.declared.Cell.{Cell}
-use Rattle.session_model.specs.declared.script.Script.{Script}
+use Rattle.session_model.specs.Leg.{Leg}
 use Rattle.session_model.specs.Damage.{AreWindows}
-use Rattle.session_model.specs.Scenario.{Scenario, scenario_of, carried_by}
+use Rattle.session_model.specs.Scenario.{Scenario, scenario_by, carried_by}
 use Rattle.session_model.specs.Table.{Told}
 use Rattle.session_model.specs.Back.{cells_before, session_cells}
 use Rattle.session_model.specs.Sent.{containers_of}
@@ -14,13 +14,13 @@ use Rattle.session_model.specs.Counts.{LinePath, Plan, LineCounts, Counts, frame
 use Rattle.session_model.specs.Plan.{all_cells, path_of, plan_of, FitsRing, FitsLag}
 use Rattle.progress_law.specs.Progress.{IsReached}
 
--- ---- the session of a script
+-- ---- the session of a leg
 -- its return cells, and the first of them
-abbrev pub session_of : Script → List (Option Told)
-session_of script = session_cells (scenario_of script)
+abbrev pub session_of : Leg → List (Option Told)
+session_of leg = session_cells (scenario_by leg)
 
-abbrev pub told_first : Script → ℕ → List (Option Told)
-told_first script n = cells_before (scenario_of script) n
+abbrev pub told_first : Leg → ℕ → List (Option Told)
+told_first leg n = cells_before (scenario_by leg) n
 
 -- ---- the walk in numbers
 -- the containers of a line of a session
@@ -31,28 +31,28 @@ sent_on scenario line = containers_of scenario (session_cells scenario) line sce
 abbrev pub sent_of : Scenario → List (List Container)
 sent_of scenario = map (sent_on scenario) (range_with_len 0 (length scenario.windows))
 
--- the plan of a script's walk
-abbrev pub walk_plan : Script → Plan
-walk_plan script = plan_of script.config script.items (sent_of (scenario_of script))
+-- the plan of a leg's walk
+abbrev pub walk_plan : Leg → Plan
+walk_plan leg = plan_of leg.config leg.items (sent_of (scenario_by leg))
 
--- ---- what is asked of a script: one line at least and at most 128, each with a delay, and with windows in order and
+-- ---- what is asked of a leg: one line at least and at most 128, each with a delay, and with windows in order and
 -- apart; due ticks
--- that never fall; and rings that fit. A valid script has all that
-pub record CanWalk (script : Script) : Type 0 where
-  pub some : 0 < length script.config.windows
-  pub few : length script.config.windows ≤ 128
-  pub delays : length script.config.delays ≡ length script.config.windows
-  pub apart : All (AreWindows 0) script.config.windows
-  pub frames : IsNonDecreasing (frame_dues (dues_of script.items))
-  pub commands : IsNonDecreasing (command_dues (dues_of script.items))
-  pub some_room : 1 ≤ script.config.ring
-  pub room : script.config.ring ≤ 2048
-  pub ring : FitsRing script.config
-  pub lag : FitsLag script.config
+-- that never fall; and rings that fit. A sound leg has all that
+pub record CanWalk (leg : Leg) : Type 0 where
+  pub some : 0 < length leg.config.windows
+  pub few : length leg.config.windows ≤ 128
+  pub delays : length leg.config.delays ≡ length leg.config.windows
+  pub apart : All (AreWindows 0) leg.config.windows
+  pub frames : IsNonDecreasing (frame_dues (dues_of leg.items))
+  pub commands : IsNonDecreasing (command_dues (dues_of leg.items))
+  pub some_room : 1 ≤ leg.config.ring
+  pub room : leg.config.ring ≤ 2048
+  pub ring : FitsRing leg.config
+  pub lag : FitsLag leg.config
 
 -- some list of events leads to these counts
-abbrev pub IsWalked : Script → Counts → Type 0
-IsWalked script s = IsReached (walk_plan script) s
+abbrev pub IsWalked : Leg → Counts → Type 0
+IsWalked leg s = IsReached (walk_plan leg) s
 
 -- ---- the cells that were popped
 abbrev pub counts_at : List LineCounts → ℕ → LineCounts
@@ -63,16 +63,16 @@ abbrev pub cells_on : Scenario → ℕ → ℕ → List Cell
 cells_on scenario delay line = all_cells (carried_by scenario line) delay (sent_on scenario line)
 
 -- those that the sink popped of it
-abbrev pub popped_on : Script → List LineCounts → ℕ → List Cell
-popped_on script lines line =
-    take (counts_at lines line).popped (cells_on (scenario_of script) (slice_index_or script.config.delays line 0) line)
+abbrev pub popped_on : Leg → List LineCounts → ℕ → List Cell
+popped_on leg lines line =
+    take (counts_at lines line).popped (cells_on (scenario_by leg) (slice_index_or leg.config.delays line 0) line)
 
 -- and of each line
-abbrev pub popped_cells : Script → List LineCounts → List (List Cell)
-popped_cells script lines = map (popped_on script lines) (range_with_len 0 (length script.config.windows))
+abbrev pub popped_cells : Leg → List LineCounts → List (List Cell)
+popped_cells leg lines = map (popped_on leg lines) (range_with_len 0 (length leg.config.windows))
 
 -- ---- a line in numbers: how many cells its carries give, and how many numbers its first cells decide
-abbrev pub path_on : Script → ℕ → LinePath
-path_on script line =
-    path_of (carried_by (scenario_of script) line) (slice_index_or script.config.delays line 0)
-    (sent_on (scenario_of script) line)
+abbrev pub path_on : Leg → ℕ → LinePath
+path_on leg line =
+    path_of (carried_by (scenario_by leg) line) (slice_index_or leg.config.delays line 0)
+    (sent_on (scenario_by leg) line)

@@ -1,4 +1,4 @@
--- A worked script: what is refused, what is accepted, and what is counted.
+-- Worked legs: what is refused, what is accepted, and what is counted.
 use Rattle.std.specs.Prelude.{ℕ, Bool, true, false, List, [], ◌∷◌, ◌++◌, map, length, replicate, codes}
 use Rattle.std.specs.List.{range_with_len}
 use Rattle.session_model.specs.declared.refusal.AcceptFault.TheVariants.{Length}
@@ -8,8 +8,8 @@ use Rattle.session_model.specs.declared.script.Config.{Config}
 use Rattle.session_model.specs.declared.script.Item.{Item}
 use Rattle.session_model.specs.declared.script.ItemKind.{ItemKind}
 use Rattle.session_model.specs.declared.script.ItemKind.TheVariants.{Frame, Add, Remove}
-use Rattle.session_model.specs.declared.script.Script.{Script}
-use Rattle.session_model.specs.Scenario.{scenario_of}
+use Rattle.session_model.specs.Leg.{Leg}
+use Rattle.session_model.specs.Scenario.{scenario_by}
 use Rattle.session_model.specs.SessionRows.{is_whole_row}
 use Rattle.session_model.specs.Counts.{Counts}
 use Rattle.report_text.specs.declared.report.Refusal.{Refusal}
@@ -41,8 +41,8 @@ eight_items =
     item 0 (Frame (replicate 63 0)) ∷ item 0 (Add 1) ∷ item 0 (Frame (replicate 64 1)) ∷ item 0 (Add 0) ∷ item 5 (Add 0)
     ∷ item 20 (Remove 0) ∷ item 20 (Remove 0) ∷ item 40 (Frame (replicate 64 2)) ∷ []
 
-abbrev pub worked_script : Script
-worked_script = record { config = plain ([] ∷ []) 1 2 41; items = eight_items; events = [] }
+abbrev pub worked_leg : Leg
+worked_leg = record { config = plain ([] ∷ []) 1 2 41; items = eight_items; tells = [] }
 
 -- all have landed and all rows are taken; and one frame and two commands have landed before the first tick
 abbrev pub at_the_end : Counts
@@ -90,11 +90,11 @@ worked_report =
 
 -- ---- a frame that is delivered
 -- the line is in use in packet 1, so the last row is the first that carries payload
-abbrev pub delivering_script : Script
-delivering_script = record {
+abbrev pub delivering_leg : Leg
+delivering_leg = record {
   config = plain ([] ∷ []) 1 1 41;
   items = item 0 (Add 0) ∷ item 0 (Frame (replicate 64 7)) ∷ [];
-  events = [];
+  tells = [];
 }
 
 abbrev pub one_frame : List (List ℕ)
@@ -110,8 +110,8 @@ failing_items =
     item 0 (Add 0) ∷ item 1040 (Frame (replicate 64 1)) ∷ item 1040 (Frame (replicate 64 2))
     ∷ item 1040 (Frame (replicate 64 3)) ∷ []
 
-abbrev pub failing_script : Script
-failing_script = record { config = plain failing_windows 4 2 1100; items = failing_items; events = [] }
+abbrev pub failing_leg : Leg
+failing_leg = record { config = plain failing_windows 4 2 1100; items = failing_items; tells = [] }
 
 -- rows 999 to 1032: of the gaps, the first has 10 rows and the second 16, with 6 whole ones between
 abbrev pub seen_rows : List ℕ
@@ -120,14 +120,14 @@ seen_rows = range_with_len 999 34
 abbrev pub seen_whole : List Bool
 seen_whole = true ∷ replicate 10 false ++ replicate 6 true ++ replicate 16 false ++ true ∷ []
 
-abbrev pub whole_rows : Script → List ℕ → List Bool
-whole_rows script rows = map (λ t. is_whole_row (scenario_of script) (session_of script) t) rows
+abbrev pub whole_rows : Leg → List ℕ → List Bool
+whole_rows leg rows = map (λ t. is_whole_row (scenario_by leg) (session_of leg) t) rows
 
 -- ---- a line that is seen beside one that isn't
 -- two lines, added at once; nothing of line 0 arrives
 abbrev pub silent_windows : List (List Window)
 silent_windows = (record { first = 0; «end» = 600; slip = 0 } ∷ []) ∷ [] ∷ []
 
-abbrev pub silent_script : Script
-silent_script =
-    record { config = plain silent_windows 1 1 600; items = item 0 (Add 0) ∷ item 0 (Add 1) ∷ []; events = [] }
+abbrev pub silent_leg : Leg
+silent_leg =
+    record { config = plain silent_windows 1 1 600; items = item 0 (Add 0) ∷ item 0 (Add 1) ∷ []; tells = [] }

@@ -1,10 +1,10 @@
--- Each fact of what a valid script meets.
+-- Each fact of what a sound leg meets.
 use Rattle.std.proofs.Common.{arith}
 use Rattle.script_law.proofs.ItemLaws.{orders_rise, offers_rise, are_octets}
 use Rattle.script_law.proofs.read_law.Goals as goal
 
 pub returns-clause-limits : goal.returns-clause-limits
-returns-clause-limits c script is = record {
+returns-clause-limits c leg is = record {
   lag = (let least = is.network.lag.0 in omega (arith, least));
   lines =
       (let each = is.network.windows_each in
@@ -13,10 +13,10 @@ returns-clause-limits c script is = record {
 }
 
 pub returns-clause-orders : goal.returns-clause-orders
-returns-clause-orders c script is = orders_rise script.items is.items.commands
+returns-clause-orders c leg is = orders_rise leg.items is.items.commands
 
 pub returns-clause-offers : goal.returns-clause-offers
-returns-clause-offers c script is = offers_rise script.items is.items.frames
+returns-clause-offers c leg is = offers_rise leg.items is.items.frames
 
 pub returns-clause-octets : goal.returns-clause-octets
 returns-clause-octets c = are_octets

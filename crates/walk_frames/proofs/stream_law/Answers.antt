@@ -1,11 +1,11 @@
 -- The stream frame by frame, and tick by tick.
-use Rattle.session_model.specs.Scenario.{scenario_of}
+use Rattle.session_model.specs.Scenario.{scenario_by}
 use Rattle.walk_law.specs.Walk.{session_of}
 use Rattle.walk_frames.proofs.StreamLaws.{met-start, met-tick, ruler-refused, ruler-accepted}
 use Rattle.walk_frames.proofs.stream_law.Goals as goal
 
 pub returns-clause-start : goal.returns-clause-start
-returns-clause-start c script = met-start (scenario_of script) (session_of script)
+returns-clause-start c leg = met-start (scenario_by leg) (session_of leg)
 
 pub returns-clause-tick : goal.returns-clause-tick
 returns-clause-tick c = met-tick

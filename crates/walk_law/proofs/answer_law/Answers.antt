@@ -1,6 +1,6 @@
 -- What a return packet answers.
 use Rattle.std.proofs.Common.{◌<◌, arith}
-use Rattle.session_model.specs.Scenario.{Scenario, scenario_of, packets}
+use Rattle.session_model.specs.Scenario.{Scenario, scenario_by, packets}
 use Rattle.session_model.specs.Back.{session_cells}
 use Rattle.session_law.proofs.SessionLaws.{session-law, session-kept}
 use Rattle.session_law.proofs.FeedbackLaws.{feedback, same_lines}
@@ -8,19 +8,19 @@ use Rattle.session_law.proofs.KeptLaws.{acts_on}
 use Rattle.walk_law.proofs.answer_law.Goals as goal
 
 pub returns-clause-whole_count : goal.returns-clause-whole_count
-returns-clause-whole_count c script j k told takes =
-    let scenario : Scenario = scenario_of script in
+returns-clause-whole_count c leg j k told takes =
+    let scenario : Scenario = scenario_by leg in
     feedback scenario (session_cells scenario) (session-law scenario (packets scenario) takes.lag) takes.lag j k
     takes.later told takes.cell
 
 pub returns-clause-same_lines : goal.returns-clause-same_lines
-returns-clause-same_lines c script j k told takes tells =
-    let scenario : Scenario = scenario_of script in
+returns-clause-same_lines c leg j k told takes tells =
+    let scenario : Scenario = scenario_by leg in
     same_lines scenario (session_cells scenario) takes.lag j k takes.later tells
 
 pub returns-clause-statuses : goal.returns-clause-statuses
-returns-clause-statuses c script j sq ok can kept =
-    let scenario : Scenario = scenario_of script in
+returns-clause-statuses c leg j sq ok can kept =
+    let scenario : Scenario = scenario_by leg in
     let fits_lag = can.lag in
     let lag : 0 < scenario.lag = omega arith in
     acts_on scenario (session_cells scenario) (session-law scenario (packets scenario) lag)

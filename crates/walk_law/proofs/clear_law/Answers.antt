@@ -6,7 +6,7 @@ pub returns-clause-clear : goal.returns-clause-clear
 returns-clause-clear c = clear-whole
 
 pub returns-clause-whole : goal.returns-clause-whole
-returns-clause-whole c script t some clear = row-whole script some t clear
+returns-clause-whole c leg t some clear = row-whole leg some t clear
 
 pub returns-clause-before : goal.returns-clause-before
 returns-clause-before c = delivered-before

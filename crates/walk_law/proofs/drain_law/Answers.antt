@@ -8,11 +8,11 @@ use Rattle.walk_law.proofs.EndLaws.{counts-within, drained-ticks, drained-landed
 use Rattle.walk_law.proofs.drain_law.Goals as goal
 
 pub returns-clause-moves : goal.returns-clause-moves
-returns-clause-moves c script s can walked open_ =
-    reached-progress (walk_plan script) s (has-plan script can) walked open_
+returns-clause-moves c leg s can walked open_ =
+    reached-progress (walk_plan leg) s (has-plan leg can) walked open_
 
 pub returns-clause-inbox : goal.returns-clause-inbox
-returns-clause-inbox c script s can walked = inbox-fits (walk_plan script) s (has-plan script can) walked
+returns-clause-inbox c leg s can walked = inbox-fits (walk_plan leg) s (has-plan leg can) walked
 
 pub returns-clause-drained : goal.returns-clause-drained
 returns-clause-drained c = drain-ends

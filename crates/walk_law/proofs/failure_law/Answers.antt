@@ -7,7 +7,7 @@ use Rattle.loss_law.proofs.WayLaws.{way_of, lost_of}
 use Rattle.loss_law.proofs.ExtentLaws.{extents-between}
 use Rattle.walk_law.specs.Delivered.{session_rows}
 use Rattle.walk_law.specs.Promise.{session_pieces, session_extents}
-use Rattle.walk_law.proofs.PlanLaws.{valid-walks}
+use Rattle.walk_law.proofs.PlanLaws.{sound-walks}
 use Rattle.walk_law.proofs.EndLaws.{counts-within}
 use Rattle.walk_law.proofs.PromiseLaws.{frames-kept, frames-known}
 use Rattle.walk_law.proofs.failure_law.Goals as goal
@@ -19,15 +19,15 @@ pub returns-clause-accepted : goal.returns-clause-accepted
 returns-clause-accepted c = frames-known
 
 pub returns-clause-ways : goal.returns-clause-ways
-returns-clause-ways c script rows k d inside =
-    let frame : Extent = slice_index_or (session_extents script) k d in
-    let long = (extents-between 0 (session_pieces script) k d inside).size in (
-      way_of (session_extents script) frame (segments (session_rows script rows)),
-      lost_of (session_extents script) frame (segments (session_rows script rows)) long
-          (Stands-all (session_rows script rows)).order,
+returns-clause-ways c leg rows k d inside =
+    let frame : Extent = slice_index_or (session_extents leg) k d in
+    let long = (extents-between 0 (session_pieces leg) k d inside).size in (
+      way_of (session_extents leg) frame (segments (session_rows leg rows)),
+      lost_of (session_extents leg) frame (segments (session_rows leg rows)) long
+          (Stands-all (session_rows leg rows)).order,
     )
 
 pub returns-clause-walked : goal.returns-clause-walked
-returns-clause-walked c script s valid walked true_starts =
-    let (low, high) = counts-within script s (valid-walks script valid) walked in frames-kept script s.rows valid
+returns-clause-walked c leg s sound walked true_starts =
+    let (low, high) = counts-within leg s (sound-walks leg sound) walked in frames-kept leg s.rows sound
     (omega arith) true_starts

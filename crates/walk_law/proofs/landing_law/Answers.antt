@@ -11,12 +11,12 @@ pub returns-clause-command_dues : goal.returns-clause-command_dues
 returns-clause-command_dues c = command-dues
 
 pub returns-clause-frame_waits : goal.returns-clause-frame_waits
-returns-clause-frame_waits c script s offer walked there =
-    frame-waits script s s.frames offer walked (omega arith) there
+returns-clause-frame_waits c leg s offer walked there =
+    frame-waits leg s s.frames offer walked (omega arith) there
 
 pub returns-clause-command_waits : goal.returns-clause-command_waits
-returns-clause-command_waits c script s order walked there =
-    command-waits script s s.commands order walked (omega arith) there
+returns-clause-command_waits c leg s order walked there =
+    command-waits leg s s.commands order walked (omega arith) there
 
 pub returns-clause-frames : goal.returns-clause-frames
 returns-clause-frames c = frames-landed

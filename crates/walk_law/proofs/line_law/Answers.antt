@@ -4,7 +4,7 @@ use Rattle.walk_law.proofs.WalkLaws.{line-first, line-open}
 use Rattle.walk_law.proofs.line_law.Goals as goal
 
 pub returns-clause-path : goal.returns-clause-path
-returns-clause-path c script line can inside = line-path script can line inside
+returns-clause-path c leg line can inside = line-path leg can line inside
 
 pub returns-clause-open : goal.returns-clause-open
 returns-clause-open c = line-open

@@ -1,5 +1,5 @@
--- The plan of a script's walk.
-use Rattle.walk_law.proofs.PlanLaws.{has-lines, has-plan, has-paths, valid-walks}
+-- The plan of a leg's walk.
+use Rattle.walk_law.proofs.PlanLaws.{has-lines, has-plan, has-paths, sound-walks}
 use Rattle.walk_law.proofs.plan_law.Goals as goal
 
 pub returns-clause-lines : goal.returns-clause-lines
@@ -8,8 +8,8 @@ returns-clause-lines c = has-lines
 pub returns-clause-plan : goal.returns-clause-plan
 returns-clause-plan c = has-plan
 
-pub returns-clause-valid : goal.returns-clause-valid
-returns-clause-valid c = valid-walks
+pub returns-clause-sound : goal.returns-clause-sound
+returns-clause-sound c = sound-walks
 
 pub returns-clause-paths : goal.returns-clause-paths
 returns-clause-paths c = has-paths

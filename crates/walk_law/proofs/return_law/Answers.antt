@@ -7,16 +7,16 @@ pub returns-clause-longer : goal.returns-clause-longer
 returns-clause-longer c = all-longer
 
 pub returns-clause-decided : goal.returns-clause-decided
-returns-clause-decided c script t can low = all-decided script can t low
+returns-clause-decided c leg t can low = all-decided leg can t low
 
 pub returns-clause-said : goal.returns-clause-said
 returns-clause-said c = packet-said
 
 pub returns-clause-told : goal.returns-clause-told
-returns-clause-told c script k can low = cell-told script can k low
+returns-clause-told c leg k can low = cell-told leg can k low
 
 pub returns-clause-next : goal.returns-clause-next
-returns-clause-next c script k can low = cells-next script can k low
+returns-clause-next c leg k can low = cells-next leg can k low
 
 pub returns-clause-ends : goal.returns-clause-ends
 returns-clause-ends c = packets-next
@@ -37,4 +37,4 @@ pub returns-clause-taken : goal.returns-clause-taken
 returns-clause-taken c = inbox-taken
 
 pub returns-clause-packet : goal.returns-clause-packet
-returns-clause-packet c script k can low = packet-is script can k low
+returns-clause-packet c leg k can low = packet-is leg can k low

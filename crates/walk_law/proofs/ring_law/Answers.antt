@@ -8,7 +8,7 @@ pub returns-clause-lines : goal.returns-clause-lines
 returns-clause-lines c = lines-size
 
 pub returns-clause-bounds : goal.returns-clause-bounds
-returns-clause-bounds c script s line can walked inside = line-fits script s can walked line inside
+returns-clause-bounds c leg s line can walked inside = line-fits leg s can walked line inside
 
 pub returns-clause-taken : goal.returns-clause-taken
 returns-clause-taken c = taken-cells

@@ -6,7 +6,7 @@ pub returns-clause-waiting : goal.returns-clause-waiting
 returns-clause-waiting c = take-waits
 
 pub returns-clause-open : goal.returns-clause-open
-returns-clause-open c script lines m t can size inside low before = first-open script lines m t size inside low before
+returns-clause-open c leg lines m t can size inside low before = first-open leg lines m t size inside low before
 
 pub returns-clause-all : goal.returns-clause-all
-returns-clause-all c script lines t can size low before = none-open script lines t size low before
+returns-clause-all c leg lines t can size low before = none-open leg lines t size low before

@@ -6,16 +6,16 @@ use Rattle.walk_law.proofs.WalkLaws.{frames-are, cells-come, cells-decide, rows-
 use Rattle.walk_law.proofs.walk_law.Goals as goal
 
 pub returns-clause-frames : goal.returns-clause-frames
-returns-clause-frames c script s t can walked = frames-are script s can walked t
+returns-clause-frames c leg s t can walked = frames-are leg s can walked t
 
 pub returns-clause-come : goal.returns-clause-come
 returns-clause-come c = cells-come
 
 pub returns-clause-decided : goal.returns-clause-decided
-returns-clause-decided c script s t can walked = cells-decide script s can walked t
+returns-clause-decided c leg s t can walked = cells-decide leg s can walked t
 
 pub returns-clause-rows : goal.returns-clause-rows
-returns-clause-rows c script s t can walked = rows-are script s can walked t
+returns-clause-rows c leg s t can walked = rows-are leg s can walked t
 
 pub returns-clause-backs : goal.returns-clause-backs
 returns-clause-backs c = backs-are
@@ -30,13 +30,13 @@ pub returns-clause-drains : goal.returns-clause-drains
 returns-clause-drains c = drains-walked
 
 pub returns-clause-event_lines : goal.returns-clause-event_lines
-returns-clause-event_lines c script = walked-reached (walk_plan script) script.events
+returns-clause-event_lines c leg lines = walked-reached (walk_plan leg) lines
 
 pub returns-clause-course : goal.returns-clause-course
 returns-clause-course c = is-course
 
 pub returns-clause-sources : goal.returns-clause-sources
-returns-clause-sources c script s j can walked = sources-are script s can walked j
+returns-clause-sources c leg s j can walked = sources-are leg s can walked j
 
 pub returns-clause-streams : goal.returns-clause-streams
-returns-clause-streams c script s t can walked = streams-are script s can walked t
+returns-clause-streams c leg s t can walked = streams-are leg s can walked t

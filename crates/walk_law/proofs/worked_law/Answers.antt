@@ -1,4 +1,4 @@
--- A worked script, computed.
+-- Worked legs, computed.
 use Rattle.std.proofs.Common.{refl}
 use Rattle.std.specs.Fmt.{digits}
 use Rattle.session_model.specs.Damage.{carried, are_whole}

@@ -1,6 +1,7 @@
 -- A script is read, its session is run, and its report is written or a write fails.
 use Rattle.std.proofs.Common.{refl}
 use Rattle.session_model.specs.declared.script.Script.{Script}
+use Rattle.session_model.specs.Leg.{leg_of}
 use Rattle.walk_law.specs.Report.{final_report}
 use Rattle.command_parts.specs.Task.{Answer, writes, reads}
 use Rattle.command_parts.specs.Ends.{lent}
@@ -10,7 +11,7 @@ use Rattle.run_command.proofs.EndLaws.{run-all, run-got, run-cut}
 use Rattle.run_command.proofs.run.run.Goals as goal
 
 abbrev answer : Script → Answer
-answer script = writes (final_report script)
+answer script = writes (final_report (leg_of script))
 
 -- ---- nothing was read, or no script
 pub returns-in-Err-clause-ends : goal.returns-in-Err-clause-ends

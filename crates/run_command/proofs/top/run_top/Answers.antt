@@ -1,5 +1,6 @@
 -- What stands in a clause by the command.
 use Rattle.std.proofs.Common.{◌≡◌, Some, sym, ap, subst, rules}
+use Rattle.session_model.specs.Leg.{leg_of}
 use Rattle.walk_law.specs.Report.{final_report}
 use Rattle.command_parts.specs.Task.{Task, writes, writes_both}
 use Rattle.command_parts.specs.Ends.{Ends, lent}
@@ -32,11 +33,12 @@ returns-in-Ok-Run-clause-headline g c =
     tells-headline (lent g.S.ByteSource.left g.S.ByteSource.faults c.args.script.now c.run.new.script)
     (lent g.K.ByteSink.written g.K.ByteSink.faults c.args.out.now c.run.new.out)
     (lent g.E.ByteSink.written g.E.ByteSink.faults c.args.notes.now c.run.new.notes) c.run.result.status
-    (λ script. writes (final_report script)) (λ script all. all.0) c.run.ensures.ends
+    (λ script. writes (final_report (leg_of script))) (λ script all. all.0) c.run.ensures.ends
 
 pub returns-in-Ok-Watch-clause-headline : goal.returns-in-Ok-Watch-clause-headline
 returns-in-Ok-Watch-clause-headline g c =
     tells-headline (lent g.S.ByteSource.left g.S.ByteSource.faults c.args.script.now c.watch.new.script)
     (lent g.K.ByteSink.written g.K.ByteSink.faults c.args.out.now c.watch.new.out)
     (lent g.E.ByteSink.written g.E.ByteSink.faults c.args.notes.now c.watch.new.notes) c.watch.result.status
-    (λ script. writes_both (final_report script) (alarms_text script)) (λ script all. all.0) c.watch.ensures.ends
+    (λ script. writes_both (final_report (leg_of script)) (alarms_text script))
+    (λ script all. all.0) c.watch.ensures.ends

@@ -1,6 +1,7 @@
 -- A script is read, its session is run, and its report and its alarms are written or a write fails.
 use Rattle.std.proofs.Common.{inl, inr, refl, sym, subst}
 use Rattle.session_model.specs.declared.script.Script.{Script}
+use Rattle.session_model.specs.Leg.{leg_of}
 use Rattle.outside_io.specs.Transfer.{Appends, AppendsPart}
 use Rattle.walk_law.specs.Report.{final_report}
 use Rattle.alarm_log.specs.Logs.{alarms_in}
@@ -13,7 +14,7 @@ use Rattle.run_command.proofs.WatchLaws.{told-text, some-none, some-all}
 use Rattle.run_command.proofs.watch.watch.Goals as goal
 
 abbrev answer : Script → Answer
-answer script = writes_both (final_report script) (alarms_text script)
+answer script = writes_both (final_report (leg_of script)) (alarms_text script)
 
 -- ---- nothing was read, or no script
 pub returns-in-Err-clause-ends : goal.returns-in-Err-clause-ends
@@ -104,7 +105,8 @@ returns-clause-ends g c =
     (reads watch_answer) (answer c.in-Ok.script) c.tell_alarms.new.notes c.cut-in-Err-tell_alarms.result.status
     (meets-script (lent g.S.ByteSource.left g.S.ByteSource.faults c.args.script.now c.read_whole_script.new.source)
     answer c.in-Ok.script c.in-Ok.ensures.script) c.cut-in-Err-tell_alarms.ensures.status (inr (
-      some-all g.K.ByteSink.written g.K.ByteSink.faults c.args.out.now c.write_end.new.out (final_report c.in-Ok.script)
+      some-all g.K.ByteSink.written g.K.ByteSink.faults c.args.out.now c.write_end.new.out
+          (final_report (leg_of c.in-Ok.script))
           (run-all g.K.ByteSink.written g.K.ByteSink.faults c.in-Ok.script c.args.out.now c.run_watched.new.out
           c.write_end.new.out
           (c.in-Ok-run_watched.ensures.written (let a = c.failed.ensures in let b = c.if-failed.false in cc))

@@ -1,5 +1,6 @@
 -- A look at both ends of each ring.
 use Rattle.std.proofs.Common.{length, refl}
+use Rattle.session_model.specs.Leg.{leg_of}
 use Rattle.group_lock.specs.Group.{parts_of}
 use Rattle.group_lock.proofs.LayLaws.{keeps-laid, bound-laid}
 use Rattle.session_run.proofs.LayLaws.{mid-receives, stands-laid, rings-laid}
@@ -28,7 +29,8 @@ returns c =
     c.lay_receives.new.rx.items
     c.lay_sends.ensures c.lay_receives.ensures c.requires.count.0 c.requires.count.1 in
     record {
-      landed = λ script tx back is. bound-laid script c.args.group c.lay_sends.new.tx c.beside.new.self _ laid.still
+      landed = λ script tx back is. bound-laid
+          (leg_of script) c.args.group c.lay_sends.new.tx c.beside.new.self _ laid.still
           c.beside.ensures.same_in c.beside.ensures.popped tx back is;
       ticks = refl;
       tx_count = c.lay_sends.ensures.first_count;

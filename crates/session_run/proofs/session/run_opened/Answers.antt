@@ -1,6 +1,7 @@
 -- The ends of the rings are those of the opening, later; and the session has come to its end.
 use Rattle.std.proofs.Common.{rules, ℕ, ◌≤◌, false, ◌∷◌, [], vec_len, refl, sym, ◌∙◌, subst, arith}
 use Rattle.std.specs.List.{AllZip}
+use Rattle.session_model.specs.Leg.{leg_of}
 use Rattle.report_text.specs.Report.{got_texts}
 use Rattle.alarm_log.specs.Posts.{SamePost}
 use Rattle.watched_line.specs.Served.{posts_of, AreServedLater, IsServedLater}
@@ -53,7 +54,8 @@ split_lines-lines-requires g c =
 -- all have done what they had to do, and the group is no longer behind its lock
 module _ (g : given.Over) (c : After-into_state g) where
   -- the group is bound to the script and to the ends of the opening
-  own : IsBound c.args.script.now c.args.opened.group.tx.items (c.args.opened.group.back ∷ []) c.into_state.result
+  own : IsBound (leg_of c.args.script.now) c.args.opened.group.tx.items
+      (c.args.opened.group.back ∷ []) c.into_state.result
   own = bound-own _ _ _ c.args.script.now c.args.opened.group c.into_state.result c.requires.session
       c.into_state.ensures.bound
 

@@ -13,7 +13,7 @@ use Rattle.session_run.proofs.watched.run_watched.Goals as goal
 
 pub run_opened-left-requires-clause-watch : goal.run_opened-left-requires-clause-watch
 run_opened-left-requires-clause-watch g c κs within m worker post there here =
-    watchable c.args.script.config c.requires.script.network _ c.in_ok-opened.opened.lines.items _
+    watchable c.args.script.config c.requires.script.sound.network _ c.in_ok-opened.opened.lines.items _
     c.in_ok-opened.ensures.open.lines c.in_ok-log.log c.in_ok-log.posts.items _ c.in_ok-log.ensures
     m worker post there here
 

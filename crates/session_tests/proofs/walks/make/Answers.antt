@@ -1,14 +1,15 @@
 -- A line of a valid script has a path.
 use Rattle.std.proofs.Common.{◌<◌, length, ◌∙◌, arith}
+use Rattle.session_model.specs.Leg.{leg_of}
 use Rattle.walk_law.specs.Walk.{walk_plan}
-use Rattle.walk_law.proofs.PlanLaws.{has-paths, valid-walks}
+use Rattle.walk_law.proofs.PlanLaws.{has-paths, sound-walks}
 use Rattle.session_tests.proofs.walks.make.Goals as goal
 
 pub step-requires : goal.step-requires
 step-requires c =
     let valid = c.requires.valid in
-    let size = has-paths c.args.walk.now.script (valid-walks c.args.walk.now.script valid)
-    ∙ valid.network.windows_each in
+    let size = has-paths (leg_of c.args.walk.now.script) (sound-walks (leg_of c.args.walk.now.script) valid.sound)
+    ∙ valid.sound.network.windows_each in
     let lines = c.requires.lines in
-    let has : c.in-Carry.line < length (walk_plan c.args.walk.now.script).paths = omega (arith, size, lines) in
+    let has : c.in-Carry.line < length (walk_plan (leg_of c.args.walk.now.script)).paths = omega (arith, size, lines) in
     has

@@ -1,6 +1,7 @@
 -- A round more, or all rows are taken.
 use Rattle.std.proofs.Common.{◌<◌, ◌≤◌, refl, sym, ◌∙◌, ap, arith}
 use Rattle.session_model.specs.declared.script.Script.{Script}
+use Rattle.session_model.specs.Leg.{leg_of}
 use Rattle.session_model.specs.Counts.{Counts, run, round}
 use Rattle.report_text.specs.declared.report.Totals.{Totals}
 use Rattle.walk_law.specs.Walk.{walk_plan}
@@ -20,8 +21,9 @@ loop-walk-smaller g c =
     let test = c.loop-walk-test.true in
     let open_ : s.rows < c.args.walk.now.script.config.ticks = omega (arith, test, taken, ticks) in
     let after = c.capture_turn.ensures.counts
-    ∙ ap (λ (x : Script). run (walk_plan x) s (round (walk_plan x))) inv.script in
-    (round-turn c.args.walk.now.script s c.capture_turn.new.walk.counts c.requires.valid inv.walked open_ after).0
+    ∙ ap (λ (x : Script). run (walk_plan (leg_of x)) s (round (walk_plan (leg_of x)))) inv.script in
+    (round-turn
+    (leg_of c.args.walk.now.script) s c.capture_turn.new.walk.counts c.requires.valid.sound inv.walked open_ after).0
 
 pub loop-walk-preserved : goal.loop-walk-preserved
 loop-walk-preserved g c =
@@ -33,11 +35,12 @@ loop-walk-preserved g c =
     let test = c.loop-walk-test.true in
     let open_ : s.rows < script.config.ticks = omega (arith, test, taken, ticks) in
     let after = c.capture_turn.ensures.counts
-    ∙ ap (λ (x : Script). run (walk_plan x) s (round (walk_plan x))) inv.script in
+    ∙ ap (λ (x : Script). run (walk_plan (leg_of x)) s (round (walk_plan (leg_of x)))) inv.script in
     record {
       script = c.capture_turn.ensures.script ∙ inv.script;
-      left = (round-turn script s c.capture_turn.new.walk.counts c.requires.valid inv.walked open_ after).1 ∙ inv.left;
-      walked = turn-walked script s c.capture_turn.new.walk.counts (round (walk_plan script)) inv.walked after;
+      left = (round-turn
+          (leg_of script) s c.capture_turn.new.walk.counts c.requires.valid.sound inv.walked open_ after).1 ∙ inv.left;
+      walked = turn-walked script s c.capture_turn.new.walk.counts (round (walk_plan (leg_of script))) inv.walked after;
       taken = λ start has. c.capture_turn.ensures.taken start (inv.taken start has);
     }
 
@@ -48,4 +51,4 @@ returns-clause-counts g c =
     let ticks = c.requires.ticks in
     let test = c.loop-walk-test.false in
     let shut : c.args.walk.now.script.config.ticks ≤ c.loop-walk.walk.counts.rows = omega (arith, test, taken, ticks) in
-    drained-end c.args.walk.now.script c.loop-walk.walk.counts _ shut inv.left
+    drained-end (leg_of c.args.walk.now.script) c.loop-walk.walk.counts _ shut inv.left

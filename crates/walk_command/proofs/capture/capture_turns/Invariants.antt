@@ -2,6 +2,7 @@
 use Rattle.std.proofs.Common.{◌≡◌, List, replicate}
 use Rattle.std.specs.List.{flat_map}
 use Rattle.session_model.specs.declared.walk.Event.{Event}
+use Rattle.session_model.specs.Leg.{leg_of}
 use Rattle.session_model.specs.Counts.{run}
 use Rattle.outside_io.specs.Start.{Start}
 use Rattle.walk_law.specs.Walk.{walk_plan}
@@ -12,8 +13,9 @@ use Rattle.walk_command.proofs.capture.capture_turns.Given as goal
 abbrev pub invariant-loop-made : goal.invariant-loop-made
 invariant-loop-made g l = record {
   script : l.walk.script ≡ l.fn.walk.script;
-  counts : l.walk.counts ≡ run (walk_plan l.fn.walk.script) l.fn.walk.counts
-      (flat_map (λ (tries : List Event). tries) (replicate l._made (events_of (walk_plan l.fn.walk.script) l.fn.turn)));
+  counts : l.walk.counts ≡ run (walk_plan (leg_of l.fn.walk.script)) l.fn.walk.counts
+      (flat_map (λ (tries : List Event). tries)
+      (replicate l._made (events_of (walk_plan (leg_of l.fn.walk.script)) l.fn.turn)));
   taken : (start : Start) → HasTaken g.K.ByteSink.written g.K.ByteSink.faults l.fn.out start l.fn.walk
       → HasTaken g.K.ByteSink.written g.K.ByteSink.faults l.out start l.walk;
 }

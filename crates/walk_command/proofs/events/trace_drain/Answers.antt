@@ -1,6 +1,7 @@
 -- A round more, or all rows are taken.
 use Rattle.std.proofs.Common.{◌<◌, ◌≤◌, refl, sym, ◌∙◌, ap, arith}
 use Rattle.session_model.specs.declared.script.Script.{Script}
+use Rattle.session_model.specs.Leg.{leg_of}
 use Rattle.session_model.specs.Counts.{Counts, run, round}
 use Rattle.report_text.specs.declared.report.Totals.{Totals}
 use Rattle.walk_law.specs.Walk.{walk_plan}
@@ -16,7 +17,8 @@ trace_turn-over-requires-clause-lines g c = c.requires.lines
     ∙ ap (λ (s : Script). s.config.lines) (sym c.loop-size.invariant.script)
 
 pub trace_turn-over-requires-clause-few : goal.trace_turn-over-requires-clause-few
-trace_turn-over-requires-clause-few g c = let lines = c.requires.lines in let most = c.requires.valid.network.lines.1 in
+trace_turn-over-requires-clause-few g c = let lines = c.requires.lines in let most =
+    c.requires.valid.sound.network.lines.1 in
     omega (arith, lines, most)
 
 pub loop-size-smaller : goal.loop-size-smaller
@@ -28,8 +30,9 @@ loop-size-smaller g c =
     let test = c.loop-size-test.true in
     let open_ : s.rows < c.args.walk.now.script.config.ticks = omega (arith, test, taken, ticks) in
     let after = c.trace_turn-over.ensures.counts
-    ∙ ap (λ (x : Script). run (walk_plan x) s (round (walk_plan x))) inv.script in
-    (round-turn c.args.walk.now.script s c.trace_turn-over.new.walk.counts c.requires.valid inv.walked open_ after).0
+    ∙ ap (λ (x : Script). run (walk_plan (leg_of x)) s (round (walk_plan (leg_of x)))) inv.script in
+    (round-turn
+    (leg_of c.args.walk.now.script) s c.trace_turn-over.new.walk.counts c.requires.valid.sound inv.walked open_ after).0
 
 pub loop-size-preserved : goal.loop-size-preserved
 loop-size-preserved g c =
@@ -41,12 +44,14 @@ loop-size-preserved g c =
     let test = c.loop-size-test.true in
     let open_ : s.rows < script.config.ticks = omega (arith, test, taken, ticks) in
     let after = c.trace_turn-over.ensures.counts
-    ∙ ap (λ (x : Script). run (walk_plan x) s (round (walk_plan x))) inv.script in
+    ∙ ap (λ (x : Script). run (walk_plan (leg_of x)) s (round (walk_plan (leg_of x)))) inv.script in
     record {
       script = c.trace_turn-over.ensures.script ∙ inv.script;
-      left = (round-turn script s c.trace_turn-over.new.walk.counts c.requires.valid inv.walked open_ after).1
+      left = (round-turn
+          (leg_of script) s c.trace_turn-over.new.walk.counts c.requires.valid.sound inv.walked open_ after).1
           ∙ inv.left;
-      walked = turn-walked script s c.trace_turn-over.new.walk.counts (round (walk_plan script)) inv.walked after;
+      walked = turn-walked script s c.trace_turn-over.new.walk.counts
+          (round (walk_plan (leg_of script))) inv.walked after;
       told = λ start first told. c.trace_turn-over.ensures.told start first (inv.told start first told);
     }
 
@@ -57,4 +62,4 @@ returns-clause-counts g c =
     let ticks = c.requires.ticks in
     let test = c.loop-size-test.false in
     let shut : c.args.walk.now.script.config.ticks ≤ c.loop-size.walk.counts.rows = omega (arith, test, taken, ticks) in
-    drained-end c.args.walk.now.script c.loop-size.walk.counts _ shut inv.left
+    drained-end (leg_of c.args.walk.now.script) c.loop-size.walk.counts _ shut inv.left

@@ -1,5 +1,6 @@
 -- The rounds that are left give what all of them give.
 use Rattle.std.proofs.Common.{◌≡◌, ◌-◌}
+use Rattle.session_model.specs.Leg.{leg_of}
 use Rattle.session_model.specs.Counts.{drain, bound}
 use Rattle.progress_law.specs.Progress.{made}
 use Rattle.outside_io.specs.Start.{Start}
@@ -10,9 +11,9 @@ use Rattle.walk_command.proofs.events.trace_drain.Given as goal
 abbrev pub invariant-loop-size : goal.invariant-loop-size
 invariant-loop-size g l = record {
   script : l.walk.script ≡ l.fn.walk.script;
-  left : drain (bound (walk_plan l.fn.walk.script)) (walk_plan l.fn.walk.script) l.walk.counts
-      ≡ drain (bound (walk_plan l.fn.walk.script)) (walk_plan l.fn.walk.script) l.fn.walk.counts;
-  walked : IsWalked l.fn.walk.script l.walk.counts;
+  left : drain (bound (walk_plan (leg_of l.fn.walk.script))) (walk_plan (leg_of l.fn.walk.script)) l.walk.counts
+      ≡ drain (bound (walk_plan (leg_of l.fn.walk.script))) (walk_plan (leg_of l.fn.walk.script)) l.fn.walk.counts;
+  walked : IsWalked (leg_of l.fn.walk.script) l.walk.counts;
   told : (start : Start) (first : g.row.E.Denot) →
       IsTold g.F.FrameOut.stands_for g.F.MayFail.has_failed g.E.ByteSink.written g.E.ByteSink.faults l.fn.over start
       first l.fn.out l.fn.notes l.fn.walk →
@@ -21,4 +22,4 @@ invariant-loop-size g l = record {
 }
 
 abbrev pub decreases-loop-size : goal.decreases-loop-size
-decreases-loop-size g l = bound (walk_plan l.fn.walk.script) - made l.walk.counts
+decreases-loop-size g l = bound (walk_plan (leg_of l.fn.walk.script)) - made l.walk.counts

@@ -1,5 +1,6 @@
 -- The lines so far are made and told.
 use Rattle.std.proofs.Common.{◌≡◌, false, take}
+use Rattle.session_model.specs.Leg.{leg_of}
 use Rattle.session_model.specs.Counts.{begin, run_lines}
 use Rattle.outside_io.specs.Start.{Start}
 use Rattle.walk_law.specs.Walk.{walk_plan}
@@ -9,7 +10,7 @@ use Rattle.walk_command.proofs.events.trace_event_lines.Given as goal
 abbrev pub invariant-loop-line : goal.invariant-loop-line
 invariant-loop-line g l = record {
   script : l.walk.script ≡ l.fn.walk.script;
-  counts : l.walk.counts ≡ run_lines (walk_plan l.fn.walk.script) (begin (walk_plan l.fn.walk.script))
+  counts : l.walk.counts ≡ run_lines (walk_plan (leg_of l.fn.walk.script)) (begin (walk_plan (leg_of l.fn.walk.script)))
       (take l.line-index l.fn.lines);
   told : (start : Start) (first : g.row.E.Denot) →
       IsTold g.F.FrameOut.stands_for g.F.MayFail.has_failed g.E.ByteSink.written g.E.ByteSink.faults false start first

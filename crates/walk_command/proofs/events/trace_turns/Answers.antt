@@ -3,6 +3,7 @@ use Rattle.std.proofs.Common.{◌≡◌, List, replicate, refl, sym, ◌∙◌, 
 use Rattle.std.specs.List.{flat_map}
 use Rattle.session_model.specs.declared.script.Script.{Script}
 use Rattle.session_model.specs.declared.walk.Event.{Event}
+use Rattle.session_model.specs.Leg.{leg_of}
 use Rattle.session_model.specs.Counts.{Counts, run}
 use Rattle.walk_law.specs.Walk.{walk_plan}
 use Rattle.walk_command.specs.Told.{events_of, IsTurn}
@@ -12,8 +13,8 @@ use Rattle.walk_command.proofs.events.trace_turns.Goals as goal
 pub loop-made-init : goal.loop-made-init
 loop-made-init g c = record {
   script = refl;
-  counts = sym (turns-none (walk_plan c.args.walk.now.script) c.args.walk.now.counts
-      (events_of (walk_plan c.args.walk.now.script) c.args.turn));
+  counts = sym (turns-none (walk_plan (leg_of c.args.walk.now.script)) c.args.walk.now.counts
+      (events_of (walk_plan (leg_of c.args.walk.now.script)) c.args.turn));
   told = λ start first told. told;
 }
 
@@ -23,17 +24,18 @@ trace_turn-over-requires-clause-lines g c = c.requires.lines
 
 pub trace_turn-over-requires-clause-turn : goal.trace_turn-over-requires-clause-turn
 trace_turn-over-requires-clause-turn g c =
-    subst (λ (s : Script). IsTurn (walk_plan s) c.args.turn) (sym c.loop-made.invariant.script) c.requires.turn
+    subst (λ (s : Script). IsTurn (walk_plan (leg_of s)) c.args.turn) (sym c.loop-made.invariant.script) c.requires.turn
 
 pub loop-made-preserved : goal.loop-made-preserved
 loop-made-preserved g c =
     let inv = c.loop-made.invariant in
     let turn = c.args.turn in
-    let plan = walk_plan c.args.walk.now.script in
+    let plan = walk_plan (leg_of c.args.walk.now.script) in
     record {
       script = c.trace_turn-over.ensures.script ∙ inv.script;
       counts = c.trace_turn-over.ensures.counts
-          ∙ ap (λ (s : Script). run (walk_plan s) c.loop-made.walk.counts (events_of (walk_plan s) turn)) inv.script
+          ∙ ap (λ (s : Script). run (walk_plan (leg_of s)) c.loop-made.walk.counts
+          (events_of (walk_plan (leg_of s)) turn)) inv.script
           ∙ ap (λ (s : Counts). run plan s (events_of plan turn)) inv.counts
           ∙ sym (turns-last plan c.args.walk.now.counts c.loop-made._made (events_of plan turn));
       told = λ start first told. c.trace_turn-over.ensures.told start first (inv.told start first told);
@@ -42,7 +44,7 @@ loop-made-preserved g c =
 pub returns-clause-counts : goal.returns-clause-counts
 returns-clause-counts g c =
     let inv = c.loop-made.invariant in
-    let plan = walk_plan c.args.walk.now.script in
+    let plan = walk_plan (leg_of c.args.walk.now.script) in
     let low = c.loop-made-test.false in
     let all : c.loop-made._made ≡ c.args.count = omega (arith, low) in
     inv.counts ∙ ap (λ n. run plan c.args.walk.now.counts

@@ -1,6 +1,7 @@
 -- The walk is traced to its end, or up to the first write that fails.
 use Rattle.std.proofs.Common.{rules, inl, sym, ◌∙◌, subst, OnOk, OnErr}
 use Rattle.std.proofs.lemmas.Result.{on_err_weaker}
+use Rattle.session_model.specs.Leg.{leg_of}
 use Rattle.outside_io.specs.Transfer.{Appends}
 use Rattle.report_text.specs.Report.{got_texts}
 use Rattle.outside_io.specs.Start.{Start}
@@ -47,7 +48,7 @@ returns-clause-walked g c =
     c.trace_event_lines.new.notes c.trace_event_lines.new.walk c.trace_event_lines.ensures.script
     c.trace_event_lines.ensures.counts c.write_rest.new.got told c.write_rest.ensures in
     let last = (c.write_rest.ensures start
-    (got_texts (delivered_of c.trace_event_lines.new.walk.script c.trace_event_lines.new.walk.counts.rows))
+    (got_texts (delivered_of (leg_of c.trace_event_lines.new.walk.script) c.trace_event_lines.new.walk.counts.rows))
     told.gives).0 in
     let named = c.finish-back.ensures.name ∙ last ∙ c.new-got.ensures.name in
     let end = c.finish-back.ensures.ok c.args.out.now (walk_text script) has in
@@ -84,7 +85,7 @@ returns-clause-err g c =
     c.trace_event_lines.new.notes c.trace_event_lines.new.walk c.trace_event_lines.ensures.script
     c.trace_event_lines.ensures.counts c.write_rest.new.got told c.write_rest.ensures in
     let last = (c.write_rest.ensures start
-    (got_texts (delivered_of c.trace_event_lines.new.walk.script c.trace_event_lines.new.walk.counts.rows))
+    (got_texts (delivered_of (leg_of c.trace_event_lines.new.walk.script) c.trace_event_lines.new.walk.counts.rows))
     told.gives).0 in
     let named = c.finish-back.ensures.name ∙ last ∙ c.new-got.ensures.name in
     let trace = appends-all g.E.ByteSink.written g.E.ByteSink.faults c.args.notes.now c.trace_event_lines.new.notes

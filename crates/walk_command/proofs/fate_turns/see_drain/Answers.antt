@@ -1,6 +1,7 @@
 -- A round more, or all rows are taken.
 use Rattle.std.proofs.Common.{◌<◌, ◌≤◌, refl, sym, ◌∙◌, ap, subst, arith}
 use Rattle.session_model.specs.declared.script.Script.{Script}
+use Rattle.session_model.specs.Leg.{leg_of}
 use Rattle.session_model.specs.Counts.{Counts, run, round}
 use Rattle.session_model.specs.Valid.{IsValid}
 use Rattle.report_text.specs.declared.report.Totals.{Totals}
@@ -24,9 +25,10 @@ loop-walk-smaller c =
     let ticks = c.requires.ticks in
     let test = c.loop-walk-test.true in
     let open_ : s.rows < script.config.ticks = omega (arith, test, taken, ticks) in
-    let after = c.see_turn.ensures.counts ∙ ap (λ (x : Script). run (walk_plan x) s (round (walk_plan x))) inv.script in
-    let walked : IsWalked script s = subst (λ (x : Script). IsWalked x s) inv.script inv.walked in
-    (round-turn script s c.see_turn.new.walk.counts c.requires.valid walked open_ after).0
+    let after = c.see_turn.ensures.counts
+    ∙ ap (λ (x : Script). run (walk_plan (leg_of x)) s (round (walk_plan (leg_of x)))) inv.script in
+    let walked : IsWalked (leg_of script) s = subst (λ (x : Script). IsWalked (leg_of x) s) inv.script inv.walked in
+    (round-turn (leg_of script) s c.see_turn.new.walk.counts c.requires.valid.sound walked open_ after).0
 
 pub loop-walk-preserved : goal.loop-walk-preserved
 loop-walk-preserved c =
@@ -37,13 +39,16 @@ loop-walk-preserved c =
     let ticks = c.requires.ticks in
     let test = c.loop-walk-test.true in
     let open_ : s.rows < script.config.ticks = omega (arith, test, taken, ticks) in
-    let after = c.see_turn.ensures.counts ∙ ap (λ (x : Script). run (walk_plan x) s (round (walk_plan x))) inv.script in
-    let walked : IsWalked script s = subst (λ (x : Script). IsWalked x s) inv.script inv.walked in
+    let after = c.see_turn.ensures.counts
+    ∙ ap (λ (x : Script). run (walk_plan (leg_of x)) s (round (walk_plan (leg_of x)))) inv.script in
+    let walked : IsWalked (leg_of script) s = subst (λ (x : Script). IsWalked (leg_of x) s) inv.script inv.walked in
     record {
       script = c.see_turn.ensures.script ∙ inv.script;
-      left = (round-turn script s c.see_turn.new.walk.counts c.requires.valid walked open_ after).1 ∙ inv.left;
+      left = (round-turn (leg_of script) s c.see_turn.new.walk.counts c.requires.valid.sound walked open_ after).1
+          ∙ inv.left;
       walked = walked-on c.loop-walk.walk.script c.see_turn.new.walk.script s c.see_turn.new.walk.counts
-          (round (walk_plan c.loop-walk.walk.script)) inv.walked c.see_turn.ensures.script c.see_turn.ensures.counts;
+          (round (walk_plan (leg_of c.loop-walk.walk.script))) inv.walked c.see_turn.ensures.script
+          c.see_turn.ensures.counts;
       seen = c.in_ok-see_turn.ensures.seen;
     }
 
@@ -54,4 +59,4 @@ returns-clause-counts c =
     let ticks = c.requires.ticks in
     let test = c.loop-walk-test.false in
     let shut : c.args.walk.now.script.config.ticks ≤ c.loop-walk.walk.counts.rows = omega (arith, test, taken, ticks) in
-    drained-end c.args.walk.now.script c.loop-walk.walk.counts _ shut inv.left
+    drained-end (leg_of c.args.walk.now.script) c.loop-walk.walk.counts _ shut inv.left

@@ -6,6 +6,7 @@ use Rattle.std.proofs.lemmas.Result.{on_ok_weaker}
 use Rattle.session_model.specs.declared.script.EventLine.{EventLine}
 use Rattle.session_model.specs.declared.script.EventLine.TheVariants.{Client}
 use Rattle.session_model.specs.declared.script.Script.{Script}
+use Rattle.session_model.specs.Leg.{leg_of}
 use Rattle.session_model.specs.Counts.{Counts, begin, run_line, run_lines, walked, drain, bound}
 use Rattle.session_model.specs.Valid.{IsValid}
 use Rattle.walk_law.specs.Walk.{walk_plan, IsWalked}
@@ -17,12 +18,12 @@ use Rattle.walk_command.proofs.fate_turns.see_event_lines.Goals as goal
 
 pub see_drain-requires-clause-walked : goal.see_drain-requires-clause-walked
 see_drain-requires-clause-walked c = let script = c.args.walk.now.script in
-    subst (IsWalked script) (sym c.requires.begun) (begins-walked script)
+    subst (IsWalked (leg_of script)) (sym c.requires.begun) (begins-walked (leg_of script))
 
 pub returns-then-is_empty-clause-counts : goal.returns-then-is_empty-clause-counts
 returns-then-is_empty-clause-counts c =
     let script = c.args.walk.now.script in
-    let plan = walk_plan script in
+    let plan = walk_plan (leg_of script) in
     let none : length script.events ≡ 0 = ap length (sym c.requires.events)
     ∙ eqb-true (length c.args.lines.now) 0 (sym c.if-is_empty.ensures) in
     on_ok_weaker c.see_drain.result
@@ -31,7 +32,7 @@ returns-then-is_empty-clause-counts c =
 
 pub loop-line-init : goal.loop-line-init
 loop-line-init c =
-    let plan = walk_plan c.args.walk.now.script in
+    let plan = walk_plan (leg_of c.args.walk.now.script) in
     record {
       script = refl;
       counts = c.requires.begun ∙ sym (lines-start plan (begin plan) c.args.lines.now);
@@ -43,8 +44,9 @@ pub see_event_line-requires-clause-walked : goal.see_event_line-requires-clause-
 see_event_line-requires-clause-walked c =
     let inv = c.loop-line.invariant in
     let script = c.args.walk.now.script in
-    subst (λ (s : Script). IsWalked s c.loop-line.walk.counts) (sym inv.script)
-    (subst (IsWalked script) (sym inv.counts) (lines-walked script (take c.loop-line.line-index c.args.lines.now)))
+    subst (λ (s : Script). IsWalked (leg_of s) c.loop-line.walk.counts) (sym inv.script)
+    (subst (IsWalked (leg_of script)) (sym inv.counts)
+    (lines-walked script (take c.loop-line.line-index c.args.lines.now)))
 
 pub see_event_line-requires-clause-ticks : goal.see_event_line-requires-clause-ticks
 see_event_line-requires-clause-ticks c = c.requires.ticks
@@ -53,14 +55,14 @@ see_event_line-requires-clause-ticks c = c.requires.ticks
 pub loop-line-preserved : goal.loop-line-preserved
 loop-line-preserved c =
     let inv = c.loop-line.invariant in
-    let plan = walk_plan c.args.walk.now.script in
+    let plan = walk_plan (leg_of c.args.walk.now.script) in
     let lines = c.args.lines.now in
     let k = c.loop-line.line-index in
     let line : EventLine = get_or lines k (Client 0) in
     record {
       script = c.see_event_line.ensures.script ∙ inv.script;
       counts = c.in_ok-see_event_line.ensures.counts
-          ∙ ap (λ (s : Script). run_line (walk_plan s) c.loop-line.walk.counts line) inv.script
+          ∙ ap (λ (s : Script). run_line (walk_plan (leg_of s)) c.loop-line.walk.counts line) inv.script
           ∙ ap (λ (s : Counts). run_line plan s line) inv.counts
           ∙ sym (lines-last plan (begin plan) lines k line (there lines k (Client 0) c.loop-line-test.true));
       seen = c.in_ok-see_event_line.ensures.seen;
@@ -68,7 +70,7 @@ loop-line-preserved c =
 
 pub returns-clause-counts : goal.returns-clause-counts
 returns-clause-counts c =
-    let plan = walk_plan c.args.walk.now.script in
+    let plan = walk_plan (leg_of c.args.walk.now.script) in
     let lines = c.args.lines.now in
     c.loop-line.invariant.counts ∙ ap (run_lines plan (begin plan))
     (take_all c.loop-line.line-index lines c.loop-line-test.false)

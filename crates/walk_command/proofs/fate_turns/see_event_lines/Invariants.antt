@@ -1,5 +1,6 @@
 -- The lines so far are made and seen.
 use Rattle.std.proofs.Common.{◌≡◌, take}
+use Rattle.session_model.specs.Leg.{leg_of}
 use Rattle.session_model.specs.Counts.{begin, run_lines}
 use Rattle.walk_law.specs.Walk.{walk_plan}
 use Rattle.walk_fates.specs.Seen.{Sees}
@@ -8,7 +9,7 @@ use Rattle.walk_command.proofs.fate_turns.see_event_lines.Given as goal
 abbrev pub invariant-loop-line : goal.invariant-loop-line
 invariant-loop-line l = record {
   script : l.walk.script ≡ l.fn.walk.script;
-  counts : l.walk.counts ≡ run_lines (walk_plan l.fn.walk.script) (begin (walk_plan l.fn.walk.script))
+  counts : l.walk.counts ≡ run_lines (walk_plan (leg_of l.fn.walk.script)) (begin (walk_plan (leg_of l.fn.walk.script)))
       (take l.line-index l.fn.lines);
-  seen : Sees l.walk.script l.walk.counts.ticks l.walk.counts.rows l.seen;
+  seen : Sees (leg_of l.walk.script) l.walk.counts.ticks l.walk.counts.rows l.seen;
 }

@@ -1,4 +1,5 @@
 -- The walk goes on by a turn's events.
+use Rattle.session_model.specs.Leg.{leg_of}
 use Rattle.walk_law.specs.Walk.{walk_plan}
 use Rattle.walk_command.specs.Told.{events_of}
 use Rattle.walk_command.proofs.SeeLaws.{walked-on}
@@ -7,5 +8,5 @@ use Rattle.walk_command.proofs.fate_turns.see_turn.Goals as goal
 pub see_since-requires-clause-walked : goal.see_since-requires-clause-walked
 see_since-requires-clause-walked c =
     walked-on c.args.walk.now.script c.silent_turn.new.walk.script c.args.walk.now.counts c.silent_turn.new.walk.counts
-    (events_of (walk_plan c.args.walk.now.script) c.args.turn)
+    (events_of (walk_plan (leg_of c.args.walk.now.script)) c.args.turn)
     c.requires.walked c.silent_turn.ensures.script c.silent_turn.ensures.counts

@@ -1,6 +1,7 @@
 -- The walk of a script is one of its lists of events, and what is seen of it and the places stand together.
 use Rattle.std.proofs.Common.{◌≡◌, IfOk, sym, ◌∙◌, ap, subst}
 use Rattle.session_model.specs.declared.script.Script.{Script}
+use Rattle.session_model.specs.Leg.{leg_of}
 use Rattle.session_model.specs.Counts.{Counts}
 use Rattle.session_model.specs.Valid.{IsValid}
 use Rattle.headline_law.specs.Texts.{counts_in}
@@ -11,18 +12,19 @@ use Rattle.walk_command.proofs.fate_turns.see_walk.Goals as goal
 pub place_frames-requires-clause-walked : goal.place_frames-requires-clause-walked
 place_frames-requires-clause-walked c =
     let script = c.args.walk.now.script in
-    subst (λ (s : Counts). IsWalked c.see_event_lines.new.walk.script s) (sym c.in_ok-see_event_lines.ensures.counts)
-    (subst (λ (x : Script). IsWalked x (counts_in script)) (sym c.see_event_lines.ensures.script)
+    subst (λ (s : Counts). IsWalked (leg_of c.see_event_lines.new.walk.script) s)
+    (sym c.in_ok-see_event_lines.ensures.counts)
+    (subst (λ (x : Script). IsWalked (leg_of x) (counts_in script)) (sym c.see_event_lines.ensures.script)
     (counts-walked script))
 
 pub returns-clause-seen : goal.returns-clause-seen
 returns-clause-seen c =
     let script = c.args.walk.now.script in
     record {
-      valid = subst IsValid (sym c.see_event_lines.ensures.script) c.requires.valid;
-      walked = subst (λ (s : Counts). IsWalked c.see_event_lines.new.walk.script s)
+      sound = (subst IsValid (sym c.see_event_lines.ensures.script) c.requires.valid).sound;
+      walked = subst (λ (s : Counts). IsWalked (leg_of c.see_event_lines.new.walk.script) s)
           (sym c.in_ok-see_event_lines.ensures.counts)
-          (subst (λ (x : Script). IsWalked x (counts_in script)) (sym c.see_event_lines.ensures.script)
+          (subst (λ (x : Script). IsWalked (leg_of x) (counts_in script)) (sym c.see_event_lines.ensures.script)
           (counts-walked script));
       rows = c.in_ok-see_event_lines.ensures.seen;
       places = c.in_ok-ruler.ensures;

@@ -2,6 +2,7 @@
 use Rattle.std.proofs.Common.{◌≡◌, ℕ, List, refl, ◌∙◌, ap, subst}
 use Rattle.outside_io.specs.Transfer.{Appends, AppendsPart}
 use Rattle.session_model.specs.declared.script.Script.{Script}
+use Rattle.session_model.specs.Leg.{leg_of}
 use Rattle.session_model.specs.Counts.{Counts}
 use Rattle.headline_law.specs.Texts.{counts_in}
 use Rattle.fate_law.specs.FateText.{fates_text}
@@ -13,12 +14,13 @@ use Rattle.walk_command.specs.Fates.{fates_answer}
 use Rattle.walk_command.proofs.fates.fates.Goals as goal
 
 abbrev answer : Script → Answer
-answer script = writes (fates_text script (counts_in script))
+answer script = writes (fates_text (leg_of script) (counts_in script))
 
 -- the walk's text is that of its script
 own-text : (script now : Script) (s : Counts) → now ≡ script → s ≡ counts_in script →
-    fates_text now s ≡ fates_text script (counts_in script)
-own-text script now s same counts = ap (λ (x : Script). fates_text x s) same ∙ ap (fates_text script) counts
+    fates_text (leg_of now) s ≡ fates_text (leg_of script) (counts_in script)
+own-text script now s same counts = ap (λ (x : Script). fates_text (leg_of x) s) same
+    ∙ ap (fates_text (leg_of script)) counts
 
 -- ---- nothing was read, or no script
 pub returns-in-Err-clause-ends : goal.returns-in-Err-clause-ends

@@ -2,6 +2,7 @@
 use Rattle.std.proofs.Common.{◌≡◌, ℕ, List, refl, ◌∙◌, ap, subst}
 use Rattle.outside_io.specs.Transfer.{Appends, AppendsPart}
 use Rattle.session_model.specs.declared.script.Script.{Script}
+use Rattle.session_model.specs.Leg.{leg_of}
 use Rattle.session_model.specs.Counts.{Counts}
 use Rattle.headline_law.specs.Texts.{counts_in}
 use Rattle.command_parts.specs.declared.stop.Stop.TheVariants.{Memory}
@@ -13,12 +14,13 @@ use Rattle.walk_command.specs.Gfp.{gfp_answer}
 use Rattle.walk_command.proofs.gfp.gfp.Goals as goal
 
 abbrev answer : Script → Answer
-answer script = writes (sent_capture script (counts_in script))
+answer script = writes (sent_capture (leg_of script) (counts_in script))
 
 -- the walk's capture is that of its script
 own-text : (script now : Script) (s : Counts) → now ≡ script → s ≡ counts_in script →
-    sent_capture now s ≡ sent_capture script (counts_in script)
-own-text script now s same counts = ap (λ (x : Script). sent_capture x s) same ∙ ap (sent_capture script) counts
+    sent_capture (leg_of now) s ≡ sent_capture (leg_of script) (counts_in script)
+own-text script now s same counts = ap (λ (x : Script). sent_capture (leg_of x) s) same
+    ∙ ap (sent_capture (leg_of script)) counts
 
 -- ---- nothing was read, or no script
 pub returns-in-Err-clause-ends : goal.returns-in-Err-clause-ends

@@ -1,5 +1,6 @@
 -- All rows are summed up.
 use Rattle.std.proofs.Common.{[], sym, ◌∙◌, ap, subst, arith}
+use Rattle.session_model.specs.Leg.{leg_of}
 use Rattle.session_model.specs.Counts.{Counts}
 use Rattle.walk_law.specs.Delivered.{delivered_of}
 use Rattle.walk_core.specs.Moved.{delivered_since}
@@ -12,19 +13,19 @@ returns-clause-octets c =
     let script = c.args.walk.now.script in
     let ticks = script.config.ticks in
     let so = subst (HasSummed c.drain.new.out.octets c.drain.new.out.total)
-    (ap (λ rows. delivered_since script rows ticks) (ap (λ (s : Counts). s.rows) c.requires.begun)
+    (ap (λ rows. delivered_since (leg_of script) rows ticks) (ap (λ (s : Counts). s.rows) c.requires.begun)
     ∙ since-begin script ticks)
     (c.drain.ensures.gives (record { octets = []; faults = 0; name = 0 }) [] summed-none) in
     count-exact script ticks c.drain.new.out.octets c.drain.new.out.total c.requires.valid (omega arith) so
-    ∙ ap (λ n. octet_count (delivered_of script n)) (sym c.drain.ensures.all)
+    ∙ ap (λ n. octet_count (delivered_of (leg_of script) n)) (sym c.drain.ensures.all)
 
 pub returns-clause-total : goal.returns-clause-total
 returns-clause-total c =
     let script = c.args.walk.now.script in
     let ticks = script.config.ticks in
     let so = subst (HasSummed c.drain.new.out.octets c.drain.new.out.total)
-    (ap (λ rows. delivered_since script rows ticks) (ap (λ (s : Counts). s.rows) c.requires.begun)
+    (ap (λ rows. delivered_since (leg_of script) rows ticks) (ap (λ (s : Counts). s.rows) c.requires.begun)
     ∙ since-begin script ticks)
     (c.drain.ensures.gives (record { octets = []; faults = 0; name = 0 }) [] summed-none) in
     sum-exact script ticks c.drain.new.out.octets c.drain.new.out.total c.requires.valid (omega arith) so
-    ∙ ap (λ n. octet_sum (delivered_of script n)) (sym c.drain.ensures.all)
+    ∙ ap (λ n. octet_sum (delivered_of (leg_of script) n)) (sym c.drain.ensures.all)

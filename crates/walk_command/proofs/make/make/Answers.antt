@@ -2,6 +2,7 @@
 use Rattle.std.proofs.Common.{ℕ, List, refl, sym, ◌∙◌, ap, subst}
 use Rattle.outside_io.specs.Transfer.{Appends, AppendsPart}
 use Rattle.session_model.specs.declared.script.Script.{Script}
+use Rattle.session_model.specs.Leg.{leg_of}
 use Rattle.session_model.specs.Counts.{begin}
 use Rattle.walk_law.specs.Walk.{walk_plan}
 use Rattle.command_parts.specs.Task.{writes, makes}
@@ -17,7 +18,7 @@ returns-in-Ok-write_made-clause-ends g c =
     c.write_made.new.out text in
     let script = c.in-Ok-new.ensures.script ∙ c.in-Ok.ensures.load in
     let begun = c.in-Ok-new.ensures.counts
-    ∙ ap (λ (s : Script). begin (walk_plan s)) (sym c.in-Ok-new.ensures.script) in
+    ∙ ap (λ (s : Script). begin (walk_plan (leg_of s))) (sym c.in-Ok-new.ensures.script) in
     let lines = lines-are c.args.number c.args.lines c.args.ticks c.in-Ok-new.walk c.drain_sums-sums.new.walk script
     begun c.drain_sums-sums.ensures.script c.drain_sums-sums.ensures.counts
     c.drain_sums-sums.result.octets c.drain_sums-sums.result.total c.totals.result c.totals.ensures
@@ -35,7 +36,7 @@ returns-in-Err-clause-ends g c =
     c.write_made.new.out text in
     let script = c.in-Ok-new.ensures.script ∙ c.in-Ok.ensures.load in
     let begun = c.in-Ok-new.ensures.counts
-    ∙ ap (λ (s : Script). begin (walk_plan s)) (sym c.in-Ok-new.ensures.script) in
+    ∙ ap (λ (s : Script). begin (walk_plan (leg_of s))) (sym c.in-Ok-new.ensures.script) in
     let lines = lines-are c.args.number c.args.lines c.args.ticks c.in-Ok-new.walk c.drain_sums-sums.new.walk script
     begun c.drain_sums-sums.ensures.script c.drain_sums-sums.ensures.counts
     c.drain_sums-sums.result.octets c.drain_sums-sums.result.total c.totals.result c.totals.ensures

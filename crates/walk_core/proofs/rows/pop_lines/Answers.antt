@@ -12,22 +12,22 @@ loop-m-init c = record {
   count = refl;
   rows = refl;
   pops =
-      λ script can. popping-none script c.args.lines.now.items c.args.rows.now can;
+      λ leg can. popping-none leg c.args.lines.now.items c.args.rows.now can;
 }
 
 pub returns-then-not-pop_into-clause-pops : goal.returns-then-not-pop_into-clause-pops
-returns-then-not-pop_into-clause-pops c script can =
+returns-then-not-pop_into-clause-pops c leg can =
     let inv = c.loop-m.invariant in
-    let has = inv.pops script can in
+    let has = inv.pops leg can in
     let m = c.loop-m.m in
     let line = c.index_mut.result.now in
     let test = c.loop-m-test.true in
     let end = c.len-m-end.ensures in
     let size = inv.size in
     let there = at-index c.loop-m.lines.items m line (omega (arith, test, end, size)) c.index_mut.ensures.value in
-    let next = is-next script c.args.lines.now.items c.loop-m.lines.items c.loop-m.rows m has line there in
-    let calls = calls_on script m line.carried in
-    popping-waits script c.args.lines.now.items c.loop-m.lines.items c.loop-m.rows m has line there c.pop_into.new.self
+    let next = is-next leg c.args.lines.now.items c.loop-m.lines.items c.loop-m.rows m has line there in
+    let calls = calls_on leg m line.carried in
+    popping-waits leg c.args.lines.now.items c.loop-m.lines.items c.loop-m.rows m has line there c.pop_into.new.self
     c.pop_into.new.rows
     c.pop_into.ensures.others c.pop_into.ensures.rows (c.pop_into.ensures.popped calls _ next)
     (c.pop_into.ensures.has calls next.has) (c.pop_into.ensures.gathers calls _ next)
@@ -46,11 +46,11 @@ loop-m-preserved c =
       size = length-slice_set c.loop-m.lines.items m c.pop_into.new.self ∙ inv.size;
       count = c.pop_into.ensures.lines ∙ inv.count;
       rows = c.pop_into.ensures.rows ∙ inv.rows;
-      pops = λ script can.
-          let has = inv.pops script can in
-          let next = is-next script c.args.lines.now.items c.loop-m.lines.items c.loop-m.rows m has line there in
-          let calls = calls_on script m line.carried in
-          popping-next script c.args.lines.now.items c.loop-m.lines.items c.loop-m.rows m has line there
+      pops = λ leg can.
+          let has = inv.pops leg can in
+          let next = is-next leg c.args.lines.now.items c.loop-m.lines.items c.loop-m.rows m has line there in
+          let calls = calls_on leg m line.carried in
+          popping-next leg c.args.lines.now.items c.loop-m.lines.items c.loop-m.rows m has line there
           c.pop_into.new.self c.pop_into.new.rows
           c.pop_into.ensures.others c.pop_into.ensures.rows (c.pop_into.ensures.popped calls _ next)
           (c.pop_into.ensures.has calls next.has) (c.pop_into.ensures.gathers calls _ next)
@@ -58,10 +58,10 @@ loop-m-preserved c =
     }
 
 pub returns-clause-pops : goal.returns-clause-pops
-returns-clause-pops c script can =
+returns-clause-pops c leg can =
     let inv = c.loop-m.invariant in
     let test = c.loop-m-test.false in
     let end = c.len-m-end.ensures in
     let size = inv.size in
-    popping-all script c.args.lines.now.items c.loop-m.lines.items c.loop-m.rows c.loop-m.m
-    (omega (arith, test, end, size)) (inv.pops script can)
+    popping-all leg c.args.lines.now.items c.loop-m.lines.items c.loop-m.rows c.loop-m.m
+    (omega (arith, test, end, size)) (inv.pops leg can)

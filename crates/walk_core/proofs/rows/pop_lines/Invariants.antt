@@ -1,6 +1,6 @@
 -- The lines so far decide the next row.
 use Rattle.std.proofs.Common.{◌≡◌, length}
-use Rattle.session_model.specs.declared.script.Script.{Script}
+use Rattle.session_model.specs.Leg.{Leg}
 use Rattle.realign_core.specs.Gather.{line_count}
 use Rattle.walk_core.specs.Take.{CanPop}
 use Rattle.walk_core.proofs.TakeLaws.{Popping}
@@ -11,6 +11,6 @@ invariant-loop-m l = record {
   size : length l.lines.items ≡ length l.fn.lines.items;
   count : line_count l.rows ≡ line_count l.fn.rows;
   rows : l.rows.rows ≡ l.fn.rows.rows;
-  pops : (script : Script) → CanPop script l.fn.lines.items l.fn.rows →
-      Popping script l.fn.lines.items l.lines.items l.rows l.m;
+  pops : (leg : Leg) → CanPop leg l.fn.lines.items l.fn.rows →
+      Popping leg l.fn.lines.items l.lines.items l.rows l.m;
 }

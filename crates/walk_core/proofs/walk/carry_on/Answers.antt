@@ -14,20 +14,20 @@ use Rattle.walk_core.proofs.SendLaws.{unchanged-at, changed-at}
 use Rattle.walk_core.proofs.walk.carry_on.Goals as goal
 
 pub returns-then-all_pushed-clause-has : goal.returns-then-all_pushed-clause-has
-returns-then-all_pushed-clause-has c script has sent =
-    let all = all-carried script c.args.m c.args.own.now has (search (rules, c.if-all_pushed.ensures)) in
+returns-then-all_pushed-clause-has c leg has sent =
+    let all = all-carried leg c.args.m c.args.own.now has (search (rules, c.if-all_pushed.ensures)) in
     record {
       has = subst (λ calls. Has c.flush.new.self calls)
-          (calls-flush script c.args.m c.args.own.now all ∙ ap (calls_on script c.args.m) (sym c.flush.ensures.carried))
-          (c.flush.ensures.has (calls_on script c.args.m c.args.own.now.carried) has.has);
+          (calls-flush leg c.args.m c.args.own.now all ∙ ap (calls_on leg c.args.m) (sym c.flush.ensures.carried))
+          (c.flush.ensures.has (calls_on leg c.args.m c.args.own.now.carried) has.has);
       ring = c.flush.ensures.ring ∙ has.ring;
     }
 
 pub returns-else-all_pushed-clause-has : goal.returns-else-all_pushed-clause-has
-returns-else-all_pushed-clause-has c script has sent =
+returns-else-all_pushed-clause-has c leg has sent =
     let some : c.args.own.now.core.pushed ≡ c.args.own.now.core.total → ⊥ = search (rules, c.if-all_pushed.ensures) in
     let within = c.all_pushed.ensures.within in
-    let left = not-carried script c.args.m c.args.own.now has
+    let left = not-carried leg c.args.m c.args.own.now has
     (below c.args.own.now.core.pushed c.args.own.now.core.total within some) in
     let places = c.requires.places in
     let slot : c.carried.result % 32 ≡ c.args.own.now.carried % 32 = ap (λ x. x % 32) c.carried.ensures in
@@ -38,14 +38,14 @@ returns-else-all_pushed-clause-has c script has sent =
     (c.index_mut.ensures.value ∙ ap (λ k. slice_index_or frames k row) slot) in
     let read = at-index row.items c.args.m place (c.requires.lines (c.args.own.now.carried % 32) row frame)
     c.index_mut-else-all_pushed.ensures.value in
-    let is = same-some place.value (sent_at script c.args.m c.args.own.now.carried)
+    let is = same-some place.value (sent_at leg c.args.m c.args.own.now.carried)
     (sym (map-get (λ (b : Box Container). b.value) row.items c.args.m place read) ∙ sent left row frame) in
     record {
       has = subst (λ calls. Has c.push.new.self calls)
-          (ap (and_push (calls_on script c.args.m c.args.own.now.carried)) is
-          ∙ calls-push script c.args.m c.args.own.now left
-          ∙ ap (calls_on script c.args.m) (sym c.push.ensures.carried))
-          (c.push.ensures.has (calls_on script c.args.m c.args.own.now.carried) has.has);
+          (ap (and_push (calls_on leg c.args.m c.args.own.now.carried)) is
+          ∙ calls-push leg c.args.m c.args.own.now left
+          ∙ ap (calls_on leg c.args.m) (sym c.push.ensures.carried))
+          (c.push.ensures.has (calls_on leg c.args.m c.args.own.now.carried) has.has);
       ring = c.push.ensures.ring ∙ has.ring;
     }
 

@@ -5,9 +5,9 @@ use Rattle.walk_core.proofs.SendLaws.{sent-swapped}
 use Rattle.walk_core.proofs.walk.next_place.Goals as goal
 
 pub returns-then-are_carried-clause-has : goal.returns-then-are_carried-clause-has
-returns-then-are_carried-clause-has c script size has =
+returns-then-are_carried-clause-has c leg size has =
     let places = c.requires.places in
-    subst (λ rows. HasSent script c.args.ticks (map line_counts c.args.lines.now) (map frame_in rows))
+    subst (λ rows. HasSent leg c.args.ticks (map line_counts c.args.lines.now) (map frame_in rows))
     (sym c.swap.ensures.items)
-    (sent-swapped script c.args.ticks c.args.lines.now c.args.sent.now.items _ _ size has (omega (arith, places))
+    (sent-swapped leg c.args.ticks c.args.lines.now c.args.sent.now.items _ _ size has (omega (arith, places))
     (omega (arith, places)) (c.are_carried.ensures c.if-are_carried.true))

@@ -1,4 +1,5 @@
 -- The pieces of the ticks made tell it.
+use Rattle.session_model.specs.Leg.{leg_of}
 use Rattle.session_model.specs.Scenario.{scenario_of}
 use Rattle.session_model.specs.Client.{stream_before}
 use Rattle.walk_law.specs.Walk.{session_of}
@@ -6,13 +7,13 @@ use Rattle.walk_fates.proofs.LineLaws.{kept-rows, fate-is}
 use Rattle.walk_fates.proofs.lines.accepted_fate.Goals as goal
 
 pub fate-requires : goal.fate-requires
-fate-requires c = kept-rows c.args.walk.now.script c.args.walk.now.counts c.args.seen.now c.requires
+fate-requires c = kept-rows (leg_of c.args.walk.now.script) c.args.walk.now.counts c.args.seen.now c.requires
 
 pub returns : goal.returns
 returns c =
     let script = c.args.walk.now.script in
     let s = c.args.walk.now.counts in
-    fate-is script s c.args.seen.now c.requires c.args.frame c.fate.result
-    (c.fate.ensures (scenario_of script) (session_of script)
-    (stream_before (scenario_of script) (session_of script) s.ticks) s.rows c.requires.rows.packets.are
+    fate-is (leg_of script) s c.args.seen.now c.requires c.args.frame c.fate.result
+    (c.fate.ensures (scenario_of script) (session_of (leg_of script))
+    (stream_before (scenario_of script) (session_of (leg_of script)) s.ticks) s.rows c.requires.rows.packets.are
     c.requires.places c.requires.rows.segments)

@@ -1,5 +1,6 @@
 -- The numbers of the last line are those of the items.
 use Rattle.std.proofs.Common.{◌++◌, ◌∙◌, ap, subst}
+use Rattle.session_model.specs.Leg.{leg_of}
 use Rattle.got_lines.specs.Told.{HasText}
 use Rattle.session_model.specs.Scenario.{scenario_of}
 use Rattle.session_model.specs.Client.{stream_before}
@@ -25,9 +26,9 @@ returns g c = λ all are start before has.
       refused = ended.refused;
     } in
     let is = c.starts_true-starts.result in
-    let starts = starts-are script s c.args.seen.now c.requires is
-    (c.starts_true-starts.ensures (stream_before (scenario_of script) (session_of script) s.ticks)
-    (session_rows script s.rows) c.requires.places c.requires.rows.segments) in
+    let starts = starts-are (leg_of script) s c.args.seen.now c.requires is
+    (c.starts_true-starts.ensures (stream_before (scenario_of script) (session_of (leg_of script)) s.ticks)
+    (session_rows (leg_of script) s.rows) c.requires.places c.requires.rows.segments) in
     subst (HasText g.K.ByteSink.written g.K.ByteSink.faults c.line.new.self start)
     (ap (λ l. before ++ l)
     (c.fates_line-end.ensures.line

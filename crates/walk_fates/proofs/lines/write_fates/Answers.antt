@@ -1,6 +1,7 @@
 -- The lines are written, or a part of them up to a write that failed.
 use Rattle.std.proofs.Common.{rules, ℕ, List, [], map, sym, ◌∙◌, subst, OnOk, OnErr}
 use Rattle.std.specs.List.{flat_map, range_with_len}
+use Rattle.session_model.specs.Leg.{leg_of}
 use Rattle.outside_io.specs.Start.{Start}
 use Rattle.outside_io.specs.Transfer.{Appends, AppendsPart}
 use Rattle.got_lines.specs.Told.{HasText, name_of, start_at}
@@ -17,7 +18,8 @@ returns g c =
     let script = c.args.walk.now.script in
     let s = c.args.walk.now.counts in
     let start : Start = start_at g.K.ByteSink.written g.K.ByteSink.faults c.args.out.now (name_of c.new-got.result) in
-    let runs = c.runs.ensures (map (row_cause (scenario_of script) (session_of script)) (range_with_len 0 s.rows))
+    let runs =
+    c.runs.ensures (map (row_cause (scenario_of script) (session_of (leg_of script))) (range_with_len 0 s.rows))
     c.requires.rows.runs in
     let P : List SpoiledRun → Type 0 =
     λ runs. HasText g.K.ByteSink.written g.K.ByteSink.faults c.write_runs.new.got start
@@ -25,8 +27,8 @@ returns g c =
     let one = subst P runs (c.write_runs.ensures start [] c.new-got.ensures.fresh) in
     let two = c.write_segments.ensures start _ one in
     let three = c.write_frames-ended.ensures.text start _ two in
-    let has = c.write_end.ensures (ended_of script s) c.write_frames-ended.ensures.counted start _ three in
-    let text = fates_text script s in
+    let has = c.write_end.ensures (ended_of (leg_of script) s) c.write_frames-ended.ensures.counted start _ three in
+    let text = fates_text (leg_of script) s in
     let N : ℕ → Type 0 = λ n. HasText g.K.ByteSink.written g.K.ByteSink.faults c.write_end.new.got
     (start_at g.K.ByteSink.written g.K.ByteSink.faults c.args.out.now n) text in
     let own = subst N (sym has.0) has in

@@ -1,6 +1,7 @@
 -- A line more; and all of them.
 use Rattle.std.proofs.Common.{[], ◌∷◌, ◌++◌, refl, sym, ap, subst, append-nil}
 use Rattle.std.specs.List.{flat_map}
+use Rattle.session_model.specs.Leg.{leg_of}
 use Rattle.got_lines.specs.Told.{HasText}
 use Rattle.fate_law.specs.SessionFates.{Ended}
 use Rattle.fate_law.specs.FateText.{ended_text}
@@ -12,7 +13,7 @@ pub loop-frame-init : goal.loop-frame-init
 loop-frame-init g c =
     let none = c.default.ensures in (
       [],
-      frames-begun c.args.walk.now.script c.args.walk.now.counts c.new-cursor.result
+      frames-begun (leg_of c.args.walk.now.script) c.args.walk.now.counts c.new-cursor.result
           (record { frames = 0; refused = 0; totals = c.default.result })
           c.new-cursor.ensures.at c.new-cursor.ensures.first refl refl none.0 none.1.0 none.1.1,
       λ start before has. subst (HasText g.K.ByteSink.written g.K.ByteSink.faults c.args.got.now start)
@@ -21,7 +22,7 @@ loop-frame-init g c =
 
 pub write_frame-requires-clause-few : goal.write_frame-requires-clause-few
 write_frame-requires-clause-few g c =
-    frames-few c.args.walk.now.script c.args.walk.now.counts c.loop-frame.cursor c.loop-frame.ended
+    frames-few (leg_of c.args.walk.now.script) c.args.walk.now.counts c.loop-frame.cursor c.loop-frame.ended
     c.loop-frame.invariant.0 c.loop-frame.invariant.1
 
 pub loop-frame-preserved : goal.loop-frame-preserved
@@ -30,10 +31,11 @@ loop-frame-preserved g c =
     let s = c.args.walk.now.counts in
     let done = c.loop-frame.invariant.0 in
     let next = c.in-Some.ensures.some in
-    let own : Ended = ended_frame script (fates_in script s.rows) c.in-Some.frame next.octets c.loop-frame.ended.frames
+    let own : Ended =
+    ended_frame (leg_of script) (fates_in (leg_of script) s.rows) c.in-Some.frame next.octets c.loop-frame.ended.frames
     in (
       done ++ own ∷ [],
-      frames-next script s c.loop-frame.cursor c.next.new.self c.loop-frame.ended c.write_frame.new.ended done
+      frames-next (leg_of script) s c.loop-frame.cursor c.next.new.self c.loop-frame.ended c.write_frame.new.ended done
           c.in-Some.frame next c.loop-frame.invariant.1 c.in-Some.ensures.at c.write_frame.ensures.count,
       λ start before has.
           subst (HasText g.K.ByteSink.written g.K.ByteSink.faults c.write_frame.new.got start)
@@ -49,7 +51,7 @@ returns-clause-text g c = λ start before has.
     let done = c.loop-frame.invariant.0 in
     subst (HasText g.K.ByteSink.written g.K.ByteSink.faults c.loop-frame.got start)
     (ap (λ l. before ++ flat_map ended_text l)
-    (frames-past script s c.loop-frame.cursor c.loop-frame.ended done c.loop-frame.invariant.1
+    (frames-past (leg_of script) s c.loop-frame.cursor c.loop-frame.ended done c.loop-frame.invariant.1
     c.in_default.ensures.none))
     (c.loop-frame.invariant.2 start before has)
 
@@ -59,5 +61,5 @@ returns-clause-counted g c =
     let s = c.args.walk.now.counts in
     let done = c.loop-frame.invariant.0 in
     subst (λ l. Counted l c.loop-frame.ended)
-    (frames-past script s c.loop-frame.cursor c.loop-frame.ended done c.loop-frame.invariant.1
+    (frames-past (leg_of script) s c.loop-frame.cursor c.loop-frame.ended done c.loop-frame.invariant.1
     c.in_default.ensures.none) c.loop-frame.invariant.1.counted

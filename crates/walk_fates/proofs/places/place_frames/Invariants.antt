@@ -1,12 +1,14 @@
 -- The frames so far are ruled, and those after them aren't due before the last of them.
 use Rattle.std.proofs.Common.{◌-◌, length}
+use Rattle.session_model.specs.Leg.{leg_of}
 use Rattle.session_model.specs.Scenario.{offers_of}
 use Rattle.walk_frames.specs.Landed.{frames_before_item}
 use Rattle.walk_fates.proofs.PlaceLaws.{IsRuled}
 use Rattle.walk_fates.proofs.places.place_frames.Given as goal
 
 abbrev pub invariant-loop-frame : goal.invariant-loop-frame
-invariant-loop-frame l = IsRuled l.walk.script l.walk.counts l.ruler l.cursor l.ticks
+invariant-loop-frame l = IsRuled (leg_of l.walk.script) l.walk.counts l.ruler l.cursor l.ticks
 
 abbrev pub decreases-loop-frame : goal.decreases-loop-frame
-decreases-loop-frame l = length (offers_of l.walk.script.items) - frames_before_item l.walk.script l.cursor.item
+decreases-loop-frame l =
+    length (offers_of l.walk.script.items) - frames_before_item (leg_of l.walk.script) l.cursor.item

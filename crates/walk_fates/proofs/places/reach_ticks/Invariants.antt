@@ -1,10 +1,11 @@
 -- The stream is made by the ticks so far.
 use Rattle.std.proofs.Common.{◌≡◌, ℕ}
+use Rattle.session_model.specs.Leg.{leg_of}
 use Rattle.fate_law.specs.Ruler.{ruler_of}
 use Rattle.walk_frames.specs.Places.{stream_in, Between}
 use Rattle.walk_fates.proofs.places.reach_ticks.Given as goal
 
 abbrev pub invariant-loop-t : goal.invariant-loop-t
-invariant-loop-t l = (frames : ℕ) → Between l.walk.script frames l.from l.to →
-    l.fn.ruler ≡ ruler_of (stream_in l.walk.script l.from frames) →
-    l.ruler ≡ ruler_of (stream_in l.walk.script l.t frames)
+invariant-loop-t l = (frames : ℕ) → Between (leg_of l.walk.script) frames l.from l.to →
+    l.fn.ruler ≡ ruler_of (stream_in (leg_of l.walk.script) l.from frames) →
+    l.ruler ≡ ruler_of (stream_in (leg_of l.walk.script) l.t frames)

@@ -1,5 +1,6 @@
 -- One packet more, and one row more.
 use Rattle.std.proofs.Common.{◌≡◌, ◌+◌, sym, ◌∙◌, ap, subst, arith}
+use Rattle.session_model.specs.Leg.{leg_of}
 use Rattle.session_model.specs.Scenario.{steps_in}
 use Rattle.session_model.specs.Table.{active}
 use Rattle.report_text.specs.declared.report.Totals.{Totals}
@@ -18,7 +19,8 @@ is_step-requires-clause-most c = let e = ap (λ (t : Totals). t.ticks) c.totals-
 
 pub push-requires : goal.push-requires
 push-requires c =
-    let few = few-rows c.args.walk.now.script c.args.walk.now.counts c.requires.valid c.requires.walked in
+    let few =
+    few-rows (leg_of c.args.walk.now.script) c.args.walk.now.counts c.requires.valid.sound c.requires.walked in
     let least = c.requires.least in
     omega (arith, few.2, least, c.requires.seen.packets.steps)
 
@@ -30,15 +32,16 @@ returns-then-totals-rows c =
     ap steps_in (sym (ap (λ (t : Totals). t.ticks) c.totals-totals.ensures)) in
     let all : c.args.rows ≡ c.args.walk.now.counts.rows = sym c.if-totals-rows.true
     ∙ ap (λ (t : Totals). t.taken) c.totals-totals.ensures in
-    let sees : Sees script ticks c.args.rows c.if-is_step.seen = elim c.if-is_step.branch [
-      | then-is_step+in_ok-push w ↦ sees-step script c.args.ticks ticks c.args.rows c.args.seen.now c.if-is_step.seen
+    let sees : Sees (leg_of script) ticks c.args.rows c.if-is_step.seen = elim c.if-is_step.branch [
+      | then-is_step+in_ok-push w ↦
+          sees-step (leg_of script) c.args.ticks ticks c.args.rows c.args.seen.now c.if-is_step.seen
           w.push.new.self w.active.result.items c.requires.seen
           (on ∙ w.if-is_step.ensures.yes) (w.active.ensures ∙ ap active w.table.ensures.table) w.in_ok-push.ensures.ok
           w.seen-is
-      | else-is_step w ↦ sees-same script c.args.ticks ticks c.args.rows c.args.seen.now c.if-is_step.seen
+      | else-is_step w ↦ sees-same (leg_of script) c.args.ticks ticks c.args.rows c.args.seen.now c.if-is_step.seen
           c.requires.seen (on ∙ w.if-is_step.ensures.no) w.seen-is
     ] in
-    subst (λ n. Sees script ticks n c.if-is_step.seen) all sees
+    subst (λ n. Sees (leg_of script) ticks n c.if-is_step.seen) all sees
 
 pub see_row-requires-clause-seen : goal.see_row-requires-clause-seen
 see_row-requires-clause-seen c =
@@ -47,10 +50,11 @@ see_row-requires-clause-seen c =
     let on : steps_in ticks ≡ steps_in c.totals-totals.result.ticks =
     ap steps_in (sym (ap (λ (t : Totals). t.ticks) c.totals-totals.ensures)) in
     elim c.if-is_step.branch [
-      | then-is_step+in_ok-push w ↦ sees-step script c.args.ticks ticks c.args.rows c.args.seen.now c.if-is_step.seen
+      | then-is_step+in_ok-push w ↦
+          sees-step (leg_of script) c.args.ticks ticks c.args.rows c.args.seen.now c.if-is_step.seen
           w.push.new.self w.active.result.items c.requires.seen
           (on ∙ w.if-is_step.ensures.yes) (w.active.ensures ∙ ap active w.table.ensures.table) w.in_ok-push.ensures.ok
           w.seen-is
-      | else-is_step w ↦ sees-same script c.args.ticks ticks c.args.rows c.args.seen.now c.if-is_step.seen
+      | else-is_step w ↦ sees-same (leg_of script) c.args.ticks ticks c.args.rows c.args.seen.now c.if-is_step.seen
           c.requires.seen (on ∙ w.if-is_step.ensures.no) w.seen-is
     ]

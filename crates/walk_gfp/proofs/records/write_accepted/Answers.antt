@@ -1,5 +1,6 @@
 -- A record more, in the row that the frame's fate tells.
 use Rattle.std.proofs.Common.{◌≡◌, ◌++◌, Some, sym, ◌∙◌, ap, subst}
+use Rattle.session_model.specs.Leg.{leg_of}
 use Rattle.capture_file.specs.Out.{HasGfp}
 use Rattle.walk_fates.specs.Lines.{fates_in}
 use Rattle.walk_gfp.specs.Records.{last_row, frame_if}
@@ -8,7 +9,7 @@ use Rattle.walk_gfp.proofs.records.write_accepted.Goals as goal
 pub returns-in-Some : goal.returns-in-Some
 returns-in-Some g c start before has =
     let script = c.args.walk.now.script in
-    let fate = fates_in script c.args.walk.now.counts.rows c.args.frame in
+    let fate = fates_in (leg_of script) c.args.walk.now.counts.rows c.args.frame in
     let row : Some c.in-Some.row ≡ last_row fate = sym c.in-Some.is ∙ c.last_row.ensures
     ∙ ap last_row c.accepted_fate.ensures in
     subst (HasGfp g.K.ByteSink.written g.K.ByteSink.faults c.frame.new.self start)

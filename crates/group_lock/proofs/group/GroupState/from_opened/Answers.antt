@@ -12,7 +12,7 @@ invariant_of-result c =
     let source = opened.source in
     let m = c.requires.opened.source in
     let config = c.args.script.now.config in
-    let network = c.requires.script.network in
+    let network = c.requires.script.sound.network in
     let at : Parts = parts source.core source.total source.landed opened.journal source.inbox c.args.tx.items
     c.args.back in
     let most_ticks = network.ticks.1 in
@@ -47,7 +47,7 @@ pub returns-clause-begun : goal.returns-clause-begun
 returns-clause-begun c =
     let m = c.requires.opened.source in
     record {
-      script = record {
+      of_script = record {
         lines = m.core.lines;
         lag = m.core.lag;
         size = m.core.size;

@@ -9,14 +9,15 @@ use Rattle.group_source.proofs.source.GroupSource.new.Goals as goal
 
 pub new-requires-2-clause-frames : goal.new-requires-2-clause-frames
 new-requires-2-clause-frames c =
-    subst (λ items. IsNonDecreasing (frame_dues (dues_of items))) (sym c.items_of.ensures) c.requires.items.frames
+    subst (λ items. IsNonDecreasing (frame_dues (dues_of items))) (sym c.items_of.ensures) c.requires.sound.items.frames
 
 pub new-requires-2-clause-commands : goal.new-requires-2-clause-commands
 new-requires-2-clause-commands c =
-    subst (λ items. IsNonDecreasing (command_dues (dues_of items))) (sym c.items_of.ensures) c.requires.items.commands
+    subst (λ items. IsNonDecreasing (command_dues (dues_of items)))
+    (sym c.items_of.ensures) c.requires.sound.items.commands
 
 pub invariant_of-result : goal.invariant_of-result
-invariant_of-result c = c.requires.network.ticks.1
+invariant_of-result c = c.requires.sound.network.ticks.1
 
 pub returns : goal.returns
 returns c = record {

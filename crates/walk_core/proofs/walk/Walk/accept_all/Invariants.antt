@@ -2,6 +2,7 @@
 use Rattle.std.proofs.Common.{◌≡◌, ◌-◌, length}
 use Rattle.session_model.specs.declared.walk.Event.TheVariants.{Accept}
 use Rattle.session_model.specs.Counts.{Counts}
+use Rattle.session_model.specs.Leg.{leg_of}
 use Rattle.walk_law.specs.Walk.{walk_plan}
 use Rattle.walk_core.proofs.RoundLaws.{Landed}
 use Rattle.walk_core.proofs.walk.Walk.accept_all.Given as goal
@@ -9,9 +10,10 @@ use Rattle.walk_core.proofs.walk.Walk.accept_all.Given as goal
 abbrev pub invariant-loop : goal.invariant-loop
 invariant-loop l = record {
   script : l.self.script ≡ l.fn.self.script;
-  landed : Landed (walk_plan l.fn.self.script) l.fn.self.counts l.self.counts Accept (λ (s : Counts). s.frames);
+  landed : Landed (walk_plan (leg_of l.fn.self.script)) l.fn.self.counts l.self.counts Accept
+      (λ (s : Counts). s.frames);
   rows : l.self.counts.rows ≡ l.fn.self.counts.rows;
 }
 
 abbrev pub decreases-loop : goal.decreases-loop
-decreases-loop l = length (walk_plan l.fn.self.script).items - l.self.counts.frames
+decreases-loop l = length (walk_plan (leg_of l.fn.self.script)).items - l.self.counts.frames

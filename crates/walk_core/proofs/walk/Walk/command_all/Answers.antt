@@ -3,6 +3,7 @@ use Rattle.std.proofs.Common.{refl, sym, ◌∙◌, ap}
 use Rattle.session_model.specs.declared.script.Script.{Script}
 use Rattle.session_model.specs.declared.walk.Event.TheVariants.{Command}
 use Rattle.session_model.specs.Counts.{Counts}
+use Rattle.session_model.specs.Leg.{leg_of}
 use Rattle.walk_law.specs.Walk.{walk_plan}
 use Rattle.walk_core.specs.Moved.{counts_after, moved_of}
 use Rattle.walk_core.proofs.RoundLaws.{landed-none, command-turn, command-end, command-rows}
@@ -12,7 +13,8 @@ pub loop-init : goal.loop-init
 loop-init c = record {
   script = refl;
   landed =
-      landed-none (walk_plan c.args.self.now.script) c.args.self.now.counts Command (λ (s : Counts). s.commands);
+      landed-none (walk_plan (leg_of c.args.self.now.script)) c.args.self.now.counts Command
+      (λ (s : Counts). s.commands);
   rows =
       refl;
 }
@@ -20,28 +22,36 @@ loop-init c = record {
 pub returns-in-Stalled-clause-counts : goal.returns-in-Stalled-clause-counts
 returns-in-Stalled-clause-counts c =
     let inv = c.loop.invariant in
-    let after = c.command.ensures.counts ∙ ap (λ (x : Script). counts_after x c.loop.self.counts Command) inv.script in
+    let after = c.command.ensures.counts
+    ∙ ap (λ (x : Script). counts_after (leg_of x) c.loop.self.counts Command) inv.script in
     let said = sym c.in-Stalled.is ∙ c.command.ensures.moved
-    ∙ ap (λ (x : Script). moved_of x c.loop.self.counts Command) inv.script in
-    command-end c.args.self.now.script c.args.self.now.counts c.loop.self.counts c.command.new.self.counts _ inv.landed
+    ∙ ap (λ (x : Script). moved_of (leg_of x) c.loop.self.counts Command) inv.script in
+    command-end
+    (leg_of c.args.self.now.script) c.args.self.now.counts c.loop.self.counts c.command.new.self.counts _ inv.landed
     after said
 
 pub loop-smaller : goal.loop-smaller
 loop-smaller c =
     let inv = c.loop.invariant in
-    let after = c.command.ensures.counts ∙ ap (λ (x : Script). counts_after x c.loop.self.counts Command) inv.script in
-    let said = c.command.ensures.moved ∙ ap (λ (x : Script). moved_of x c.loop.self.counts Command) inv.script in
-    (command-turn c.args.self.now.script c.args.self.now.counts c.loop.self.counts c.command.new.self.counts
+    let after = c.command.ensures.counts
+    ∙ ap (λ (x : Script). counts_after (leg_of x) c.loop.self.counts Command) inv.script in
+    let said = c.command.ensures.moved
+    ∙ ap (λ (x : Script). moved_of (leg_of x) c.loop.self.counts Command) inv.script in
+    (command-turn (leg_of c.args.self.now.script) c.args.self.now.counts c.loop.self.counts c.command.new.self.counts
     c.command.result inv.landed after said c.in_default.not-Stalled).1
 
 pub loop-preserved : goal.loop-preserved
 loop-preserved c =
     let inv = c.loop.invariant in
-    let after = c.command.ensures.counts ∙ ap (λ (x : Script). counts_after x c.loop.self.counts Command) inv.script in
-    let said = c.command.ensures.moved ∙ ap (λ (x : Script). moved_of x c.loop.self.counts Command) inv.script in
+    let after = c.command.ensures.counts
+    ∙ ap (λ (x : Script). counts_after (leg_of x) c.loop.self.counts Command) inv.script in
+    let said = c.command.ensures.moved
+    ∙ ap (λ (x : Script). moved_of (leg_of x) c.loop.self.counts Command) inv.script in
     record {
       script = c.command.ensures.script ∙ inv.script;
-      landed = (command-turn c.args.self.now.script c.args.self.now.counts c.loop.self.counts c.command.new.self.counts
+      landed = (command-turn
+          (leg_of c.args.self.now.script) c.args.self.now.counts c.loop.self.counts c.command.new.self.counts
           c.command.result inv.landed after said c.in_default.not-Stalled).0;
-      rows = ap (λ (s : Counts). s.rows) after ∙ command-rows c.args.self.now.script c.loop.self.counts ∙ inv.rows;
+      rows = ap (λ (s : Counts). s.rows) after ∙ command-rows (leg_of c.args.self.now.script) c.loop.self.counts
+          ∙ inv.rows;
     }

@@ -1,6 +1,7 @@
 -- The rounds that are left give what all of them give.
 use Rattle.std.proofs.Common.{◌≡◌, ◌≤◌, ◌-◌}
 use Rattle.session_model.specs.Counts.{drain, bound}
+use Rattle.session_model.specs.Leg.{leg_of}
 use Rattle.progress_law.specs.Progress.{made}
 use Rattle.walk_law.specs.Walk.{walk_plan}
 use Rattle.walk_core.specs.Moved.{GivesRows}
@@ -9,11 +10,12 @@ use Rattle.walk_core.proofs.walk.Walk.drain.Given as goal
 abbrev pub invariant-loop-self : goal.invariant-loop-self
 invariant-loop-self g l = record {
   script : l.self.script ≡ l.fn.self.script;
-  left : drain (bound (walk_plan l.fn.self.script)) (walk_plan l.fn.self.script) l.self.counts
-      ≡ drain (bound (walk_plan l.fn.self.script)) (walk_plan l.fn.self.script) l.fn.self.counts;
+  left : drain (bound (walk_plan (leg_of l.fn.self.script))) (walk_plan (leg_of l.fn.self.script)) l.self.counts
+      ≡ drain (bound (walk_plan (leg_of l.fn.self.script))) (walk_plan (leg_of l.fn.self.script)) l.fn.self.counts;
   rises : l.fn.self.counts.rows ≤ l.self.counts.rows;
-  gives : GivesRows g.F.FrameOut.stands_for l.fn.out l.out l.fn.self.script l.fn.self.counts.rows l.self.counts.rows;
+  gives : GivesRows g.F.FrameOut.stands_for l.fn.out l.out
+      (leg_of l.fn.self.script) l.fn.self.counts.rows l.self.counts.rows;
 }
 
 abbrev pub decreases-loop-self : goal.decreases-loop-self
-decreases-loop-self g l = bound (walk_plan l.fn.self.script) - made l.self.counts
+decreases-loop-self g l = bound (walk_plan (leg_of l.fn.self.script)) - made l.self.counts

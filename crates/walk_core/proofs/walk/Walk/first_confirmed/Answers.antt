@@ -1,6 +1,7 @@
 -- The mark of the sink's segment.
 use Rattle.std.proofs.Common.{◌≡◌, subst}
 use Rattle.session_model.specs.Segment.{segments_of}
+use Rattle.session_model.specs.Leg.{leg_of}
 use Rattle.walk_law.specs.Delivered.{session_rows}
 use Rattle.gfp_mark.specs.Marks.{first_place}
 use Rattle.walk_core.specs.Moved.{Walked}
@@ -10,5 +11,5 @@ use Rattle.walk_core.proofs.walk.Walk.first_confirmed.Goals as goal
 pub returns : goal.returns
 returns c =
     subst (λ (w : Walked). c.first_confirmed.result ≡ first_place
-    (segments_of (session_rows w.script w.counts.rows)).last.octets) c.self.view_is
-    (mark-is _ _ _ _ _ c.first_confirmed.result c.self.invariant c.first_confirmed.ensures)
+    (segments_of (session_rows (leg_of w.script) w.counts.rows)).last.octets) c.self.view_is
+    (mark-is _ _ _ _ _ c.first_confirmed.result c.self.invariant.1 c.first_confirmed.ensures)

@@ -1,6 +1,7 @@
 -- The next item of a kind lands, or stalls.
 use Rattle.std.proofs.Common.{◌≡◌, refl, sym, ◌∙◌, ap, subst, arith}
 use Rattle.session_model.specs.declared.walk.StallCause.TheVariants.{NotDue, Done as Stall_done}
+use Rattle.session_model.specs.Leg.{leg_of}
 use Rattle.group_source.specs.Item.{kind_of}
 use Rattle.group_source.specs.Landed.{Landed, next_number, due_at}
 use Rattle.walk_core.specs.declared.moved.Moved.TheVariants.{Stalled}
@@ -16,13 +17,14 @@ pub returns-in_default : goal.returns-in_default
 returns-in_default c =
     let none = sym (c.next.ensures ∙ ap (λ (l : Landed). next_number l c.args.client) c.landing.ensures)
     ∙ c.in_default.is in
-    let stays = land-stays _ _ _ _ _ c.self.invariant c.args.client Stall_done
-    (land-none _ _ _ _ _ c.self.invariant c.args.client none) in
+    let stays = land-stays _ _ _ _ _ c.self.invariant.1 c.args.client Stall_done
+    (land-none _ _ _ _ _ c.self.invariant.1 c.args.client none) in
     record {
       script = refl;
-      counts = subst (λ (w : Walked). w.counts ≡ counts_after w.script w.counts (landing_of c.args.client))
+      counts = subst (λ (w : Walked). w.counts ≡ counts_after (leg_of w.script) w.counts (landing_of c.args.client))
           c.self.view_is stays.0;
-      moved = subst (λ (w : Walked). Stalled Stall_done ≡ moved_of w.script w.counts (landing_of c.args.client))
+      moved = subst (λ (w : Walked). Stalled Stall_done
+          ≡ moved_of (leg_of w.script) w.counts (landing_of c.args.client))
           c.self.view_is stays.1;
     }
 
@@ -33,14 +35,14 @@ returns-then-ticks-due c =
     let late = c.due-due.ensures ∙ ap (λ (l : Landed). due_at l.items c.in-Some.number) c.landing-2.ensures in
     let low = c.if-ticks-due.true in
     let cause = NotDue c.due-due.result in
-    let stays = land-stays _ _ _ _ _ c.self.invariant c.args.client cause
-    (land-early _ _ _ _ _ c.self.invariant c.args.client c.in-Some.number c.ticks.result c.due-due.result next
+    let stays = land-stays _ _ _ _ _ c.self.invariant.1 c.args.client cause
+    (land-early _ _ _ _ _ c.self.invariant.1 c.args.client c.in-Some.number c.ticks.result c.due-due.result next
     c.ticks.ensures late (omega (arith, low))) in
     record {
       script = refl;
-      counts = subst (λ (w : Walked). w.counts ≡ counts_after w.script w.counts (landing_of c.args.client))
+      counts = subst (λ (w : Walked). w.counts ≡ counts_after (leg_of w.script) w.counts (landing_of c.args.client))
           c.self.view_is stays.0;
-      moved = subst (λ (w : Walked). Stalled cause ≡ moved_of w.script w.counts (landing_of c.args.client))
+      moved = subst (λ (w : Walked). Stalled cause ≡ moved_of (leg_of w.script) w.counts (landing_of c.args.client))
           c.self.view_is stays.1;
     }
 
@@ -48,14 +50,14 @@ pub land-requires : goal.land-requires
 land-requires c =
     let next = sym (c.next.ensures ∙ ap (λ (l : Landed). next_number l c.args.client) c.landing.ensures)
     ∙ c.in-Some.is in
-    ap (next_number c.self.inside.source.landed) (land-kind _ _ _ _ _ c.self.invariant c.args.client c.in-Some.number
+    ap (next_number c.self.inside.source.landed) (land-kind _ _ _ _ _ c.self.invariant.1 c.args.client c.in-Some.number
     (kind_of c.item_at.result) next c.item_at.ensures) ∙ next
 
 -- the walk after an item has landed
 abbrev IsDone : After-land → Type 0
 IsDone c =
     let f = c.self.inside in
-    Done f.script
+    Done (leg_of f.script)
     (counts_of (parts_of f.source (sent_frames f.sent) f.lines.items f.rows f.sink f.ring) f.source.landed)
     (landing_of c.args.client)
     (parts_of c.land.new.self (sent_frames f.sent) f.lines.items f.rows f.sink f.ring)
@@ -69,8 +71,8 @@ done c =
     let late = c.due-due.ensures ∙ ap (λ (l : Landed). due_at l.items c.in-Some.number) c.landing-2.ensures in
     let low = c.if-ticks-due.false in
     let e = c.land.ensures in
-    land-taken f.script f.source c.land.new.self (sent_frames f.sent) f.lines.items f.rows f.sink f.ring
-    f.got f.last c.self.invariant c.args.client c.in-Some.number c.ticks.result c.due-due.result
+    land-taken (leg_of f.script) f.source c.land.new.self (sent_frames f.sent) f.lines.items f.rows f.sink f.ring
+    f.got f.last c.self.invariant.1 c.args.client c.in-Some.number c.ticks.result c.due-due.result
     (kind_of c.item_at.result) c.land.result next c.ticks.ensures late (omega (arith, low)) c.item_at.ensures
     (record {
       met = e.met;
@@ -81,7 +83,7 @@ done c =
     })
 
 pub invariant_of-self : goal.invariant_of-self
-invariant_of-self c = (done (goal.at.invariant_of-self c).After-land).kept
+invariant_of-self c = (c.self.invariant.0, (done (goal.at.invariant_of-self c).After-land).kept)
 
 pub returns : goal.returns
 returns c =
@@ -89,7 +91,7 @@ returns c =
     record {
       script = ap (λ (w : Walked). w.script) c.self.view_is;
       counts = now.counts
-          ∙ ap (λ (w : Walked). counts_after w.script w.counts (landing_of c.args.client)) c.self.view_is;
+          ∙ ap (λ (w : Walked). counts_after (leg_of w.script) w.counts (landing_of c.args.client)) c.self.view_is;
       moved = c.landed.ensures ∙ now.moved
-          ∙ ap (λ (w : Walked). moved_of w.script w.counts (landing_of c.args.client)) c.self.view_is;
+          ∙ ap (λ (w : Walked). moved_of (leg_of w.script) w.counts (landing_of c.args.client)) c.self.view_is;
     }

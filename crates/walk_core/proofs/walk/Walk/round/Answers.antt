@@ -3,6 +3,7 @@ use Rattle.std.proofs.Common.{suc, sym, ◌∙◌, ap, subst, length, replicate,
 use Rattle.session_model.specs.declared.script.Script.{Script}
 use Rattle.session_model.specs.declared.walk.Event.TheVariants.{Command, Tick, Back, Take}
 use Rattle.session_model.specs.Counts.{run, carries_from}
+use Rattle.session_model.specs.Leg.{leg_of}
 use Rattle.walk_law.specs.Walk.{walk_plan}
 use Rattle.walk_core.specs.Moved.{counts_after, GivesRows}
 use Rattle.walk_core.proofs.RoundLaws.{round-parts, round-rows}
@@ -20,16 +21,16 @@ returns-clause-counts g c =
     let t = c.tick.new.self.counts in
     let m = c.carry_all.new.self.counts in
     let r = c.back.new.self.counts in
-    round-parts script c.args.self.now.counts a b t m r c.take.new.self.counts
+    round-parts (leg_of script) c.args.self.now.counts a b t m r c.take.new.self.counts
     c.accept_all.ensures.counts
     (c.command_all.ensures.counts ∙ ap
-    (λ (x : Script). run (walk_plan x) a (replicate (suc (length (walk_plan x).items)) Command))
+    (λ (x : Script). run (walk_plan (leg_of x)) a (replicate (suc (length (walk_plan (leg_of x)).items)) Command))
     c.accept_all.ensures.script)
-    (c.tick.ensures.counts ∙ ap (λ (x : Script). counts_after x b Tick) b_script)
-    (ap (λ (x : Script). run (walk_plan x) m (Back ∷ Take ∷ [])) (sym m_script) ∙ c.carry_all.ensures.counts
-    ∙ ap (λ (x : Script). run (walk_plan x) t (carries_from 0 (walk_plan x).paths)) t_script)
-    (c.back.ensures.counts ∙ ap (λ (x : Script). counts_after x m Back) m_script)
-    (c.take.ensures.counts ∙ ap (λ (x : Script). counts_after x r Take) r_script)
+    (c.tick.ensures.counts ∙ ap (λ (x : Script). counts_after (leg_of x) b Tick) b_script)
+    (ap (λ (x : Script). run (walk_plan (leg_of x)) m (Back ∷ Take ∷ [])) (sym m_script) ∙ c.carry_all.ensures.counts
+    ∙ ap (λ (x : Script). run (walk_plan (leg_of x)) t (carries_from 0 (walk_plan (leg_of x)).paths)) t_script)
+    (c.back.ensures.counts ∙ ap (λ (x : Script). counts_after (leg_of x) m Back) m_script)
+    (c.take.ensures.counts ∙ ap (λ (x : Script). counts_after (leg_of x) r Take) r_script)
 
 pub returns-clause-gives : goal.returns-clause-gives
 returns-clause-gives g c =
@@ -38,12 +39,13 @@ returns-clause-gives g c =
     let m_script = c.carry_all.ensures.script ∙ c.tick.ensures.script ∙ b_script in
     let r_script = c.back.ensures.script ∙ m_script in
     let e = c.take.new.self.counts.rows in
-    let same = round-rows script c.accept_all.new.self.counts c.command_all.new.self.counts c.tick.new.self.counts
+    let same =
+    round-rows (leg_of script) c.accept_all.new.self.counts c.command_all.new.self.counts c.tick.new.self.counts
     c.carry_all.new.self.counts c.back.new.self.counts c.take.new.self.counts c.args.self.now.counts
     c.accept_all.ensures.rows c.command_all.ensures.rows
-    (c.tick.ensures.counts ∙ ap (λ (x : Script). counts_after x c.command_all.new.self.counts Tick) b_script)
+    (c.tick.ensures.counts ∙ ap (λ (x : Script). counts_after (leg_of x) c.command_all.new.self.counts Tick) b_script)
     c.carry_all.ensures.rows (c.back.ensures.counts
-    ∙ ap (λ (x : Script). counts_after x c.carry_all.new.self.counts Back) m_script) in
-    subst (λ n. GivesRows g.F.FrameOut.stands_for c.args.out.now c.take.new.out script n e) same
-    (subst (λ (x : Script). GivesRows g.F.FrameOut.stands_for c.args.out.now c.take.new.out x
+    ∙ ap (λ (x : Script). counts_after (leg_of x) c.carry_all.new.self.counts Back) m_script) in
+    subst (λ n. GivesRows g.F.FrameOut.stands_for c.args.out.now c.take.new.out (leg_of script) n e) same
+    (subst (λ (x : Script). GivesRows g.F.FrameOut.stands_for c.args.out.now c.take.new.out (leg_of x)
     c.back.new.self.counts.rows e) r_script c.take.ensures.gives)

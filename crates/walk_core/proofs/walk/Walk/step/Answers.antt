@@ -2,36 +2,39 @@
 use Rattle.std.proofs.Common.{◌<◌, length, ◌∙◌, ap, subst, arith}
 use Rattle.session_model.specs.Counts.{Counts}
 use Rattle.session_model.specs.Valid.{IsValid}
+use Rattle.session_model.specs.Leg.{leg_of}
 use Rattle.progress_law.specs.Progress.{HasLine}
 use Rattle.walk_law.specs.Walk.{walk_plan}
-use Rattle.walk_law.proofs.PlanLaws.{has-paths, valid-walks}
+use Rattle.walk_law.proofs.PlanLaws.{has-paths, sound-walks}
 use Rattle.walk_core.specs.Moved.{Walked}
 use Rattle.walk_core.proofs.RoundLaws.{frame-rows, command-rows, carry-rows, gives-none}
 use Rattle.walk_core.proofs.walk.Walk.step.Goals as goal
 
 pub prove-unreachable-requires : goal.prove-unreachable-requires
 prove-unreachable-requires g c =
-    let valid = subst (λ (w : Walked). IsValid w.script) c.self.view_is c.self.invariant.valid in
-    let size = has-paths c.args.self.now.script (valid-walks c.args.self.now.script valid)
-    ∙ valid.network.windows_each in
+    let valid = subst (λ (w : Walked). IsValid w.script) c.self.view_is c.self.invariant.0 in
+    let size = has-paths (leg_of c.args.self.now.script) (sound-walks (leg_of c.args.self.now.script) valid.sound)
+    ∙ valid.sound.network.windows_each in
     let lines = ap (λ (w : Walked). w.script.config.lines) c.self.view_is in
-    let has : c.in-Carry.line < length (walk_plan c.args.self.now.script).paths =
-    subst (HasLine (walk_plan c.args.self.now.script)) c.in-Carry.is c.requires in
+    let has : c.in-Carry.line < length (walk_plan (leg_of c.args.self.now.script)).paths =
+    subst (HasLine (walk_plan (leg_of c.args.self.now.script))) c.in-Carry.is c.requires in
     let test = c.if-prove.true in
     omega (arith, size, lines, has, test)
 
 pub returns-in-Accept-clause-gives : goal.returns-in-Accept-clause-gives
 returns-in-Accept-clause-gives g c =
-    gives-none g.F.FrameOut.stands_for c.args.out.now c.args.self.now.script _ _
-    (ap (λ (s : Counts). s.rows) c.accept.ensures.counts ∙ frame-rows c.args.self.now.script c.args.self.now.counts)
+    gives-none g.F.FrameOut.stands_for c.args.out.now (leg_of c.args.self.now.script) _ _
+    (ap (λ (s : Counts). s.rows) c.accept.ensures.counts
+    ∙ frame-rows (leg_of c.args.self.now.script) c.args.self.now.counts)
 
 pub returns-in-Command-clause-gives : goal.returns-in-Command-clause-gives
 returns-in-Command-clause-gives g c =
-    gives-none g.F.FrameOut.stands_for c.args.out.now c.args.self.now.script _ _
-    (ap (λ (s : Counts). s.rows) c.command.ensures.counts ∙ command-rows c.args.self.now.script c.args.self.now.counts)
+    gives-none g.F.FrameOut.stands_for c.args.out.now (leg_of c.args.self.now.script) _ _
+    (ap (λ (s : Counts). s.rows) c.command.ensures.counts
+    ∙ command-rows (leg_of c.args.self.now.script) c.args.self.now.counts)
 
 pub returns-in-Carry-clause-gives : goal.returns-in-Carry-clause-gives
 returns-in-Carry-clause-gives g c =
-    gives-none g.F.FrameOut.stands_for c.args.out.now c.args.self.now.script _ _
+    gives-none g.F.FrameOut.stands_for c.args.out.now (leg_of c.args.self.now.script) _ _
     (ap (λ (s : Counts). s.rows) c.carry.ensures.counts
-    ∙ carry-rows c.args.self.now.script c.args.self.now.counts c.in-Carry.line)
+    ∙ carry-rows (leg_of c.args.self.now.script) c.args.self.now.counts c.in-Carry.line)

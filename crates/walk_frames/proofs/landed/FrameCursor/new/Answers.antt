@@ -1,5 +1,6 @@
 -- No item was passed.
 use Rattle.std.proofs.Common.{sym, ap, arith}
+use Rattle.session_model.specs.Leg.{leg_of}
 use Rattle.walk_law.specs.Landed.{landed_from, refusals_among}
 use Rattle.walk_frames.proofs.landed.FrameCursor.new.Goals as goal
 
@@ -8,11 +9,11 @@ returns-clause-at c =
     let script = c.args.walk.now.script in
     let commands = c.args.walk.now.counts.commands in
     record {
-      valid = c.requires.valid;
+      sound = c.requires.valid.sound;
       walked = c.requires.walked;
       commands = commands;
       within = omega arith;
       left = omega (arith, c.landed_frames.ensures);
-      refusals = ap (λ frames. refusals_among script (landed_from frames commands 0 script.items))
+      refusals = ap (λ frames. refusals_among (leg_of script) (landed_from frames commands 0 script.items))
           (sym c.landed_frames.ensures);
     }

@@ -1,5 +1,6 @@
 -- No frame that has landed is left.
 use Rattle.std.proofs.Common.{inl, inr, arith, ap, length}
+use Rattle.session_model.specs.Leg.{leg_of}
 use Rattle.walk_frames.specs.Landed.{Cursor}
 use Rattle.walk_frames.proofs.LandedFrameLaws.{past-end, past-before}
 use Rattle.walk_frames.proofs.landed.FrameCursor.next.Goals as goal
@@ -10,8 +11,8 @@ returns-else-self-items_of-clause-none c =
     let item = ap (λ (cursor : Cursor). cursor.item) c.self.view_is in
     let size = ap length c.items_of.ensures in
     let test = c.if-self-items_of.false in
-    past-before c.args.walk.now.script c.args.walk.now.counts c.args.self.now c.loop-self.self inv.1
-    (past-end c.args.walk.now.script c.args.walk.now.counts c.loop-self.self inv.0
+    past-before (leg_of c.args.walk.now.script) c.args.walk.now.counts c.args.self.now c.loop-self.self inv.1
+    (past-end (leg_of c.args.walk.now.script) c.args.walk.now.counts c.loop-self.self inv.0
     (inr (omega (arith, item, size, test))))
 
 pub returns-after-loop-self-clause-none : goal.returns-after-loop-self-clause-none
@@ -19,5 +20,6 @@ returns-after-loop-self-clause-none c =
     let inv = c.loop-self.invariant in
     let left = ap (λ (cursor : Cursor). cursor.left) c.self.view_is in
     let test = c.loop-self-test.false in
-    past-before c.args.walk.now.script c.args.walk.now.counts c.args.self.now c.loop-self.self inv.1
-    (past-end c.args.walk.now.script c.args.walk.now.counts c.loop-self.self inv.0 (inl (omega (arith, left, test))))
+    past-before (leg_of c.args.walk.now.script) c.args.walk.now.counts c.args.self.now c.loop-self.self inv.1
+    (past-end (leg_of c.args.walk.now.script) c.args.walk.now.counts c.loop-self.self inv.0
+    (inl (omega (arith, left, test))))

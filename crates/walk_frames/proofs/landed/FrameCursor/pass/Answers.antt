@@ -1,5 +1,6 @@
 -- A frame that has landed, or another item.
 use Rattle.std.proofs.Common.{◌+◌, ◌-◌, length, ap, ap₂, ◌∙◌, rules}
+use Rattle.session_model.specs.Leg.{leg_of}
 use Rattle.walk_frames.specs.Landed.{Cursor}
 use Rattle.walk_frames.proofs.LandedFrameLaws.{no-frame, passed, skipped}
 use Rattle.walk_frames.proofs.landed.FrameCursor.pass.Goals as goal
@@ -8,7 +9,7 @@ pub returns-in-Frame : goal.returns-in-Frame
 returns-in-Frame c =
     let cursor : Cursor = c.args.self.now in
     let here = ap (λ (cursor : Cursor). cursor.item) c.self.view_is in
-    let both = passed c.args.walk.now.script c.args.walk.now.counts cursor c.requires.at c.requires.some
+    let both = passed (leg_of c.args.walk.now.script) c.args.walk.now.counts cursor c.requires.at c.requires.some
     c.requires.there c.items_of.result.now c.items_of.ensures c.refusals.result.now c.refusals.ensures
     c.self.inside.item here c.index-items_of-i.result c.index-items_of-i.is c.take_refusal-refusal.result
     c.take_refusal-refusal.new.self.refusal c.take_refusal-refusal.ensures.finds c.in-Frame.octets c.len.result _
@@ -21,7 +22,8 @@ returns-in-Frame c =
 pub returns-in-Add : goal.returns-in-Add
 returns-in-Add c =
     let here = ap (λ (cursor : Cursor). cursor.item) c.self.view_is in
-    let both = skipped c.args.walk.now.script c.args.walk.now.counts c.args.self.now c.requires.at c.requires.some
+    let both =
+    skipped (leg_of c.args.walk.now.script) c.args.walk.now.counts c.args.self.now c.requires.at c.requires.some
     c.requires.there c.items_of.result.now c.items_of.ensures c.refusals.result.now c.refusals.ensures
     c.self.inside.item here c.index-items_of-i.result c.index-items_of-i.is c.take_refusal-refusal.result
     c.take_refusal-refusal.new.self.refusal c.take_refusal-refusal.ensures.finds _
@@ -34,7 +36,8 @@ returns-in-Add c =
 pub returns-in-Add-2 : goal.returns-in-Add-2
 returns-in-Add-2 c =
     let here = ap (λ (cursor : Cursor). cursor.item) c.self.view_is in
-    let both = skipped c.args.walk.now.script c.args.walk.now.counts c.args.self.now c.requires.at c.requires.some
+    let both =
+    skipped (leg_of c.args.walk.now.script) c.args.walk.now.counts c.args.self.now c.requires.at c.requires.some
     c.requires.there c.items_of.result.now c.items_of.ensures c.refusals.result.now c.refusals.ensures
     c.self.inside.item here c.index-items_of-i.result c.index-items_of-i.is c.take_refusal-refusal.result
     c.take_refusal-refusal.new.self.refusal c.take_refusal-refusal.ensures.finds _
