@@ -1,5 +1,5 @@
 -- The totals of a walk.
-use Rattle.std.proofs.Common.{◌≡◌, ℕ, ◌+◌, ◌-◌, length, Option, ◌∙◌, ap, arith}
+use Rattle.std.proofs.Common.{◌≡◌, ℕ, ◌+◌, length, Option, ◌∙◌, ap, arith}
 use Rattle.session_model.specs.Leg.{Leg}
 use Rattle.report_text.specs.declared.report.Totals.{Totals}
 use Rattle.walk_law.specs.Landed.{totals_of}

@@ -1,4 +1,5 @@
 -- Nothing has landed, was sent, or was taken.
+use Rattle.std.proofs.Common.{refl}
 use Rattle.session_model.specs.Leg.{leg_of}
 use Rattle.walk_core.proofs.OpenLaws.{new-counts, new-walk}
 use Rattle.walk_core.proofs.walk.Walk.from_opened.Goals as goal
