@@ -3,3 +3,4 @@ pub mod LaneLaws
 pub mod PlaceLaws
 pub mod MemberLaws
 pub mod SpreadLaws
+pub mod AgainLaws

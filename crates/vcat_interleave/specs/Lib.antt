@@ -2,3 +2,4 @@ pub mod Square
 pub mod Gathered
 pub mod Members
 pub mod Spread
+pub mod Again

@@ -1,6 +1,10 @@
 //! The octets of one member in a row.
-ghost use Rattle.std.specs.Prelude.{◌≡◌, ◌≢◌, ℕ, ◌+◌, ◌*◌, ◌%◌, ◌<◌, length, slice_index};
+ghost use Rattle.std.specs.Prelude.{◌≡◌, ◌≢◌, ℕ, ◌+◌, ◌*◌, ◌%◌, ◌<◌, ◌≤◌, true, length, slice_index};
 ghost use Rattle.session_model.specs.Interleave.{part_of};
+ghost use Rattle.vcat_interleave.specs.Again.{ComesAgain};
+
+use crate::square::{SIDE, put_octets};
+use std::simd::prelude::*;
 
 // Puts the octets of a member at the places of its rank.
 #[inline]
@@ -26,6 +30,64 @@ pub(crate) fn take_rank(row: &[u8], rank: usize, x: usize, octets: &mut [u8])
     for p in 0..octets.len() {
         octets[p] = row[p * x + rank];
     }
+}
+
+// Takes the octets of a member, and by vectors where these come again and again in the row.
+#[inline]
+pub(crate) fn take_part(row: &[u8], rank: usize, x: usize, again: bool, octets: &mut [u8])
+    requires rank { rank < x }
+    requires row { length row.now ≡ length octets.old * x }
+    requires again { again ≡ true → ComesAgain row.now }
+    ensures { octets.new ≡ part_of rank x (length octets.old) row.now }
+{
+    if again && octets.len() > 3 {
+        take_again(row, rank, x, octets);
+    } else if x == 2 {
+        // A step that is known is taken by vectors.
+        take_rank(row, rank, 2, octets);
+    } else {
+        take_rank(row, rank, x, octets);
+    }
+}
+
+// Takes the octets of a member where these come again and again in the row.
+fn take_again(row: &[u8], rank: usize, x: usize, octets: &mut [u8])
+    requires rank { rank < x }
+    requires row { length row.now ≡ length octets.old * x }
+    requires again { ComesAgain row.now }
+    requires some { 3 < length octets.old }
+    ensures { octets.new ≡ part_of rank x (length octets.old) row.now }
+{
+    let sixteen = sixteen_of(row, rank, x);
+    let squares = octets.len() / SIDE;
+    for k in 0..squares {
+        put_octets(sixteen, k * SIDE, octets);
+    }
+    for p in squares * SIDE..octets.len() {
+        octets[p] = row[p * x + rank];
+    }
+}
+
+// The octets of a member at sixteen places, where these come again and again in the row.
+fn sixteen_of(row: &[u8], rank: usize, x: usize) -> u8x16
+    requires rank { rank < x }
+    requires some { 4 * x ≤ length row.now }
+    requires again { ComesAgain row.now }
+    ensures { (p : ℕ) → p * x + rank < length row.now →
+        slice_index result (p % 16) ≡ slice_index row.now (p * x + rank) }
+{
+    let mut sixteen = [0; SIDE];
+    for i in 0..SIDE {
+        sixteen[i] = row[i % 4 * x + rank];
+    }
+    u8x16::from_array(sixteen)
+}
+
+// Whether each octet of a row is as the fourth one before it, as those of idle frames are.
+pub(crate) fn comes_again(row: &[u8]) -> bool
+    ensures { result ≡ true → ComesAgain row.now }
+{
+    row.len() > 3 && row[4..] == row[..row.len() - 4]
 }
 
 // Puts the octets of two members in turn.

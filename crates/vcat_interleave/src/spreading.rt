@@ -1,15 +1,16 @@
 //! A row is spread over the members of a group.
 ghost use Rattle.std.specs.Prelude.{◌≡◌, ◌≢◌, ℕ, ◌+◌, ◌-◌, ◌*◌, ◌/◌, ◌<◌, ◌≤◌, List, ◌++◌, length, take, drop};
-ghost use Rattle.std.specs.Prelude.{replicate, slice_index, slice_index_or, slice_set};
+ghost use Rattle.std.specs.Prelude.{true, replicate, slice_index, slice_index_or, slice_set};
 ghost use Rattle.vc_cell.specs.declared.Container.{Container};
 ghost use Rattle.session_model.specs.Interleave.{part_of};
+ghost use Rattle.vcat_interleave.specs.Again.{ComesAgain};
 ghost use Rattle.vcat_interleave.specs.Square.{octet_at, overhang};
 ghost use Rattle.vc_cell.specs.Held.{held};
 ghost use Rattle.vcat_interleave.specs.Members.{AreLines, with_octets};
 ghost use Rattle.vcat_interleave.specs.Spread.{SpreadsOver, Spreads, AreDistinct};
 ghost use Rattle.session_model.specs.Limits.{vc4_size};
 
-use crate::member::take_rank;
+use crate::member::{comes_again, take_part, take_rank};
 use crate::square::{SIDE, octets_of, put_octets, squares_over, turned};
 use std::simd::prelude::*;
 use vc_cell::{HeldContainer, PAYLOAD};
@@ -50,12 +51,34 @@ pub fn spread_places(
         slice_index_or (held containers.new) line c
         ≡ slice_index_or (held containers.old) line c }
 {
+    if comes_again(row) {
+        spread_each(row, active, place, places, true, containers);
+    } else {
+        spread_by_squares(row, active, place, places, containers);
+    }
+}
+
+// Spreads a row by squares as far as these reach, and then member by member.
+fn spread_by_squares(
+    row: &[u8],
+    active: &[u8],
+    place: usize,
+    places: usize,
+    containers: &mut [Box<HeldContainer>],
+)
+    requires lines { AreLines (length containers.old) active.now }
+    requires distinct { AreDistinct active.now }
+    requires within { place + places ≤ vc4_size }
+    requires row { length row.now ≡ places * length active.now }
+    ensures { Spreads place places row.now active.now
+        (held containers.old) (held containers.new) }
+{
     let x = active.len();
     let squares = squares_over(x, row.len());
     let done = squares * SIDE;
     spread_squares(row, active, place, squares, containers);
     let back = &row[done * x..];
-    spread_each(back, active, place + done, places - done, containers);
+    spread_each(back, active, place + done, places - done, false, containers);
 }
 
 // Spreads a row at a number of places that sixteen divides. No more than sixteen payloads are written at
@@ -100,9 +123,14 @@ fn spread_last(
     ensures { SpreadsOver rank (length active.now) place (squares * 16) row.now active.now
         (held containers.old) (held containers.new) }
 {
-    let ranks = active.len() - rank;
-    if ranks > 0 {
-        spread_ranks(row, active, rank, ranks, place, squares, containers);
+    // Of few ranks, where their number is known, only their columns are made.
+    match active.len() - rank {
+        0 => {}
+        1 => spread_ranks(row, active, rank, 1, place, squares, containers),
+        2 => spread_ranks(row, active, rank, 2, place, squares, containers),
+        4 => spread_ranks(row, active, rank, 4, place, squares, containers),
+        8 => spread_ranks(row, active, rank, 8, place, squares, containers),
+        ranks => spread_ranks(row, active, rank, ranks, place, squares, containers),
     }
 }
 
@@ -189,25 +217,27 @@ fn put_member(octets: u8x16, place: usize, line: usize, containers: &mut [Box<He
     put_octets(octets, place, &mut containers[line].container_mut().payload);
 }
 
-// Spreads a row member by member.
+// Spreads a row member by member, whose octets come again and again where `again` says so.
 fn spread_each(
     row: &[u8],
     active: &[u8],
     place: usize,
     places: usize,
+    again: bool,
     containers: &mut [Box<HeldContainer>],
 )
     requires lines { AreLines (length containers.old) active.now }
     requires distinct { AreDistinct active.now }
     requires within { place + places ≤ vc4_size }
     requires row { length row.now ≡ places * length active.now }
+    requires again { again ≡ true → ComesAgain row.now }
     ensures { Spreads place places row.now active.now
         (held containers.old) (held containers.new) }
 {
     let x = active.len();
     for rank in 0..x {
         let line = usize::from(active[rank]);
-        put_part(row, rank, x, place, places, line, containers);
+        put_part(row, rank, x, place, places, again, line, containers);
     }
 }
 
@@ -218,6 +248,7 @@ fn put_part(
     x: usize,
     place: usize,
     places: usize,
+    again: bool,
     line: usize,
     containers: &mut [Box<HeldContainer>],
 )
@@ -225,6 +256,7 @@ fn put_part(
     requires line { line < length containers.old }
     requires within { place + places ≤ vc4_size }
     requires row { length row.now ≡ places * x }
+    requires again { again ≡ true → ComesAgain row.now }
     ensures put { (c : Container) → held containers.new ≡ slice_set (held containers.old) line
         (with_octets place (part_of rank x places row.now)
         (slice_index_or (held containers.old) line c)) }
@@ -232,19 +264,28 @@ fn put_part(
         length (slice_index_or (held containers.old) line c).payload ≡ vc4_size }
 {
     let payload = &mut containers[line].container_mut().payload;
-    put_piece(row, rank, x, place, places, payload);
+    put_piece(row, rank, x, place, places, again, payload);
 }
 
 // Puts the part of a row that a rank carries at a place of a payload.
 #[inline]
-fn put_piece(row: &[u8], rank: usize, x: usize, place: usize, places: usize, payload: &mut [u8])
+fn put_piece(
+    row: &[u8],
+    rank: usize,
+    x: usize,
+    place: usize,
+    places: usize,
+    again: bool,
+    payload: &mut [u8],
+)
     requires rank { rank < x }
     requires within { place + places ≤ length payload.old }
     requires row { length row.now ≡ places * x }
+    requires again { again ≡ true → ComesAgain row.now }
     ensures { payload.new ≡ take place payload.old
         ++ (part_of rank x places row.now ++ drop (place + places) payload.old) }
 {
     let (_, rest) = payload.split_at_mut(place);
     let (octets, _) = rest.split_at_mut(places);
-    take_rank(row, rank, x, octets);
+    take_part(row, rank, x, again, octets);
 }

@@ -75,15 +75,15 @@ pub(crate) fn squares_of(x: usize, places: usize) -> usize
     if x < SIDE { 0 } else { places / SIDE }
 }
 
-// How many squares of places are done in a row: none of one member, whose row is copied, and none that
-// reaches behind its end.
+// How many squares of places are done in a row: none of one member and of two, which are done by themselves,
+// and none that reaches behind its end.
 pub(crate) fn squares_over(x: usize, len: usize) -> usize
     ensures within { (places : ℕ) → len ≡ places * x → result * 16 ≤ places }
     ensures room { 0 < result → result * 16 * x + overhang x ≤ len }
     ensures some { 0 < result → 1 < x }
 {
     let beyond = (SIDE - x % SIDE) % SIDE;
-    if x < 2 || len < beyond {
+    if x < 3 || len < beyond {
         0
     } else {
         (len - beyond) / x / SIDE

@@ -6,24 +6,7 @@ use Rattle.vc_cell.specs.Held.{held}
 use Rattle.vcat_interleave.specs.Spread.{Spreads}
 use Rattle.vcat_interleave.proofs.PlaceLaws.{rest-size}
 use Rattle.vcat_interleave.proofs.SpreadLaws.{spreads-add}
-use Rattle.vcat_interleave.proofs.spreading.spread_places.Goals as goal
-
-all : (c : goal.After-containers-2-1) →
-    Spreads c.args.place c.args.places c.args.row.now c.args.active.now (held c.args.containers.now)
-    (held c.spread_each.new.containers)
-all c =
-    let x = length c.args.active.now in
-    let done = c.squares_over-squares.result * 16 in
-    let count : done + (c.args.places - done) ≡ c.args.places =
-    omega (arith, c.squares_over-squares.ensures.within c.args.places c.requires.row) in
-    subst (λ n. Spreads c.args.place n c.args.row.now c.args.active.now (held c.args.containers.now)
-    (held c.spread_each.new.containers)) count
-    (spreads-add 0 x c.args.place done (c.args.places - done) c.args.row.now c.args.active.now
-    (held c.args.containers.now) (held c.spread_squares.new.containers) (held c.spread_each.new.containers)
-    c.spread_squares.ensures
-    (subst (λ l. Spreads (c.args.place + done) (c.args.places - done) l c.args.active.now
-    (held c.spread_squares.new.containers) (held c.spread_each.new.containers))
-    (take_rest c.args.row.now (done * x)) c.spread_each.ensures))
+use Rattle.vcat_interleave.proofs.spreading.spread_by_squares.Goals as goal
 
 pub spread_each-requires-clause-row : goal.spread_each-requires-clause-row
 spread_each-requires-clause-row c =
@@ -36,5 +19,17 @@ spread_each-requires-clause-row c =
     ∙ rest-size c.args.places done x (length (drop (done * x) c.args.row.now)) few
     (omega (arith, length-drop (done * x) c.args.row.now, fits, c.requires.row))
 
-pub returns-clause-members : goal.returns-clause-members
-returns-clause-members c rank d below = (all c).members rank d (omega arith) below
+pub returns : goal.returns
+returns c =
+    let x = length c.args.active.now in
+    let done = c.squares_over-squares.result * 16 in
+    let count : done + (c.args.places - done) ≡ c.args.places =
+    omega (arith, c.squares_over-squares.ensures.within c.args.places c.requires.row) in
+    subst (λ n. Spreads c.args.place n c.args.row.now c.args.active.now (held c.args.containers.now)
+    (held c.spread_each.new.containers)) count
+    (spreads-add 0 x c.args.place done (c.args.places - done) c.args.row.now c.args.active.now
+    (held c.args.containers.now) (held c.spread_squares.new.containers) (held c.spread_each.new.containers)
+    c.spread_squares.ensures
+    (subst (λ l. Spreads (c.args.place + done) (c.args.places - done) l c.args.active.now
+    (held c.spread_squares.new.containers) (held c.spread_each.new.containers))
+    (take_rest c.args.row.now (done * x)) c.spread_each.ensures))
