@@ -1,5 +1,5 @@
 -- What is seen of a walk: one packet more, and one row more.
-use Rattle.std.proofs.Common.{◌≡◌, ℕ, zero, suc, ◌+◌, ◌-◌, ◌^◌, ◌<◌, ◌≤◌, Bool, true, false, List, [], ◌∷◌, ◌++◌, map}
+use Rattle.std.proofs.Common.{◌≡◌, ℕ, zero, suc, ◌+◌, ◌^◌, ◌<◌, ◌≤◌, Bool, true, false, List, [], ◌∷◌, ◌++◌, map}
 use Rattle.std.proofs.Common.{length, All, Option, Some, None, is_none, is_some, not, slice_index_or, refl, sym, ◌∙◌}
 use Rattle.std.proofs.Common.{ap, subst, arith, inl, inr, length-append}
 use Rattle.std.specs.List.{range_with_len}

@@ -3,7 +3,7 @@
 ghost use Rattle.std.specs.Prelude.{◌≡◌, ℕ, ◌+◌, ◌<◌, List, ◌++◌, length, drop, All, Option, IfSome, IfNone};
 ghost use Rattle.session_model.specs.Leg.{leg_of};
 ghost use Rattle.report_text.specs.declared.report.Refusal.{Refusal as RefusalData};
-ghost use Rattle.session_model.specs.Valid.{IsValid};
+ghost use Rattle.session_model.specs.Valid.{IsSound};
 ghost use Rattle.walk_law.specs.Walk.{IsWalked};
 ghost use Rattle.walk_law.specs.Landed.{refused_by};
 ghost use Rattle.walk_frames.specs.Landed.{IsAt, IsNext, IsPast, IsSkipped};
@@ -48,7 +48,7 @@ impl Model for FrameCursor {
 impl FrameCursor {
     /// Before the first item.
     pub fn new(walk: &Walk) -> FrameCursor
-        requires valid { IsValid walk.now.script }
+        requires sound { IsSound (leg_of walk.now.script) }
         requires walked { IsWalked (leg_of walk.now.script) walk.now.counts }
         ensures at { IsAt (leg_of walk.now.script) walk.now.counts result }
         ensures first { result.item ≡ 0 }

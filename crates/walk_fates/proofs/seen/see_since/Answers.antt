@@ -1,5 +1,5 @@
 -- One packet more, and one row more.
-use Rattle.std.proofs.Common.{◌≡◌, ◌+◌, sym, ◌∙◌, ap, subst, arith}
+use Rattle.std.proofs.Common.{◌≡◌, sym, ◌∙◌, ap, subst, arith}
 use Rattle.session_model.specs.Leg.{leg_of}
 use Rattle.session_model.specs.Scenario.{steps_in}
 use Rattle.session_model.specs.Table.{active}

@@ -9,7 +9,7 @@ returns-clause-at c =
     let script = c.args.walk.now.script in
     let commands = c.args.walk.now.counts.commands in
     record {
-      sound = c.requires.valid.sound;
+      sound = c.requires.sound;
       walked = c.requires.walked;
       commands = commands;
       within = omega arith;
