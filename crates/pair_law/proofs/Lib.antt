@@ -1,0 +1,3 @@
+pub mod TellingLaws
+pub mod WayLaws
+pub mod HeardLaws

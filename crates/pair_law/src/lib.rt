@@ -1,0 +1,80 @@
+//! The laws of a pair of sessions, one there and one back, over the definitions alone: each way is a
+//! session by itself, with twice the lag, whose return packets go in the packets of the other way.
+//! There is no code here. Begin at `way_law`; `telling_law` says that a session doesn't depend on what
+//! its packets tell, and `heard_law` that what is read in a packet is the very return packet that it
+//! carries.
+#![tactic(auto)]
+
+ghost use Rattle.std.specs.Prelude.{◌≡◌, ℕ, ◌+◌, ◌<◌, ◌≤◌, Bool, true, false, List, Option, Some, None, option_map};
+ghost use Rattle.std.specs.Prelude.{if◌then◌else◌};
+ghost use Rattle.session_model.specs.declared.script.Script.{Script};
+ghost use Rattle.session_model.specs.Leg.{Leg};
+ghost use Rattle.session_model.specs.Scenario.{Scenario, scenario_by, scenario_of, packets_in, is_heard, is_lost};
+ghost use Rattle.session_model.specs.Table.{Told};
+ghost use Rattle.session_model.specs.Source.{table_of};
+ghost use Rattle.session_model.specs.Told.{told_by};
+ghost use Rattle.session_model.specs.Telling.{untold, telling_at};
+ghost use Rattle.session_model.specs.Back.{return_packet, return_cell, cells_before, session_cells};
+ghost use Rattle.session_model.specs.Payload.{payload_of};
+ghost use Rattle.session_model.specs.ReturnPacket.{leader};
+ghost use Rattle.session_model.specs.SessionRows.{packets_of};
+ghost use Rattle.session_model.specs.SessionStream.{rows_of};
+ghost use Rattle.session_model.specs.Valid.{IsSound};
+ghost use Rattle.pair_law.specs.Pair.{IsPair, is_unheard, way_of};
+ghost use Rattle.pair_law.specs.Telling.{telling_of};
+
+/// A session doesn't depend on what its packets tell: its return cells, its tables, the octets of the
+/// stream that its frames carry, and which rows are whole are the same.
+pub fn telling_law()
+    ensures cells { (scenario : Scenario) (tells : List Told) (n : ℕ) →
+        cells_before (telling_of scenario tells) n ≡ cells_before scenario n }
+    ensures packets { (scenario : Scenario) (tells : List Told)
+        (cells : List (Option Told)) (k : ℕ) →
+        return_packet (telling_of scenario tells) cells k ≡ return_packet scenario cells k }
+    ensures tables { (scenario : Scenario) (tells : List Told)
+        (cells : List (Option Told)) (j : ℕ) →
+        table_of (telling_of scenario tells) cells j ≡ table_of scenario cells j }
+    ensures payload { (scenario : Scenario) (tells : List Told)
+        (cells : List (Option Told)) (t : ℕ) →
+        payload_of (telling_of scenario tells) cells t ≡ payload_of scenario cells t }
+    ensures rows { (scenario : Scenario) (tells : List Told)
+        (cells : List (Option Told)) (n : ℕ) →
+        rows_of (telling_of scenario tells) cells n ≡ rows_of scenario cells n }
+{}
+
+/// The ways of a pair are sound legs, and a return packet of a way is lost exactly where no line of the
+/// other way has a readable packet that carries it.
+pub fn way_law()
+    ensures there { (there back : Script) → IsPair there back → IsSound (way_of there back) }
+    ensures back { (there back : Script) → IsPair there back → IsSound (way_of back there) }
+    ensures turned { (there back : Script) → IsPair there back → IsPair back there }
+    ensures lost { (script other : Script) (k : ℕ) → k < packets_in script.config.ticks →
+        is_lost (scenario_by (way_of script other)) k ≡ is_unheard other k }
+{}
+
+/// What the packets of a way tell. The first ones, as many as the lag, tell nothing, and each later one
+/// the return packet of the other way whose number is less by the lag. That is read of the packet of the
+/// least line that has one, and nothing is read where no line has one: so the return cells of a way are
+/// just what is read in the packets of the other way.
+pub fn heard_law()
+    ensures early { (script other : Script) (k : ℕ) → k < script.config.lag →
+        telling_at (scenario_by (way_of script other)) k ≡ untold }
+    ensures tells { (script other : Script) (k : ℕ) → k < packets_in other.config.ticks →
+        telling_at (scenario_by (way_of script other)) (k + script.config.lag)
+        ≡ return_packet (scenario_by (way_of other script))
+        (session_cells (scenario_by (way_of other script))) k }
+    ensures heard { (script other : Script) (cells : List (Option Told)) (k : ℕ) →
+        k < packets_in other.config.ticks →
+        is_heard (scenario_of script) (k + script.config.lag) ≡ true →
+        option_map told_by
+        (leader (packets_of (scenario_by (way_of script other)) cells (k + script.config.lag)))
+        ≡ Some (telling_at (scenario_by (way_of script other)) (k + script.config.lag)) }
+    ensures silent { (scenario : Scenario) (cells : List (Option Told)) (k : ℕ) →
+        is_heard scenario k ≡ false → leader (packets_of scenario cells k) ≡ None }
+    ensures cells { (script other : Script) (cells : List (Option Told)) (k : ℕ) →
+        k < packets_in script.config.ticks →
+        return_cell (scenario_by (way_of script other))
+        (session_cells (scenario_by (way_of script other))) k
+        ≡ option_map told_by
+        (leader (packets_of (scenario_by (way_of other script)) cells (k + other.config.lag))) }
+{}
