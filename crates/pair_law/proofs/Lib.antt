@@ -1,3 +1,9 @@
 pub mod TellingLaws
 pub mod WayLaws
 pub mod HeardLaws
+pub mod ItemLaws
+pub mod OneWayLaws
+pub mod TickLaws
+pub mod GoingLaws
+pub mod PairMoveLaws
+pub mod PairEndLaws

@@ -1,2 +1,4 @@
 pub mod Pair
 pub mod Telling
+pub mod PairCounts
+pub mod PairProgress

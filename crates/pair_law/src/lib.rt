@@ -5,6 +5,8 @@
 //! carries.
 #![tactic(auto)]
 
+mod pair;
+
 ghost use Rattle.std.specs.Prelude.{◌≡◌, ℕ, ◌+◌, ◌<◌, ◌≤◌, Bool, true, false, List, Option, Some, None, option_map};
 ghost use Rattle.std.specs.Prelude.{if◌then◌else◌};
 ghost use Rattle.session_model.specs.declared.script.Script.{Script};
@@ -20,8 +22,14 @@ ghost use Rattle.session_model.specs.ReturnPacket.{leader};
 ghost use Rattle.session_model.specs.SessionRows.{packets_of};
 ghost use Rattle.session_model.specs.SessionStream.{rows_of};
 ghost use Rattle.session_model.specs.Valid.{IsSound};
+ghost use Rattle.progress_law.specs.Progress.{IsReached};
+ghost use Rattle.pair_law.specs.declared.pair.Way.{Way};
+ghost use Rattle.pair_law.specs.PairCounts.{PairPlan, PairCounts, plan_on, counts_on, pair_drain, pair_bound};
+ghost use Rattle.pair_law.specs.PairProgress.{IsPairPlan, IsPairReached, SomePairProgress, IsOpen};
 ghost use Rattle.pair_law.specs.Pair.{IsPair, is_unheard, way_of};
 ghost use Rattle.pair_law.specs.Telling.{telling_of};
+
+pub use pair::{PairEvent, Way};
 
 /// A session doesn't depend on what its packets tell: its return cells, its tables, the octets of the
 /// stream that its frames carry, and which rows are whole are the same.
@@ -77,4 +85,24 @@ pub fn heard_law()
         (session_cells (scenario_by (way_of script other))) k
         ≡ option_map told_by
         (leader (packets_of (scenario_by (way_of other script)) cells (k + other.config.lag))) }
+{}
+
+/// A pair in numbers, where delays, slips and lag fit the rings, and after any list of its events: what it
+/// did in each way a walk of that way can do, and each return packet that is ended has come; both ways have
+/// made as many ticks; where rows are left in some way, some event moves, or a Take pops a cell; and rounds
+/// end with all rows of both ways taken, within a bound.
+pub fn pair_law()
+    ensures walks { (pair : PairPlan) (s : PairCounts) (way : Way) → IsPairPlan pair →
+        IsPairReached pair s → IsReached (plan_on pair way) (counts_on s way) }
+    ensures backs { (pair : PairPlan) (s : PairCounts) (way : Way) → IsPairPlan pair →
+        IsPairReached pair s → (counts_on s way).backs ≡ packets_in (counts_on s way).rows }
+    ensures together { (pair : PairPlan) (s : PairCounts) → IsPairPlan pair →
+        IsPairReached pair s → s.there.ticks ≡ s.back.ticks }
+    ensures moves { (pair : PairPlan) (s : PairCounts) → IsPairPlan pair →
+        IsPairReached pair s → IsOpen pair s → SomePairProgress pair s }
+    ensures ends { (pair : PairPlan) (s : PairCounts) (way : Way) → IsPairPlan pair →
+        IsPairReached pair s →
+        (counts_on (pair_drain (pair_bound pair) pair s) way).rows ≡ (plan_on pair way).ticks }
+    ensures drains { (pair : PairPlan) (s : PairCounts) (k : ℕ) → IsPairReached pair s →
+        IsPairReached pair (pair_drain k pair s) }
 {}

@@ -1,0 +1,22 @@
+-- A pair in numbers.
+use Rattle.pair_law.proofs.GoingLaws.{pair-walks, pair-said, pair-together}
+use Rattle.pair_law.proofs.PairEndLaws.{pair-moves, pair-ends, pair-drains}
+use Rattle.pair_law.proofs.pair_law.Goals as goal
+
+pub returns-clause-walks : goal.returns-clause-walks
+returns-clause-walks c = pair-walks
+
+pub returns-clause-backs : goal.returns-clause-backs
+returns-clause-backs c = pair-said
+
+pub returns-clause-together : goal.returns-clause-together
+returns-clause-together c = pair-together
+
+pub returns-clause-moves : goal.returns-clause-moves
+returns-clause-moves c = pair-moves
+
+pub returns-clause-ends : goal.returns-clause-ends
+returns-clause-ends c = pair-ends
+
+pub returns-clause-drains : goal.returns-clause-drains
+returns-clause-drains c = pair-drains
