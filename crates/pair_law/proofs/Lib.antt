@@ -7,3 +7,5 @@ pub mod TickLaws
 pub mod GoingLaws
 pub mod PairMoveLaws
 pub mod PairEndLaws
+pub mod PairPlanLaws
+mod MetLaws

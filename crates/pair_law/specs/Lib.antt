@@ -2,3 +2,5 @@ pub mod Pair
 pub mod Telling
 pub mod PairCounts
 pub mod PairProgress
+pub mod PairWalk
+pub mod Worked

@@ -8,7 +8,7 @@
 mod pair;
 
 ghost use Rattle.std.specs.Prelude.{◌≡◌, ℕ, ◌+◌, ◌<◌, ◌≤◌, Bool, true, false, List, Option, Some, None, option_map};
-ghost use Rattle.std.specs.Prelude.{if◌then◌else◌};
+ghost use Rattle.std.specs.Prelude.{[], ◌∷◌, take};
 ghost use Rattle.session_model.specs.declared.script.Script.{Script};
 ghost use Rattle.session_model.specs.Leg.{Leg};
 ghost use Rattle.session_model.specs.Scenario.{Scenario, scenario_by, scenario_of, packets_in, is_heard, is_lost};
@@ -26,7 +26,11 @@ ghost use Rattle.progress_law.specs.Progress.{IsReached};
 ghost use Rattle.pair_law.specs.declared.pair.Way.{Way};
 ghost use Rattle.pair_law.specs.PairCounts.{PairPlan, PairCounts, plan_on, counts_on, pair_drain, pair_bound};
 ghost use Rattle.pair_law.specs.PairProgress.{IsPairPlan, IsPairReached, SomePairProgress, IsOpen};
-ghost use Rattle.pair_law.specs.Pair.{IsPair, is_unheard, way_of};
+ghost use Rattle.walk_law.specs.Walk.{IsWalked};
+ghost use Rattle.walk_law.specs.Delivered.{delivered_of};
+ghost use Rattle.pair_law.specs.PairWalk.{pair_plan, IsPairWalked};
+ghost use Rattle.pair_law.specs.Worked.{worked_there, worked_back, failing_back, first_tells, one_frame};
+ghost use Rattle.pair_law.specs.Pair.{IsPair, is_unheard, way_config, way_telling, way_tells, way_of};
 ghost use Rattle.pair_law.specs.Telling.{telling_of};
 
 pub use pair::{PairEvent, Way};
@@ -105,4 +109,35 @@ pub fn pair_law()
         (counts_on (pair_drain (pair_bound pair) pair s) way).rows ≡ (plan_on pair way).ticks }
     ensures drains { (pair : PairPlan) (s : PairCounts) (k : ℕ) → IsPairReached pair s →
         IsPairReached pair (pair_drain k pair s) }
+{}
+
+/// The walk of a pair of scripts, whatever events were tried in whatever order: each way walks as a session
+/// with twice the lag; after a drain all its rows are taken; and what it delivers by its rows doesn't depend
+/// on what its packets tell. So what is proved of the walks of a leg holds for each way.
+pub fn walk_law()
+    ensures plan { (there back : Script) → IsPair there back → IsPairPlan (pair_plan there back) }
+    ensures there { (there back : Script) (s : PairCounts) → IsPair there back →
+        IsPairWalked there back s → IsWalked (way_of there back) s.there }
+    ensures back { (there back : Script) (s : PairCounts) → IsPair there back →
+        IsPairWalked there back s → IsWalked (way_of back there) s.back }
+    ensures drained { (there back : Script) (s : PairCounts) → IsPair there back →
+        IsPairWalked there back s →
+        ((pair_drain (pair_bound (pair_plan there back)) (pair_plan there back) s).there.rows
+        ≡ there.config.ticks)
+        × ((pair_drain (pair_bound (pair_plan there back)) (pair_plan there back) s).back.rows
+        ≡ back.config.ticks) }
+    ensures delivered { (script other : Script) (tells : List Told) (rows : ℕ) →
+        delivered_of (way_telling script other tells) rows
+        ≡ delivered_of (way_of script other) rows }
+{}
+
+/// Worked pairs, computed: a return packet of the way there is lost where no line of the way back has the
+/// packet that carries it; what the first packets tell; and a frame that is delivered there.
+pub fn worked_law()
+    ensures pair { IsPair worked_there worked_back }
+    ensures failing { IsPair worked_there failing_back }
+    ensures none_lost { (way_config worked_there worked_back).lost ≡ [] }
+    ensures lost { (way_config worked_there failing_back).lost ≡ (0, 1) ∷ [] }
+    ensures tells { take 2 (way_tells worked_there worked_back) ≡ first_tells }
+    ensures delivered { delivered_of (way_of worked_there worked_back) 57 ≡ one_frame }
 {}
