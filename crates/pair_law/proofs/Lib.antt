@@ -7,5 +7,6 @@ pub mod TickLaws
 pub mod GoingLaws
 pub mod PairMoveLaws
 pub mod PairEndLaws
+pub mod PairStallLaws
 pub mod PairPlanLaws
 mod MetLaws

@@ -6,6 +6,9 @@ use Rattle.vc_cell.specs.declared.Container.{Container}
 use Rattle.session_model.specs.declared.window.Window.{Window}
 use Rattle.session_model.specs.declared.script.Config.{Config}
 use Rattle.session_model.specs.declared.script.Script.{Script}
+use Rattle.session_model.specs.Leg.{Leg}
+use Rattle.session_model.specs.Counts.{Counts}
+use Rattle.session_model.specs.Valid.{IsSound}
 use Rattle.session_model.specs.Line.{IsLine}
 use Rattle.session_model.specs.Scenario.{Scenario, scenario_by, packets_in}
 use Rattle.session_model.specs.Table.{Told}
@@ -20,16 +23,19 @@ use Rattle.terminal_law.proofs.SentLaws.{containers-size}
 use Rattle.terminal_law.proofs.CellLaws.{is-line}
 use Rattle.walk_law.specs.Walk.{sent_on, sent_of, walk_plan, CanWalk, IsWalked}
 use Rattle.walk_law.specs.Delivered.{delivered_of}
+use Rattle.walk_law.specs.Landed.{landed_items}
+use Rattle.walk_law.specs.Report.{report_among, report_of, final_report}
+use Rattle.walk_law.proofs.EndLaws.{ticks-made, items-landed}
 use Rattle.walk_law.proofs.PlanLaws.{has-lines, sound-walks}
 use Rattle.pair_law.specs.declared.pair.Way.TheVariants.{There, Back}
 use Rattle.pair_law.specs.Pair.{IsWay, IsPair, way_config, way_telling, way_tells, way_of}
-use Rattle.pair_law.specs.PairCounts.{PairCounts, pair_drain, pair_bound}
+use Rattle.pair_law.specs.PairCounts.{PairCounts, pair_bound}
 use Rattle.pair_law.specs.PairProgress.{with_lag, IsPairPlan}
-use Rattle.pair_law.specs.PairWalk.{pair_plan, IsPairWalked}
+use Rattle.pair_law.specs.PairWalk.{pair_plan, pair_drained, IsPairWalked}
 use Rattle.pair_law.proofs.TellingLaws.{telling-cells, telling-rows}
 use Rattle.pair_law.proofs.WayLaws.{way-sound}
 use Rattle.pair_law.proofs.GoingLaws.{pair-walks}
-use Rattle.pair_law.proofs.PairEndLaws.{pair-ends}
+use Rattle.pair_law.proofs.PairEndLaws.{pair-ends, pair-drains}
 
 -- ---- what the lines of a way are sent
 sent-by : (total : ℕ) (sent : ℕ → List Container) (lists : List (List Window)) (delays : List ℕ) (from : ℕ) →
@@ -59,7 +65,8 @@ own-at (windows ∷ lists) (suc m) own here = let rest = own-at lists m own here
 abbrev near_config : Script → Script → Config
 near_config script other = record (way_config script other) { lag = script.config.lag }
 
-way-plan : (script other : Script) → IsWay script → IsPlan (with_lag script.config.lag (walk_plan (way_of script other)))
+way-plan : (script other : Script) → IsWay script →
+    IsPlan (with_lag script.config.lag (walk_plan (way_of script other)))
 way-plan script other is =
     let leg = way_of script other in
     let scenario : Scenario = scenario_by leg in
@@ -104,14 +111,45 @@ pub back-walked : (there back : Script) (s : PairCounts) → IsPair there back �
 back-walked there back s pair walked =
     pair-walks (pair_plan there back) s Back (has-pair-plan there back pair) walked
 
-pub rows-drained : (there back : Script) (s : PairCounts) → IsPair there back → IsPairWalked there back s →
-    ((pair_drain (pair_bound (pair_plan there back)) (pair_plan there back) s).there.rows ≡ there.config.ticks)
-    × ((pair_drain (pair_bound (pair_plan there back)) (pair_plan there back) s).back.rows ≡ back.config.ticks)
-rows-drained there back s pair walked =
-    let is = has-pair-plan there back pair in (
-      pair-ends (pair_plan there back) s There is walked,
-      pair-ends (pair_plan there back) s Back is walked,
-    )
+-- ---- after a drain
+drained-walked : (there back : Script) (s : PairCounts) → IsPairWalked there back s →
+    IsPairWalked there back (pair_drained there back s)
+drained-walked there back s walked =
+    pair-drains (pair_plan there back) s (pair_bound (pair_plan there back)) walked
+
+pub there-taken : (there back : Script) (s : PairCounts) → IsPair there back → IsPairWalked there back s →
+    (pair_drained there back s).there.rows ≡ there.config.ticks
+there-taken there back s pair walked =
+    pair-ends (pair_plan there back) s There (has-pair-plan there back pair) walked
+
+pub back-taken : (there back : Script) (s : PairCounts) → IsPair there back → IsPairWalked there back s →
+    (pair_drained there back s).back.rows ≡ back.config.ticks
+back-taken there back s pair walked =
+    pair-ends (pair_plan there back) s Back (has-pair-plan there back pair) walked
+
+-- a leg whose rows are all taken has made all ticks, and all its items have landed
+ended-report : (leg : Leg) (s : Counts) → IsSound leg → IsWalked leg s → s.rows ≡ leg.config.ticks →
+    report_of leg s ≡ final_report leg
+ended-report leg s sound walked taken =
+    let total = leg.config.ticks in
+    let ticks = ticks-made leg s sound walked taken in
+    ap (λ made. report_among leg made s.rows (landed_items leg s)) ticks
+    ∙ ap (λ rows. report_among leg total rows (landed_items leg s)) taken
+    ∙ ap (report_among leg total total) (items-landed leg s sound walked ticks)
+
+pub there-report : (there back : Script) (s : PairCounts) → IsPair there back → IsPairWalked there back s →
+    report_of (way_of there back) (pair_drained there back s).there ≡ final_report (way_of there back)
+there-report there back s pair walked =
+    ended-report (way_of there back) (pair_drained there back s).there (way-sound there back pair.there_way)
+    (there-walked there back (pair_drained there back s) pair (drained-walked there back s walked))
+    (there-taken there back s pair walked)
+
+pub back-report : (there back : Script) (s : PairCounts) → IsPair there back → IsPairWalked there back s →
+    report_of (way_of back there) (pair_drained there back s).back ≡ final_report (way_of back there)
+back-report there back s pair walked =
+    ended-report (way_of back there) (pair_drained there back s).back (way-sound back there pair.back_way)
+    (back-walked there back (pair_drained there back s) pair (drained-walked there back s walked))
+    (back-taken there back s pair walked)
 
 -- ---- what a way delivers
 delivered-silent : (script other : Script) (tells : List Told) (rows : ℕ) →

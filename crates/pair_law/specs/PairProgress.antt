@@ -1,11 +1,12 @@
 -- What is asked of a pair in numbers so that it is never stuck, and what progress is.
 use Rattle.std.specs.Prelude.{◌≡◌, ◌⊎◌, ℕ, ◌<◌, ◌≤◌, List, length, None}
-use Rattle.session_model.specs.Counts.{Plan}
+use Rattle.session_model.specs.Counts.{LineCounts, Plan, Counts}
 use Rattle.progress_law.specs.Progress.{IsPlan, cells_popped}
 use Rattle.pair_law.specs.declared.pair.Way.{Way}
 use Rattle.pair_law.specs.declared.pair.PairEvent.{PairEvent}
 use Rattle.pair_law.specs.declared.pair.PairEvent.TheVariants.{Item, Tick, Carry, Take}
-use Rattle.pair_law.specs.PairCounts.{PairPlan, PairCounts, plan_on, counts_on, pair_step, pair_run, pair_begin}
+use Rattle.pair_law.specs.PairCounts.{PairPlan, PairCounts, plan_on, counts_on, with_counts, pair_step, pair_run}
+use Rattle.pair_law.specs.PairCounts.{pair_begin}
 
 -- a plan with another lag
 abbrev pub with_lag : ℕ → Plan → Plan
@@ -44,3 +45,13 @@ SomePairProgress pair s = (event : PairEvent) × HasWayLine pair event × IsPair
 -- rows are left in some way
 abbrev pub IsOpen : PairPlan → PairCounts → Type 0
 IsOpen pair s = (way : Way) × ((counts_on s way).rows < (plan_on pair way).ticks)
+
+-- a stalled event changes nothing, but that a Take keeps the cells which it popped
+abbrev pub with_lines : List LineCounts → Counts → Counts
+with_lines lines s = record s { lines = lines }
+
+abbrev pub IsStill : PairPlan → PairCounts → PairEvent → Type 0
+IsStill pair s event =
+    ((pair_step pair s event).counts ≡ s)
+    ⊎ ((way : Way) × (event ≡ Take way) × ((pair_step pair s event).counts
+    ≡ with_counts way (with_lines (counts_on (pair_step pair s event).counts way).lines (counts_on s way)) s))

@@ -2,7 +2,7 @@
 use Rattle.session_model.specs.declared.script.Script.{Script}
 use Rattle.walk_law.specs.Walk.{walk_plan}
 use Rattle.pair_law.specs.Pair.{way_of}
-use Rattle.pair_law.specs.PairCounts.{PairPlan, PairCounts}
+use Rattle.pair_law.specs.PairCounts.{PairPlan, PairCounts, pair_drain, pair_bound}
 use Rattle.pair_law.specs.PairProgress.{IsPairReached}
 
 -- each way walks as its leg says, which has twice the lag
@@ -12,6 +12,10 @@ pair_plan there back = record {
   there = walk_plan (way_of there back);
   back = walk_plan (way_of back there);
 }
+
+-- the counts after rounds until all rows of both ways are taken
+abbrev pub pair_drained : Script → Script → PairCounts → PairCounts
+pair_drained there back s = pair_drain (pair_bound (pair_plan there back)) (pair_plan there back) s
 
 -- some list of a pair's events leads to these counts
 abbrev pub IsPairWalked : Script → Script → PairCounts → Type 0

@@ -1,8 +1,9 @@
 //! The laws of a pair of sessions, one there and one back, over the definitions alone: each way is a
-//! session by itself, with twice the lag, whose return packets go in the packets of the other way.
-//! There is no code here. Begin at `way_law`; `telling_law` says that a session doesn't depend on what
-//! its packets tell, and `heard_law` that what is read in a packet is the very return packet that it
-//! carries.
+//! session by itself, with twice the lag, whose return packets come in the packets of the other way. There
+//! is no code here, but the types of a pair's events. Begin at `way_law`; `telling_law` says that a session
+//! doesn't depend on what its packets tell, `heard_law` that what is read in a packet is the very return
+//! packet that it carries, and `pair_law` and `walk_law` that a pair is never stuck, whatever is tried in
+//! whatever order, and goes in each way as a walk.
 #![tactic(auto)]
 
 mod pair;
@@ -24,11 +25,15 @@ ghost use Rattle.session_model.specs.SessionStream.{rows_of};
 ghost use Rattle.session_model.specs.Valid.{IsSound};
 ghost use Rattle.progress_law.specs.Progress.{IsReached};
 ghost use Rattle.pair_law.specs.declared.pair.Way.{Way};
-ghost use Rattle.pair_law.specs.PairCounts.{PairPlan, PairCounts, plan_on, counts_on, pair_drain, pair_bound};
-ghost use Rattle.pair_law.specs.PairProgress.{IsPairPlan, IsPairReached, SomePairProgress, IsOpen};
+ghost use Rattle.pair_law.specs.declared.pair.PairEvent.{PairEvent};
+ghost use Rattle.session_model.specs.declared.walk.StallCause.{StallCause};
+ghost use Rattle.pair_law.specs.PairCounts.{PairPlan, PairCounts, plan_on, counts_on, pair_step, pair_drain};
+ghost use Rattle.pair_law.specs.PairCounts.{pair_bound};
+ghost use Rattle.pair_law.specs.PairProgress.{IsPairPlan, IsPairReached, SomePairProgress, IsOpen, IsStill};
 ghost use Rattle.walk_law.specs.Walk.{IsWalked};
 ghost use Rattle.walk_law.specs.Delivered.{delivered_of};
-ghost use Rattle.pair_law.specs.PairWalk.{pair_plan, IsPairWalked};
+ghost use Rattle.walk_law.specs.Report.{report_of, final_report};
+ghost use Rattle.pair_law.specs.PairWalk.{pair_plan, pair_drained, IsPairWalked};
 ghost use Rattle.pair_law.specs.Worked.{worked_there, worked_back, failing_back, first_tells, one_frame};
 ghost use Rattle.pair_law.specs.Pair.{IsPair, is_unheard, way_config, way_telling, way_tells, way_of};
 ghost use Rattle.pair_law.specs.Telling.{telling_of};
@@ -94,7 +99,8 @@ pub fn heard_law()
 /// A pair in numbers, where delays, slips and lag fit the rings, and after any list of its events: what it
 /// did in each way a walk of that way can do, and each return packet that is ended has come; both ways have
 /// made as many ticks; where rows are left in some way, some event moves, or a Take pops a cell; and rounds
-/// end with all rows of both ways taken, within a bound.
+/// end with all rows of both ways taken, within a bound. A stalled event changes nothing, but that a Take
+/// keeps the cells which it popped.
 pub fn pair_law()
     ensures walks { (pair : PairPlan) (s : PairCounts) (way : Way) → IsPairPlan pair →
         IsPairReached pair s → IsReached (plan_on pair way) (counts_on s way) }
@@ -107,25 +113,35 @@ pub fn pair_law()
     ensures ends { (pair : PairPlan) (s : PairCounts) (way : Way) → IsPairPlan pair →
         IsPairReached pair s →
         (counts_on (pair_drain (pair_bound pair) pair s) way).rows ≡ (plan_on pair way).ticks }
+    ensures stalls { (pair : PairPlan) (s : PairCounts) (event : PairEvent)
+        (cause : Way × StallCause) → (pair_step pair s event).cause ≡ Some cause →
+        IsStill pair s event }
     ensures drains { (pair : PairPlan) (s : PairCounts) (k : ℕ) → IsPairReached pair s →
         IsPairReached pair (pair_drain k pair s) }
 {}
 
 /// The walk of a pair of scripts, whatever events were tried in whatever order: each way walks as a session
-/// with twice the lag; after a drain all its rows are taken; and what it delivers by its rows doesn't depend
-/// on what its packets tell. So what is proved of the walks of a leg holds for each way.
+/// with twice the lag; after a drain all its rows are taken, and its report is one and the same; and what it
+/// delivers by its rows doesn't depend on what its packets tell. So what is proved of the walks of a leg
+/// holds for each way.
 pub fn walk_law()
     ensures plan { (there back : Script) → IsPair there back → IsPairPlan (pair_plan there back) }
     ensures there { (there back : Script) (s : PairCounts) → IsPair there back →
         IsPairWalked there back s → IsWalked (way_of there back) s.there }
     ensures back { (there back : Script) (s : PairCounts) → IsPair there back →
         IsPairWalked there back s → IsWalked (way_of back there) s.back }
-    ensures drained { (there back : Script) (s : PairCounts) → IsPair there back →
+    ensures there_taken { (there back : Script) (s : PairCounts) → IsPair there back →
         IsPairWalked there back s →
-        ((pair_drain (pair_bound (pair_plan there back)) (pair_plan there back) s).there.rows
-        ≡ there.config.ticks)
-        × ((pair_drain (pair_bound (pair_plan there back)) (pair_plan there back) s).back.rows
-        ≡ back.config.ticks) }
+        (pair_drained there back s).there.rows ≡ there.config.ticks }
+    ensures back_taken { (there back : Script) (s : PairCounts) → IsPair there back →
+        IsPairWalked there back s →
+        (pair_drained there back s).back.rows ≡ back.config.ticks }
+    ensures there_report { (there back : Script) (s : PairCounts) → IsPair there back →
+        IsPairWalked there back s → report_of (way_of there back) (pair_drained there back s).there
+        ≡ final_report (way_of there back) }
+    ensures back_report { (there back : Script) (s : PairCounts) → IsPair there back →
+        IsPairWalked there back s → report_of (way_of back there) (pair_drained there back s).back
+        ≡ final_report (way_of back there) }
     ensures delivered { (script other : Script) (tells : List Told) (rows : ℕ) →
         delivered_of (way_telling script other tells) rows
         ≡ delivered_of (way_of script other) rows }

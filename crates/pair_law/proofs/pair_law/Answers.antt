@@ -1,6 +1,7 @@
 -- A pair in numbers.
 use Rattle.pair_law.proofs.GoingLaws.{pair-walks, pair-said, pair-together}
 use Rattle.pair_law.proofs.PairEndLaws.{pair-moves, pair-ends, pair-drains}
+use Rattle.pair_law.proofs.PairStallLaws.{pair-stalled}
 use Rattle.pair_law.proofs.pair_law.Goals as goal
 
 pub returns-clause-walks : goal.returns-clause-walks
@@ -20,3 +21,6 @@ returns-clause-ends c = pair-ends
 
 pub returns-clause-drains : goal.returns-clause-drains
 returns-clause-drains c = pair-drains
+
+pub returns-clause-stalls : goal.returns-clause-stalls
+returns-clause-stalls c = pair-stalled
