@@ -1,7 +1,15 @@
 -- Rounds of a pair end, within a bound.
+use Rattle.pair_law.proofs.TickLaws.{IsFree, both-free}
+use Rattle.pair_law.specs.declared.pair.PairEvent.TheVariants.{Tick}
+use Rattle.progress_law.proofs.MoveLaws.{inbox-fits}
+use Rattle.session_model.specs.Scenario.{packets_in}
+use Rattle.session_model.specs.declared.walk.StallCause.{StallCause}
+use Rattle.std.proofs.Common.{◌-◌, ◌/◌, ◌%◌, ◌==◌, Option, Some, None}
 use Rattle.std.proofs.Common.{◌≡◌, ℕ, zero, suc, ◌+◌, ◌*◌, ◌<◌, ◌≤◌, nat_le, true, false, inl, inr, List, []}
 use Rattle.std.proofs.Common.{◌∷◌, ◌++◌, length, refl, sym, ◌∙◌, ap, subst, arith}
+use Rattle.std.proofs.lemmas.Bool.{le-leb, eq-eqb}
 use Rattle.std.proofs.lemmas.Bool.{leb-true, leb-false, cases_Bool, and_parts}
+use Rattle.session_model.specs.Counts.{used_in}
 use Rattle.session_model.specs.Counts.{Due, frame_due, command_due, frame_dues, command_dues, LinePath, LineCounts}
 use Rattle.session_model.specs.Counts.{Plan, Counts, sum_delays}
 use Rattle.progress_law.specs.Progress.{IsSound, LineFits}
@@ -9,6 +17,7 @@ use Rattle.progress_law.proofs.EachLaws.{each-map, each-with, sum-bounded}
 use Rattle.pair_law.specs.declared.pair.Way.{Way}
 use Rattle.pair_law.specs.declared.pair.Way.TheVariants.{There, Back}
 use Rattle.pair_law.specs.declared.pair.PairEvent.{PairEvent}
+use Rattle.pair_law.specs.PairCounts.{tick_cause, tick_by}
 use Rattle.pair_law.specs.PairCounts.{PairPlan, PairCounts, plan_on, counts_on, pair_step, pair_run, pair_begin}
 use Rattle.pair_law.specs.PairCounts.{pair_round, is_over, pair_drain, pair_bound}
 use Rattle.pair_law.specs.PairProgress.{with_lag, IsPairPlan, IsPairReached, IsOpen, SomePairProgress}
@@ -204,3 +213,57 @@ pair-drains pair s (suc k) reached =
             ∙ sym (run-append pair (pair_begin pair) reached.0 (pair_round pair)),
       ))
     ]
+
+-- ---- what an event leads to
+pub pair-begins : (pair : PairPlan) → IsPairReached pair (pair_begin pair)
+unfolding pair_run
+pair-begins pair = ([], refl)
+
+pub pair-steps : (pair : PairPlan) (s : PairCounts) (event : PairEvent) → IsPairReached pair s →
+    IsPairReached pair (pair_step pair s event).counts
+unfolding pair_run
+pair-steps pair s event reached = (
+  reached.0 ++ event ∷ [],
+  ap (λ c. (pair_step pair c event).counts) reached.1
+      ∙ sym (run-append pair (pair_begin pair) reached.0 (event ∷ [])),
+)
+
+-- ---- return packets that are said and not told yet
+waits-near : (plan : Plan) (s : Counts) → Walks plan s → packets_in s.rows - used_in plan.lag s.ticks ≤ plan.lag
+waits-near plan s walks =
+    let few = inbox-fits plan s walks.is walks.reached in
+    let said = walks.said in
+    omega (arith, few, said)
+
+pub pair-waits : (pair : PairPlan) (s : PairCounts) (way : Way) → IsPairPlan pair → IsPairReached pair s →
+    packets_in (counts_on s way).rows - used_in pair.lag (counts_on s way).ticks ≤ pair.lag
+pair-waits pair s There is reached =
+    waits-near (with_lag pair.lag pair.there) s.there (is-near pair s is (goes-near pair s is reached)).there
+pair-waits pair s Back is reached =
+    waits-near (with_lag pair.lag pair.back) s.back (is-near pair s is (goes-near pair s is reached)).back
+
+-- ---- what a tick tells was said
+free-told : (plan : Plan) (lag : ℕ) (s : Counts) → IsFree plan lag s → s.ticks % 16 ≡ 8 → lag ≤ s.ticks / 16 →
+    16 * (s.ticks / 16 - lag) + 23 < s.rows
+free-told plan lag s free place late =
+    elim (cases_Bool (nat_le s.rows (16 * (s.ticks / 16 - lag) + 23))) [
+      | inr e ↦ leb-false s.rows (16 * (s.ticks / 16 - lag) + 23) e
+      | inl e ↦
+          let first : nat_le (16 * lag + 8) s.ticks ≡ true =
+          le-leb (16 * lag + 8) s.ticks (omega (arith, place, late)) in
+          let begins : (s.ticks % 16 == 8) ≡ true = eq-eqb (s.ticks % 16) 8 place in
+          let said = free.said in
+          absurd (let f : true ≡ false = rw (first, begins, e) at said in cc)
+    ]
+
+tick-moves : (s : PairCounts) (cause : Option (Way × StallCause)) → (tick_by cause s).cause ≡ None → cause ≡ None
+tick-moves s None e = refl
+tick-moves s (Some cause) e = absurd cc
+
+pub pair-told : (pair : PairPlan) (s : PairCounts) (way : Way) → (pair_step pair s Tick).cause ≡ None →
+    (counts_on s way).ticks % 16 ≡ 8 → pair.lag ≤ (counts_on s way).ticks / 16 →
+    16 * ((counts_on s way).ticks / 16 - pair.lag) + 23 < (counts_on s way).rows
+pair-told pair s There moves place late =
+    free-told pair.there pair.lag s.there (both-free pair s (tick-moves s (tick_cause pair s) moves)).0 place late
+pair-told pair s Back moves place late =
+    free-told pair.back pair.lag s.back (both-free pair s (tick-moves s (tick_cause pair s) moves)).1 place late

@@ -10,6 +10,7 @@ use Rattle.session_model.specs.Source.{Source, asked_all, decide, cell_at, after
 use Rattle.session_model.specs.Back.{said_before, status_by, return_packet, return_cell, cells_before}
 use Rattle.session_model.specs.Client.{Stream, width, place_of, stream_before}
 use Rattle.session_model.specs.Payload.{payload_of}
+use Rattle.session_model.specs.Sent.{active_at, payload_on, container_of}
 use Rattle.session_model.specs.SessionRows.{is_whole_row}
 use Rattle.session_model.specs.SessionStream.{rows_of}
 use Rattle.session_law.proofs.ClientLaws.{SameTables, width-same, place_of-same, stream_before-same}
@@ -78,6 +79,16 @@ module _ (scenario : Scenario) (tells : List Told) where
       ∙ ap (λ (s : Stream). take (scenario.size * width scenario cells t)
       (drop (place_of scenario cells t) (stream_of s.pieces)))
       (stream_before-same other cells scenario cells (suc t) (tables cells ((suc t - 8) / 16)) (λ u low. refl))
+
+  telling-active : (cells : List (Option Told)) (t : ℕ) → active_at other cells t ≡ active_at scenario cells t
+  telling-active cells t =
+      ap (λ (table : Table). if nat_lt t 24 then [] else active table) (telling-table cells ((t - 24) / 16))
+
+  pub telling-container : (cells : List (Option Told)) (line t : ℕ) →
+      (container_of other cells line t).payload ≡ (container_of scenario cells line t).payload
+  telling-container cells line t =
+      ap (λ lines. payload_on lines line scenario.size (payload_of other cells t)) (telling-active cells t)
+      ∙ ap (payload_on (active_at scenario cells t) line scenario.size) (telling-payload cells t)
 
   telling-whole : (cells : List (Option Told)) (t : ℕ) → is_whole_row other cells t ≡ is_whole_row scenario cells t
   telling-whole cells t =

@@ -4,3 +4,4 @@ pub mod PairCounts
 pub mod PairProgress
 pub mod PairWalk
 pub mod Worked
+pub mod WorkedCounts

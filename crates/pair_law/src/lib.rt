@@ -9,7 +9,7 @@
 mod pair;
 
 ghost use Rattle.std.specs.Prelude.{◌≡◌, ℕ, ◌+◌, ◌<◌, ◌≤◌, Bool, true, false, List, Option, Some, None, option_map};
-ghost use Rattle.std.specs.Prelude.{[], ◌∷◌, take};
+ghost use Rattle.std.specs.Prelude.{[], ◌∷◌, take, ◌-◌, ◌*◌, ◌/◌, ◌%◌};
 ghost use Rattle.session_model.specs.declared.script.Script.{Script};
 ghost use Rattle.session_model.specs.Leg.{Leg};
 ghost use Rattle.session_model.specs.Scenario.{Scenario, scenario_by, scenario_of, packets_in, is_heard, is_lost};
@@ -26,9 +26,16 @@ ghost use Rattle.session_model.specs.Valid.{IsSound};
 ghost use Rattle.progress_law.specs.Progress.{IsReached};
 ghost use Rattle.pair_law.specs.declared.pair.Way.{Way};
 ghost use Rattle.pair_law.specs.declared.pair.PairEvent.{PairEvent};
+ghost use Rattle.pair_law.specs.declared.pair.PairEvent.TheVariants.{Item, Tick};
+ghost use Rattle.pair_law.specs.declared.pair.Way.TheVariants.{There, Back};
 ghost use Rattle.session_model.specs.declared.walk.StallCause.{StallCause};
+ghost use Rattle.session_model.specs.declared.walk.StallCause.TheVariants.{NotDue, Held, BackMissing};
+ghost use Rattle.progress_law.specs.Worked.{two_items};
+ghost use Rattle.pair_law.specs.WorkedCounts.{two_ways, pair_cause, all_ticked, there_taken, drained_from, both_done};
 ghost use Rattle.pair_law.specs.PairCounts.{PairPlan, PairCounts, plan_on, counts_on, pair_step, pair_drain};
-ghost use Rattle.pair_law.specs.PairCounts.{pair_bound};
+ghost use Rattle.session_model.specs.Counts.{used_in};
+ghost use Rattle.session_model.specs.Sent.{container_of};
+ghost use Rattle.pair_law.specs.PairCounts.{pair_bound, pair_begin};
 ghost use Rattle.pair_law.specs.PairProgress.{IsPairPlan, IsPairReached, SomePairProgress, IsOpen, IsStill};
 ghost use Rattle.walk_law.specs.Walk.{IsWalked};
 ghost use Rattle.walk_law.specs.Delivered.{delivered_of};
@@ -41,7 +48,7 @@ ghost use Rattle.pair_law.specs.Telling.{telling_of};
 pub use pair::{PairEvent, Way};
 
 /// A session doesn't depend on what its packets tell: its return cells, its tables, the octets of the
-/// stream that its frames carry, and which rows are whole are the same.
+/// stream that its frames and its containers carry, and which rows are whole are the same.
 pub fn telling_law()
     ensures cells { (scenario : Scenario) (tells : List Told) (n : ℕ) →
         cells_before (telling_of scenario tells) n ≡ cells_before scenario n }
@@ -54,6 +61,10 @@ pub fn telling_law()
     ensures payload { (scenario : Scenario) (tells : List Told)
         (cells : List (Option Told)) (t : ℕ) →
         payload_of (telling_of scenario tells) cells t ≡ payload_of scenario cells t }
+    ensures containers { (scenario : Scenario) (tells : List Told)
+        (cells : List (Option Told)) (line t : ℕ) →
+        (container_of (telling_of scenario tells) cells line t).payload
+        ≡ (container_of scenario cells line t).payload }
     ensures rows { (scenario : Scenario) (tells : List Told)
         (cells : List (Option Told)) (n : ℕ) →
         rows_of (telling_of scenario tells) cells n ≡ rows_of scenario cells n }
@@ -98,16 +109,27 @@ pub fn heard_law()
 
 /// A pair in numbers, where delays, slips and lag fit the rings, and after any list of its events: what it
 /// did in each way a walk of that way can do, and each return packet that is ended has come; both ways have
-/// made as many ticks; where rows are left in some way, some event moves, or a Take pops a cell; and rounds
-/// end with all rows of both ways taken, within a bound. A stalled event changes nothing, but that a Take
-/// keeps the cells which it popped.
+/// made as many ticks; a tick that begins a packet tells a return packet that was said, and no more of these
+/// wait to be told than the lag; where rows are left in some way, some event moves, or a Take pops a cell;
+/// and rounds end with all rows of both ways taken, within a bound. A stalled event changes nothing, but
+/// that a Take keeps the cells which it popped.
 pub fn pair_law()
+    ensures begins { (pair : PairPlan) → IsPairReached pair (pair_begin pair) }
+    ensures steps { (pair : PairPlan) (s : PairCounts) (event : PairEvent) →
+        IsPairReached pair s → IsPairReached pair (pair_step pair s event).counts }
     ensures walks { (pair : PairPlan) (s : PairCounts) (way : Way) → IsPairPlan pair →
         IsPairReached pair s → IsReached (plan_on pair way) (counts_on s way) }
     ensures backs { (pair : PairPlan) (s : PairCounts) (way : Way) → IsPairPlan pair →
         IsPairReached pair s → (counts_on s way).backs ≡ packets_in (counts_on s way).rows }
     ensures together { (pair : PairPlan) (s : PairCounts) → IsPairPlan pair →
         IsPairReached pair s → s.there.ticks ≡ s.back.ticks }
+    ensures told { (pair : PairPlan) (s : PairCounts) (way : Way) →
+        (pair_step pair s Tick).cause ≡ None → (counts_on s way).ticks % 16 ≡ 8 →
+        pair.lag ≤ (counts_on s way).ticks / 16 →
+        16 * ((counts_on s way).ticks / 16 - pair.lag) + 23 < (counts_on s way).rows }
+    ensures waits { (pair : PairPlan) (s : PairCounts) (way : Way) → IsPairPlan pair →
+        IsPairReached pair s → packets_in (counts_on s way).rows
+        - used_in pair.lag (counts_on s way).ticks ≤ pair.lag }
     ensures moves { (pair : PairPlan) (s : PairCounts) → IsPairPlan pair →
         IsPairReached pair s → IsOpen pair s → SomePairProgress pair s }
     ensures ends { (pair : PairPlan) (s : PairCounts) (way : Way) → IsPairPlan pair →
@@ -156,4 +178,18 @@ pub fn worked_law()
     ensures lost { (way_config worked_there failing_back).lost ≡ (0, 1) ∷ [] }
     ensures tells { take 2 (way_tells worked_there worked_back) ≡ first_tells }
     ensures delivered { delivered_of (way_of worked_there worked_back) 57 ≡ one_frame }
+{}
+
+/// Worked pairs in numbers, computed. A tick stalls for the way there first: a return packet of each way has
+/// to be said before the packet is begun that carries it. A command that is due lands before a frame that
+/// isn't, though it is the later item. And a pair that drains.
+pub fn counts_law()
+    ensures missing_there { pair_cause (two_ways [] []) all_ticked Tick
+        ≡ Some (There, BackMissing 0) }
+    ensures missing_back { pair_cause (two_ways [] []) there_taken Tick
+        ≡ Some (Back, BackMissing 0) }
+    ensures held { pair_cause (two_ways [] two_items) [] Tick ≡ Some (Back, Held 1) }
+    ensures not_due { pair_cause (two_ways two_items []) (Item There ∷ []) (Item There)
+        ≡ Some (There, NotDue 5) }
+    ensures drained { drained_from (two_ways two_items two_items) ≡ both_done }
 {}
