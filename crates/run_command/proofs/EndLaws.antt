@@ -1,6 +1,6 @@
 -- What a session that has ended writes, and what is handed back.
-use Rattle.std.proofs.Common.{◌≡◌, ◌≤◌, ℕ, List, [], ◌++◌, length, Option, Some, None, IfSome, Result, Ok, Err, refl}
-use Rattle.std.proofs.Common.{sym, ap, subst, append_assoc}
+use Rattle.std.proofs.Common.{◌≡◌, ◌≤◌, ℕ, List, [], ◌++◌, length, Option, IfSome, Result, Ok, Err, refl}
+use Rattle.std.proofs.Common.{sym, subst, append_assoc}
 use Rattle.outside_io.specs.Transfer.{Appends, AppendsPart}
 use Rattle.outside_io.proofs.Parts.{Appends-then, AppendsPart-then, AppendsPart-longer}
 use Rattle.session_model.specs.declared.script.Script.{Script}

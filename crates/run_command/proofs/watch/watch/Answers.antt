@@ -1,5 +1,5 @@
 -- A script is read, its session is run, and its report and its alarms are written or a write fails.
-use Rattle.std.proofs.Common.{inl, inr, refl, sym, subst}
+use Rattle.std.proofs.Common.{inl, inr, refl, subst}
 use Rattle.session_model.specs.declared.script.Script.{Script}
 use Rattle.session_model.specs.Leg.{leg_of}
 use Rattle.outside_io.specs.Transfer.{Appends, AppendsPart}

@@ -1,5 +1,5 @@
 -- One more end through which nothing has passed.
-use Rattle.std.proofs.Common.{rules, ◌≡◌, ℕ, zero, suc, ◌+◌, List, [], ◌∷◌, ◌++◌, length, slice_get, Some, sym, subst}
+use Rattle.std.proofs.Common.{rules, ◌≡◌, zero, suc, ◌+◌, List, [], ◌∷◌, ◌++◌, length, Some, sym, subst}
 use Rattle.std.proofs.Common.{arith}
 use Rattle.std.proofs.lemmas.List.{length-append}
 use Rattle.member_ring.specs.declared.ends.RingOut.{RingOut}
