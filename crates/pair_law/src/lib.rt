@@ -34,7 +34,7 @@ ghost use Rattle.progress_law.specs.Worked.{two_items};
 ghost use Rattle.pair_law.specs.WorkedCounts.{two_ways, pair_cause, all_ticked, there_taken, drained_from, both_done};
 ghost use Rattle.pair_law.specs.PairCounts.{PairPlan, PairCounts, plan_on, counts_on, pair_step, pair_drain};
 ghost use Rattle.session_model.specs.Sent.{container_of};
-ghost use Rattle.pair_law.specs.PairCounts.{pair_bound, pair_begin};
+ghost use Rattle.pair_law.specs.PairCounts.{pair_bound, pair_begin, pair_run, pair_round, is_over};
 ghost use Rattle.pair_law.specs.PairProgress.{IsPairPlan, IsPairReached, SomePairProgress, IsOpen, IsStill};
 ghost use Rattle.session_model.specs.Counts.{Counts, used_in};
 ghost use Rattle.session_model.specs.Rows.{read_packets, return_at};
@@ -112,8 +112,8 @@ pub fn heard_law()
 /// did in each way a walk of that way can do, and each return packet that is ended has come; both ways have
 /// made as many ticks; a tick that begins a packet tells a return packet that was said, and no more of these
 /// wait to be told than the lag; where rows are left in some way, some event moves, or a Take pops a cell;
-/// and rounds end with all rows of both ways taken, within a bound. A stalled event changes nothing, but
-/// that a Take keeps the cells which it popped.
+/// and rounds end with all rows of both ways taken, within a bound, so that a round that is made before
+/// changes nothing of that. A stalled event changes nothing, but that a Take keeps the cells which it popped.
 pub fn pair_law()
     ensures begins { (pair : PairPlan) → IsPairReached pair (pair_begin pair) }
     ensures steps { (pair : PairPlan) (s : PairCounts) (event : PairEvent) →
@@ -139,6 +139,12 @@ pub fn pair_law()
     ensures stalls { (pair : PairPlan) (s : PairCounts) (event : PairEvent)
         (cause : Way × StallCause) → (pair_step pair s event).cause ≡ Some cause →
         IsStill pair s event }
+    ensures turns { (pair : PairPlan) (s : PairCounts) → IsPairPlan pair →
+        IsPairReached pair s → is_over pair s ≡ false →
+        pair_drain (pair_bound pair) pair (pair_run pair s (pair_round pair))
+        ≡ pair_drain (pair_bound pair) pair s }
+    ensures stops { (pair : PairPlan) (s : PairCounts) (k : ℕ) → is_over pair s ≡ true →
+        pair_drain k pair s ≡ s }
     ensures drains { (pair : PairPlan) (s : PairCounts) (k : ℕ) → IsPairReached pair s →
         IsPairReached pair (pair_drain k pair s) }
 {}
