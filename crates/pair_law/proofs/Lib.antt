@@ -9,4 +9,5 @@ pub mod PairMoveLaws
 pub mod PairEndLaws
 pub mod PairStallLaws
 pub mod PairPlanLaws
+pub mod LinkLaws
 mod MetLaws

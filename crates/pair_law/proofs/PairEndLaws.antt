@@ -180,6 +180,58 @@ module _ (pair : PairPlan) (is : IsPairPlan pair) where
       ((and_parts (nat_le pair.there.ticks s.there.rows) (nat_le pair.back.ticks s.back.rows) over).1) in
       omega (arith, most, all)
 
+-- one more round than enough changes nothing
+module _ (pair : PairPlan) (is : IsPairPlan pair) where
+  abbrev turned : PairCounts → PairCounts
+  turned s = pair_run pair s (pair_round pair)
+
+  drain-again : (k : ℕ) (s : PairCounts) → IsGoing pair pair.lag pair.lag s → pair_bound pair ≤ pair_made s + k →
+      pair_drain (suc k) pair s ≡ pair_drain k pair s
+  unfolding pair_drain
+  drain-again zero s going most =
+      let shut : is_over pair s ≡ true = drain-over pair is zero s going most in
+      rw shut refl
+  drain-again (suc k) s going most =
+      elim (cases_Bool (is_over pair s)) [
+        | inl e ↦ rw e refl
+        | inr e ↦
+            let more = round-rises pair is s going (not-over pair is s e) in
+            let again = drain-again k (turned s) (all-goes pair is s (pair_round pair) going) (omega (arith, more, most))
+            in
+            rw e again
+      ]
+
+  drain-turn : (most : ℕ) (s : PairCounts) → IsGoing pair pair.lag pair.lag s → is_over pair s ≡ false →
+      pair_bound pair ≡ most → pair_drain most pair (turned s) ≡ pair_drain most pair s
+  unfolding pair_drain
+  drain-turn zero s going open_ e =
+      let more = round-rises pair is s going (not-over pair is s open_) in
+      let high = bounded pair is (turned s) (all-goes pair is s (pair_round pair) going) in
+      absurd (omega (arith, more, high, e))
+  drain-turn (suc k) s going open_ e =
+      let more = round-rises pair is s going (not-over pair is s open_) in
+      drain-again k (turned s) (all-goes pair is s (pair_round pair) going) (omega (arith, more, e)) ∙ rw open_ refl
+
+  -- the measure of a loop over rounds falls
+  pub pair-round-less : (s : PairCounts) → IsPairReached pair s → is_over pair s ≡ false →
+      pair_bound pair - pair_made (turned s) < pair_bound pair - pair_made s
+  pair-round-less s reached open_ =
+      let going = goes-near pair s is reached in
+      let more = round-rises pair is s going (not-over pair is s open_) in
+      let high = bounded pair is (turned s) (all-goes pair is s (pair_round pair) going) in
+      omega (arith, more, high)
+
+pub pair-turns : (pair : PairPlan) (s : PairCounts) → IsPairPlan pair → IsPairReached pair s →
+    is_over pair s ≡ false →
+    pair_drain (pair_bound pair) pair (pair_run pair s (pair_round pair)) ≡ pair_drain (pair_bound pair) pair s
+pair-turns pair s is reached open_ =
+    drain-turn pair is (pair_bound pair) s (goes-near pair s is reached) open_ refl
+
+pub pair-stops : (pair : PairPlan) (s : PairCounts) (k : ℕ) → is_over pair s ≡ true → pair_drain k pair s ≡ s
+unfolding pair_drain
+pair-stops pair s zero over = refl
+pair-stops pair s (suc k) over = rw over refl
+
 pub pair-ends : (pair : PairPlan) (s : PairCounts) (way : Way) → IsPairPlan pair → IsPairReached pair s →
     (counts_on (pair_drain (pair_bound pair) pair s) way).rows ≡ (plan_on pair way).ticks
 pair-ends pair s way is reached =

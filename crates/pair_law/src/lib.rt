@@ -2,8 +2,8 @@
 //! session by itself, with twice the lag, whose return packets come in the packets of the other way. There
 //! is no code here, but the types of a pair's events. Begin at `way_law`; `telling_law` says that a session
 //! doesn't depend on what its packets tell, `heard_law` that what is read in a packet is the very return
-//! packet that it carries, and `pair_law` and `walk_law` that a pair is never stuck, whatever is tried in
-//! whatever order, and goes in each way as a walk.
+//! packet that it carries, `pair_law` and `walk_law` that a pair is never stuck, whatever is tried in
+//! whatever order, and goes in each way as a walk, and `link_law` where the two ways meet.
 #![tactic(auto)]
 
 mod pair;
@@ -33,16 +33,17 @@ ghost use Rattle.session_model.specs.declared.walk.StallCause.TheVariants.{NotDu
 ghost use Rattle.progress_law.specs.Worked.{two_items};
 ghost use Rattle.pair_law.specs.WorkedCounts.{two_ways, pair_cause, all_ticked, there_taken, drained_from, both_done};
 ghost use Rattle.pair_law.specs.PairCounts.{PairPlan, PairCounts, plan_on, counts_on, pair_step, pair_drain};
-ghost use Rattle.session_model.specs.Counts.{used_in};
 ghost use Rattle.session_model.specs.Sent.{container_of};
-ghost use Rattle.pair_law.specs.PairCounts.{pair_bound, pair_begin};
+ghost use Rattle.pair_law.specs.PairCounts.{pair_bound, pair_begin, pair_run, pair_round, is_over};
 ghost use Rattle.pair_law.specs.PairProgress.{IsPairPlan, IsPairReached, SomePairProgress, IsOpen, IsStill};
-ghost use Rattle.walk_law.specs.Walk.{IsWalked};
+ghost use Rattle.session_model.specs.Counts.{Counts, used_in};
+ghost use Rattle.session_model.specs.Rows.{read_packets, return_at};
+ghost use Rattle.walk_law.specs.Walk.{session_of, popped_cells, IsWalked};
 ghost use Rattle.walk_law.specs.Delivered.{delivered_of};
 ghost use Rattle.walk_law.specs.Report.{report_of, final_report};
 ghost use Rattle.pair_law.specs.PairWalk.{pair_plan, pair_drained, IsPairWalked};
 ghost use Rattle.pair_law.specs.Worked.{worked_there, worked_back, failing_back, first_tells, one_frame};
-ghost use Rattle.pair_law.specs.Pair.{IsPair, is_unheard, way_config, way_telling, way_tells, way_of};
+ghost use Rattle.pair_law.specs.Pair.{IsWay, IsPair, is_unheard, way_config, way_telling, way_tells, way_of};
 ghost use Rattle.pair_law.specs.Telling.{telling_of};
 
 pub use pair::{PairEvent, Way};
@@ -111,8 +112,8 @@ pub fn heard_law()
 /// did in each way a walk of that way can do, and each return packet that is ended has come; both ways have
 /// made as many ticks; a tick that begins a packet tells a return packet that was said, and no more of these
 /// wait to be told than the lag; where rows are left in some way, some event moves, or a Take pops a cell;
-/// and rounds end with all rows of both ways taken, within a bound. A stalled event changes nothing, but
-/// that a Take keeps the cells which it popped.
+/// and rounds end with all rows of both ways taken, within a bound, so that a round that is made before
+/// changes nothing of that. A stalled event changes nothing, but that a Take keeps the cells which it popped.
 pub fn pair_law()
     ensures begins { (pair : PairPlan) → IsPairReached pair (pair_begin pair) }
     ensures steps { (pair : PairPlan) (s : PairCounts) (event : PairEvent) →
@@ -138,6 +139,12 @@ pub fn pair_law()
     ensures stalls { (pair : PairPlan) (s : PairCounts) (event : PairEvent)
         (cause : Way × StallCause) → (pair_step pair s event).cause ≡ Some cause →
         IsStill pair s event }
+    ensures turns { (pair : PairPlan) (s : PairCounts) → IsPairPlan pair →
+        IsPairReached pair s → is_over pair s ≡ false →
+        pair_drain (pair_bound pair) pair (pair_run pair s (pair_round pair))
+        ≡ pair_drain (pair_bound pair) pair s }
+    ensures stops { (pair : PairPlan) (s : PairCounts) (k : ℕ) → is_over pair s ≡ true →
+        pair_drain k pair s ≡ s }
     ensures drains { (pair : PairPlan) (s : PairCounts) (k : ℕ) → IsPairReached pair s →
         IsPairReached pair (pair_drain k pair s) }
 {}
@@ -167,6 +174,22 @@ pub fn walk_law()
     ensures delivered { (script other : Script) (tells : List Told) (rows : ℕ) →
         delivered_of (way_telling script other tells) rows
         ≡ delivered_of (way_of script other) rows }
+{}
+
+/// Where the two ways of a pair meet, by the cells that were popped of each. What the sink of a way says
+/// once the row is taken that ends a packet is what the packet of the other way tells whose number is
+/// greater by the lag; and what is read in that packet, once it is ended, is the return cell of the session.
+pub fn link_law()
+    ensures says { (script other : Script) (s : Counts) (k : ℕ) → IsWay script →
+        IsWalked (way_of script other) s → 16 * k + 23 < s.rows →
+        told_by (return_at (popped_cells (way_of script other) s.lines) k)
+        ≡ telling_at (scenario_by (way_of other script)) (k + other.config.lag) }
+    ensures reads { (script other : Script) (s : Counts) (k : ℕ) → IsWay other →
+        IsWalked (way_of other script) s → k < packets_in script.config.ticks →
+        16 * (k + other.config.lag) + 23 < s.rows →
+        option_map told_by (leader
+        (read_packets (popped_cells (way_of other script) s.lines) (k + other.config.lag)))
+        ≡ return_cell (scenario_by (way_of script other)) (session_of (way_of script other)) k }
 {}
 
 /// Worked pairs, computed: a return packet of the way there is lost where no line of the way back has the

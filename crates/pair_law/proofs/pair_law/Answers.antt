@@ -2,6 +2,7 @@
 use Rattle.pair_law.proofs.GoingLaws.{pair-walks, pair-said, pair-together}
 use Rattle.pair_law.proofs.PairEndLaws.{pair-moves, pair-ends, pair-drains}
 use Rattle.pair_law.proofs.PairEndLaws.{pair-begins, pair-steps, pair-waits, pair-told}
+use Rattle.pair_law.proofs.PairEndLaws.{pair-turns, pair-stops}
 use Rattle.pair_law.proofs.PairStallLaws.{pair-stalled}
 use Rattle.pair_law.proofs.pair_law.Goals as goal
 
@@ -37,3 +38,9 @@ returns-clause-waits c = pair-waits
 
 pub returns-clause-told : goal.returns-clause-told
 returns-clause-told c = pair-told
+
+pub returns-clause-turns : goal.returns-clause-turns
+returns-clause-turns c = pair-turns
+
+pub returns-clause-stops : goal.returns-clause-stops
+returns-clause-stops c = pair-stops
