@@ -1,0 +1,14 @@
+//! Tests of checks and headers, and of the two ends of a stream, by their calls: scrambling, what a filler writes, and
+//! the frames that are found. Nothing is here but tests.
+#![tactic(auto)]
+
+#[cfg(test)]
+mod checks;
+#[cfg(test)]
+mod delineation;
+#[cfg(test)]
+mod filling;
+#[cfg(test)]
+mod headers;
+#[cfg(test)]
+mod scrambling;

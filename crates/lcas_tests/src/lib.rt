@@ -1,0 +1,14 @@
+//! Tests of source and sink by their calls: their tables by worked steps, and their terminals by worked frames and
+//! groups. Nothing is here but tests.
+#![tactic(auto)]
+
+#[cfg(test)]
+mod packets;
+#[cfg(test)]
+mod sink;
+#[cfg(test)]
+mod sink_table;
+#[cfg(test)]
+mod source;
+#[cfg(test)]
+mod source_table;

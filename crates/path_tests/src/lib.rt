@@ -1,0 +1,16 @@
+//! Tests of the path of a member by their calls: failures, the line, the numbers of its cells, rows of lines, and
+//! rows dealt to members. Nothing is here but tests.
+#![tactic(auto)]
+
+#[cfg(test)]
+mod cells;
+#[cfg(test)]
+mod failures;
+#[cfg(test)]
+mod interleaving;
+#[cfg(test)]
+mod line;
+#[cfg(test)]
+mod reading;
+#[cfg(test)]
+mod realignment;
