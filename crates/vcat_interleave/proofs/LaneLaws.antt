@@ -1,5 +1,5 @@
--- Lanes of two vectors of sixteen, in turn.
-use Rattle.std.proofs.Common.{◌≡◌, ℕ, zero, suc, ◌+◌, ◌-◌, ◌*◌, ◌<◌, List, [], ◌∷◌, ◌++◌, length, get_or, ◌∙◌, ap}
+-- Lanes of two vectors of sixteen, in turn, and by turns.
+use Rattle.std.proofs.Common.{◌≡◌, ℕ, zero, suc, ◌+◌, ◌-◌, ◌*◌, ◌<◌, List, [], ◌∷◌, ◌++◌, length, get_or, refl, ◌∙◌, ap}
 use Rattle.std.proofs.Common.{arith}
 use Rattle.std.proofs.lemmas.List.{get_or_append_left, get_or-append_right}
 
@@ -47,3 +47,49 @@ back_is a b e (suc (suc (suc (suc (suc zero))))) h = (left a b 13 e (omega arith
 back_is a b e (suc (suc (suc (suc (suc (suc zero)))))) h = (left a b 14 e (omega arith), right a b 14 e)
 back_is a b e (suc (suc (suc (suc (suc (suc (suc zero))))))) h = (left a b 15 e (omega arith), right a b 15 e)
 back_is a b e (suc (suc (suc (suc (suc (suc (suc (suc n)))))))) h = absurd (omega arith)
+
+-- each first one
+abbrev pub firsts : List ℕ → List ℕ
+firsts l = get_or l 0 0 ∷ get_or l 2 0 ∷ get_or l 4 0 ∷ get_or l 6 0 ∷ get_or l 8 0 ∷ get_or l 10 0 ∷ get_or l 12 0 ∷ get_or l 14 0 ∷ get_or l 16 0 ∷ get_or l 18 0 ∷ get_or l 20 0 ∷ get_or l 22 0 ∷ get_or l 24 0 ∷ get_or l 26 0 ∷ get_or l 28 0 ∷ get_or l 30 0 ∷ []
+
+pub firsts_are : (l : List ℕ) (i : ℕ) → i < 16 → get_or (firsts l) i 0 ≡ get_or l (i * 2) 0
+firsts_are l zero h = refl
+firsts_are l (suc zero) h = refl
+firsts_are l (suc (suc zero)) h = refl
+firsts_are l (suc (suc (suc zero))) h = refl
+firsts_are l (suc (suc (suc (suc zero)))) h = refl
+firsts_are l (suc (suc (suc (suc (suc zero))))) h = refl
+firsts_are l (suc (suc (suc (suc (suc (suc zero)))))) h = refl
+firsts_are l (suc (suc (suc (suc (suc (suc (suc zero))))))) h = refl
+firsts_are l (suc (suc (suc (suc (suc (suc (suc (suc zero)))))))) h = refl
+firsts_are l (suc (suc (suc (suc (suc (suc (suc (suc (suc zero))))))))) h = refl
+firsts_are l (suc (suc (suc (suc (suc (suc (suc (suc (suc (suc zero)))))))))) h = refl
+firsts_are l (suc (suc (suc (suc (suc (suc (suc (suc (suc (suc (suc zero))))))))))) h = refl
+firsts_are l (suc (suc (suc (suc (suc (suc (suc (suc (suc (suc (suc (suc zero)))))))))))) h = refl
+firsts_are l (suc (suc (suc (suc (suc (suc (suc (suc (suc (suc (suc (suc (suc zero))))))))))))) h = refl
+firsts_are l (suc (suc (suc (suc (suc (suc (suc (suc (suc (suc (suc (suc (suc (suc zero)))))))))))))) h = refl
+firsts_are l (suc (suc (suc (suc (suc (suc (suc (suc (suc (suc (suc (suc (suc (suc (suc zero))))))))))))))) h = refl
+firsts_are l (suc (suc (suc (suc (suc (suc (suc (suc (suc (suc (suc (suc (suc (suc (suc (suc n)))))))))))))))) h = absurd (omega arith)
+
+-- each second one
+abbrev pub seconds : List ℕ → List ℕ
+seconds l = get_or l 1 0 ∷ get_or l 3 0 ∷ get_or l 5 0 ∷ get_or l 7 0 ∷ get_or l 9 0 ∷ get_or l 11 0 ∷ get_or l 13 0 ∷ get_or l 15 0 ∷ get_or l 17 0 ∷ get_or l 19 0 ∷ get_or l 21 0 ∷ get_or l 23 0 ∷ get_or l 25 0 ∷ get_or l 27 0 ∷ get_or l 29 0 ∷ get_or l 31 0 ∷ []
+
+pub seconds_are : (l : List ℕ) (i : ℕ) → i < 16 → get_or (seconds l) i 0 ≡ get_or l (i * 2 + 1) 0
+seconds_are l zero h = refl
+seconds_are l (suc zero) h = refl
+seconds_are l (suc (suc zero)) h = refl
+seconds_are l (suc (suc (suc zero))) h = refl
+seconds_are l (suc (suc (suc (suc zero)))) h = refl
+seconds_are l (suc (suc (suc (suc (suc zero))))) h = refl
+seconds_are l (suc (suc (suc (suc (suc (suc zero)))))) h = refl
+seconds_are l (suc (suc (suc (suc (suc (suc (suc zero))))))) h = refl
+seconds_are l (suc (suc (suc (suc (suc (suc (suc (suc zero)))))))) h = refl
+seconds_are l (suc (suc (suc (suc (suc (suc (suc (suc (suc zero))))))))) h = refl
+seconds_are l (suc (suc (suc (suc (suc (suc (suc (suc (suc (suc zero)))))))))) h = refl
+seconds_are l (suc (suc (suc (suc (suc (suc (suc (suc (suc (suc (suc zero))))))))))) h = refl
+seconds_are l (suc (suc (suc (suc (suc (suc (suc (suc (suc (suc (suc (suc zero)))))))))))) h = refl
+seconds_are l (suc (suc (suc (suc (suc (suc (suc (suc (suc (suc (suc (suc (suc zero))))))))))))) h = refl
+seconds_are l (suc (suc (suc (suc (suc (suc (suc (suc (suc (suc (suc (suc (suc (suc zero)))))))))))))) h = refl
+seconds_are l (suc (suc (suc (suc (suc (suc (suc (suc (suc (suc (suc (suc (suc (suc (suc zero))))))))))))))) h = refl
+seconds_are l (suc (suc (suc (suc (suc (suc (suc (suc (suc (suc (suc (suc (suc (suc (suc (suc n)))))))))))))))) h = absurd (omega arith)

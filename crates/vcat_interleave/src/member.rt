@@ -1,9 +1,9 @@
 //! The octets of one member in a row.
-ghost use Rattle.std.specs.Prelude.{◌≡◌, ◌≢◌, ℕ, ◌+◌, ◌*◌, ◌%◌, ◌<◌, ◌≤◌, true, length, slice_index};
+ghost use Rattle.std.specs.Prelude.{◌≡◌, ◌≢◌, ℕ, ◌+◌, ◌*◌, ◌%◌, ◌<◌, ◌≤◌, true, ◌++◌, length, slice_index};
 ghost use Rattle.session_model.specs.Interleave.{part_of};
 ghost use Rattle.vcat_interleave.specs.Again.{ComesAgain};
 
-use crate::square::{SIDE, put_octets};
+use crate::square::{SIDE, octets_of, put_octets};
 use std::simd::prelude::*;
 
 // Puts the octets of a member at the places of its rank.
@@ -43,11 +43,49 @@ pub(crate) fn take_part(row: &[u8], rank: usize, x: usize, again: bool, octets: 
     if again && octets.len() > 3 {
         take_again(row, rank, x, octets);
     } else if x == 2 {
-        // A step that is known is taken by vectors.
-        take_rank(row, rank, 2, octets);
+        take_half(row, rank, octets);
     } else {
         take_rank(row, rank, x, octets);
     }
+}
+
+// Takes the octets of one of two members.
+fn take_half(row: &[u8], rank: usize, octets: &mut [u8])
+    requires rank { rank < 2 }
+    requires row { length row.now ≡ length octets.old * 2 }
+    ensures { octets.new ≡ part_of rank 2 (length octets.old) row.now }
+{
+    let squares = octets.len() / SIDE;
+    for k in 0..squares {
+        put_octets(half_of(row, rank, k * SIDE), k * SIDE, octets);
+    }
+    for p in squares * SIDE..octets.len() {
+        octets[p] = row[p * 2 + rank];
+    }
+}
+
+// The octets of one of two members at sixteen places.
+#[inline]
+fn half_of(row: &[u8], rank: usize, place: usize) -> u8x16
+    requires rank { rank < 2 }
+    requires within { place * 2 + 32 ≤ length row.now }
+    ensures { (i : ℕ) → i < 16 →
+        slice_index result i ≡ slice_index row.now ((place + i) * 2 + rank) }
+{
+    let (firsts, seconds) = by_turns(octets_of(row, place * 2), octets_of(row, place * 2 + SIDE));
+    if rank == 0 { firsts } else { seconds }
+}
+
+// Of the octets of two vectors, one after the other, those that stand first and those that stand second.
+#[inline]
+fn by_turns(a: u8x16, b: u8x16) -> (u8x16, u8x16)
+    ensures firsts { (i : ℕ) → i < 16 →
+        slice_index result.0 i ≡ slice_index (a ++ b) (i * 2) }
+    ensures seconds { (i : ℕ) → i < 16 →
+        slice_index result.1 i ≡ slice_index (a ++ b) (i * 2 + 1) }
+    ensures long { length a ≡ 16 }
+{
+    a.deinterleave(b)
 }
 
 // Takes the octets of a member where these come again and again in the row.

@@ -1,5 +1,5 @@
 -- The row is compared with itself four octets later.
-use Rattle.std.proofs.Common.{◌≡◌, ◌-◌, ℕ, List, length, take, drop, sym, ◌∙◌}
+use Rattle.std.proofs.Common.{◌-◌, ℕ, List, length, take, drop, sym, ◌∙◌}
 use Rattle.std.proofs.lemmas.List.{take_rest}
 use Rattle.std.proofs.lemmas.Slice.Eq.{bytes_eq-Decides}
 use Rattle.vcat_interleave.proofs.AgainLaws.{is-again}

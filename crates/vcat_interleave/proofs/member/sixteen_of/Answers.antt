@@ -1,5 +1,5 @@
 -- The octets of a member come again too.
-use Rattle.std.proofs.Common.{◌+◌, ◌*◌, ◌%◌, ◌∙◌, arith}
+use Rattle.std.proofs.Common.{◌%◌, ◌∙◌, arith}
 use Rattle.vcat_interleave.proofs.AgainLaws.{again-part}
 use Rattle.vcat_interleave.proofs.member.sixteen_of.Goals as goal
 

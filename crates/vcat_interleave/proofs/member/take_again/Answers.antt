@@ -1,5 +1,5 @@
 -- The octets stand at the places of the rank, and those of sixteen places come again.
-use Rattle.std.proofs.Common.{◌≡◌, ◌+◌, ◌-◌, ◌*◌, ◌%◌, ◌<◌, inl, inr, length, slice_index, sym, ap, ◌∙◌, arith}
+use Rattle.std.proofs.Common.{◌≡◌, ◌+◌, ◌-◌, ◌*◌, ◌%◌, inl, inr, length, slice_index, ap, ◌∙◌, arith}
 use Rattle.std.proofs.lemmas.Bool.{cases_lt}
 use Rattle.session_model.specs.Interleave.{part_of}
 use Rattle.vcat_interleave.proofs.RowLaws.{is-part_of, within-row}
