@@ -6,8 +6,15 @@ use Rattle.session_model.specs.Counts.{Counts}
 use Rattle.session_model.specs.Valid.{IsValid}
 use Rattle.headline_law.specs.Texts.{counts_in}
 use Rattle.walk_law.specs.Walk.{IsWalked}
+use Rattle.walk_fates.specs.Seen.{Sees}
 use Rattle.walk_command.proofs.SeeLaws.{counts-walked}
 use Rattle.walk_command.proofs.fate_turns.see_walk.Goals as goal
+
+pub see_event_lines-requires-clause-seen : goal.see_event_lines-requires-clause-seen
+see_event_lines-requires-clause-seen c =
+    let script = c.args.walk.now.script in
+    subst (λ (s : Counts). Sees (leg_of script) s.ticks s.rows c.nothing_seen-rows.result) (sym c.requires.begun)
+    (c.nothing_seen-rows.ensures (leg_of script) (ap (λ (x : Script). x.config.size) (sym c.script.ensures.script)))
 
 pub place_frames-requires-clause-walked : goal.place_frames-requires-clause-walked
 place_frames-requires-clause-walked c =
