@@ -1,7 +1,7 @@
 -- The capture of a script's walk is read as the frames in it: rows don't fall, and no frame is long.
-use Rattle.std.proofs.Common.{◌≡◌, ℕ, zero, suc, ◌+◌, ◌-◌, ◌<◌, ◌≤◌, Bool, true, false, List, [], ◌∷◌, ◌++◌, length}
+use Rattle.std.proofs.Common.{◌≡◌, ℕ, zero, suc, ◌+◌, ◌≤◌, Bool, true, false, List, [], ◌∷◌, ◌++◌, length}
 use Rattle.std.proofs.Common.{take}
-use Rattle.std.proofs.Common.{drop, All, Option, Some, None, Ok, sym, ap, subst, arith, inl, inr, length-drop}
+use Rattle.std.proofs.Common.{drop, All, Option, Some, None, Ok, sym, subst, arith, inl, inr, length-drop}
 use Rattle.std.specs.Prelude.{nat_lt}
 use Rattle.std.specs.List.{flat_map}
 use Rattle.std.proofs.lemmas.Bool.{cases_Bool, ltb-false}

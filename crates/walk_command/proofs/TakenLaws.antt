@@ -13,7 +13,7 @@ use Rattle.walk_law.specs.Walk.{walk_plan}
 use Rattle.walk_law.specs.Delivered.{delivered_of}
 use Rattle.walk_core.specs.Moved.{Walked, delivered_since, GivesRows}
 use Rattle.walk_core.proofs.RoundLaws.{since-none}
-use Rattle.capture_file.specs.Written.{RowFrame, ethernet_capture}
+use Rattle.capture_file.specs.Written.{RowFrame}
 use Rattle.capture_file.specs.declared.capture_out.CaptureOut.{CaptureOut}
 use Rattle.capture_file.specs.Out.{HasCapture, AddsRow, at_row}
 use Rattle.capture_file.proofs.OutLaws.{row-more}

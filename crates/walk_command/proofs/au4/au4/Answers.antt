@@ -1,5 +1,5 @@
 -- The input is read, and says a link or doesn't.
-use Rattle.std.proofs.Common.{rules, refl, sym, ap, ◌∙◌}
+use Rattle.std.proofs.Common.{refl, sym, ap, ◌∙◌}
 use Rattle.command_parts.specs.declared.stop.Refusal.TheVariants.{Line}
 use Rattle.command_parts.specs.declared.stop.Stop.TheVariants.{Refused}
 use Rattle.command_parts.specs.Task.{writes, reads}

@@ -1,5 +1,5 @@
 -- A round more, or all rows are taken.
-use Rattle.std.proofs.Common.{◌<◌, ◌≤◌, refl, sym, ◌∙◌, ap, arith}
+use Rattle.std.proofs.Common.{◌<◌, ◌≤◌, refl, ◌∙◌, ap, arith}
 use Rattle.session_model.specs.declared.script.Script.{Script}
 use Rattle.session_model.specs.Leg.{leg_of}
 use Rattle.session_model.specs.Counts.{Counts, run, round}

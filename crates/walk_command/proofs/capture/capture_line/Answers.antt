@@ -1,5 +1,5 @@
 -- Turns, or a drain.
-use Rattle.std.proofs.Common.{sym, ◌∙◌, ap, arith}
+use Rattle.std.proofs.Common.{sym, ◌∙◌, ap}
 use Rattle.session_model.specs.declared.script.EventLine.{EventLine}
 use Rattle.session_model.specs.Leg.{leg_of}
 use Rattle.session_model.specs.Counts.{run_line}

@@ -8,7 +8,6 @@ use Rattle.session_model.specs.declared.script.EventLine.TheVariants.{Client}
 use Rattle.session_model.specs.declared.script.Script.{Script}
 use Rattle.session_model.specs.Leg.{leg_of}
 use Rattle.session_model.specs.Counts.{Counts, begin, run_line, run_lines, walked, drain, bound}
-use Rattle.session_model.specs.Valid.{IsValid}
 use Rattle.walk_law.specs.Walk.{walk_plan, IsWalked}
 use Rattle.walk_law.proofs.WalkLaws.{begins-walked}
 use Rattle.walk_command.proofs.CountLaws.{lines-last, lines-some, lines-no}

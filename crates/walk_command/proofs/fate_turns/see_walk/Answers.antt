@@ -1,5 +1,5 @@
 -- The walk of a script is one of its lists of events, and what is seen of it and the places stand together.
-use Rattle.std.proofs.Common.{◌≡◌, IfOk, sym, ◌∙◌, ap, subst}
+use Rattle.std.proofs.Common.{sym, ap, subst}
 use Rattle.session_model.specs.declared.script.Script.{Script}
 use Rattle.session_model.specs.Leg.{leg_of}
 use Rattle.session_model.specs.Counts.{Counts}
