@@ -69,7 +69,8 @@ impl AlarmLog {
     ghost use Rattle.member_ring.specs.declared.alarm.Alarm.{Alarm};
     ghost use Rattle.alarm_log.specs.Logs.{moved_by, was_heard, alarms_in, posts_of, IsAlone, IsPostOf, SameLog};
 
-    /// Moves up to 16 alarms from the queue to the list. It takes no memory.
+    /// Moves up to 16 alarms from the queue to the list, and fewer only where it finds the queue empty. It takes
+    /// no memory.
     pub fn turn<R: Wait>(&mut self, rt: &R) -> Turn
         ensures taken { (result ≡ Turn.Taken)
             ↔ (length (moved_by self.old) < length (moved_by self.new)) }
@@ -77,6 +78,8 @@ impl AlarmLog {
         ensures grown { (more : List Alarm) × (moved_by self.new ≡ moved_by self.old ++ more) }
         ensures empty { result ≡ Turn.Empty →
             (moved_by self.new ≡ moved_by self.old) × Held 0 (was_heard self.old) }
+        ensures all { length (moved_by self.new) < length (moved_by self.old) + 16 →
+            Held 0 (was_heard self.new) }
         ensures same { SameLog self.old self.new }
     {
         if !self.take_one(rt) {
@@ -115,6 +118,8 @@ impl AlarmLog {
         ensures least { length (moved_by self.old) ≤ length (moved_by self.new) }
         ensures most { length (moved_by self.new) ≤ length (moved_by self.old) + 15 }
         ensures grown { (more : List Alarm) × (moved_by self.new ≡ moved_by self.old ++ more) }
+        ensures all { length (moved_by self.new) < length (moved_by self.old) + 15 →
+            Held 0 (was_heard self.new) }
         ensures same { SameLog self.old self.new }
     {
         for _ in 1..MOVES {
@@ -131,6 +136,7 @@ impl AlarmLog {
         ensures grown { (more : List Alarm) × (moved_by self.new ≡ moved_by self.old ++ more) }
         ensures none { result ≡ false →
             (moved_by self.new ≡ moved_by self.old) × Held 0 (was_heard self.old) }
+        ensures empty { result ≡ false → Held 0 (was_heard self.new) }
         ensures same { SameLog self.old self.new }
     {
         take(rt, &self.queue, &mut self.pass, &mut self.list)
