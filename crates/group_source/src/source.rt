@@ -7,10 +7,11 @@ ghost use Rattle.vc_cell.specs.Held.{held};
 ghost use Rattle.session_model.specs.Leg.{leg_of};
 ghost use Rattle.session_model.specs.Scenario.{Scenario, steps_in};
 ghost use Rattle.session_model.specs.Table.{Told};
+ghost use Rattle.session_model.specs.Told.{told_by};
 ghost use Rattle.session_model.specs.Sent.{frame_of};
 ghost use Rattle.session_model.specs.Valid.{IsValid};
 ghost use Rattle.source_core.specs.Terminal.{SameKind, needed};
-ghost use Rattle.source_core.specs.Given.{with_cell, Stands as HasMade};
+ghost use Rattle.source_core.specs.Given.{with_cell, with_told, Stands as HasMade};
 ghost use Rattle.walk_law.specs.Landed.{is_client, IsPlaced, refused_by};
 ghost use Rattle.group_source.specs.Item.{kind_of};
 ghost use Rattle.group_source.specs.Lands.{met_by, with_kind};
@@ -24,7 +25,7 @@ use crate::landing::Landing;
 use lcas_source::SourceTable;
 use report_text::Refusal;
 use session_model::{Item, Script};
-use source_core::{Command, SourceCore};
+use source_core::{Command, Packet, SourceCore};
 use std::alloc::{AllocError, Global};
 use std::marker::Model;
 use vc_cell::{BackCell, HeldContainer};
@@ -88,6 +89,13 @@ impl GroupSource {
         ensures { result ≡ self.now.core.ticks }
     {
         self.core.ticks()
+    }
+
+    /// How many ticks there are.
+    pub fn total(&self) -> u32
+        ensures { result ≡ self.now.total }
+    {
+        self.total
     }
 
     /// The table of the lines.
@@ -182,6 +190,21 @@ impl GroupSource {
             Some(packet) if self.inbox.is_empty() => Some(packet),
             _ => None,
         }
+    }
+
+    /// Has the packets of the next decision step pass on a return packet that is said of the other way of a
+    /// pair. Where the call isn't made between two steps they tell nothing, and where it is made again the last
+    /// one counts.
+    pub fn tell(&mut self, packet: Packet)
+        ensures made { (scenario : Scenario) (cells : List (Option Told)) →
+            HasMade self.old.core scenario cells →
+            HasMade self.new.core
+            (with_told scenario (steps_in self.old.core.ticks) (told_by packet)) cells }
+        ensures ticks { self.new.core.ticks ≡ self.old.core.ticks }
+        ensures kind { SameKind self.new.core self.old.core }
+        ensures rest { self.new ≡ record self.old { core = self.new.core } }
+    {
+        self.core.tell(packet);
     }
 
     /// Makes the next frame, a container for each line, and takes the return cell that it needs, where it needs one.

@@ -1,5 +1,6 @@
 -- A return packet comes to the source.
-use Rattle.std.proofs.Common.{◌≡◌, ℕ, ◌+◌, ◌<◌, nat_le, true, false, Bool, List, [], ◌∷◌, ◌++◌, length, Option, Some}
+use Rattle.std.proofs.Common.{◌≡◌, ℕ, ◌+◌, ◌<◌, nat_le, true, false, Bool, List, [], ◌∷◌, ◌++◌, length}
+use Rattle.std.proofs.Common.{drop, slice_get, Option, Some, option_map}
 use Rattle.std.proofs.Common.{None, refl, sym, ◌∙◌, ap, subst, arith, inl, inr, if◌then◌else◌}
 use Rattle.std.specs.List.{range_with_len}
 use Rattle.std.proofs.lemmas.List.{length-map}
@@ -19,14 +20,14 @@ use Rattle.walk_law.specs.Walk.{walk_plan, IsWalked}
 use Rattle.walk_law.specs.Rings.{said_packet, back_cell, return_ring, inbox}
 use Rattle.walk_law.proofs.PlanLaws.{has-plan, sound-walks}
 use Rattle.walk_law.proofs.ReturnLaws as return_laws
-use Rattle.walk_parts.specs.Return.{Return, come, and_moved, moved_by}
-use Rattle.group_source.specs.Inbox.{is_lost_in}
+use Rattle.walk_parts.specs.Return.{Return, path_of, packet_cell, come, and_moved, moved_by}
+use Rattle.group_source.specs.Inbox.{Inbox, with_come, is_lost_in}
 use Rattle.walk_core.specs.declared.moved.StepNote.{StepNote}
 use Rattle.walk_core.specs.declared.moved.Moved.TheVariants.{Yes, Stalled}
 use Rattle.walk_core.specs.Moved.{answer_by, moved_of, counts_after}
-use Rattle.group_source.specs.Landed.{Landed}
+use Rattle.session_model.specs.declared.packet.Packet.{Packet}
 use Rattle.walk_core.specs.Parts.{Parts, counts_of, HasBack, IsWalk}
-use Rattle.walk_core.proofs.EventLaws.{walk-fits, walked-next, source-stays, landed-stays}
+use Rattle.walk_core.proofs.EventLaws.{walk-fits, walked-next, stands-back}
 
 pub ring-size : (leg : Leg) (s : Counts) → length (return_ring leg s) ≡ in_return s
 ring-size leg s = length-map (range_with_len s.backs (in_return s)) (said_packet leg)
@@ -133,12 +134,31 @@ back-moved leg s back has some =
     let e = back-moves leg s back has some in
     (sym (ap (λ (x : Step). x.counts) e), ap (λ (x : Step). answer_by x.cause None) (sym e))
 
-module _ (leg : Leg) (parts : Parts) (landing : Landed) (got : ℕ) (last : Option StepNote)
-    (is : IsWalk leg parts landing got last) where
-  pub inbox-room : length parts.back.inbox < parts.back.room
+-- the packet that is popped, once it was put into the inbox
+pub popped-back : (ring rest : List Packet) (inbox : Inbox) (cell : BackCell) →
+    Some cell ≡ option_map packet_cell (slice_get ring 0) → rest ≡ drop 1 ring →
+    path_of rest (with_come inbox cell) ≡ and_moved (path_of ring inbox)
+popped-back [] rest inbox cell there left = absurd cc
+popped-back (packet ∷ ring) rest inbox cell there left =
+    let is : cell ≡ packet_cell packet = cc in
+    ap (λ c. path_of rest (with_come inbox c)) is
+    ∙ ap (λ r. path_of r (with_come inbox (packet_cell packet))) left
+
+pub some-packet : (ring : List Packet) (cell : BackCell) →
+    Some cell ≡ option_map packet_cell (slice_get ring 0) → ring ≡ [] → ⊥
+some-packet [] cell there none = absurd cc
+some-packet (packet ∷ ring) cell there none = absurd cc
+
+pub no-packet : (ring : List Packet) → None ≡ option_map packet_cell (slice_get ring 0) → ring ≡ []
+no-packet [] there = refl
+no-packet (packet ∷ ring) there = absurd cc
+
+module _ (leg : Leg) (parts : Parts) (ring : List Packet) (last : Option StepNote)
+    (is : IsWalk leg parts ring last) where
+  pub inbox-room : length parts.source.inbox.cells < parts.source.inbox.room
   inbox-room =
-      let s : Counts = counts_of parts landing in
-      let most = inbox-fits (walk_plan leg) s (has-plan leg (sound-walks leg is.sound)) is.walked in
+      let s : Counts = counts_of parts parts.source.inbox.come in
+      let most = inbox-fits (walk_plan leg) s (has-plan leg (sound-walks leg is.stands.sound)) is.stands.walked in
       let size : length (inbox leg s) ≡ in_inbox (walk_plan leg) s =
       length-map (range_with_len (used_in leg.config.lag s.ticks) (in_inbox (walk_plan leg) s))
       (back_cell leg) ∙ length-range_with_len (used_in leg.config.lag s.ticks) (in_inbox (walk_plan leg) s) in
@@ -146,56 +166,54 @@ module _ (leg : Leg) (parts : Parts) (landing : Landed) (got : ℕ) (last : Opti
       let room = is.back.room in
       omega (arith, most, size, same, room)
 
-  pub backs-few : parts.back.backs < 4294967295
+  pub backs-few : parts.source.inbox.come < 4294967295
   backs-few =
-      let fits = walk-fits leg (counts_of parts landing) is.sound is.walked in
+      let fits = walk-fits leg (counts_of parts parts.source.inbox.come) is.stands.sound is.stands.walked in
       let backs = fits.backs in
       let rows = fits.rows in
-      let ticks = is.sound.network.ticks.1 in
+      let ticks = is.stands.sound.network.ticks.1 in
       omega (arith, backs, rows, ticks)
 
-  module _ (some : parts.back.ring ≡ [] → ⊥) (back : Return) (moves : back ≡ and_moved parts.back) where
-    next : Counts
-    next = record (counts_of parts landing) { backs = parts.back.backs + 1 }
-
-    back-is : back ≡ record {
+  -- a return packet has come
+  module _ (rest : List Packet) (cell : BackCell)
+      (there : Some cell ≡ option_map packet_cell (slice_get ring 0)) (left : rest ≡ drop 1 ring) where
+    back-is : path_of rest (with_come parts.source.inbox cell) ≡ record {
       ring = return_ring leg
-          (record (counts_of parts landing)
-          { backs = parts.back.backs + 1 });
+          (record (counts_of parts parts.source.inbox.come)
+          { backs = parts.source.inbox.come + 1 });
       lost = leg.config.lost;
       inbox = inbox leg
-          (record (counts_of parts landing)
-          { backs = parts.back.backs + 1 });
+          (record (counts_of parts parts.source.inbox.come)
+          { backs = parts.source.inbox.come + 1 });
       room = leg.config.lag + 1;
-      backs = parts.back.backs + 1;
+      backs = parts.source.inbox.come + 1;
     }
-    back-is = moves ∙ back-has leg (counts_of parts landing) parts.back is.sound is.walked is.back some refl
+    back-is =
+        popped-back ring rest parts.source.inbox cell there left
+        ∙ back-has leg (counts_of parts parts.source.inbox.come) (path_of ring parts.source.inbox) is.stands.sound
+        is.stands.walked is.back (some-packet ring cell there) refl
 
-    pub back-counts : counts_of (record parts { back = back }) landing
-        ≡ counts_after leg (counts_of parts landing) Back
-    back-counts = ap (λ (b : Return). counts_of (record parts { back = b }) landing) back-is
-        ∙ (back-moved leg (counts_of parts landing) parts.back is.back some).0
+    moves : (record (counts_of parts parts.source.inbox.come) { backs = parts.source.inbox.come + 1 }
+        ≡ counts_after leg (counts_of parts parts.source.inbox.come) Back)
+        × (Yes ≡ moved_of leg (counts_of parts parts.source.inbox.come) Back)
+    moves = back-moved leg (counts_of parts parts.source.inbox.come) (path_of ring parts.source.inbox) is.back
+        (some-packet ring cell there)
 
-    pub back-kept : IsWalk leg (record parts { back = back }) landing got last
-    back-kept = subst (λ (b : Return). IsWalk leg (record parts { back = b }) landing got last) (sym back-is)
-        (record {
-          sound = is.sound;
-          total = is.total;
-          walked = walked-next leg (counts_of parts landing) _ Back is.walked
-              (back-moved leg (counts_of parts landing) parts.back is.back some).0;
-          source = source-stays leg (counts_of parts landing) _ _ _ parts.source is.source;
-          sent = is.sent;
-          lines = is.lines;
-          sink = record {
-            gathers = is.sink.gathers;
-            taken = is.sink.taken;
-            passed = is.sink.passed;
-            lines = is.sink.lines;
-            all = is.sink.all;
-            size = is.sink.size;
-          };
-          back = record { ring = refl; lost = refl; inbox = refl; room = refl };
-          landed = landed-stays leg (counts_of parts landing) _ _ _ landing is.landed;
-          counted = is.counted;
-          noted = is.noted;
-        })
+    pub back-counts : counts_of parts (parts.source.inbox.come + 1)
+        ≡ counts_after leg (counts_of parts parts.source.inbox.come) Back
+    back-counts = moves.0
+
+    pub back-yes : Yes ≡ moved_of leg (counts_of parts parts.source.inbox.come) Back
+    back-yes = moves.1
+
+    pub back-kept : IsWalk leg (record parts
+        { source = record parts.source { inbox = with_come parts.source.inbox cell } }) rest last
+    back-kept = record {
+      stands = stands-back leg parts.source.inbox.come (parts.source.inbox.come + 1) parts
+          (with_come parts.source.inbox cell) is.stands
+          (walked-next leg (counts_of parts parts.source.inbox.come) _ Back is.stands.walked back-counts);
+      back = subst (HasBack leg (record (counts_of parts parts.source.inbox.come)
+          { backs = parts.source.inbox.come + 1 })) (sym back-is)
+          (record { ring = refl; lost = refl; inbox = refl; room = refl });
+      noted = is.noted;
+    }

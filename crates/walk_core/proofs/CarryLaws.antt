@@ -33,11 +33,9 @@ use Rattle.walk_law.specs.Rings.{delay_on, sent_at, taken_by, cells_by, send_by,
 use Rattle.walk_law.specs.Walk.{path_on}
 use Rattle.walk_law.proofs.RingLaws.{taken-cells, taken-next, receive-size}
 use Rattle.walk_parts.specs.Ringed.{Ringed, ring_of}
-use Rattle.walk_core.specs.declared.moved.StepNote.{StepNote}
 use Rattle.walk_core.specs.declared.moved.Moved.TheVariants.{Yes, Stalled}
 use Rattle.walk_core.specs.Moved.{answer_by, moved_of, counts_after}
-use Rattle.group_source.specs.Landed.{Landed}
-use Rattle.walk_core.specs.Parts.{Parts, frame_in, HasSent, counts_of, calls_on, line_counts, HasLine, IsWalk}
+use Rattle.walk_core.specs.Parts.{Parts, frame_in, HasSent, counts_of, calls_on, line_counts, HasLine, Stands}
 use Rattle.walk_core.specs.Carry.{carry_cause, CanCarry, HasRoom, IsSentOn, IsCarriedAt}
 use Rattle.walk_core.specs.Waiting.{send_ring, receive_ring}
 use Rattle.walk_core.proofs.EventLaws.{walk-fits, walked-next, source-stays, landed-stays}
@@ -270,10 +268,9 @@ cells-same leg lines m line x e same =
     (λ k. ap (λ n. take n (cells_on (scenario_by leg) (delay_on leg k) k))
     (sym (popped-same lines m k line x e same))) (range_with_len 0 (length leg.config.windows))
 
-module _ (leg : Leg) (parts : Parts) (landing : Landed) (got : ℕ) (last : Option StepNote)
-    (is : IsWalk leg parts landing got last)
+module _ (leg : Leg) (backs : ℕ) (parts : Parts) (is : Stands leg backs parts)
     (m : ℕ) (low : m < leg.config.lines) (line : Ringed) (there : slice_get parts.lines m ≡ Some line) where
-  here : slice_get (counts_of parts landing).lines m ≡ Some (line_counts line)
+  here : slice_get (counts_of parts backs).lines m ≡ Some (line_counts line)
   here = map-get line_counts parts.lines m line there
 
   can : CanWalk leg
@@ -282,92 +279,91 @@ module _ (leg : Leg) (parts : Parts) (landing : Landed) (got : ℕ) (last : Opti
   windows : m < length leg.config.windows
   windows = let e = is.sound.network.windows_each in omega (arith, low, e)
 
-  pub step-is : step (walk_plan leg) (counts_of parts landing) (Carry m) ≡ carry_on (walk_plan leg)
-      (counts_of parts landing) m (path_on leg m) (line_counts line)
+  pub step-is : step (walk_plan leg) (counts_of parts backs) (Carry m) ≡ carry_on (walk_plan leg)
+      (counts_of parts backs) m (path_on leg m) (line_counts line)
   step-is =
-      ap (λ p. carry_at (walk_plan leg) (counts_of parts landing) m p
-      (slice_get (counts_of parts landing).lines m)) (line-path leg (sound-walks leg is.sound) m windows)
-      ∙ ap (carry_at (walk_plan leg) (counts_of parts landing) m (Some (path_on leg m))) here
+      ap (λ p. carry_at (walk_plan leg) (counts_of parts backs) m p
+      (slice_get (counts_of parts backs).lines m)) (line-path leg (sound-walks leg is.sound) m windows)
+      ∙ ap (carry_at (walk_plan leg) (counts_of parts backs) m (Some (path_on leg m))) here
 
   pub line-has : HasLine leg m line
   line-has = is.lines.each m line there
 
   pub line-room : HasRoom leg m line
   line-room =
-      let fits = line-fits leg (counts_of parts landing) (sound-walks leg is.sound) is.walked m windows in
-      let same = counts-here (counts_of parts landing).lines m (line_counts line) here in
+      let fits = line-fits leg (counts_of parts backs) (sound-walks leg is.sound) is.walked m windows in
+      let same = counts-here (counts_of parts backs).lines m (line_counts line) here in
       record {
         pops = subst (λ (l : LineCounts). l.popped ≤ (path_on leg m).given l.carried) same fits.pops;
         room = subst (λ (l : LineCounts). (path_on leg m).given l.carried ≤ l.popped + leg.config.ring) same
             fits.receive;
       }
 
-  line-send : parts.source.ticks ≤ line.carried + 32
+  line-send : parts.source.core.ticks ≤ line.carried + 32
   line-send =
-      let fits = line-fits leg (counts_of parts landing) (sound-walks leg is.sound) is.walked m windows in
-      let same = counts-here (counts_of parts landing).lines m (line_counts line) here in
-      let send = subst (λ (l : LineCounts). parts.source.ticks ≤ min l.carried leg.config.ticks + 32) same
+      let fits = line-fits leg (counts_of parts backs) (sound-walks leg is.sound) is.walked m windows in
+      let same = counts-here (counts_of parts backs).lines m (line_counts line) here in
+      let send = subst (λ (l : LineCounts). parts.source.core.ticks ≤ min l.carried leg.config.ticks + 32) same
       fits.send in
       omega (arith, send)
 
   pub carry-stays : (cause : StallCause) →
-      Some cause ≡ carry_cause leg.config.ticks leg.config.ring parts.source.ticks m (path_on leg m)
+      Some cause ≡ carry_cause leg.config.ticks leg.config.ring parts.source.core.ticks m (path_on leg m)
       (line_counts line) →
-      (counts_of parts landing ≡ counts_after leg (counts_of parts landing) (Carry m))
-      × (Stalled cause ≡ moved_of leg (counts_of parts landing) (Carry m))
+      (counts_of parts backs ≡ counts_after leg (counts_of parts backs) (Carry m))
+      × (Stalled cause ≡ moved_of leg (counts_of parts backs) (Carry m))
   carry-stays cause e =
-      let told = stalls (walk_plan leg) (counts_of parts landing) m (path_on leg m) (line_counts line) cause e in (
+      let told = stalls (walk_plan leg) (counts_of parts backs) m (path_on leg m) (line_counts line) cause e in (
         sym (ap (λ (x : Step). x.counts) step-is ∙ told.0),
         ap (λ o. answer_by o None)
             (sym (ap (λ (x : Step). x.cause) step-is ∙ told.1)),
       )
 
-  module _ (after : Ringed) (none : None ≡ carry_cause leg.config.ticks leg.config.ring parts.source.ticks m
+  module _ (after : Ringed) (none : None ≡ carry_cause leg.config.ticks leg.config.ring parts.source.core.ticks m
       (path_on leg m) (line_counts line))
       (has : HasLine leg m after) (carried : after.carried ≡ line.carried + 1)
       (popped : after.popped ≡ line.popped) where
-    moves : (step (walk_plan leg) (counts_of parts landing)
+    moves : (step (walk_plan leg) (counts_of parts backs)
         (Carry m) ≡ record {
           counts = record
-              (counts_of parts landing) {
-                lines = slice_set (counts_of parts landing).lines m
+              (counts_of parts backs) {
+                lines = slice_set (counts_of parts backs).lines m
                     (record { carried = line.carried + 1; popped = line.popped });
               };
           cause = None;
         })
-    moves = step-is ∙ goes (walk_plan leg) (counts_of parts landing) m (path_on leg m) (line_counts line) none
+    moves = step-is ∙ goes (walk_plan leg) (counts_of parts backs) m (path_on leg m) (line_counts line) none
 
-    lines-are : map line_counts (slice_set parts.lines m after) ≡ slice_set (counts_of parts landing).lines m
+    lines-are : map line_counts (slice_set parts.lines m after) ≡ slice_set (counts_of parts backs).lines m
         (record { carried = line.carried + 1; popped = line.popped })
     lines-are =
         map-set line_counts parts.lines m after
-        ∙ ap (slice_set (counts_of parts landing).lines m)
+        ∙ ap (slice_set (counts_of parts backs).lines m)
         (ap (λ n. record { carried = n; popped = after.popped }) carried
         ∙ ap (λ n. record { carried = line.carried + 1; popped = n }) popped)
 
-    pub carry-counts : counts_of (record parts { lines = slice_set parts.lines m after }) landing
-        ≡ counts_after leg (counts_of parts landing) (Carry m)
-    carry-counts = ap (λ lines. record (counts_of parts landing) { lines = lines }) lines-are
+    pub carry-counts : counts_of (record parts { lines = slice_set parts.lines m after }) backs
+        ≡ counts_after leg (counts_of parts backs) (Carry m)
+    carry-counts = ap (λ lines. record (counts_of parts backs) { lines = lines }) lines-are
         ∙ sym (ap (λ (x : Step). x.counts) moves)
 
-    pub carry-moved : Yes ≡ moved_of leg (counts_of parts landing) (Carry m)
+    pub carry-moved : Yes ≡ moved_of leg (counts_of parts backs) (Carry m)
     carry-moved = ap (λ o. answer_by o None) (sym (ap (λ (x : Step). x.cause) moves))
 
     module _ (sent : List (List Container)) (changed : IsCarriedAt (line.carried % 32) m parts.sent sent) where
-      pub carry-kept : IsWalk leg (record parts { lines = slice_set parts.lines m after; sent = sent }) landing
-          got last
+      pub carry-kept : Stands leg backs (record parts { lines = slice_set parts.lines m after; sent = sent })
       carry-kept =
-          let cells : popped_cells leg (counts_of parts landing).lines ≡ popped_cells leg
+          let cells : popped_cells leg (counts_of parts backs).lines ≡ popped_cells leg
           (map line_counts (slice_set parts.lines m after)) =
-          cells-same leg (counts_of parts landing).lines m (line_counts line) (line_counts after) here popped
+          cells-same leg (counts_of parts backs).lines m (line_counts line) (line_counts after) here popped
           ∙ ap (popped_cells leg) (sym (map-set line_counts parts.lines m after)) in
           record {
             sound = is.sound;
             total = is.total;
-            walked = walked-next leg (counts_of parts landing) _ (Carry m) is.walked carry-counts;
-            source = source-stays leg (counts_of parts landing) _ _ _ parts.source is.source;
-            sent = subst (λ ls. HasSent leg parts.source.ticks ls sent) (sym lines-are)
-                (sent-carried leg parts.source.ticks m (counts_of parts landing).lines (line_counts line)
+            walked = walked-next leg (counts_of parts backs) _ (Carry m) is.walked carry-counts;
+            source = source-stays leg (counts_of parts backs) _ _ _ parts.source.core is.source;
+            sent = subst (λ ls. HasSent leg parts.source.core.ticks ls sent) (sym lines-are)
+                (sent-carried leg parts.source.core.ticks m (counts_of parts backs).lines (line_counts line)
                 (record { carried = line.carried + 1; popped = line.popped }) parts.sent sent
                 is.sent here refl line-send changed);
             lines = record {
@@ -388,24 +384,22 @@ module _ (leg : Leg) (parts : Parts) (landing : Landed) (got : ℕ) (last : Opti
               all = is.sink.all;
               size = is.sink.size;
             };
-            back = record { ring = is.back.ring; lost = is.back.lost; inbox = is.back.inbox; room = is.back.room };
-            landed = landed-stays leg (counts_of parts landing) _ _ _ landing is.landed;
+            landed = landed-stays leg (counts_of parts backs) _ _ _ parts.source.landed is.landed;
             counted = is.counted;
-            noted = is.noted;
           }
 
       -- by a number that is the line's
-      pub carry-kept_at : (k : ℕ) → k ≡ m → IsWalk leg
-          (record parts { lines = slice_set parts.lines k after; sent = sent }) landing got last
-      carry-kept_at k same = subst (λ (j : ℕ). IsWalk leg
-          (record parts { lines = slice_set parts.lines j after; sent = sent }) landing got last)
+      pub carry-kept_at : (k : ℕ) → k ≡ m → Stands leg backs
+          (record parts { lines = slice_set parts.lines k after; sent = sent })
+      carry-kept_at k same = subst (λ (j : ℕ). Stands leg backs
+          (record parts { lines = slice_set parts.lines j after; sent = sent }))
           (sym same) carry-kept
 
       pub carry-counts_at : (k : ℕ) → k ≡ m →
-          counts_of (record parts { lines = slice_set parts.lines k after; sent = sent }) landing
-          ≡ counts_after leg (counts_of parts landing) (Carry m)
+          counts_of (record parts { lines = slice_set parts.lines k after; sent = sent }) backs
+          ≡ counts_after leg (counts_of parts backs) (Carry m)
       carry-counts_at k same = ap (λ (j : ℕ). counts_of
-          (record parts { lines = slice_set parts.lines j after; sent = sent }) landing) same ∙ carry-counts
+          (record parts { lines = slice_set parts.lines j after; sent = sent }) backs) same ∙ carry-counts
 
 -- a place of the send rings
 pub frame-size : (leg : Leg) (ticks : ℕ) (counts : List LineCounts) (sent : List (Vec (Box Container))) →
@@ -428,28 +422,27 @@ pub is-sent : (leg : Leg) (ticks : ℕ) (counts : List LineCounts) (sent : List 
 is-sent leg ticks counts sent m x has own late some room low frame e =
     has.frames x m (frame_in frame) own late (some low) (room low) (map-get frame_in sent (x % 32) frame e)
 
-module _ (leg : Leg) (parts : Parts) (landing : Landed) (got : ℕ) (last : Option StepNote)
-    (is : IsWalk leg parts landing got last)
+module _ (leg : Leg) (backs : ℕ) (parts : Parts) (is : Stands leg backs parts)
     (m : ℕ) (low : m < leg.config.lines) (line : Ringed) (there : slice_get parts.lines m ≡ Some line) where
-  fits-line : LineFits leg.config.ticks leg.config.ring parts.source.ticks parts.sink.taken
+  fits-line : LineFits leg.config.ticks leg.config.ring parts.source.core.ticks parts.sink.taken
       (path_on leg m) (line_counts line)
   fits-line =
       let e = is.sound.network.windows_each in
-      let fits = line-fits leg (counts_of parts landing) (sound-walks leg is.sound) is.walked m
+      let fits = line-fits leg (counts_of parts backs) (sound-walks leg is.sound) is.walked m
       (omega (arith, low, e)) in
-      subst (LineFits leg.config.ticks leg.config.ring parts.source.ticks parts.sink.taken
-      (path_on leg m)) (counts-here (counts_of parts landing).lines m (line_counts line)
+      subst (LineFits leg.config.ticks leg.config.ring parts.source.core.ticks parts.sink.taken
+      (path_on leg m)) (counts-here (counts_of parts backs).lines m (line_counts line)
       (map-get line_counts parts.lines m line there)) fits
 
   pub line-sent : (sent : List (Vec (Box Container))) → map frame_in sent ≡ parts.sent →
-      CanCarry line parts.source.ticks → IsSentOn leg m line.carried sent
+      CanCarry line parts.source.core.ticks → IsSentOn leg m line.carried sent
   line-sent sent same can =
       let n = numbers leg m line (is.lines.each m line there) in
       let a = n.pushed in let b = n.total in
       let fits = fits-line in
       let send = fits.send in
-      is-sent leg parts.source.ticks (map line_counts parts.lines) sent m line.carried
-      (subst (HasSent leg parts.source.ticks (map line_counts parts.lines)) (sym same) is.sent)
+      is-sent leg parts.source.core.ticks (map line_counts parts.lines) sent m line.carried
+      (subst (HasSent leg parts.source.core.ticks (map line_counts parts.lines)) (sym same) is.sent)
       low (let own = ap (λ (l : LineCounts). l.carried) (counts-of parts.lines m line there) in omega (arith, own))
       (λ left. can.wet (omega (arith, a, b, left))) (λ left. omega (arith, send, left))
 
@@ -462,42 +455,42 @@ module _ (leg : Leg) (parts : Parts) (landing : Landed) (got : ℕ) (last : Opti
       below line.given (line.popped + ring_of line) (omega (arith, a, b, room)) apart
 
   -- ---- what waits in the rings of the line
-  pub sends-made : min line.carried leg.config.ticks ≤ parts.source.ticks
+  pub sends-made : min line.carried leg.config.ticks ≤ parts.source.core.ticks
   sends-made = fits-line.sent
 
-  few-ticks : parts.source.ticks ≤ leg.config.ticks
-  few-ticks = (walk-fits leg (counts_of parts landing) is.sound is.walked).ticks
+  few-ticks : parts.source.core.ticks ≤ leg.config.ticks
+  few-ticks = (walk-fits leg (counts_of parts backs) is.sound is.walked).ticks
 
   here-counts : counts_at (map line_counts parts.lines) m ≡ line_counts line
   here-counts = counts-of parts.lines m line there
 
-  pub sends-none : (k : ℕ) → in_send leg.config.ticks parts.source.ticks (line_counts line) ≤ k →
-      None ≡ slice_get (send_ring leg (counts_of parts landing) m) k
+  pub sends-none : (k : ℕ) → in_send leg.config.ticks parts.source.core.ticks (line_counts line) ≤ k →
+      None ≡ slice_get (send_ring leg (counts_of parts backs) m) k
   sends-none k past =
-      sym (ap (λ (l : LineCounts). slice_get (send_by leg m parts.source.ticks l.carried) k) here-counts
-      ∙ waits-none leg m parts.source.ticks line.carried k few-ticks past)
+      sym (ap (λ (l : LineCounts). slice_get (send_by leg m parts.source.core.ticks l.carried) k) here-counts
+      ∙ waits-none leg m parts.source.core.ticks line.carried k few-ticks past)
 
-  pub sends-some : (k t : ℕ) → k < in_send leg.config.ticks parts.source.ticks (line_counts line) →
+  pub sends-some : (k t : ℕ) → k < in_send leg.config.ticks parts.source.core.ticks (line_counts line) →
       t ≡ min line.carried leg.config.ticks + k →
       (sent : List (Vec (Box Container))) → map frame_in sent ≡ parts.sent →
       (row : Vec (Box Container)) → slice_get sent (t % 32) ≡ Some row → (box : Box Container) →
       slice_get row.items m ≡ Some box →
-      Some box.value ≡ slice_get (send_ring leg (counts_of parts landing) m) k
+      Some box.value ≡ slice_get (send_ring leg (counts_of parts backs) m) k
   sends-some k t inside is_place sent same row at box own =
       let few = few-ticks in
       let send = fits-line.send in
       let carried = ap (λ (l : LineCounts). l.carried) here-counts in
-      let held_all = subst (HasSent leg parts.source.ticks (map line_counts parts.lines)) (sym same) is.sent in
-      let waits = is-sent leg parts.source.ticks (map line_counts parts.lines) sent m t held_all low
+      let held_all = subst (HasSent leg parts.source.core.ticks (map line_counts parts.lines)) (sym same) is.sent in
+      let waits = is-sent leg parts.source.core.ticks (map line_counts parts.lines) sent m t held_all low
       (omega (arith, carried, inside, is_place, few)) (λ left. omega (arith, inside, is_place))
       (λ left. omega (arith, send, is_place)) in
       sym (map-get (λ (b : Box Container). b.value) row.items m box own)
       ∙ waits (omega (arith, inside, is_place, few)) row at
-      ∙ sym (ap (λ (l : LineCounts). slice_get (send_by leg m parts.source.ticks l.carried) k) here-counts
-      ∙ waits-some leg m parts.source.ticks line.carried k t few-ticks inside is_place)
+      ∙ sym (ap (λ (l : LineCounts). slice_get (send_by leg m parts.source.core.ticks l.carried) k) here-counts
+      ∙ waits-some leg m parts.source.core.ticks line.carried k t few-ticks inside is_place)
 
   pub receives-are : (k : ℕ) → slice_get (drop line.popped (path_cells (calls_on leg m line.carried))) k
-      ≡ slice_get (receive_ring leg (counts_of parts landing) m) k
+      ≡ slice_get (receive_ring leg (counts_of parts backs) m) k
   receives-are k =
       ap (λ cells. slice_get (drop line.popped cells) k) (cells-are leg m line.carried)
       ∙ sym (ap (λ (l : LineCounts). slice_get (receive_by leg m l.carried l.popped) k) here-counts)

@@ -14,7 +14,8 @@ use Rattle.walk_law.proofs.PlanLaws.{has-plan, sound-walks}
 use Rattle.group_source.specs.Landed.{Landed}
 use Rattle.source_core.specs.Terminal.{Terminal}
 use Rattle.walk_core.specs.Moved.{answer_by, counts_after}
-use Rattle.walk_core.specs.Parts.{HasSource, HasLanded}
+use Rattle.group_source.specs.Inbox.{Inbox}
+use Rattle.walk_core.specs.Parts.{Parts, counts_of, HasSource, HasLanded, Stands}
 use Rattle.walk_core.specs.declared.moved.Moved.TheVariants.{Stalled}
 
 pub walked-next : (leg : Leg) (s next : Counts) (event : Event) → IsWalked leg s →
@@ -48,3 +49,26 @@ module _ (leg : Leg) (s : Counts) (lines : List LineCounts) (rows backs : ℕ) w
     frames = has.frames;
     commands = has.commands;
   }
+
+-- a direction to which more return packets have come, and whose inbox holds others
+pub stands-back : (leg : Leg) (backs next : ℕ) (parts : Parts) (inbox : Inbox) → Stands leg backs parts →
+    IsWalked leg (counts_of parts next) →
+    Stands leg next (record parts { source = record parts.source { inbox = inbox } })
+stands-back leg backs next parts inbox is walked = record {
+  sound = is.sound;
+  total = is.total;
+  walked = walked;
+  source = source-stays leg (counts_of parts backs) _ _ _ parts.source.core is.source;
+  sent = is.sent;
+  lines = is.lines;
+  sink = record {
+    gathers = is.sink.gathers;
+    taken = is.sink.taken;
+    passed = is.sink.passed;
+    lines = is.sink.lines;
+    all = is.sink.all;
+    size = is.sink.size;
+  };
+  landed = landed-stays leg (counts_of parts backs) _ _ _ parts.source.landed is.landed;
+  counted = is.counted;
+}

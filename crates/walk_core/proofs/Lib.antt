@@ -1,4 +1,5 @@
 pub mod EventLaws
+pub mod ToldLaws
 pub mod BackLaws
 pub mod RoundLaws
 pub mod SendLaws
@@ -12,3 +13,4 @@ pub mod TotalLaws
 pub mod TakenLaws
 pub mod MarkLaws
 pub mod CarrySteps
+pub mod WayLaws

@@ -15,30 +15,27 @@ use Rattle.walk_law.proofs.PlanLaws.{sound-walks}
 use Rattle.walk_law.proofs.EndLaws.{counts-within}
 use Rattle.walk_law.proofs.CountLaws.{place-most}
 use Rattle.walk_law.proofs.WalkLaws.{rows-are}
-use Rattle.sink_core.specs.Core.{Stands}
+use Rattle.sink_core.specs.Core.{Stands as HasTaken}
 use Rattle.sink_core.specs.Given.{received_rows}
 use Rattle.sink_core.proofs.SessionLaws.{session-last}
 use Rattle.gfp_mark.specs.Marks.{first_place}
-use Rattle.walk_core.specs.declared.moved.StepNote.{StepNote}
-use Rattle.group_source.specs.Landed.{Landed}
-use Rattle.walk_core.specs.Parts.{Parts, counts_of, line_counts, IsWalk}
+use Rattle.walk_core.specs.Parts.{Parts, counts_of, line_counts, Stands}
 
-pub mark-is : (leg : Leg) (parts : Parts) (landing : Landed) (got : ℕ) (last : Option StepNote)
-    (result : Option ℕ) → IsWalk leg parts landing got last →
-    ((cells : List (List Cell)) → Stands parts.sink cells →
+pub mark-is : (leg : Leg) (backs : ℕ) (parts : Parts) (result : Option ℕ) → Stands leg backs parts →
+    ((cells : List (List Cell)) → HasTaken parts.sink cells →
     length (segments_of (received_rows parts.sink.size cells parts.sink.taken)).last.octets < 2 ^ 64 →
     result ≡ first_place (segments_of (received_rows parts.sink.size cells parts.sink.taken)).last.octets) →
     result ≡ first_place (segments_of (session_rows leg parts.sink.taken)).last.octets
-mark-is leg parts landing got last result is said =
+mark-is leg backs parts result is said =
     let scenario : Scenario = scenario_by leg in
     let cells : List (Option Told) = session_cells (scenario_by leg) in
     let popped : List (List Cell) = popped_cells leg (map line_counts parts.lines) in
     let taken : ℕ = parts.sink.taken in
     let can = sound-walks leg is.sound in
-    let within = counts-within leg (counts_of parts landing) can is.walked in
+    let within = counts-within leg (counts_of parts backs) can is.walked in
     let same : (segments_of (received_rows leg.config.size popped taken)).last.octets ≡
     (segments_of (rows_of scenario cells taken)).last.octets =
-    session-last scenario cells popped taken (λ t low. rows-are leg (counts_of parts landing) can is.walked t low) in
+    session-last scenario cells popped taken (λ t low. rows-are leg (counts_of parts backs) can is.walked t low) in
     let sized : (segments_of (received_rows parts.sink.size popped taken)).last.octets ≡
     (segments_of (rows_of scenario cells taken)).last.octets =
     ap (λ size. (segments_of (received_rows size popped taken)).last.octets) is.sink.size ∙ same in

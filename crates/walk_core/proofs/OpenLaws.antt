@@ -1,4 +1,4 @@
--- A walk of which no event was made.
+-- One direction, and a walk, of which no event was made.
 use Rattle.std.proofs.Common.{◌≡◌, ◌⊎◌, ℕ, zero, suc, ◌+◌, ◌-◌, ◌<◌, min, List, [], ◌∷◌, ◌++◌, All, length, take}
 use Rattle.std.proofs.Common.{drop, map, filter, replicate, slice_get, slice_index_or, Some, None, refl, sym, ◌∙◌, ap}
 use Rattle.std.proofs.Common.{subst, arith, inl, inr}
@@ -28,7 +28,7 @@ use Rattle.source_core.specs.Given.{Stands as HasMade}
 use Rattle.sink_core.specs.Core.{Core}
 use Rattle.walk_law.specs.Walk.{walk_plan, IsWalked, sent_on, counts_at, cells_on, popped_on, popped_cells}
 use Rattle.walk_law.specs.Rings.{delay_on, back_cell, said_packet}
-use Rattle.walk_law.specs.Landed.{Numbered, landed_from, is_client, landed_scenario, told_before, refused_by}
+use Rattle.walk_law.specs.Landed.{Numbered, landed_from, is_client, told_before, refused_by}
 use Rattle.walk_law.specs.Landed.{refusal_at, is_accepted_frame, is_accepted_command}
 use Rattle.walk_law.specs.Delivered.{delivered_of}
 use Rattle.walk_law.specs.Step.{last_packet}
@@ -36,13 +36,15 @@ use Rattle.walk_law.proofs.PlanLaws.{has-paths, sound-walks}
 use Rattle.walk_law.proofs.WalkLaws.{begins-walked}
 use Rattle.session_model.specs.declared.packet.Packet.{Packet}
 use Rattle.group_source.specs.Item.{bare_items}
+use Rattle.group_source.specs.Inbox.{Inbox, empty_inbox}
 use Rattle.group_source.specs.Landed.{Landed, none_landed}
-use Rattle.walk_parts.specs.Return.{Return, path_of}
+use Rattle.group_source.specs.Source.{IsUnusedCore}
+use Rattle.walk_parts.specs.Return.{path_of}
 use Rattle.walk_parts.specs.Ringed.{Ringed, ring_of, Has}
 use Rattle.walk_core.specs.declared.opening.Opened.{Opened}
-use Rattle.walk_core.specs.Opened.{IsOpened, AreOpened, IsNew}
-use Rattle.walk_core.specs.Parts.{parts_of, frame_in, HasSource, HasSent, HasLines, HasBack, counts_of, line_counts}
-use Rattle.walk_core.specs.Parts.{calls_on, note_of, IsWalk}
+use Rattle.walk_core.specs.Opened.{IsOpened, AreOpened, AreRings, IsNewSink, IsNewGather, IsNew, IsAlike}
+use Rattle.walk_core.specs.Parts.{Parts, frame_in, HasSource, HasSent, HasLines, HasBack, HasLanded, counts_of}
+use Rattle.walk_core.specs.Parts.{line_counts, calls_on, note_of, told_scenario, Stands, IsWalk}
 
 -- ---- the lines
 get-last : {X : Type 0} (xs : List X) (x : X) (m : ℕ) (y : X) → slice_get (xs ++ x ∷ []) m ≡ Some y →
@@ -182,12 +184,59 @@ refused-none : (leg : Leg) (items : List Numbered) → items ≡ [] →
     flat_map (λ item. refused_by item.number (refusal_at leg item)) items ≡ []
 refused-none leg items none = ap (flat_map (λ item. refused_by item.number (refusal_at leg item))) none
 
--- ---- the walk
-abbrev counts_from : ℕ → List LineCounts → ℕ → ℕ → Counts
-counts_from ticks lines rows backs = record
-    { ticks = ticks; frames = 0; commands = 0; lines = lines; rows = rows; backs = backs }
+-- ---- the direction
+abbrev counts_from : ℕ → List LineCounts → ℕ → Counts
+counts_from ticks lines rows = record
+    { ticks = ticks; frames = 0; commands = 0; lines = lines; rows = rows; backs = 0 }
 
-module _ (leg : Leg) (all : Opened) (is : IsNew leg all) (sound : IsSound leg) (untold : leg.tells ≡ []) where
+-- what is new in the network of a leg, whatever return packets it loses
+record IsNewOn (leg : Leg) (all : Opened) : Type 0 where
+  core : IsUnusedCore leg.config all.ends.source.core
+  total : all.ends.source.total ≡ leg.config.ticks
+  landed : all.ends.source.landed ≡ none_landed (bare_items leg.items)
+  sink : IsNewSink leg.config all.ends.sink
+  sent : AreRings leg.config.lines all.paths.sent.items
+  lines : AreOpened leg.config leg.config.lines all.paths.lines.items
+  rows : IsNewGather leg.config.lines all.rows
+
+opened-on : (config : Config) (lost : List (ℕ × ℕ)) (n : ℕ) (lines : List Ringed) → AreOpened config n lines →
+    AreOpened (record config { lost = lost }) n lines
+opened-on config lost n lines are = record {
+  size = are.size;
+  each = λ m line e. let is = are.each m line e in record { has = is.has; ring = is.ring; popped = is.popped };
+}
+
+new-on : (leg other : Leg) (all : Opened) → IsNew other all → IsAlike leg other → IsNewOn leg all
+new-on leg other all is alike =
+    let network = sym alike.network in
+    let core = is.source.core in
+    let sink = is.sink in
+    let lines : leg.config.lines ≡ other.config.lines = ap (λ (c : Config). c.lines) alike.network in
+    record {
+      core = subst (λ (c : Config). IsUnusedCore c all.ends.source.core) network
+          (record { lines = core.lines; lag = core.lag; size = core.size; ticks = core.ticks; made = core.made });
+      total = is.source.total ∙ ap (λ (c : Config). c.ticks) network;
+      landed = is.source.landed ∙ ap (λ items. none_landed (bare_items items)) (sym alike.items);
+      sink = subst (λ (c : Config). IsNewSink c all.ends.sink) network
+          (record { lines = sink.lines; size = sink.size; taken = sink.taken; stands = sink.stands });
+      sent = subst (λ n. AreRings n all.paths.sent.items) (sym lines) is.sent;
+      lines = subst (λ (c : Config). AreOpened c c.lines all.paths.lines.items) network
+          (opened-on other.config leg.config.lost other.config.lines all.paths.lines.items is.lines);
+      rows = subst (λ n. IsNewGather n all.rows) (sym lines) is.rows;
+    }
+
+-- what was opened, put together
+abbrev pub opened_parts : Opened → Parts
+opened_parts all = record {
+  source = all.ends.source;
+  sent = map frame_in all.paths.sent.items;
+  lines = all.paths.lines.items;
+  rows = all.rows;
+  sink = all.ends.sink;
+  got = 0;
+}
+
+module _ (leg other : Leg) (all : Opened) (new : IsNew other all) (alike : IsAlike leg other) where
   abbrev source : Terminal
   source = all.ends.source.core
 
@@ -198,38 +247,32 @@ module _ (leg : Leg) (all : Opened) (is : IsNew leg all) (sound : IsSound leg) (
   lines = all.paths.lines.items
 
   abbrev rows : Gather
-  rows = all.returns.rows
+  rows = all.rows
 
   abbrev sink : Core
   sink = all.ends.sink
 
-  abbrev back : Return
-  back = path_of all.returns.ring all.ends.source.inbox
+  is : IsNewOn leg all
+  is = new-on leg other all new alike
 
-  back-is : path_of all.returns.ring all.ends.source.inbox
-      ≡ record { ring = []; lost = leg.config.lost; inbox = []; room = leg.config.lag + 1; backs = 0 }
-  back-is = ap (λ (ring : List Packet). path_of ring all.ends.source.inbox) is.ring ∙ ap (path_of []) is.source.inbox
+  sound : IsSound leg
+  sound = alike.sound
 
   paths-size : length (walk_plan leg).paths ≡ leg.config.lines
   paths-size = has-paths leg (sound-walks leg sound) ∙ sound.network.windows_each
 
-  begin-counts : counts_from source.ticks (map line_counts lines) sink.taken back.backs ≡ begin (walk_plan leg)
+  begin-counts : counts_from source.ticks (map line_counts lines) sink.taken ≡ begin (walk_plan leg)
   begin-counts =
-      ap (λ n. counts_from n (map line_counts lines) sink.taken back.backs) is.source.core.ticks
-      ∙ ap (λ ls. counts_from 0 ls sink.taken back.backs)
+      ap (λ n. counts_from n (map line_counts lines) sink.taken) is.core.ticks
+      ∙ ap (λ ls. counts_from 0 ls sink.taken)
       (opened-counts leg.config leg.config.lines lines is.lines
       ∙ ap (λ k. replicate k no_counts) (sym paths-size))
-      ∙ ap (λ n. counts_from 0 (replicate (length (walk_plan leg).paths) no_counts) n back.backs) is.sink.taken
-      ∙ ap (λ (b : Return). counts_from 0 (replicate (length (walk_plan leg).paths) no_counts) 0 b.backs) back-is
+      ∙ ap (λ n. counts_from 0 (replicate (length (walk_plan leg).paths) no_counts) n) is.sink.taken
 
-  pub new-counts : counts_of
-      (parts_of all.ends.source
-      (map frame_in all.paths.sent.items) all.paths.lines.items all.returns.rows all.ends.sink all.returns.ring)
-      all.ends.source.landed ≡ begin (walk_plan leg)
+  pub new-counts : counts_of (opened_parts all) 0 ≡ begin (walk_plan leg)
   new-counts =
-      ap (counts_of (parts_of all.ends.source
-      (map frame_in all.paths.sent.items) all.paths.lines.items all.returns.rows all.ends.sink all.returns.ring))
-      is.source.landed
+      ap (λ (l : Landed). record (counts_of (opened_parts all) 0) { frames = l.frames; commands = l.commands })
+      is.landed
       ∙ begin-counts
 
   cells-are : popped_cells leg (map line_counts lines) ≡ replicate leg.config.lines []
@@ -244,17 +287,14 @@ module _ (leg : Leg) (all : Opened) (is : IsNew leg all) (sound : IsSound leg) (
       ∙ length-range_with_len 0 (length leg.config.windows)
       ∙ sound.network.windows_each
 
-  none-walk : IsWalk leg
-      (parts_of all.ends.source
-      (map frame_in all.paths.sent.items) all.paths.lines.items all.returns.rows all.ends.sink all.returns.ring)
-      (none_landed (bare_items leg.items)) 0 None
-  none-walk = record {
+  pub new-stands : Stands leg 0 (opened_parts all)
+  new-stands = record {
     sound = sound;
-    total = is.source.total;
-    walked = subst (IsWalked leg) (sym begin-counts) (begins-walked leg);
-    source = subst (λ s. HasSource leg s source) (sym begin-counts) (record {
-      made = subst (HasMade source (landed_scenario leg (begin (walk_plan leg)))) (sym (none-told leg))
-          (is.source.core.made (landed_scenario leg (begin (walk_plan leg)))
+    total = is.total;
+    walked = subst (IsWalked leg) (sym new-counts) (begins-walked leg);
+    source = subst (λ s. HasSource leg s source) (sym new-counts) (record {
+      made = subst (HasMade source (told_scenario leg (begin (walk_plan leg)))) (sym (none-told leg))
+          (is.core.made (told_scenario leg (begin (walk_plan leg)))
           (record {
             of_lines = sound.network.windows_each;
             of_lag = refl;
@@ -262,13 +302,13 @@ module _ (leg : Leg) (all : Opened) (is : IsNew leg all) (sound : IsSound leg) (
             no_offers = take-none
                 (offers_of leg.items);
             no_orders = take-none (orders_of leg.items);
-            no_tells = untold;
+            no_tells = refl;
           }));
-      lines = is.source.core.lines;
-      lag = is.source.core.lag;
-      size = is.source.core.size;
+      lines = is.core.lines;
+      lag = is.core.lag;
+      size = is.core.size;
     });
-    sent = subst (λ n. HasSent leg n (map line_counts lines) (map frame_in sent)) (sym is.source.core.ticks)
+    sent = subst (λ n. HasSent leg n (map line_counts lines) (map frame_in sent)) (sym is.core.ticks)
         (sent-opened leg (map line_counts lines) sent is.sent.places is.sent.lines);
     lines = opened-lines leg lines is.lines;
     sink = record {
@@ -279,37 +319,46 @@ module _ (leg : Leg) (all : Opened) (is : IsNew leg all) (sound : IsSound leg) (
       all = is.sink.lines;
       size = is.sink.size;
     };
-    back = subst (λ s. HasBack leg s back) (sym begin-counts)
-        (subst (HasBack leg (begin (walk_plan leg))) (sym back-is) (record {
-          lost = refl;
-          ring = sym (range-none (said_packet leg) 0 (in_return (begin (walk_plan leg)))
-              (let e : in_return (begin (walk_plan leg)) ≡ 0 = refl in e));
-          inbox = sym (range-none (back_cell leg) (used_in leg.config.lag 0)
-              (in_inbox (walk_plan leg) (begin (walk_plan leg)))
-              (let e : 0 - used_in leg.config.lag 0 ≡ 0 = omega arith in e));
-          room = refl;
+    landed = subst (λ s. HasLanded leg s all.ends.source.landed) (sym new-counts)
+        (subst (HasLanded leg (begin (walk_plan leg))) (sym is.landed) (record {
+          items = refl;
+          refusals = sym (refused-none leg (landed_from 0 0 0 leg.items) (none-landed leg.items 0));
+          frames = sym (ap (λ xs. length (filter (is_accepted_frame leg) xs) + 0) (none-landed leg.items 0));
+          commands = sym (ap (λ xs. length (filter (is_accepted_command leg) xs) + 0) (none-landed leg.items 0));
         }));
-    landed = record {
-      items = refl;
-      refusals = sym (refused-none leg (landed_from 0 0 0 leg.items) (none-landed leg.items 0));
-      frames = sym (ap (λ xs. length (filter (is_accepted_frame leg) xs) + 0) (none-landed leg.items 0));
-      commands = sym (ap (λ xs. length (filter (is_accepted_command leg) xs) + 0) (none-landed leg.items 0));
-    };
     counted = sym (ap (λ n. min (length (delivered_of leg n)) 18446744073709551615) is.sink.taken
         ∙ ap (λ xs. min (length xs) 18446744073709551615) (none-delivered leg));
-    noted = subst (λ n. None ≡ note_of leg (last_packet n)) (sym is.source.core.ticks) refl;
   }
 
-  pub new-walk : IsWalk leg
-      (parts_of all.ends.source
-      (map frame_in all.paths.sent.items) all.paths.lines.items all.returns.rows all.ends.sink all.returns.ring)
-      all.ends.source.landed 0 None
-  new-walk =
-      subst (λ (l : Landed). IsWalk leg
-      (parts_of all.ends.source
-      (map frame_in all.paths.sent.items) all.paths.lines.items all.returns.rows all.ends.sink all.returns.ring) l 0
-      None)
-      (sym is.source.landed) none-walk
+-- ---- a walk, to which nothing has come
+pub new-walk : (leg : Leg) (parts : Parts) (ring : List Packet) → Stands leg 0 parts →
+    counts_of parts 0 ≡ begin (walk_plan leg) →
+    parts.source.inbox ≡ empty_inbox leg.config.lost leg.config.lag → ring ≡ [] → IsWalk leg parts ring None
+new-walk leg parts ring stands begins empty none =
+    let come : parts.source.inbox.come ≡ 0 = ap (λ (i : Inbox). i.come) empty in
+    let ticks : parts.source.core.ticks ≡ 0 = ap (λ (s : Counts). s.ticks) begins in
+    record {
+      stands = subst (λ n. Stands leg n parts) (sym come) stands;
+      back = subst (λ n. HasBack leg (counts_of parts n) (path_of ring parts.source.inbox)) (sym come)
+          (subst (λ s. HasBack leg s (path_of ring parts.source.inbox)) (sym begins)
+          (subst (λ (i : Inbox). HasBack leg (begin (walk_plan leg)) (path_of ring i)) (sym empty)
+          (subst (λ (r : List Packet). HasBack leg (begin (walk_plan leg))
+          (path_of r (empty_inbox leg.config.lost leg.config.lag))) (sym none) (record {
+            lost = refl;
+            ring = sym (range-none (said_packet leg) 0 (in_return (begin (walk_plan leg)))
+                (let e : in_return (begin (walk_plan leg)) ≡ 0 = refl in e));
+            inbox = sym (range-none (back_cell leg) (used_in leg.config.lag 0)
+                (in_inbox (walk_plan leg) (begin (walk_plan leg)))
+                (let e : 0 - used_in leg.config.lag 0 ≡ 0 = omega arith in e));
+            room = refl;
+          }))));
+      noted = subst (λ n. None ≡ note_of leg (last_packet n)) (sym ticks) refl;
+    }
+
+pub new-walk-counts : (leg : Leg) (parts : Parts) → counts_of parts 0 ≡ begin (walk_plan leg) →
+    parts.source.inbox ≡ empty_inbox leg.config.lost leg.config.lag →
+    counts_of parts parts.source.inbox.come ≡ begin (walk_plan leg)
+new-walk-counts leg parts begins empty = ap (λ (i : Inbox). counts_of parts i.come) empty ∙ begins
 
 -- a line that was opened with the numbers of its place
 pub opened-at : (config : Config) (m : ℕ) (line : Ringed) (delay : ℕ) (windows : List Window) (total : ℕ) →

@@ -1,4 +1,4 @@
--- A row is taken in a walk, or cells are popped and it waits.
+-- A row is taken, or cells are popped and it waits: of one direction, and of a walk.
 use Rattle.std.proofs.Common.{◌≡◌, ℕ, zero, suc, ◌+◌, ◌-◌, ◌%◌, ◌==◌, ◌&&◌, ◌<◌, ◌≤◌, min, nat_le, nat_lt, Bool, true}
 use Rattle.std.proofs.Common.{false, List, [], ◌∷◌, ◌++◌, take, drop, map, length, slice_get, Option, Some, None, refl}
 use Rattle.std.proofs.Common.{sym, ◌∙◌, ap, ap₂, subst, arith, ◌⊎◌, inl, inr}
@@ -13,7 +13,7 @@ use Rattle.session_model.specs.declared.packet.Packet.{Packet}
 use Rattle.session_model.specs.Leg.{Leg}
 use Rattle.session_model.specs.declared.walk.Event.TheVariants.{Take}
 use Rattle.session_model.specs.declared.walk.StallCause.{StallCause}
-use Rattle.session_model.specs.declared.walk.StallCause.TheVariants.{Done, BackFull, Waiting}
+use Rattle.session_model.specs.declared.walk.StallCause.TheVariants.{Done, BackFull, Waiting as Stall_waiting}
 use Rattle.session_model.specs.Scenario.{packets_in}
 use Rattle.session_model.specs.Rows.{first_open, return_at}
 use Rattle.session_model.specs.Counts.{LinePath, LineCounts, Plan, Counts, Step, step, moved, stalled, pop, popped_line}
@@ -22,7 +22,9 @@ use Rattle.progress_law.specs.Progress.{LineFits, Fits}
 use Rattle.terminal_law.proofs.ListLaws.{range-at}
 use Rattle.line_law.specs.StableRows.{IsLonger}
 use Rattle.realign_core.specs.Gather.{Gather, line_count}
-use Rattle.sink_core.specs.Given.{row_in, added_frames, back_at}
+use Rattle.sink_core.specs.Given.{row_in, added_frames, back_at, rows_taken}
+use Rattle.sink_core.specs.declared.sink.TakeAnswer.{TakeAnswer}
+use Rattle.sink_core.specs.declared.sink.TakeAnswer.TheVariants.{Taken, Waiting}
 use Rattle.sink_core.specs.Core.{Core, Stands as HasTaken}
 use Rattle.outside_io.specs.Start.{Start}
 use Rattle.sink_core.proofs.GivenLaws.{packet-ends, packet-of}
@@ -35,13 +37,13 @@ use Rattle.walk_law.proofs.WalkLaws.{line-fits}
 use Rattle.walk_law.proofs.WaitLaws.{take-waits}
 use Rattle.walk_law.proofs.ReturnLaws.{packet-said, packets-next, ring-says}
 use Rattle.walk_law.proofs.FrameLaws.{frames-received, frames-grow}
-use Rattle.walk_parts.specs.Return.{Return, listed, and_said}
+use Rattle.walk_parts.specs.Return.{listed}
 use Rattle.walk_parts.specs.Ringed.{Ringed}
 use Rattle.walk_core.specs.declared.moved.StepNote.{StepNote}
-use Rattle.walk_core.specs.declared.moved.Moved.TheVariants.{Yes, Stalled}
+use Rattle.walk_core.specs.declared.moved.Moved.TheVariants.{Stalled}
 use Rattle.walk_core.specs.Moved.{answer_by, moved_of, counts_after, delivered_since, GivesRows}
-use Rattle.group_source.specs.Landed.{Landed}
-use Rattle.walk_core.specs.Parts.{Parts, HasSent, HasBack, counts_of, line_counts, IsWalk}
+use Rattle.walk_core.specs.Parts.{Parts, HasSent, counts_of, line_counts, Stands, IsWalk}
+use Rattle.walk_core.specs.Way.{said_at, take_by, Takes}
 use Rattle.walk_core.specs.Take.{take_cause, CanPop, HasPopped, CanTake, HasRow}
 use Rattle.walk_core.proofs.EventLaws.{walk-fits, walked-next, source-stays, landed-stays}
 use Rattle.walk_core.proofs.SendLaws.{sent-later}
@@ -162,16 +164,11 @@ end-room s room ends =
       | inr some ↦ leb-false 4 (in_return s) some
     ]
 
--- what the sink says is the next packet of the return ring, which has room for it
-record IsSaid (leg : Leg) (s : Counts) (lines : List LineCounts) (packet : Option Packet) : Type 0 where
-  ring : return_ring leg s ++ listed packet ≡ return_ring leg (record s { lines = lines; rows = s.rows + 1 })
-  room : in_return s + length (listed packet) ≤ 4
-
+-- what the sink says with the row
 said : (leg : Leg) (s : Counts) (lines : List LineCounts) (packet : Option Packet) → CanWalk leg →
     IsWalked leg (record s { lines = lines; rows = s.rows + 1 }) →
-    s.backs ≤ packets_in s.rows → packets_in s.rows ≤ s.backs + 4 → is_back_full s ≡ false →
-    packet ≡ back_at (popped_cells leg lines) s.rows → IsSaid leg s lines packet
-said leg s lines packet can walked low high room is =
+    packet ≡ back_at (popped_cells leg lines) s.rows → packet ≡ said_at leg s.rows
+said leg s lines packet can walked is =
     let next : Counts = record s { lines = lines; rows = s.rows + 1 } in
     elim (cases_Bool (nat_lt 22 s.rows && s.rows % 16 == 7)) [
       | inl ends ↦
@@ -180,93 +177,41 @@ said leg s lines packet can walked low high room is =
           let late = place.0 in
           let at = place.1 in
           let told = packet-said leg next (packets_in s.rows) can walked (omega (arith, late, at)) in
-          let some : packet ≡ Some (said_packet leg (packets_in s.rows)) =
-          is ∙ rw ends (ap Some (ap (return_at (popped_cells leg lines)) k ∙ told)) in
-          let free = end-room s room ends in
-          record {
-            ring = ap (λ p. return_ring leg s ++ listed p) some
-                ∙ sym (ring-says leg s (s.rows + 1) low (packets-next s.rows ∙ rw ends refl));
-            room = subst (λ p. in_return s + length (listed p) ≤ 4) (sym some) (omega (arith, free));
-          }
-      | inr other ↦
-          let none : packet ≡ None = is ∙ rw other refl in
-          let same : packets_in s.rows ≡ packets_in (s.rows + 1) = let e = rw other at (packets-next s.rows) in
-          omega (arith, e) in
-          record {
-            ring = ap (λ p. return_ring leg s ++ listed p) none ∙ append-nil (return_ring leg s)
-                ∙ ap (λ n. map (said_packet leg) (range_with_len s.backs (n - s.backs))) same;
-            room = subst (λ p. in_return s + length (listed p) ≤ 4) (sym none) (omega (arith, high));
-          }
+          is ∙ rw ends (ap Some (ap (return_at (popped_cells leg lines)) k ∙ told))
+      | inr other ↦ is ∙ rw other refl
     ]
 
 received : IsReceived row_in
 received = record { whole = λ octets. refl; lost = refl }
 
--- ---- of a walk
-module _ (leg : Leg) (parts : Parts) (landing : Landed) (got : ℕ) (last : Option StepNote)
-    (is : IsWalk leg parts landing got last) where
+-- ---- of one direction
+module _ (leg : Leg) (backs : ℕ) (parts : Parts) (is : Stands leg backs parts) where
   abbrev was : Counts
-  was = counts_of parts landing
+  was = counts_of parts backs
 
   can : CanWalk leg
   can = sound-walks leg is.sound
 
-  fits : Fits (walk_plan leg) (counts_of parts landing)
+  fits : Fits (walk_plan leg) (counts_of parts backs)
   fits = walk-fits leg was is.sound is.walked
 
-  ring-is : length parts.back.ring ≡ in_return (counts_of parts landing)
-  ring-is = ap length is.back.ring ∙ ring-size leg was
+  pub rows-few : parts.sink.taken < 4294967295
+  rows-few = let low = fits.rows in let most = is.sound.network.ticks.1 in omega (arith, low, most)
 
   line-at : (m : ℕ) (line : Ringed) → slice_get parts.lines m ≡ Some line →
-      LineFits leg.config.ticks leg.config.ring parts.source.ticks parts.sink.taken (path_on leg m)
+      LineFits leg.config.ticks leg.config.ring parts.source.core.ticks parts.sink.taken (path_on leg m)
       (line_counts line)
   line-at m line there =
       let low = slice_get_within parts.lines m line there in
       let size = is.lines.size in
       let windows = is.sound.network.windows_each in
-      subst (LineFits leg.config.ticks leg.config.ring parts.source.ticks parts.sink.taken (path_on leg m))
+      subst (LineFits leg.config.ticks leg.config.ring parts.source.core.ticks parts.sink.taken (path_on leg m))
       (counts-at (map line_counts parts.lines) m (line_counts line) (map-get line_counts parts.lines m line there))
       (line-fits leg was can is.walked m (omega (arith, low, size, windows)))
 
-  pub full-is : (full : Bool) → (IsTrue full ↔ (length parts.back.ring ≡ 4)) →
-      full ≡ nat_le 4 (in_return (counts_of parts landing))
-  full-is full same = full-by full (length parts.back.ring) (in_return was) same ring-is
-      (let most = fits.returns in omega (arith, most))
-
-  pub cause-full : (row : ℕ) → row ≡ parts.sink.taken → row < leg.config.ticks →
-      true ≡ (nat_le 23 row && row % 16 == 7) → (IsTrue true ↔ (length parts.back.ring ≡ 4)) →
-      Some BackFull ≡ take_cause leg.config.ticks (counts_of parts landing)
-  cause-full row at low ends full =
-      let left = lt-leb leg.config.ticks parts.sink.taken (subst (λ t. t < leg.config.ticks) at low) in
-      rw (left, sym (subst (λ t. true ≡ (nat_le 23 t && t % 16 == 7)) at ends), sym (full-is true full)) refl
-
-  pub cause-none : (row : ℕ) → row ≡ parts.sink.taken → row < leg.config.ticks →
-      (false ≡ (nat_le 23 row && row % 16 == 7)) ⊎ (IsTrue false ↔ (length parts.back.ring ≡ 4)) →
-      None ≡ take_cause leg.config.ticks (counts_of parts landing)
-  cause-none row at low room =
-      let left = lt-leb leg.config.ticks parts.sink.taken (subst (λ t. t < leg.config.ticks) at low) in
-      elim (cases_Bool (nat_le 23 parts.sink.taken && parts.sink.taken % 16 == 7)) [
-        | inr other ↦ rw (left, other) refl
-        | inl ends ↦ elim room [
-          | inl other ↦ absurd (let e : false ≡ true = subst (λ t. false ≡ (nat_le 23 t && t % 16 == 7)) at other
-              ∙ ends in cc)
-          | inr some ↦ rw (left, ends, sym (full-is false some)) refl
-        ]
-      ]
-
-  pub take-stays : (cause : StallCause) → Some cause ≡ take_cause leg.config.ticks (counts_of parts landing) →
-      (counts_of parts landing ≡ counts_after leg (counts_of parts landing) Take) ×
-      (Stalled cause ≡ moved_of leg (counts_of parts landing) Take)
-  take-stays cause e =
-      let stays = cause-stalls (walk_plan leg) was cause e in
-      (sym (ap (λ (x : Step). x.counts) stays), ap (λ (x : Step). answer_by x.cause None) (sym stays))
-
-  module _ (none : None ≡ take_cause leg.config.ticks (counts_of parts landing)) where
-    is_left : Goes (walk_plan leg) (counts_of parts landing)
+  module _ (none : None ≡ take_cause leg.config.ticks (counts_of parts backs)) where
+    is_left : Goes (walk_plan leg) (counts_of parts backs)
     is_left = goes (walk_plan leg) was none
-
-    pub rows-few : parts.sink.taken < 4294967295
-    rows-few = let low = is_left.left in let most = is.sound.network.ticks.1 in omega (arith, low, most)
 
     pub can-pop : CanPop leg parts.lines parts.rows
     can-pop = record {
@@ -298,7 +243,7 @@ module _ (leg : Leg) (parts : Parts) (landing : Landed) (got : ℕ) (last : Opti
         waits-are = popped.waits ∙ ap (λ t.
             (pop_lines t 0 (walk_plan leg).paths (map line_counts parts.lines)).waiting) row-is
 
-        moves : step (walk_plan leg) (counts_of parts landing) Take ≡ take_popped (counts_of parts landing)
+        moves : step (walk_plan leg) (counts_of parts backs) Take ≡ take_popped (counts_of parts backs)
             (map line_counts lines) waiting
         moves = is_left.moves ∙ ap₂ (take_popped was) (sym lines-are) (sym waits-are)
 
@@ -310,44 +255,47 @@ module _ (leg : Leg) (parts : Parts) (landing : Landed) (got : ℕ) (last : Opti
             (sym lines-are) (pops-more parts.sink.taken 0 (walk_plan leg).paths was.lines m)))
             is.sink.taken
 
-        sent : HasSent leg parts.source.ticks (map line_counts lines) parts.sent
+        sent : HasSent leg parts.source.core.ticks (map line_counts lines) parts.sent
         sent =
-            sent-later leg parts.source.ticks was.lines (map line_counts lines) parts.sent is.sent
+            sent-later leg parts.source.core.ticks was.lines (map line_counts lines) parts.sent is.sent
             (λ m. subst (λ ls. (counts_at was.lines m).carried ≤ (counts_at ls m).carried) (sym lines-are)
             (pops-carry parts.sink.taken 0 (walk_plan leg).paths was.lines m))
 
         module _ (line : ℕ) (waits : Some line ≡ waiting) where
-          stays : step (walk_plan leg) (counts_of parts landing) Take ≡ stalled
-              (record (counts_of parts landing) { lines = map line_counts lines }) (Waiting line)
+          stays : step (walk_plan leg) (counts_of parts backs) Take ≡ stalled
+              (record (counts_of parts backs) { lines = map line_counts lines }) (Stall_waiting line)
           stays = moves ∙ ap (take_popped was (map line_counts lines)) (sym waits)
 
-          pub waits-counts : counts_of (record parts { lines = lines; rows = rows }) landing ≡ counts_after leg
-              (counts_of parts landing) Take
+          waits-counts : counts_of (record parts { lines = lines; rows = rows }) backs ≡ counts_after leg
+              (counts_of parts backs) Take
           waits-counts = sym (ap (λ (x : Step). x.counts) stays)
 
-          pub waits-moved : Stalled (Waiting line) ≡ moved_of leg (counts_of parts landing) Take
-          waits-moved = ap (λ (x : Step). answer_by x.cause None) (sym stays)
-
-          pub waits-kept : IsWalk leg (record parts { lines = lines; rows = rows }) landing got last
+          pub waits-kept : Takes leg backs parts (record parts { lines = lines; rows = rows }) (Waiting line)
           waits-kept = record {
-            sound = is.sound;
-            total = is.total;
-            walked = walked-next leg was _ Take is.walked waits-counts;
-            source = source-stays leg (counts_of parts landing) _ _ _ parts.source is.source;
-            sent = sent;
-            lines = popped.lines;
-            sink = record {
-              gathers = popped.gathers;
-              taken = stands;
-              passed = row-is;
-              lines = count ∙ is.sink.lines;
-              all = is.sink.all;
-              size = is.sink.size;
+            makes = record {
+              counts = waits-counts;
+              moved = sym (ap (λ (x : Step). answer_by x.cause None) stays);
+              stands = record {
+                sound = is.sound;
+                total = is.total;
+                walked = walked-next leg was _ Take is.walked waits-counts;
+                source = source-stays leg (counts_of parts backs) _ _ _ parts.source.core is.source;
+                sent = sent;
+                lines = popped.lines;
+                sink = record {
+                  gathers = popped.gathers;
+                  taken = stands;
+                  passed = row-is;
+                  lines = count ∙ is.sink.lines;
+                  all = is.sink.all;
+                  size = is.sink.size;
+                };
+                landed = landed-stays leg (counts_of parts backs) _ _ _ parts.source.landed is.landed;
+                counted = is.counted;
+              };
             };
-            back = record { ring = is.back.ring; lost = is.back.lost; inbox = is.back.inbox; room = is.back.room };
-            landed = landed-stays leg (counts_of parts landing) _ _ _ landing is.landed;
-            counted = is.counted;
-            noted = is.noted;
+            answers = ap (take_by leg parts.sink.taken) (waits ∙ waits-are);
+            rows = omega arith;
           }
 
         module _ (decided : None ≡ waiting) where
@@ -361,25 +309,18 @@ module _ (leg : Leg) (parts : Parts) (landing : Landed) (got : ℕ) (last : Opti
           }
 
           abbrev next : Counts
-          next = record (counts_of parts landing) { lines = map line_counts lines; rows = parts.sink.taken + 1 }
+          next = record (counts_of parts backs) { lines = map line_counts lines; rows = parts.sink.taken + 1 }
 
-          passes : step (walk_plan leg) (counts_of parts landing) Take ≡ moved next
+          passes : step (walk_plan leg) (counts_of parts backs) Take ≡ moved next
           passes = moves ∙ ap (take_popped was (map line_counts lines)) (sym decided)
-
-          pub taken-moved : Yes ≡ moved_of leg (counts_of parts landing) Take
-          taken-moved = ap (λ (x : Step). answer_by x.cause None) (sym passes)
 
           walked-on : IsWalked leg next
           walked-on = walked-next leg was next Take is.walked (sym (ap (λ (x : Step). x.counts) passes))
 
           module _ (sink : Core) (gather : Gather) (packet : Option Packet)
               (row : HasRow (popped_cells leg (map line_counts lines)) parts.sink sink gather packet) where
-            is_said : IsSaid leg (counts_of parts landing) (map line_counts lines) packet
-            is_said = said leg was (map line_counts lines) packet can walked-on fits.backs fits.returns is_left.room
-                row.said
-
-            pub said-room : length parts.back.ring + length (listed packet) ≤ 4
-            said-room = let e = ring-is in let room = is_said.room in omega (arith, e, room)
+            is_said : packet ≡ said_at leg parts.sink.taken
+            is_said = said leg was (map line_counts lines) packet can walked-on row.said
 
             added-is : added_frames parts.sink.size (popped_cells leg (map line_counts lines)) parts.sink.taken
                 sink.taken ≡ delivered_since leg parts.sink.taken sink.taken
@@ -399,17 +340,12 @@ module _ (leg : Leg) (parts : Parts) (landing : Landed) (got : ℕ) (last : Opti
             taken-gives stands_for before after gives start given stood =
                 subst (λ frames. stands_for after start (given ++ frames)) added-is (gives start given stood)
 
-            module _ (back : Return) (says : back ≡ and_said parts.back packet)
-                (count' : ℕ) (counts : count' ≡ min
-                (got + length (added_frames parts.sink.size (popped_cells leg (map line_counts lines))
+            module _ (count' : ℕ) (counts : count' ≡ min
+                (parts.got + length (added_frames parts.sink.size (popped_cells leg (map line_counts lines))
                 parts.sink.taken sink.taken)) 18446744073709551615) where
-              counts-are : counts_of (record parts { lines = lines; rows = gather; sink = sink; back = back }) landing
+              counts-are : counts_of (record parts { lines = lines; rows = gather; sink = sink; got = count' }) backs
                   ≡ next
-              counts-are = ap₂ (λ n (b : Return). record next { rows = n; backs = b.backs }) row.one says
-
-              pub taken-counts : counts_of (record parts { lines = lines; rows = gather; sink = sink; back = back })
-                  landing ≡ counts_after leg (counts_of parts landing) Take
-              taken-counts = counts-are ∙ sym (ap (λ (x : Step). x.counts) passes)
+              counts-are = ap (λ n. record next { rows = n }) row.one
 
               counted : count' ≡ min (length (delivered_of leg sink.taken)) 18446744073709551615
               counted =
@@ -421,32 +357,177 @@ module _ (leg : Leg) (parts : Parts) (landing : Landed) (got : ℕ) (last : Opti
                   let before = is.counted in
                   omega (arith, counts, all, now, more, before)
 
-              pub taken-kept : IsWalk leg (record parts { lines = lines; rows = gather; sink = sink; back = back })
-                  landing count' last
+              pub taken-kept : Takes leg backs parts
+                  (record parts { lines = lines; rows = gather; sink = sink; got = count' }) (Taken packet)
               taken-kept = record {
-                sound = is.sound;
-                total = is.total;
-                walked = subst (IsWalked leg) (sym counts-are) walked-on;
-                source = source-stays leg (counts_of parts landing) _ _ _ parts.source is.source;
-                sent = sent;
-                lines = popped.lines;
-                sink = record {
-                  gathers = row.gathers;
-                  taken = row.taken;
-                  passed = row.passed;
-                  lines = row.lines
-                      ∙ sym row.all;
-                  all = row.all ∙ is.sink.all;
-                  size = row.size ∙ is.sink.size;
+                makes = record {
+                  counts = counts-are ∙ sym (ap (λ (x : Step). x.counts) passes);
+                  moved = ap (λ (x : Step). answer_by x.cause None) (sym passes);
+                  stands = record {
+                    sound = is.sound;
+                    total = is.total;
+                    walked = subst (IsWalked leg) (sym counts-are) walked-on;
+                    source = source-stays leg (counts_of parts backs) _ _ _ parts.source.core is.source;
+                    sent = sent;
+                    lines = popped.lines;
+                    sink = record {
+                      gathers = row.gathers;
+                      taken = row.taken;
+                      passed = row.passed;
+                      lines = row.lines
+                          ∙ sym row.all;
+                      all = row.all ∙ is.sink.all;
+                      size = row.size ∙ is.sink.size;
+                    };
+                    landed = landed-stays leg (counts_of parts backs) _ _ _ parts.source.landed is.landed;
+                    counted = counted;
+                  };
                 };
-                back = subst (λ s. HasBack leg s back) (sym counts-are) (record {
-                  ring = ap (λ (b : Return). b.ring) says ∙ ap (λ ring. ring ++ listed packet) is.back.ring
-                      ∙ is_said.ring;
-                  lost = ap (λ (b : Return). b.lost) says ∙ is.back.lost;
-                  inbox = ap (λ (b : Return). b.inbox) says ∙ is.back.inbox;
-                  room = ap (λ (b : Return). b.room) says ∙ is.back.room;
-                });
-                landed = landed-stays leg (counts_of parts landing) _ _ _ landing is.landed;
-                counted = counted;
-                noted = is.noted;
+                answers = ap Taken is_said ∙ ap (take_by leg parts.sink.taken) (decided ∙ waits-are);
+                rows = row.one;
               }
+
+-- ---- of a walk: why no row is taken, and the return packet that is said
+module _ (leg : Leg) (parts : Parts) (ring : List Packet) (last : Option StepNote)
+    (is : IsWalk leg parts ring last) where
+  abbrev s : Counts
+  s = counts_of parts parts.source.inbox.come
+
+  walk-now : Fits (walk_plan leg) (counts_of parts parts.source.inbox.come)
+  walk-now = walk-fits leg s is.stands.sound is.stands.walked
+
+  ring-is : length ring ≡ in_return (counts_of parts parts.source.inbox.come)
+  ring-is = ap length is.back.ring ∙ ring-size leg s
+
+  pub full-is : (full : Bool) → (IsTrue full ↔ (length ring ≡ 4)) →
+      full ≡ nat_le 4 (in_return (counts_of parts parts.source.inbox.come))
+  full-is full same = full-by full (length ring) (in_return s) same ring-is
+      (let most = walk-now.returns in omega (arith, most))
+
+  pub cause-full : (row : ℕ) → row ≡ parts.sink.taken → row < leg.config.ticks →
+      true ≡ (nat_le 23 row && row % 16 == 7) → (IsTrue true ↔ (length ring ≡ 4)) →
+      Some BackFull ≡ take_cause leg.config.ticks (counts_of parts parts.source.inbox.come)
+  cause-full row at low ends full =
+      let left = lt-leb leg.config.ticks parts.sink.taken (subst (λ t. t < leg.config.ticks) at low) in
+      rw (left, sym (subst (λ t. true ≡ (nat_le 23 t && t % 16 == 7)) at ends), sym (full-is true full)) refl
+
+  pub cause-none : (row : ℕ) → row ≡ parts.sink.taken → row < leg.config.ticks →
+      (false ≡ (nat_le 23 row && row % 16 == 7)) ⊎ (IsTrue false ↔ (length ring ≡ 4)) →
+      None ≡ take_cause leg.config.ticks (counts_of parts parts.source.inbox.come)
+  cause-none row at low room =
+      let left = lt-leb leg.config.ticks parts.sink.taken (subst (λ t. t < leg.config.ticks) at low) in
+      elim (cases_Bool (nat_le 23 parts.sink.taken && parts.sink.taken % 16 == 7)) [
+        | inr other ↦ rw (left, other) refl
+        | inl ends ↦ elim room [
+          | inl other ↦ absurd (let e : false ≡ true = subst (λ t. false ≡ (nat_le 23 t && t % 16 == 7)) at other
+              ∙ ends in cc)
+          | inr some ↦ rw (left, ends, sym (full-is false some)) refl
+        ]
+      ]
+
+  pub take-stays : (cause : StallCause) →
+      Some cause ≡ take_cause leg.config.ticks (counts_of parts parts.source.inbox.come) →
+      (counts_of parts parts.source.inbox.come ≡ counts_after leg (counts_of parts parts.source.inbox.come) Take) ×
+      (Stalled cause ≡ moved_of leg (counts_of parts parts.source.inbox.come) Take)
+  take-stays cause e =
+      let stays = cause-stalls (walk_plan leg) s cause e in
+      (sym (ap (λ (x : Step). x.counts) stays), ap (λ (x : Step). answer_by x.cause None) (sym stays))
+
+  -- what is said with a row goes to the end of the return ring, which has room for it
+  module _ (none : None ≡ take_cause leg.config.ticks (counts_of parts parts.source.inbox.come)) where
+    room : is_back_full (counts_of parts parts.source.inbox.come) ≡ false
+    room = (goes (walk_plan leg) s none).room
+
+    pub said-ring : ring ++ listed (said_at leg parts.sink.taken)
+        ≡ return_ring leg (record (counts_of parts parts.source.inbox.come) { rows = parts.sink.taken + 1 })
+    said-ring =
+        ap (λ xs. xs ++ listed (said_at leg parts.sink.taken)) is.back.ring
+        ∙ by-end (nat_lt 22 parts.sink.taken && parts.sink.taken % 16 == 7) refl
+      where
+        by-end : (ends : Bool) → (nat_lt 22 parts.sink.taken && parts.sink.taken % 16 == 7) ≡ ends →
+            return_ring leg (counts_of parts parts.source.inbox.come) ++ listed (said_at leg parts.sink.taken)
+            ≡ return_ring leg (record (counts_of parts parts.source.inbox.come) { rows = parts.sink.taken + 1 })
+        by-end true e =
+            ap (λ p. return_ring leg s ++ listed p) (let at : said_at leg parts.sink.taken
+            ≡ Some (said_packet leg (packets_in parts.sink.taken)) = rw e refl in at)
+            ∙ sym (ring-says leg s (parts.sink.taken + 1) walk-now.backs
+            (packets-next parts.sink.taken ∙ rw e refl))
+        by-end false e =
+            let none : said_at leg parts.sink.taken ≡ None = rw e refl in
+            let same : packets_in parts.sink.taken ≡ packets_in (parts.sink.taken + 1) =
+            let f = rw e at (packets-next parts.sink.taken) in omega (arith, f) in
+            ap (λ p. return_ring leg s ++ listed p) none ∙ append-nil (return_ring leg s)
+            ∙ ap (λ n. map (said_packet leg) (range_with_len s.backs (n - s.backs))) same
+
+    pub said-room : length ring + length (listed (said_at leg parts.sink.taken)) ≤ 4
+    said-room = by-end (nat_lt 22 parts.sink.taken && parts.sink.taken % 16 == 7) refl
+      where
+        by-end : (ends : Bool) → (nat_lt 22 parts.sink.taken && parts.sink.taken % 16 == 7) ≡ ends →
+            length ring + length (listed (said_at leg parts.sink.taken)) ≤ 4
+        by-end true e =
+            let free = end-room s room e in
+            let size = ring-is in
+            let one : length (listed (said_at leg parts.sink.taken)) ≡ 1 = rw e refl in
+            omega (arith, free, size, one)
+        by-end false e =
+            let most = walk-now.returns in
+            let size = ring-is in
+            let none : length (listed (said_at leg parts.sink.taken)) ≡ 0 = rw e refl in
+            omega (arith, most, size, none)
+
+    -- the walk after a Take
+    module _ (now : Parts) (answer : TakeAnswer) (takes : Takes leg parts.source.inbox.come parts now answer)
+        (rest : now ≡ record parts { lines = now.lines; rows = now.rows; sink = now.sink; got = now.got }) where
+      after : Parts
+      after = record parts { lines = now.lines; rows = now.rows; sink = now.sink; got = now.got }
+
+      pub take-counts : counts_of now now.source.inbox.come
+          ≡ counts_after leg (counts_of parts parts.source.inbox.come) Take
+      take-counts = ap (λ (p : Parts). counts_of now p.source.inbox.come) rest ∙ takes.makes.counts
+
+      stands-after : Stands leg parts.source.inbox.come
+          (record parts { lines = now.lines; rows = now.rows; sink = now.sink; got = now.got })
+      stands-after = subst (Stands leg parts.source.inbox.come) rest takes.makes.stands
+
+      pub waits-walk : (line : ℕ) → answer ≡ Waiting line → IsWalk leg now ring last
+      waits-walk line e =
+          let rows : now.sink.taken ≡ parts.sink.taken = takes.rows ∙ ap (λ a. parts.sink.taken + rows_taken a) e
+          ∙ (let z : parts.sink.taken + 0 ≡ parts.sink.taken = omega arith in z) in
+          subst (λ (p : Parts). IsWalk leg p ring last) (sym rest) (record {
+            stands = stands-after;
+            back = record {
+              ring = is.back.ring ∙ ap (λ n. map (said_packet leg)
+                  (range_with_len s.backs (packets_in n - s.backs))) (sym rows);
+              lost = is.back.lost;
+              inbox = is.back.inbox;
+              room = is.back.room;
+            };
+            noted = is.noted;
+          })
+
+      pub said-is : (back : Option Packet) → answer ≡ Taken back → back ≡ said_at leg parts.sink.taken
+      said-is back e = by-waits
+          (pop_lines parts.sink.taken 0 (walk_plan leg).paths (map line_counts parts.lines)).waiting
+          (sym e ∙ takes.answers)
+        where
+          by-waits : (waiting : Option ℕ) → Taken back ≡ take_by leg parts.sink.taken waiting →
+              back ≡ said_at leg parts.sink.taken
+          by-waits None same = cc
+          by-waits (Some line) same = absurd cc
+
+      pub taken-walk : (back : Option Packet) (next : List Packet) → answer ≡ Taken back →
+          next ≡ ring ++ listed back → IsWalk leg now next last
+      taken-walk back next e says =
+          let rows : now.sink.taken ≡ parts.sink.taken + 1 =
+          takes.rows ∙ ap (λ a. parts.sink.taken + rows_taken a) e in
+          subst (λ (p : Parts). IsWalk leg p next last) (sym rest) (record {
+            stands = stands-after;
+            back = record {
+              ring = says ∙ ap (λ p. ring ++ listed p) (said-is back e) ∙ said-ring
+                  ∙ ap (λ n. map (said_packet leg) (range_with_len s.backs (packets_in n - s.backs))) (sym rows);
+              lost = is.back.lost;
+              inbox = is.back.inbox;
+              room = is.back.room;
+            };
+            noted = is.noted;
+          })

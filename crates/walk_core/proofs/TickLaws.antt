@@ -1,4 +1,4 @@
--- The first line whose send ring is full, and a tick of a walk.
+-- The first line whose send ring is full, and a tick: of one direction, and of a walk.
 use Rattle.std.proofs.Common.{◌≡◌, ℕ, zero, suc, ◌+◌, ◌-◌, ◌*◌, ◌/◌, ◌%◌, ◌==◌, ◌&&◌, ◌<◌, ◌≤◌, min, nat_le, true}
 use Rattle.std.proofs.Common.{false, if◌then◌else◌, List, [], ◌∷◌, length, drop, map, slice_get, slice_set}
 use Rattle.std.proofs.Common.{slice_index_or, Option, Some, None, refl, sym, ◌∙◌, ap, subst, arith, inl, inr, Bool}
@@ -17,19 +17,21 @@ use Rattle.session_model.specs.Leg.{Leg}
 use Rattle.session_model.specs.declared.walk.Event.TheVariants.{Tick}
 use Rattle.session_model.specs.declared.walk.StallCause.{StallCause}
 use Rattle.session_model.specs.declared.walk.StallCause.TheVariants.{Done, BackMissing}
-use Rattle.session_model.specs.Scenario.{Scenario, scenario_by}
+use Rattle.session_model.specs.Scenario.{Scenario, scenario_by, steps_in}
 use Rattle.session_model.specs.Table.{Told}
+use Rattle.session_model.specs.Telling.{untold}
+use Rattle.session_model.specs.Source.{Source as Session_source, source_at}
 use Rattle.session_model.specs.Back.{session_cells, cells_before}
 use Rattle.session_model.specs.Sent.{container_of, frame_of}
 use Rattle.session_model.specs.Counts.{LineCounts, Plan, Counts, Step, in_inbox, used_in, held, full, is_missing, moved}
 use Rattle.session_model.specs.Counts.{tick, tick_held, tick_full, step}
 use Rattle.session_model.specs.Course.{Course}
-use Rattle.source_core.specs.Terminal.{Terminal, needed, needed_at, SameKind}
+use Rattle.source_core.specs.Terminal.{needed, needed_at, SameKind}
 use Rattle.source_core.specs.Given.{with_cell, Stands as HasMade}
 use Rattle.progress_law.specs.Progress.{ChangesNothing}
 use Rattle.progress_law.proofs.StallLaws.{stalled-same}
 use Rattle.walk_law.specs.Walk.{walk_plan, CanWalk, IsWalked, counts_at}
-use Rattle.walk_law.specs.Rings.{sent_at, back_cell, inbox}
+use Rattle.walk_law.specs.Rings.{sent_at, back_cell, return_ring, inbox}
 use Rattle.walk_law.specs.Landed.{landed_scenario, told_before}
 use Rattle.walk_law.specs.Step.{last_packet, cell_taken, table_in}
 use Rattle.walk_law.proofs.PlanLaws.{sound-walks}
@@ -43,8 +45,9 @@ use Rattle.session_model.specs.declared.walk.StallCause.TheVariants.{TxFull}
 use Rattle.std.proofs.lemmas.Bool.{eq-eqb}
 use Rattle.group_source.specs.declared.source.EarlyCause.{EarlyCause}
 use Rattle.group_source.specs.declared.source.EarlyCause.TheVariants.{Done as Early_done, Held as Early_held}
-use Rattle.group_source.specs.Inbox.{Inbox, rest_for}
-use Rattle.group_source.specs.Source.{missing_by}
+use Rattle.group_source.specs.Inbox.{Inbox, cell_for, rest_for}
+use Rattle.group_source.specs.Source.{Source, SameScript, early_in, held_in, missing_by, missing_in}
+use Rattle.sink_core.specs.Core.{Core}
 use Rattle.group_source.proofs.BareLaws.{bare-dues}
 use Rattle.group_source.proofs.SourceLaws.{missing-some}
 use Rattle.walk_parts.specs.Return.{Return, path_of}
@@ -54,7 +57,10 @@ use Rattle.walk_core.specs.declared.moved.StepNote.{StepNote}
 use Rattle.walk_core.specs.declared.moved.Moved.TheVariants.{Yes, Stalled}
 use Rattle.walk_core.specs.Moved.{answer_by, moved_of, counts_after}
 use Rattle.group_source.specs.Landed.{Landed}
-use Rattle.walk_core.specs.Parts.{Parts, frame_in, HasSource, HasSent, HasBack, counts_of, line_counts, note_of, IsWalk}
+use Rattle.walk_core.specs.Parts.{Parts, frame_in, HasSource, HasSent, HasBack, HasLanded, counts_of}
+use Rattle.walk_core.specs.Parts.{line_counts, note_of, told_scenario, Stands, IsWalk}
+use Rattle.walk_core.specs.Way.{Makes, early_by, with_passed, CanTick}
+use Rattle.walk_core.proofs.ToldLaws.{told-source, passed-made, passed-frame}
 use Rattle.walk_core.proofs.EventLaws.{walk-fits, walked-next}
 use Rattle.walk_core.proofs.CarryLaws.{map-set, frame-at}
 
@@ -353,256 +359,165 @@ pub path-left : (needs : Bool) (ring : List Packet) (inbox next : Inbox) →
 path-left true ring inbox next e = ap (path_of ring) e
 path-left false ring inbox next e = ap (path_of ring) e
 
--- ---- of a walk
-carried-at : (lines : List Ringed) (k : ℕ) (d : Ringed) → k < length lines →
-    (counts_at (map line_counts lines) k).carried ≡ (slice_index_or lines k d).carried
-carried-at [] k d low = absurd (omega arith)
-carried-at (x ∷ xs) zero d low = refl
-carried-at (x ∷ xs) (suc k) d low = carried-at xs k d (omega arith)
+-- ---- the causes in their order
+early-left : (done : Bool) (found : Option ℕ) →
+    ◌≡◌ {A = Option EarlyCause} (if done then Some Early_done else option_map Early_held found) None →
+    (done ≡ false) × (found ≡ None)
+early-left true found e = absurd cc
+early-left false None e = (refl, refl)
+early-left false (Some item) e = absurd cc
 
-module _ (leg : Leg) (parts : Parts) (landing : Landed) (got : ℕ) (last : Option StepNote)
-    (is : IsWalk leg parts landing got last) where
-  pub lines-made : (lines : List Ringed) → lines ≡ parts.lines → (k : ℕ) (d : Ringed) → k < length lines →
-      min (slice_index_or lines k d).carried leg.config.ticks ≤ parts.source.ticks
-  lines-made lines same k d low =
-      let size = ap length same ∙ is.lines.size in
-      let windows = is.sound.network.windows_each in
-      let fits = line-fits leg (counts_of parts landing) (sound-walks leg is.sound) is.walked k
-      (omega (arith, low, size, windows)) in
-      let sent = fits.sent in
-      let at = ap (λ (ls : List Ringed). (counts_at (map line_counts ls) k).carried) (sym same)
-      ∙ carried-at lines k d low in
-      subst (λ n. min n leg.config.ticks ≤ parts.source.ticks) at sent
-
-  pub missing-cause : (packet : ℕ) → parts.source.ticks < leg.config.ticks →
-      held parts.source.ticks landing.frames landing.commands 0 (walk_plan leg).items ≡ None →
-      full leg.config.ticks parts.source.ticks 0 (map line_counts parts.lines) ≡ None →
-      needed parts.source ≡ Some packet → parts.back.inbox ≡ [] →
-      Some (BackMissing packet) ≡ (step (walk_plan leg) (counts_of parts landing) Tick).cause
-  missing-cause packet low none_held none_full need none =
-      let size : length (inbox leg (counts_of parts landing))
-      ≡ in_inbox (walk_plan leg) (counts_of parts landing) =
-      length-map (range_with_len (used_in leg.config.lag parts.source.ticks)
-      (in_inbox (walk_plan leg) (counts_of parts landing))) (back_cell leg)
-      ∙ length-range_with_len (used_in leg.config.lag parts.source.ticks)
-      (in_inbox (walk_plan leg) (counts_of parts landing)) in
-      sym (missing-here (walk_plan leg) (counts_of parts landing) packet low none_held none_full
-      (ap (λ lag. needed_at lag parts.source.ticks) (sym is.source.lag) ∙ need)
-      (sym size ∙ sym (ap length is.back.inbox) ∙ ap length none))
-
-  inbox-size : length parts.back.inbox ≡ in_inbox (walk_plan leg) (counts_of parts landing)
-  inbox-size =
-      ap length is.back.inbox
-      ∙ length-map (range_with_len (used_in leg.config.lag parts.source.ticks)
-      (in_inbox (walk_plan leg) (counts_of parts landing))) (back_cell leg)
-      ∙ length-range_with_len (used_in leg.config.lag parts.source.ticks)
-      (in_inbox (walk_plan leg) (counts_of parts landing))
-
-  bare-held : held parts.source.ticks landing.frames landing.commands 0 (dues_of landing.items)
-      ≡ held parts.source.ticks landing.frames landing.commands 0 (walk_plan leg).items
-  bare-held = ap (held parts.source.ticks landing.frames landing.commands 0)
-      (ap dues_of is.landed.items ∙ bare-dues leg.items)
-
-  -- why no frame is made, by what the source says
-  pub early-cause : (cause : EarlyCause) →
-      (if nat_le parts.total parts.source.ticks then Some Early_done else option_map Early_held
-      (held parts.source.ticks landing.frames landing.commands 0 (dues_of landing.items))) ≡ Some cause →
-      Some (early_stall cause) ≡ (step (walk_plan leg) (counts_of parts landing) Tick).cause
-  early-cause cause e =
-      by-total (nat_le leg.config.ticks parts.source.ticks) refl
-      (held parts.source.ticks landing.frames landing.commands 0 (walk_plan leg).items) refl
-      (sym (ap (λ n. if nat_le n parts.source.ticks then Some Early_done else option_map Early_held
-      (held parts.source.ticks landing.frames landing.commands 0 (dues_of landing.items))) is.total
-      ∙ ap (λ (h : Option ℕ). if nat_le leg.config.ticks parts.source.ticks then Some Early_done else option_map
-      Early_held h) bare-held) ∙ e)
+module _ (plan : Plan) (s : Counts) where
+  pub early-stalls : (cause : EarlyCause) → early_by plan s ≡ Some cause →
+      Some (early_stall cause) ≡ (step plan s Tick).cause
+  early-stalls cause e =
+      by-total (nat_le plan.ticks s.ticks) refl (held s.ticks s.frames s.commands 0 plan.items) refl e
     where
-      by-total : (done : Bool) → nat_le leg.config.ticks parts.source.ticks ≡ done → (found : Option ℕ) →
-          held parts.source.ticks landing.frames landing.commands 0 (walk_plan leg).items ≡ found →
+      by-total : (done : Bool) → nat_le plan.ticks s.ticks ≡ done → (found : Option ℕ) →
+          held s.ticks s.frames s.commands 0 plan.items ≡ found →
           (if done then Some Early_done else option_map Early_held found) ≡ Some cause →
-          Some (early_stall cause) ≡ (step (walk_plan leg) (counts_of parts landing) Tick).cause
+          Some (early_stall cause) ≡ (step plan s Tick).cause
       by-total true past found is_found e = rw past (let same : Early_done ≡ cause = cc in
           ap (λ c. Some (early_stall c)) (sym same))
       by-total false left None is_found e = absurd cc
       by-total false left (Some item) is_found e = rw (left, is_found) (let same : Early_held item ≡ cause = cc in
           ap (λ c. Some (early_stall c)) (sym same))
 
-  module _ (free : (if nat_le parts.total parts.source.ticks then Some Early_done else option_map Early_held
-      (held parts.source.ticks landing.frames landing.commands 0 (dues_of landing.items))) ≡ None) where
-    left-none : (nat_le leg.config.ticks parts.source.ticks ≡ false) ×
-        (held parts.source.ticks landing.frames landing.commands 0 (walk_plan leg).items ≡ None)
-    left-none =
-        by-none (nat_le leg.config.ticks parts.source.ticks)
-        (held parts.source.ticks landing.frames landing.commands 0 (walk_plan leg).items)
-        (sym (ap (λ n. if nat_le n parts.source.ticks then Some Early_done else option_map Early_held
-        (held parts.source.ticks landing.frames landing.commands 0 (dues_of landing.items))) is.total
-        ∙ ap (λ (h : Option ℕ). if nat_le leg.config.ticks parts.source.ticks then Some Early_done else option_map
-        Early_held h) bare-held) ∙ free)
-      where
-        by-none : (done : Bool) (found : Option ℕ) →
-            ◌≡◌ {A = Option EarlyCause} (if done then Some Early_done else option_map Early_held found) None →
-            (done ≡ false) × (found ≡ None)
-        by-none true found e = absurd cc
-        by-none false None e = (refl, refl)
-        by-none false (Some item) e = absurd cc
+  left-none : early_by plan s ≡ None →
+      (nat_le plan.ticks s.ticks ≡ false) × (held s.ticks s.frames s.commands 0 plan.items ≡ None)
+  left-none free = early-left (nat_le plan.ticks s.ticks) (held s.ticks s.frames s.commands 0 plan.items) free
 
-    pub full-cause : (line : ℕ) →
-        full leg.config.ticks parts.source.ticks 0 (map line_counts parts.lines) ≡ Some line →
-        Some (TxFull line) ≡ (step (walk_plan leg) (counts_of parts landing) Tick).cause
-    full-cause line found = rw (left-none.0, left-none.1, found) refl
+  pub early-free : None ≡ (step plan s Tick).cause → early_by plan s ≡ None
+  early-free e = let free = tick-free plan s e in rw free.left (ap (option_map Early_held) free.no_item)
 
-    pub missing-stalls : (packet : ℕ) →
-        full leg.config.ticks parts.source.ticks 0 (map line_counts parts.lines) ≡ None →
-        missing_by (needed parts.source) parts.back.inbox ≡ Some packet →
-        Some (BackMissing packet) ≡ (step (walk_plan leg) (counts_of parts landing) Tick).cause
-    missing-stalls packet slots misses =
-        let (need, none) = missing-some (needed parts.source) parts.back.inbox packet misses in
-        missing-cause packet (leb-false leg.config.ticks parts.source.ticks left-none.0) left-none.1 slots need none
+  module _ (free : early_by plan s ≡ None) where
+    pub full-cause : (line : ℕ) → full plan.ticks s.ticks 0 s.lines ≡ Some line →
+        Some (TxFull line) ≡ (step plan s Tick).cause
+    full-cause line found = let left = left-none free in rw (left.0, left.1, found) refl
 
-    pub no-cause : full leg.config.ticks parts.source.ticks 0 (map line_counts parts.lines) ≡ None →
-        missing_by (needed parts.source) parts.back.inbox ≡ None →
-        None ≡ (step (walk_plan leg) (counts_of parts landing) Tick).cause
-    no-cause slots there =
-        let has = not-missing (walk_plan leg) (counts_of parts landing) parts.back.inbox inbox-size
-        (ap (λ lag. missing_by (needed_at lag parts.source.ticks) parts.back.inbox) (sym is.source.lag) ∙ there) in
-        rw (left-none.0, left-none.1, slots, has) refl
+    pub missing-cause : (packet : ℕ) → full plan.ticks s.ticks 0 s.lines ≡ None →
+        needed_at plan.lag s.ticks ≡ Some packet → in_inbox plan s ≡ 0 →
+        Some (BackMissing packet) ≡ (step plan s Tick).cause
+    missing-cause packet slots need none =
+        let left = left-none free in
+        sym (missing-here plan s packet (leb-false plan.ticks s.ticks left.0) left.1 slots need none)
 
-  pub tick-stays : (cause : StallCause) → Some cause ≡ (step (walk_plan leg) (counts_of parts landing) Tick).cause →
-      (counts_of parts landing ≡ counts_after leg (counts_of parts landing) Tick) ×
-      (Stalled cause ≡ moved_of leg (counts_of parts landing) Tick)
-  tick-stays cause e = (
-    sym (not-take (stalled-same (walk_plan leg) (counts_of parts landing) Tick cause (sym e))),
-    ap
-        (λ o. answer_by o None) e,
-  )
-    where
-      not-take : ChangesNothing (walk_plan leg) (counts_of parts landing) Tick →
-          (step (walk_plan leg) (counts_of parts landing) Tick).counts ≡ counts_of parts landing
-      not-take (inl same) = same
-      not-take (inr take) = absurd (let e = take.0 in cc)
+    pub no-cause : full plan.ticks s.ticks 0 s.lines ≡ None → is_missing plan s ≡ false →
+        None ≡ (step plan s Tick).cause
+    no-cause slots there = let left = left-none free in rw (left.0, left.1, slots, there) refl
 
-  module _ (e : None ≡ (step (walk_plan leg) (counts_of parts landing) Tick).cause) where
-    goes : (parts.source.ticks < leg.config.ticks) × Goes (walk_plan leg) (counts_of parts landing)
-        (tick (walk_plan leg) (counts_of parts landing))
-    goes = tick-goes (walk_plan leg) (counts_of parts landing) e
+pub tick-stays : (leg : Leg) (s : Counts) (cause : StallCause) → Some cause ≡ (step (walk_plan leg) s Tick).cause →
+    (s ≡ counts_after leg s Tick) × (Stalled cause ≡ moved_of leg s Tick)
+tick-stays leg s cause e = (
+  sym (not-take (stalled-same (walk_plan leg) s Tick cause (sym e))),
+  ap
+      (λ o. answer_by o None) e,
+)
+  where
+    not-take : ChangesNothing (walk_plan leg) s Tick → (step (walk_plan leg) s Tick).counts ≡ s
+    not-take (inl same) = same
+    not-take (inr take) = absurd (let e = take.0 in cc)
 
-    pub ticks-few : parts.source.ticks < 4294967295
-    ticks-few = let low = goes.0 in let most = is.sound.network.ticks.1 in omega (arith, low, most)
+-- ---- of one direction
+carried-at : (lines : List Ringed) (k : ℕ) (d : Ringed) → k < length lines →
+    (counts_at (map line_counts lines) k).carried ≡ (slice_index_or lines k d).carried
+carried-at [] k d low = absurd (omega arith)
+carried-at (x ∷ xs) zero d low = refl
+carried-at (x ∷ xs) (suc k) d low = carried-at xs k d (omega arith)
 
-    free : IsFree (walk_plan leg) (counts_of parts landing)
-    free = tick-free (walk_plan leg) (counts_of parts landing) e
+module _ (leg : Leg) (backs : ℕ) (parts : Parts) (is : Stands leg backs parts) where
+  pub lines-made : (lines : List Ringed) → lines ≡ parts.lines → (k : ℕ) (d : Ringed) → k < length lines →
+      min (slice_index_or lines k d).carried leg.config.ticks ≤ parts.source.core.ticks
+  lines-made lines same k d low =
+      let size = ap length same ∙ is.lines.size in
+      let windows = is.sound.network.windows_each in
+      let fits = line-fits leg (counts_of parts backs) (sound-walks leg is.sound) is.walked k
+      (omega (arith, low, size, windows)) in
+      let sent = fits.sent in
+      let at = ap (λ (ls : List Ringed). (counts_at (map line_counts ls) k).carried) (sym same)
+      ∙ carried-at lines k d low in
+      subst (λ n. min n leg.config.ticks ≤ parts.source.core.ticks) at sent
 
-    -- the source has no cause either
-    pub early-free : (if nat_le parts.total parts.source.ticks then Some Early_done else option_map Early_held
-        (held parts.source.ticks landing.frames landing.commands 0 (dues_of landing.items))) ≡ None
-    early-free =
-        ap (λ n. if nat_le n parts.source.ticks then Some Early_done else option_map Early_held
-        (held parts.source.ticks landing.frames landing.commands 0 (dues_of landing.items))) is.total
-        ∙ rw (free.left) (ap (option_map Early_held) (bare-held ∙ free.no_item))
+  pub lines-few : length parts.lines ≤ 128
+  lines-few =
+      let size = is.lines.size in
+      let windows = is.sound.network.windows_each in
+      let few = (sound-walks leg is.sound).few in
+      omega (arith, size, windows, few)
 
-    pub missing-free : missing_by (needed parts.source) parts.back.inbox ≡ None
-    missing-free = by-found (missing_by (needed parts.source) parts.back.inbox) refl
-      where
-        by-found : (found : Option ℕ) → missing_by (needed parts.source) parts.back.inbox ≡ found → found ≡ None
-        by-found None same = refl
-        by-found (Some packet) same = absurd
-            (let f : None ≡ Some (BackMissing packet) = e
-            ∙ sym (missing-stalls early-free packet free.slots same) in cc)
+  -- why no frame is made, by what the source side says
+  pub early-is : early_in parts.source ≡ early_by (walk_plan leg) (counts_of parts backs)
+  early-is =
+      ap (λ n. if nat_le n parts.source.core.ticks then Some Early_done else option_map Early_held
+      (held_in parts.source)) is.total
+      ∙ ap (λ (h : Option ℕ). if nat_le leg.config.ticks parts.source.core.ticks then Some Early_done else option_map
+      Early_held h)
+      (ap (held parts.source.core.ticks parts.source.landed.frames parts.source.landed.commands 0)
+      (ap dues_of is.landed.items ∙ bare-dues leg.items))
 
-    pub tick-moved : Yes ≡ moved_of leg (counts_of parts landing) Tick
-    tick-moved = ap (λ o. answer_by o None) e
+  module _ (told : Option Packet) (cell : Option BackCell) (can : CanTick leg backs parts told cell) where
+    moves : Goes (walk_plan leg) (counts_of parts backs) (tick (walk_plan leg) (counts_of parts backs))
+    moves = (tick-goes (walk_plan leg) (counts_of parts backs) can.free).1
 
-    module _ (cell : Option BackCell) (path : Return)
-        (first : cell ≡ (if is_some (needed parts.source) then slice_get parts.back.inbox 0 else None))
-        (left : path ≡ (if is_some (needed parts.source) then record parts.back
-        { inbox = drop 1 parts.back.inbox } else parts.back)) where
-      is_taken : IsTaken leg (counts_of parts landing) parts.back cell path
-      is_taken =
-          let fits = walk-fits leg (counts_of parts landing) is.sound is.walked in
-          taken leg (counts_of parts landing) parts.back path cell
-          (sound-walks leg is.sound) is.walked fits.rows is.back goes.1.has_cell
-          (subst (λ lag. cell ≡
-          (if is_some (needed_at lag parts.source.ticks) then slice_get parts.back.inbox 0 else None)) is.source.lag
-          first)
-          (subst (λ lag. path ≡
-          (if is_some (needed_at lag parts.source.ticks) then record parts.back
-          { inbox = drop 1 parts.back.inbox } else parts.back)) is.source.lag left)
+    module _ (source : Source) (rest : SameScript parts.source source)
+        (stands : (scenario : Scenario) (cells : List (Option Told)) → HasMade parts.source.core scenario cells →
+        HasMade source.core (with_passed scenario (steps_in parts.source.core.ticks) told) (with_cell cells cell))
+        (ticks : source.core.ticks ≡ parts.source.core.ticks + 1) (kind : SameKind source.core parts.source.core)
+        (frame : List Container)
+        (made : (scenario : Scenario) (cells : List (Option Told)) → HasMade parts.source.core scenario cells →
+        frame ≡ frame_of (with_passed scenario (steps_in parts.source.core.ticks) told) (with_cell cells cell)
+        parts.source.core.ticks)
+        (sent : List (List Container))
+        (has : HasSent leg parts.source.core.ticks (map line_counts parts.lines) sent) where
+      counts-are : counts_of (record parts
+          { source = source; sent = slice_set sent (parts.source.core.ticks % 32) frame }) backs
+          ≡ record (counts_of parts backs) { ticks = parts.source.core.ticks + 1 }
+      counts-are =
+          ap (λ n. record (counts_of parts backs)
+          { ticks = n; frames = source.landed.frames; commands = source.landed.commands }) ticks
+          ∙ ap (λ (l : Landed). record (counts_of parts backs)
+          { ticks = parts.source.core.ticks + 1; frames = l.frames; commands = l.commands }) rest.landed
 
-      pub some-needed : is_some cell ≡ is_some (needed parts.source)
-      some-needed = is_taken.some ∙ ap (λ lag. is_some (needed_at lag parts.source.ticks)) (sym is.source.lag)
+      walked-after : IsWalked leg (record (counts_of parts backs) { ticks = parts.source.core.ticks + 1 })
+      walked-after = walked-next leg (counts_of parts backs) _ Tick is.walked
+          (sym (ap (λ (x : Step). x.counts) moves.moves))
 
-      module _ (source : Terminal)
-          (stands : (scenario : Scenario) (cells : List (Option Told)) → HasMade parts.source scenario cells →
-          HasMade source scenario (with_cell cells cell))
-          (ticks : source.ticks ≡ parts.source.ticks + 1) (kind : SameKind source parts.source)
-          (frame : List Container)
-          (made : (scenario : Scenario) (cells : List (Option Told)) → HasMade parts.source scenario cells →
-          frame ≡ frame_of scenario (with_cell cells cell) parts.source.ticks)
-          (note : Option StepNote)
-          (noted : note ≡ (if parts.source.ticks % 16 == 8 then Some
-          (record { packet = parts.source.ticks / 16; back = cell }) else last)) where
-        after : Counts
-        after = record (counts_of parts landing) { ticks = parts.source.ticks + 1 }
+      frame-is : frame ≡ frame_of (scenario_by leg) (session_cells (scenario_by leg)) parts.source.core.ticks
+      frame-is =
+          made (told_scenario leg (counts_of parts backs))
+          (told_before leg parts.source.core.ticks) is.source.made
+          ∙ passed-frame leg (counts_of parts backs) told can.tells
+          (with_cell (told_before leg parts.source.core.ticks) cell)
+          ∙ ap (λ cells. frame_of (landed_scenario leg (counts_of parts backs)) cells parts.source.core.ticks)
+          (sym can.cells)
+          ∙ told-frames leg (record (counts_of parts backs) { ticks = parts.source.core.ticks + 1 })
+          (sound-walks leg is.sound) walked-after parts.source.core.ticks (omega arith)
 
-        next : Parts
-        next = record parts {
-          source = source;
-          sent = slice_set parts.sent
-              (parts.source.ticks % 32) frame;
-          back = path;
-        }
-
-        counts-are : counts_of (record parts
-            { source = source; sent = slice_set parts.sent (parts.source.ticks % 32) frame; back = path }) landing
-            ≡ record (counts_of parts landing) { ticks = parts.source.ticks + 1 }
-        counts-are =
-            ap (λ n. record (counts_of parts landing) { ticks = n; backs = path.backs }) ticks
-            ∙ ap (λ n. record (counts_of parts landing) { ticks = parts.source.ticks + 1; backs = n }) is_taken.backs
-
-        pub tick-counts : counts_of
-            (record parts {
-              source = source;
-              sent = slice_set parts.sent
-                  (parts.source.ticks % 32) frame;
-              back = path;
-            }) landing ≡ counts_after leg (counts_of parts landing) Tick
-        tick-counts = counts-are ∙ sym (ap (λ (x : Step). x.counts) goes.1.moves)
-
-        walked-after : IsWalked leg (record (counts_of parts landing) { ticks = parts.source.ticks + 1 })
-        walked-after = walked-next leg (counts_of parts landing) _ Tick is.walked
-            (sym (ap (λ (x : Step). x.counts) goes.1.moves))
-
-        frame-is : frame ≡ frame_of (scenario_by leg) (session_cells (scenario_by leg)) parts.source.ticks
-        frame-is =
-            made (landed_scenario leg (counts_of parts landing))
-            (told_before leg parts.source.ticks) is.source.made
-            ∙ ap (λ cells. frame_of (landed_scenario leg (counts_of parts landing)) cells parts.source.ticks)
-            (sym is_taken.told)
-            ∙ told-frames leg (record (counts_of parts landing) { ticks = parts.source.ticks + 1 })
-            (sound-walks leg is.sound) walked-after parts.source.ticks (omega arith)
-
-        pub tick-kept : IsWalk leg
-            (record parts {
-              source = source;
-              sent = slice_set parts.sent
-                  (parts.source.ticks % 32) frame;
-              back = path;
-            }) landing got note
-        tick-kept = record {
+      pub tick-makes : Makes leg backs Tick parts (record parts
+          { source = source; sent = slice_set sent (parts.source.core.ticks % 32) frame }) Yes
+      tick-makes = record {
+        counts = counts-are ∙ sym (ap (λ (x : Step). x.counts) moves.moves);
+        moved = ap (λ o. answer_by o None) can.free;
+        stands = record {
           sound = is.sound;
-          total = is.total;
+          total = rest.total ∙ is.total;
           walked = subst (IsWalked leg) (sym counts-are) walked-after;
-          source = subst (λ s. HasSource leg s source) (sym counts-are) (record {
-            made = subst (HasMade source (landed_scenario leg (counts_of parts landing))) (sym is_taken.told)
-                (stands (landed_scenario leg (counts_of parts landing))
-                (told_before leg parts.source.ticks) is.source.made);
+          source = subst (λ s. HasSource leg s source.core) (sym counts-are) (record {
+            made = subst (HasMade source.core
+                (told_scenario leg (record (counts_of parts backs) { ticks = parts.source.core.ticks + 1 })))
+                (sym can.cells)
+                (passed-made leg (counts_of parts backs) told can.tells source.core
+                (with_cell (told_before leg parts.source.core.ticks) cell) ticks
+                (stands (told_scenario leg (counts_of parts backs))
+                (told_before leg parts.source.core.ticks) is.source.made));
             lines = kind.lines ∙ is.source.lines;
             lag = kind.lag ∙ is.source.lag;
             size = kind.size ∙ is.source.size;
           });
           sent = subst (λ n. HasSent leg n (map line_counts parts.lines)
-              (slice_set parts.sent (parts.source.ticks % 32) frame)) (sym ticks)
-              (sent-more leg parts.source.ticks (map line_counts parts.lines) parts.sent frame is.sent frame-is
-              (ap length frame-is ∙ frame-long leg parts.source.ticks ∙ is.sound.network.windows_each));
+              (slice_set sent (parts.source.core.ticks % 32) frame)) (sym ticks)
+              (sent-more leg parts.source.core.ticks (map line_counts parts.lines) sent frame has frame-is
+              (ap length frame-is ∙ frame-long leg parts.source.core.ticks ∙ is.sound.network.windows_each));
           lines = is.lines;
           sink = record {
             gathers = is.sink.gathers;
@@ -613,62 +528,152 @@ module _ (leg : Leg) (parts : Parts) (landing : Landed) (got : ℕ) (last : Opti
             all = is.sink.all;
             size = is.sink.size;
           };
-          back = subst (λ s. HasBack leg s path) (sym counts-are)
-              (record {
-                ring = is_taken.ring ∙ is.back.ring;
-                lost = is_taken.lost
-                    ∙ is.back.lost;
-                inbox = is_taken.inbox;
-                room = is_taken.room ∙ is.back.room;
-              });
-          landed = record {
-            items = is.landed.items;
-            refusals = is.landed.refusals;
-            frames = is.landed.frames;
-            commands = is.landed.commands;
-          };
+          landed = subst (λ s. HasLanded leg s source.landed) (sym counts-are)
+              (subst (HasLanded leg (record (counts_of parts backs) { ticks = parts.source.core.ticks + 1 }))
+              (sym rest.landed) (record {
+                items = is.landed.items;
+                refusals = is.landed.refusals;
+                frames = is.landed.frames;
+                commands = is.landed.commands;
+              }));
           counted = is.counted;
-          noted = subst (λ n. note ≡ note_of leg (last_packet n)) (sym ticks)
-              (note-next leg parts.source.ticks cell last note is.noted is_taken.noted noted);
-        }
+        };
+      }
 
-        -- by the rings as they are kept, at a number that is that of the frame
-        module _ (rows : List (Vec (Box Container))) (row : Vec (Box Container)) (own : frame_in row ≡ frame)
-            (same : map frame_in rows ≡ parts.sent) (k : ℕ) (at : k ≡ parts.source.ticks % 32) where
-          rows-are : slice_set parts.sent (parts.source.ticks % 32) frame ≡ map frame_in (slice_set rows k row)
-          rows-are =
-              sym (map-set frame_in rows k row ∙ ap (slice_set (map frame_in rows) k) own
-              ∙ ap (λ j. slice_set (map frame_in rows) j frame) at
-              ∙ ap (λ sent. slice_set sent (parts.source.ticks % 32) frame) same)
+      -- by the rings as they are kept, at a number that is that of the frame
+      module _ (rows : List (Vec (Box Container))) (row : Vec (Box Container)) (own : frame_in row ≡ frame)
+          (same : map frame_in rows ≡ sent) (k : ℕ) (at : k ≡ parts.source.core.ticks % 32) where
+        rows-are : slice_set sent (parts.source.core.ticks % 32) frame ≡ map frame_in (slice_set rows k row)
+        rows-are =
+            sym (map-set frame_in rows k row ∙ ap (slice_set (map frame_in rows) k) own
+            ∙ ap (λ j. slice_set (map frame_in rows) j frame) at
+            ∙ ap (λ xs. slice_set xs (parts.source.core.ticks % 32) frame) same)
 
-          pub tick-kept_at : IsWalk leg
-              (record parts {
-                source = source;
-                sent = map frame_in
-                    (slice_set rows k row);
-                back = path;
-              }) landing got note
-          tick-kept_at = subst (λ sent. IsWalk leg
-              (record parts { source = source; sent = sent; back = path }) landing got note) rows-are tick-kept
+        pub tick-makes_at : Makes leg backs Tick parts
+            (record parts { source = source; sent = map frame_in (slice_set rows k row) }) Yes
+        tick-makes_at = subst (λ xs. Makes leg backs Tick parts
+            (record parts { source = source; sent = xs }) Yes) rows-are tick-makes
 
--- ---- the send rings before a frame is put into them
-pub sent-placed : (leg : Leg) (parts : Parts) (landing : Landed) (got : ℕ) (last : Option StepNote)
-    (sent : List (List Container)) → IsWalk leg parts landing got last →
-    HasSent leg parts.source.ticks (map line_counts parts.lines) sent →
-    IsWalk leg (record parts { sent = sent }) landing got last
-sent-placed leg parts landing got last sent is has = record {
-  sound = is.sound;
-  total = is.total;
-  walked = is.walked;
-  source = is.source;
-  sent = has;
-  lines = is.lines;
-  sink = is.sink;
-  back = is.back;
-  landed = is.landed;
-  counted = is.counted;
-  noted = is.noted;
-}
+  -- ---- the table
+  pub source-after : parts.source.core.table.source
+      ≡ source_at (landed_scenario leg (counts_of parts backs)) (told_before leg parts.source.core.ticks)
+      (steps_in parts.source.core.ticks)
+  source-after =
+      ap (λ (table : Course). table.source) is.source.made.table
+      ∙ told-source leg (counts_of parts backs) (told_before leg parts.source.core.ticks)
+
+  pub table-after : parts.source.core.table.source.table ≡ table_in leg parts.source.core.ticks
+  table-after =
+      ap (λ (source : Session_source). source.table) source-after
+      ∙ table-now leg (counts_of parts backs) (sound-walks leg is.sound) is.walked
+
+-- ---- of a walk
+module _ (leg : Leg) (parts : Parts) (ring : List Packet) (last : Option StepNote)
+    (is : IsWalk leg parts ring last) where
+  abbrev s : Counts
+  s = counts_of parts parts.source.inbox.come
+
+  inbox-size : length parts.source.inbox.cells ≡ in_inbox (walk_plan leg) (counts_of parts parts.source.inbox.come)
+  inbox-size =
+      ap length is.back.inbox
+      ∙ length-map (range_with_len (used_in leg.config.lag parts.source.core.ticks)
+      (in_inbox (walk_plan leg) (counts_of parts parts.source.inbox.come))) (back_cell leg)
+      ∙ length-range_with_len (used_in leg.config.lag parts.source.core.ticks)
+      (in_inbox (walk_plan leg) (counts_of parts parts.source.inbox.come))
+
+  module _ (free : early_by (walk_plan leg) (counts_of parts parts.source.inbox.come) ≡ None)
+      (slots : full leg.config.ticks parts.source.core.ticks 0 (map line_counts parts.lines) ≡ None) where
+    pub missing-stalls : (packet : ℕ) → missing_in parts.source ≡ Some packet →
+        Some (BackMissing packet) ≡ (step (walk_plan leg) (counts_of parts parts.source.inbox.come) Tick).cause
+    missing-stalls packet misses =
+        let (need, none) = missing-some (needed parts.source.core) parts.source.inbox.cells packet misses in
+        missing-cause (walk_plan leg) s free packet slots
+        (ap (λ lag. needed_at lag parts.source.core.ticks) (sym is.stands.source.lag) ∙ need)
+        (sym inbox-size ∙ ap length none)
+
+    pub none-missing : missing_in parts.source ≡ None →
+        None ≡ (step (walk_plan leg) (counts_of parts parts.source.inbox.come) Tick).cause
+    none-missing there =
+        no-cause (walk_plan leg) s free slots
+        (not-missing (walk_plan leg) s parts.source.inbox.cells inbox-size
+        (ap (λ lag. missing_by (needed_at lag parts.source.core.ticks) parts.source.inbox.cells)
+        (sym is.stands.source.lag) ∙ there))
+
+  module _ (e : None ≡ (step (walk_plan leg) (counts_of parts parts.source.inbox.come) Tick).cause) where
+    pub early-none : early_in parts.source ≡ None
+    early-none = early-is leg parts.source.inbox.come parts is.stands ∙ early-free (walk_plan leg) s e
+
+    pub missing-none : missing_in parts.source ≡ None
+    missing-none = by-found (missing_in parts.source) refl
+      where
+        by-found : (found : Option ℕ) → missing_in parts.source ≡ found → found ≡ None
+        by-found None same = refl
+        by-found (Some packet) same = absurd
+            (let f : None ≡ Some (BackMissing packet) = e
+            ∙ sym (missing-stalls (early-free (walk_plan leg) s e) (tick-free (walk_plan leg) s e).slots packet same)
+            in cc)
+
+    module _ (cell : Option BackCell)
+        (first : cell ≡ cell_for (is_some (needed parts.source.core)) parts.source.inbox.cells) where
+      abbrev left-in : Inbox
+      left-in = record parts.source.inbox
+          { cells = rest_for (is_some (needed parts.source.core)) parts.source.inbox.cells }
+
+      is_taken : IsTaken leg (counts_of parts parts.source.inbox.come) (path_of ring parts.source.inbox) cell
+          (path_of ring (record parts.source.inbox
+          { cells = rest_for (is_some (needed parts.source.core)) parts.source.inbox.cells }))
+      is_taken =
+          let fits = walk-fits leg s is.stands.sound is.stands.walked in
+          let goes_on = tick-goes (walk_plan leg) s e in
+          taken leg s (path_of ring parts.source.inbox) (path_of ring left-in) cell
+          (sound-walks leg is.stands.sound) is.stands.walked fits.rows is.back goes_on.1.has_cell
+          (subst (λ lag. cell ≡
+          (if is_some (needed_at lag parts.source.core.ticks) then slice_get parts.source.inbox.cells 0 else None))
+          is.stands.source.lag first)
+          (subst (λ lag. path_of ring left-in ≡
+          (if is_some (needed_at lag parts.source.core.ticks) then record (path_of ring parts.source.inbox)
+          { inbox = drop 1 parts.source.inbox.cells } else path_of ring parts.source.inbox))
+          is.stands.source.lag
+          (path-left (is_some (needed parts.source.core)) ring parts.source.inbox left-in refl))
+
+      -- without a packet to pass on, where the leg has nothing to tell
+      pub can-tick : leg.tells ≡ [] → CanTick leg parts.source.inbox.come parts None cell
+      can-tick quiet = record {
+        free = e;
+        tells = record {
+          step = λ at. sym (ap (λ tells. slice_index_or tells (parts.source.core.ticks / 16) untold) quiet);
+          between = λ other. refl;
+        };
+        cells = is_taken.told;
+      }
+
+      -- the walk after the frame
+      module _ (now : Parts) (stands : Stands leg parts.source.inbox.come now)
+          (ticks : now.source.core.ticks ≡ parts.source.core.ticks + 1)
+          (boxed : now.source.inbox ≡ record parts.source.inbox
+          { cells = rest_for (is_some (needed parts.source.core)) parts.source.inbox.cells })
+          (rest : now ≡ record parts { source = now.source; sent = now.sent }) (note : Option StepNote)
+          (noted : note ≡ (if parts.source.core.ticks % 16 == 8 then Some
+          (record { packet = parts.source.core.ticks / 16; back = cell }) else last)) where
+        pub tick-come : now.source.inbox.come ≡ parts.source.inbox.come
+        tick-come = ap (λ (i : Inbox). i.come) boxed
+
+        pub tick-walk : IsWalk leg now ring note
+        tick-walk =
+            let sunk : now.sink ≡ parts.sink = ap (λ (p : Parts). p.sink) rest in
+            record {
+              stands = subst (λ n. Stands leg n now) (sym tick-come) stands;
+              back = subst (λ n. HasBack leg (counts_of now n) (path_of ring now.source.inbox)) (sym tick-come)
+                  (subst (λ (i : Inbox). HasBack leg (counts_of now parts.source.inbox.come) (path_of ring i))
+                  (sym boxed) (record {
+                    ring = is.back.ring ∙ ap (λ (k : Core). return_ring leg (record s { rows = k.taken })) (sym sunk);
+                    lost = is.back.lost;
+                    inbox = is_taken.inbox ∙ ap (λ t. inbox leg (record s { ticks = t })) (sym ticks);
+                    room = is.back.room;
+                  }));
+              noted = note-next leg parts.source.core.ticks cell last note is.noted is_taken.noted noted
+                  ∙ ap (λ n. note_of leg (last_packet n)) (sym ticks);
+            }
 
 -- by the ticks and the lines as they are read
 pub sent-read : (leg : Leg) (ticks now : ℕ) (lines own : List Ringed) (was after : List (List Container)) →
@@ -680,10 +685,3 @@ sent-read leg ticks now lines own was after same_ticks same_lines keeps has =
     (subst (λ ls. HasSent leg now (map line_counts ls) after) same_lines
     (keeps (subst (λ ls. HasSent leg now (map line_counts ls) was) (sym same_lines)
     (subst (λ n. HasSent leg n (map line_counts lines) was) (sym same_ticks) has))))
-
--- ---- the table
-pub table-after : (leg : Leg) (parts : Parts) (landing : Landed) (got : ℕ) (last : Option StepNote) →
-    IsWalk leg parts landing got last → parts.source.table.source.table ≡ table_in leg parts.source.ticks
-table-after leg parts landing got last is =
-    ap (λ (table : Course). table.source.table) is.source.made.table
-    ∙ table-now leg (counts_of parts landing) (sound-walks leg is.sound) is.walked

@@ -6,3 +6,4 @@ pub mod Opened
 pub mod Landing
 pub mod Take
 pub mod Waiting
+pub mod Way

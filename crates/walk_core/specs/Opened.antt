@@ -1,10 +1,11 @@
--- What a walk holds before any event.
+-- What one direction of a group holds before any event.
 use Rattle.std.specs.Prelude.{◌≡◌, ℕ, List, [], length, replicate, slice_get, slice_index_or, All, Some}
 use Rattle.std.specs.Global.{Vec, Box}
 use Rattle.vc_cell.specs.declared.Container.{Container}
 use Rattle.vc_cell.specs.declared.Cell.{Cell}
 use Rattle.session_model.specs.declared.script.Config.{Config}
 use Rattle.session_model.specs.Leg.{Leg}
+use Rattle.session_model.specs.Valid.{IsSound}
 use Rattle.group_source.specs.Source.{IsUnused}
 use Rattle.line_core.specs.Line.{opened}
 use Rattle.realign_core.specs.Gather.{Gather, Stands as Gathers, line_count}
@@ -47,5 +48,11 @@ pub record IsNew (leg : Leg) (opened : Opened) : Type 0 where
   pub sink : IsNewSink leg.config opened.ends.sink
   pub sent : AreRings leg.config.lines opened.paths.sent.items
   pub lines : AreOpened leg.config leg.config.lines opened.paths.lines.items
-  pub rows : IsNewGather leg.config.lines opened.returns.rows
-  pub ring : opened.returns.ring ≡ []
+  pub rows : IsNewGather leg.config.lines opened.rows
+
+-- a leg over the network of another one, whose return packets may be lost in some other way, with the same items,
+-- whatever its packets tell
+pub record IsAlike (leg other : Leg) : Type 0 where
+  pub sound : IsSound leg
+  pub network : leg.config ≡ record other.config { lost = leg.config.lost }
+  pub items : leg.items ≡ other.items

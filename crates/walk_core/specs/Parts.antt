@@ -1,9 +1,10 @@
--- What a walk holds, by its leg and its counts.
-use Rattle.std.specs.Prelude.{◌≡◌, ℕ, ◌+◌, ◌-◌, ◌%◌, ◌<◌, ◌≤◌, min, List, [], map, length, slice_get, slice_index_or}
-use Rattle.std.specs.Prelude.{Option, Some, None}
+-- What one direction of a group holds, and what a walk holds, by its leg and its counts.
+use Rattle.std.specs.Prelude.{◌≡◌, ℕ, ◌+◌, ◌-◌, ◌%◌, ◌<◌, ◌≤◌, min, List, [], map, length, take, slice_get}
+use Rattle.std.specs.Prelude.{slice_index_or, Option, Some, None}
 use Rattle.std.specs.Global.{Vec, Box}
 use Rattle.vc_cell.specs.declared.Container.{Container}
 use Rattle.session_model.specs.Leg.{Leg}
+use Rattle.session_model.specs.Scenario.{Scenario, steps_in}
 use Rattle.session_model.specs.Valid.{IsSound}
 use Rattle.session_model.specs.Counts.{LineCounts, Counts}
 use Rattle.vc_cell.specs.Held.{held}
@@ -25,17 +26,15 @@ use Rattle.walk_parts.specs.Ringed.{Ringed, ring_of, Has}
 use Rattle.walk_parts.specs.Return.{Return, path_of}
 use Rattle.walk_core.specs.declared.moved.StepNote.{StepNote}
 
--- the source terminal, and how many ticks there are; the frames of the send rings, that of number t at place t modulo
--- 32; the
--- lines; the gathered rows; the sink terminal; the return path
+-- one direction without its way back: the source side; the frames of the send rings, that of number t at place t modulo
+-- 32; the lines; the gathered rows; the sink terminal; how many frames were delivered
 pub record Parts : Type 0 where
-  pub source : Terminal
-  pub total : ℕ
+  pub source : Source
   pub sent : List (List Container)
   pub lines : List Ringed
   pub rows : Gather
   pub sink : Core
-  pub back : Return
+  pub got : ℕ
 
 -- the containers of a frame
 abbrev pub frame_in : Vec (Box Container) → List Container
@@ -45,29 +44,18 @@ frame_in row = held row.items
 abbrev pub sent_frames : Vec (Vec (Box Container)) → List (List Container)
 sent_frames sent = map frame_in sent.items
 
-abbrev pub parts_of : Source → List (List Container) → List Ringed → Gather → Core → List Packet → Parts
-parts_of source sent lines rows sink ring = record {
-  source = source.core;
-  total = source.total;
-  sent = sent;
-  lines = lines;
-  rows = rows;
-  sink = sink;
-  back = path_of ring source.inbox;
-}
-
 abbrev pub line_counts : Ringed → LineCounts
 line_counts line = record { carried = line.carried; popped = line.popped }
 
--- the counts
-abbrev pub counts_of : Parts → Landed → Counts
-counts_of parts landing = record {
-  ticks = parts.source.ticks;
-  frames = landing.frames;
-  commands = landing.commands;
+-- the counts, where so many return packets have come
+abbrev pub counts_of : Parts → ℕ → Counts
+counts_of parts backs = record {
+  ticks = parts.source.core.ticks;
+  frames = parts.source.landed.frames;
+  commands = parts.source.landed.commands;
   lines = map line_counts parts.lines;
   rows = parts.sink.taken;
-  backs = parts.back.backs;
+  backs = backs;
 }
 
 -- the calls that brought a line where it is, after some carries
@@ -80,9 +68,17 @@ calls_on leg line carries = record {
   flushes = carries - leg.config.ticks;
 }
 
+-- a leg of which the packets of the decision steps in some ticks alone tell something
+abbrev pub told_leg : Leg → ℕ → Leg
+told_leg leg ticks = record leg { tells = take (steps_in ticks) leg.tells }
+
+-- the session of what has landed, whose packets tell what those so far do
+abbrev pub told_scenario : Leg → Counts → Scenario
+told_scenario leg s = landed_scenario (told_leg leg s.ticks) s
+
 -- ---- each part stands for what the leg and the counts give
 pub record HasSource (leg : Leg) (s : Counts) (source : Terminal) : Type 0 where
-  pub made : HasMade source (landed_scenario leg s) (told_before leg s.ticks)
+  pub made : HasMade source (told_scenario leg s) (told_before leg s.ticks)
   pub lines : source.lines ≡ leg.config.lines
   pub lag : source.lag ≡ leg.config.lag
   pub size : source.size ≡ leg.config.size
@@ -129,16 +125,24 @@ abbrev pub note_of : Leg → Option ℕ → Option StepNote
 note_of leg None = None
 note_of leg (Some packet) = Some (record { packet = packet; back = cell_taken leg packet })
 
--- a walk of a leg that can be walked, after some events
-pub record IsWalk (leg : Leg) (parts : Parts) (landing : Landed) (got : ℕ) (last : Option StepNote) : Type 0 where
+-- a direction of a leg that can be walked, after some events, of which so many have brought a return packet
+pub record Stands (leg : Leg) (backs : ℕ) (parts : Parts) : Type 0 where
   pub sound : IsSound leg
-  pub total : parts.total ≡ leg.config.ticks
-  pub walked : IsWalked leg (counts_of parts landing)
-  pub source : HasSource leg (counts_of parts landing) parts.source
-  pub sent : HasSent leg parts.source.ticks (map line_counts parts.lines) parts.sent
+  pub total : parts.source.total ≡ leg.config.ticks
+  pub walked : IsWalked leg (counts_of parts backs)
+  pub source : HasSource leg (counts_of parts backs) parts.source.core
+  pub sent : HasSent leg parts.source.core.ticks (map line_counts parts.lines) parts.sent
   pub lines : HasLines leg parts.lines
-  pub sink : HasSink leg (counts_of parts landing) parts.rows parts.sink
-  pub back : HasBack leg (counts_of parts landing) parts.back
-  pub landed : HasLanded leg (counts_of parts landing) landing
-  pub counted : got ≡ min (length (delivered_of leg parts.sink.taken)) 18446744073709551615
-  pub noted : last ≡ note_of leg (last_packet parts.source.ticks)
+  pub sink : HasSink leg (counts_of parts backs) parts.rows parts.sink
+  pub landed : HasLanded leg (counts_of parts backs) parts.source.landed
+  pub counted : parts.got ≡ min (length (delivered_of leg parts.sink.taken)) 18446744073709551615
+
+-- it is one of some leg
+abbrev pub StandsForSome : Parts → Type 0
+StandsForSome parts = (leg : Leg) × (backs : ℕ) × Stands leg backs parts
+
+-- a walk: its direction, what has come to its inbox, and what is on its way there
+pub record IsWalk (leg : Leg) (parts : Parts) (ring : List Packet) (last : Option StepNote) : Type 0 where
+  pub stands : Stands leg parts.source.inbox.come parts
+  pub back : HasBack leg (counts_of parts parts.source.inbox.come) (path_of ring parts.source.inbox)
+  pub noted : last ≡ note_of leg (last_packet parts.source.core.ticks)

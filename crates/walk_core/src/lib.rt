@@ -4,14 +4,18 @@
 //! walk say; rounds of events drain a walk until all rows are taken. The frames that come through are given
 //! to a `FrameOut` on the way; refusals, totals and the source's table can be read at any time. No script is
 //! read here and no report is written. Begin with `Walk`; the laws of what a walk gives stand in `walk_law`.
+//! All of it but the return path is a `WayCore`, of which a pair of sessions has two.
 #![tactic(auto)]
 
 mod counted;
 mod moved;
 mod opening;
+mod rings;
 mod rows;
 mod walk;
+mod way;
 
 pub use moved::{Moved, StepNote};
 pub use session_model::{Event, StallCause};
 pub use walk::Walk;
+pub use way::WayCore;

@@ -1,12 +1,12 @@
-//! What a walk of a script begins with, before any event.
+//! What one direction of a script begins with, before any event.
 
-ghost use Rattle.std.specs.Prelude.{◌≡◌, ◌≤◌, [], length, All, IfOk};
+ghost use Rattle.std.specs.Prelude.{◌≡◌, ◌≤◌, length, All, IfOk};
 ghost use Rattle.std.specs.Global.{Vec, Box};
 ghost use Rattle.vc_cell.specs.declared.Container.{Container};
 ghost use Rattle.session_model.specs.Valid.{IsValid, IsNetwork};
 ghost use Rattle.session_model.specs.Leg.{leg_of};
 ghost use Rattle.group_source.specs.Source.{IsUnused};
-ghost use Rattle.walk_core.specs.Opened.{AreOpened, AreRings, IsNewSink, IsNewGather, IsNew};
+ghost use Rattle.walk_core.specs.Opened.{AreOpened, AreRings, IsNewSink, IsNew};
 
 use group_source::{GroupSource, blank_boxes};
 use realign_core::RowGather;
@@ -14,7 +14,7 @@ use session_model::{Config, Script};
 use sink_core::SinkCore;
 use std::alloc::{AllocError, Global};
 use vc_cell::HeldContainer;
-use walk_parts::{ReturnRing, WalkLine};
+use walk_parts::WalkLine;
 
 /// The frames that the send rings hold.
 pub(crate) const SENDS: usize = 32;
@@ -34,35 +34,24 @@ pub(crate) struct Paths {
     pub(crate) lines: Vec<WalkLine>,
 }
 
-/// What comes behind the lines: their gathered rows, and the return ring.
-#[derive(Drop)]
-pub(crate) struct Returns {
-    pub(crate) rows: RowGather,
-    pub(crate) ring: ReturnRing,
-}
-
-/// All that moves in a walk, before any event.
+/// All that moves in one direction, before any event.
 #[derive(Drop)]
 pub(crate) struct Opened {
     pub(crate) paths: Paths,
-    pub(crate) returns: Returns,
+    pub(crate) rows: RowGather,
     pub(crate) ends: Ends,
 }
 
-/// Opens all that moves in a walk of a script. What has the most parts is opened last, so that little is let
+/// Opens all that moves in the direction of a script. What has the most parts is opened last, so that little is let
 /// go where memory is short.
 pub(crate) fn open(alloc: Global, script: &Script) -> Result<Opened, AllocError>
     requires { IsValid script.now }
     ensures { IfOk result (λ opened. IsNew (leg_of script.now) opened) }
 {
     let paths = open_paths(alloc, &script.config)?;
-    let returns = open_returns(alloc, &script.config)?;
+    let rows = RowGather::new(alloc, script.config.lines)?;
     let ends = open_ends(alloc, script)?;
-    Ok(Opened {
-        paths,
-        returns,
-        ends,
-    })
+    Ok(Opened { paths, rows, ends })
 }
 
 /// Opens the terminals.
@@ -87,18 +76,6 @@ fn open_paths(alloc: Global, config: &Config) -> Result<Paths, AllocError>
     Ok(Paths {
         sent: new_sent(alloc, config.lines)?,
         lines: new_lines(alloc, config)?,
-    })
-}
-
-/// Opens what comes behind the lines.
-fn open_returns(alloc: Global, config: &Config) -> Result<Returns, AllocError>
-    requires { IsNetwork config.now }
-    ensures rows { IfOk result (λ returns. IsNewGather config.now.lines returns.rows) }
-    ensures ring { IfOk result (λ returns. returns.ring ≡ []) }
-{
-    Ok(Returns {
-        rows: RowGather::new(alloc, config.lines)?,
-        ring: ReturnRing::new(alloc)?,
     })
 }
 

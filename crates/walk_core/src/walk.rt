@@ -1,88 +1,70 @@
 //! A walk of a script, event by event.
 
-ghost use Rattle.std.specs.Prelude.{◌≡◌, ◌↔◌, ℕ, true, false, suc, ◌+◌, ◌*◌, ◌/◌, ◌%◌, ◌==◌, ◌&&◌, nat_le, ◌<◌, ◌≤◌};
-ghost use Rattle.std.specs.Prelude.{if◌then◌else◌, [], ◌∷◌, ◌++◌, List, length, map, min, All, replicate, drop};
-ghost use Rattle.std.specs.Prelude.{slice_get, Option, Some, None, IsSome, IfOk, IfSome, IfNone, option_map};
+ghost use Rattle.std.specs.Prelude.{◌≡◌, ◌/◌, ◌%◌, ◌==◌, ◌<◌, suc, if◌then◌else◌, [], ◌∷◌, length, replicate};
+ghost use Rattle.std.specs.Prelude.{slice_get, Some, None, IfOk, option_map};
 ghost use Rattle.std.specs.Option.{option_copied};
 ghost use Rattle.session_model.specs.declared.walk.Event.TheVariants.{Accept, Command, Tick, Carry, Back, Take};
 ghost use Rattle.session_model.specs.Valid.{IsValid};
-ghost use Rattle.session_model.specs.Counts.{begin, step, full, in_send, run, round, drain, bound, carries_from};
-ghost use Rattle.session_model.specs.Scenario.{Scenario, steps_in};
+ghost use Rattle.session_model.specs.Counts.{begin, step, run, round, drain, bound, carries_from};
+ghost use Rattle.session_model.specs.Scenario.{steps_in};
 ghost use Rattle.session_model.specs.Source.{source_at};
 ghost use Rattle.progress_law.specs.Progress.{HasLine};
-ghost use Rattle.walk_law.specs.Landed.{landed_scenario, told_before, refusals_of, totals_of, IsPlaced};
+ghost use Rattle.walk_law.specs.Landed.{landed_scenario, told_before, refusals_of, totals_of};
 ghost use Rattle.walk_law.specs.Step.{last_packet, table_in};
-ghost use Rattle.walk_core.specs.Moved.{answer_by, counts_after, moved_of, delivered_since, GivesRows};
-ghost use Rattle.std.specs.Global.{Vec, Box};
-ghost use Rattle.vc_cell.specs.Held.{held};
-ghost use Rattle.vc_cell.specs.declared.Container.{Container};
-ghost use Rattle.session_model.specs.Leg.{Leg, leg_of};
-ghost use Rattle.walk_law.specs.Walk.{walk_plan, path_on, IsWalked};
-ghost use Rattle.walk_parts.specs.Ringed.{Ringed, ring_of};
-ghost use Rattle.walk_core.specs.Opened.{IsNew};
+ghost use Rattle.walk_core.specs.Moved.{answer_by, counts_after, moved_of, GivesRows};
+ghost use Rattle.session_model.specs.Leg.{leg_of};
+ghost use Rattle.walk_law.specs.Walk.{walk_plan, IsWalked};
 ghost use Rattle.walk_core.specs.Waiting.{send_ring, receive_ring};
 ghost use Rattle.line_reader.specs.Told.{cell_of};
-ghost use Rattle.walk_core.specs.Carry.{carry_cause, CanCarry, IsSentOn, IsCarriedAt, HasRoom};
 ghost use Rattle.session_model.specs.declared.script.Item.{Item};
 ghost use Rattle.group_source.specs.Item.{kind_of};
+ghost use Rattle.group_source.specs.Inbox.{empty_inbox};
 ghost use Rattle.walk_core.specs.Landing.{landing_of, early_stall};
-ghost use Rattle.walk_core.specs.Parts.{note_of, line_counts, sent_frames, HasSent, HasLine as HasLineOn};
+ghost use Rattle.walk_core.specs.Parts.{counts_of, note_of, Stands};
 ghost use Rattle.walk_core.specs.Take.{take_cause};
-ghost use Rattle.vc_cell.specs.declared.Cell.{Cell};
 ghost use Rattle.session_model.specs.Segment.{segments_of};
 ghost use Rattle.walk_law.specs.Delivered.{session_rows};
 ghost use Rattle.gfp_mark.specs.Marks.{first_place};
 
 use crate::moved::{Moved, StepNote};
-use crate::opening::{Ends, Opened, Paths, Returns, SENDS, open};
-use crate::rows::{ends_packet, pop_lines, take_row};
-use group_source::{EarlyCause, GroupSource, ItemRef, handed};
-use lcas_packet::Packet;
+use crate::rows::ends_packet;
+use crate::way::WayCore;
+use group_source::{EarlyCause, ItemRef, handed};
 use lcas_source::SourceTable;
 use line_reader::CellRef;
-use realign_core::RowGather;
 use report_text::{Refusal, Totals};
-use session_model::{Event, Item, ItemKind, Script, StallCause};
-use sink_core::{FrameOut, SinkCore};
+use session_model::{Event, Script, StallCause};
+use sink_core::{FrameOut, TakeAnswer};
 use std::alloc::{AllocError, Global};
 use std::marker::Model;
-use vc_cell::{BackCell, Container, HeldContainer};
-use walk_parts::{ReturnRing, WalkLine};
+use vc_cell::{BackCell, Container};
+use walk_parts::ReturnRing;
 
 /// A walk of a script.
 #[derive(Drop)]
 pub struct Walk {
     script: Script,
-    source: GroupSource,
-    /// The send rings of all lines: each place holds the containers of a frame, of a number modulo 32, each
-    /// until its line carried it.
-    sent: Vec<Vec<Box<HeldContainer>>>,
-    lines: Vec<WalkLine>,
-    rows: RowGather,
-    sink: SinkCore,
+    way: WayCore,
     /// The return packets that were said and haven't come.
     ring: ReturnRing,
-    /// How many frames were delivered.
-    got: u64,
     /// The last decision step.
     last: Option<StepNote>,
 }
 
 impl Model for Walk {
-    ghost use Rattle.std.specs.Prelude.{map};
     ghost use Rattle.session_model.specs.Leg.{leg_of};
     ghost use Rattle.session_model.specs.Valid.{IsValid};
     ghost use Rattle.walk_core.specs.Moved.{Walked};
-    ghost use Rattle.walk_core.specs.Parts.{parts_of, counts_of, sent_frames, IsWalk};
+    ghost use Rattle.walk_core.specs.Parts.{counts_of, IsWalk};
 
     ghost Value = { Walked };
 
     ghost view = { λ w. record {
       script = w.script;
-      counts = counts_of (parts_of w.source (sent_frames w.sent) w.lines.items w.rows w.sink w.ring) w.source.landed;
+      counts = counts_of w.way w.way.source.inbox.come;
     } };
 
-    ghost invariant = { λ w. IsValid w.script × IsWalk (leg_of w.script) (parts_of w.source (sent_frames w.sent) w.lines.items w.rows w.sink w.ring) w.source.landed w.got w.last };
+    ghost invariant = { λ w. IsValid w.script × IsWalk (leg_of w.script) w.way w.ring w.last };
 }
 
 impl Walk {
@@ -92,8 +74,9 @@ impl Walk {
         ensures script { IfOk result (λ walk. walk.script ≡ script) }
         ensures counts { IfOk result (λ walk. walk.counts ≡ begin (walk_plan (leg_of script))) }
     {
-        let opened = open(alloc, &script)?;
-        Ok(Walk::from_opened(script, opened))
+        let ring = ReturnRing::new(alloc)?;
+        let way = WayCore::new(alloc, &script)?;
+        Ok(Walk::begun(script, way, ring))
     }
 
     /// Makes an event. One that stalls changes nothing, but that a Take which waits keeps the cells that it
@@ -146,7 +129,7 @@ impl Walk {
         ensures gives { GivesRows F.stands_for out.old out.new (leg_of self.old.script)
             self.old.counts.rows self.old.script.config.ticks }
     {
-        while self.sink.taken() < self.script.config.ticks {
+        while self.way.taken() < self.script.config.ticks {
             self.round(out);
         }
     }
@@ -155,14 +138,7 @@ impl Walk {
     pub fn totals(&self) -> Totals
         ensures { result ≡ totals_of (leg_of self.now.script) self.now.counts }
     {
-        Totals {
-            ticks: self.source.ticks(),
-            taken: self.sink.taken(),
-            frames: self.source.landing().accepted(true),
-            commands: self.source.landing().accepted(false),
-            refused: self.source.landing().all_refused(),
-            got: self.got,
-        }
+        self.way.totals()
     }
 
     /// The script. It can be walked, and the counts of the walk are those of some list of its events.
@@ -178,14 +154,14 @@ impl Walk {
     pub fn landed_frames(&self) -> u32
         ensures { result ≡ self.now.counts.frames }
     {
-        self.source.landing().landed(true)
+        self.way.landing().landed(true)
     }
 
     /// The items that were refused, in the order of the script.
     pub fn refusals(&self) -> &[(u32, Refusal)]
         ensures { result.now ≡ refusals_of (leg_of self.now.script) self.now.counts }
     {
-        self.source.landing().refusals()
+        self.way.landing().refusals()
     }
 
     /// The last decision step, where one was made.
@@ -205,7 +181,7 @@ impl Walk {
             ≡ table_in (leg_of self.now.script) self.now.counts.ticks }
         ensures steps { result.now.steps ≡ steps_in self.now.counts.ticks }
     {
-        self.source.table()
+        self.way.table()
     }
 
     /// The container at a place of the send ring of a line, from the oldest on, or `None` beyond the last one
@@ -215,16 +191,7 @@ impl Walk {
         ensures { option_copied result
             ≡ slice_get (send_ring (leg_of self.now.script) self.now.counts line) place }
     {
-        let m = usize::from(line);
-        match frame_at(
-            &self.lines[m],
-            self.script.config.ticks,
-            self.source.ticks(),
-            place,
-        ) {
-            Some(t) => Some(self.sent[t as usize % SENDS][m].container()),
-            None => None,
-        }
+        self.way.send_ring(line, place)
     }
 
     /// The cell at a place of the receive ring of a line, from the oldest on, or `None` beyond the last one
@@ -234,7 +201,7 @@ impl Walk {
         ensures { option_map cell_of result
             ≡ slice_get (receive_ring (leg_of self.now.script) self.now.counts line) place }
     {
-        self.lines[usize::from(line)].waiting(place)
+        self.way.receive_ring(line, place)
     }
 
     /// The place that is confirmed first in the segment that goes on with the next row, counted from its first octet.
@@ -243,33 +210,23 @@ impl Walk {
             (segments_of (session_rows (leg_of self.now.script)
             self.now.counts.rows)).last.octets }
     {
-        self.sink.first_confirmed()
+        self.way.first_confirmed()
     }
 
-    /// A walk of a script before any event, of what was opened for it.
-    fn from_opened(script: Script, opened: Opened) -> Walk
+    /// A walk of a script before any event.
+    fn begun(script: Script, way: WayCore, ring: ReturnRing) -> Walk
         requires script { IsValid script }
-        requires opened { IsNew (leg_of script) opened }
+        requires stands { Stands (leg_of script) 0 way }
+        requires counts { counts_of way 0 ≡ begin (walk_plan (leg_of script)) }
+        requires inbox { way.source.inbox ≡ empty_inbox script.config.lost script.config.lag }
+        requires ring { ring ≡ [] }
         ensures script { result.script ≡ script }
         ensures counts { result.counts ≡ begin (walk_plan (leg_of script)) }
     {
-        let Opened {
-            paths,
-            returns,
-            ends,
-        } = opened;
-        let Ends { source, sink } = ends;
-        let Paths { sent, lines } = paths;
-        let Returns { rows, ring } = returns;
         Walk {
             script,
-            source,
-            sent,
-            lines,
-            rows,
-            sink,
+            way,
             ring,
-            got: 0,
             last: None,
         }
     }
@@ -330,14 +287,14 @@ impl Walk {
         ensures moved { result
             ≡ moved_of (leg_of self.old.script) self.old.counts (landing_of client) }
     {
-        let Some(number) = self.source.landing().next(client) else {
+        let Some(number) = self.way.landing().next(client) else {
             return Moved::Stalled(StallCause::Done);
         };
-        let due = self.source.landing().due(client, number);
-        if self.source.ticks() < due {
+        let due = self.way.landing().due(client, number);
+        if self.way.ticks() < due {
             return Moved::Stalled(StallCause::NotDue { due });
         }
-        landed(self.source.land(number, item_at(&self.script, number)))
+        landed(self.way.land(number, item_at(&self.script, number)))
     }
 
     /// Takes the next row, where the lines decide it.
@@ -365,20 +322,20 @@ impl Walk {
         ensures gives { GivesRows F.stands_for out.old out.new (leg_of self.old.script)
             self.old.counts.rows self.new.counts.rows }
     {
-        if let Some(line) = pop_lines(&mut self.lines, &mut self.rows) {
-            return Moved::Stalled(StallCause::Waiting { line });
+        match self.way.take(out) {
+            TakeAnswer::Waiting { line } => Moved::Stalled(StallCause::Waiting { line }),
+            TakeAnswer::Taken { back } => {
+                self.ring.say(back);
+                Moved::Yes
+            }
         }
-        let (packet, got) = take_row(&mut self.sink, &mut self.rows, self.got, out);
-        self.got = got;
-        self.ring.say(packet);
-        Moved::Yes
     }
 
     /// Why no row is taken and no cell popped.
     fn take_stall(&self) -> Option<StallCause>
         ensures { result ≡ take_cause self.now.script.config.ticks self.now.counts }
     {
-        let row = self.sink.taken();
+        let row = self.way.taken();
         if row >= self.script.config.ticks {
             Some(StallCause::Done)
         } else if ends_packet(row) && self.ring.is_full() {
@@ -411,9 +368,8 @@ impl Walk {
         if let Some(cause) = self.tick_stall() {
             return Moved::Stalled(cause);
         }
-        let ticks = self.source.ticks();
-        let place = next_place(&mut self.sent, &self.lines, ticks);
-        let back = self.source.make(&mut self.sent[place]);
+        let ticks = self.way.ticks();
+        let back = self.way.make(None);
         self.last = next_note(ticks, back, self.last);
         Moved::Yes
     }
@@ -422,13 +378,13 @@ impl Walk {
     fn tick_stall(&self) -> Option<StallCause>
         ensures { result ≡ (step (walk_plan (leg_of self.now.script)) self.now.counts Tick).cause }
     {
-        if let Some(cause) = self.source.early_cause() {
+        if let Some(cause) = self.way.early_cause() {
             return Some(stall_early(cause));
         }
-        if let Some(line) = first_full(&self.lines, self.script.config.ticks, self.source.ticks()) {
+        if let Some(line) = self.way.first_full() {
             return Some(StallCause::TxFull { line });
         }
-        match self.source.missing() {
+        match self.way.missing() {
             Some(packet) => Some(StallCause::BackMissing { packet }),
             None => None,
         }
@@ -442,14 +398,7 @@ impl Walk {
             ≡ counts_after (leg_of self.old.script) self.old.counts (Carry line) }
         ensures moved { result ≡ moved_of (leg_of self.old.script) self.old.counts (Carry line) }
     {
-        let m = usize::from(line);
-        match carry_stall(&self.lines[m], line, self.source.ticks()) {
-            Some(cause) => Moved::Stalled(cause),
-            None => {
-                carry_on(&mut self.lines[m], m, &mut self.sent);
-                Moved::Yes
-            }
-        }
+        carried(self.way.carry(line))
     }
 
     /// Moves a return packet to the source.
@@ -459,11 +408,13 @@ impl Walk {
             ≡ counts_after (leg_of self.old.script) self.old.counts Back }
         ensures moved { result ≡ moved_of (leg_of self.old.script) self.old.counts Back }
     {
-        if self.ring.is_empty() {
-            return Moved::Stalled(StallCause::BackEmpty);
+        match self.ring.pop() {
+            Some(cell) => {
+                self.way.put(cell);
+                Moved::Yes
+            }
+            None => Moved::Stalled(StallCause::BackEmpty),
         }
-        self.ring.move_one(&mut self.source);
-        Moved::Yes
     }
 }
 
@@ -483,6 +434,16 @@ fn landed(why: Option<Refusal>) -> Moved
     match why {
         None => Moved::Yes,
         Some(why) => Moved::Refused(why),
+    }
+}
+
+/// What a carry answers, which stalls for a cause or not.
+fn carried(cause: Option<StallCause>) -> Moved
+    ensures { result ≡ answer_by cause None }
+{
+    match cause {
+        Some(cause) => Moved::Stalled(cause),
+        None => Moved::Yes,
     }
 }
 
@@ -508,114 +469,5 @@ fn next_note(ticks: u32, back: Option<BackCell>, last: Option<StepNote>) -> Opti
         })
     } else {
         last
-    }
-}
-
-/// The place of the next frame. It gets the containers of the frame before where each line has carried that,
-/// since these lie nearest in the caches of the processor.
-fn next_place(sent: &mut Vec<Vec<Box<HeldContainer>>>, lines: &[WalkLine], ticks: u32) -> usize
-    requires places { length sent.old.items ≡ 32 }
-    ensures place { result ≡ ticks % 32 }
-    ensures places { length sent.new.items ≡ 32 }
-    ensures has { (leg : Leg) → length lines.now ≡ leg.config.lines →
-        HasSent leg ticks (map line_counts lines.now) (sent_frames sent.old) →
-        HasSent leg ticks (map line_counts lines.now) (sent_frames sent.new) }
-{
-    let place = ticks as usize % SENDS;
-    if are_carried(lines, ticks) {
-        sent.swap(place, (place + SENDS - 1) % SENDS);
-    }
-    place
-}
-
-/// Whether each line has carried so many containers.
-fn are_carried(lines: &[WalkLine], ticks: u32) -> bool
-    ensures { result ≡ true → (m : ℕ) (line : Ringed) → slice_get lines.now m ≡ Some line →
-        ticks ≤ line.carried }
-{
-    for m in 0..lines.len() {
-        if lines[m].carried() < ticks {
-            return false;
-        }
-    }
-    true
-}
-
-/// The first line whose send ring holds as many containers as it may.
-fn first_full(lines: &[WalkLine], total: u32, ticks: u32) -> Option<u8>
-    requires few { length lines.now ≤ 128 }
-    requires made { All (λ (line : Ringed). min line.carried total ≤ ticks) lines.now }
-    ensures { result ≡ full total ticks 0 (map line_counts lines.now) }
-{
-    for (m, line) in lines.iter().enumerate() {
-        if (ticks - line.carried().min(total)) as usize >= SENDS {
-            return Some(m as u8);
-        }
-    }
-    None
-}
-
-/// The frame whose container is at a place of a line's send ring, from the oldest on, where so many wait there.
-fn frame_at(own: &WalkLine, total: u32, ticks: u32, place: u32) -> Option<u32>
-    requires { min own.now.carried total ≤ ticks }
-    ensures waits { IfSome result (λ t. (place < in_send total ticks (line_counts own.now))
-        × (t ≡ min own.now.carried total + place)) }
-    ensures none { IfNone result (in_send total ticks (line_counts own.now) ≤ place) }
-{
-    let first = own.carried().min(total);
-    if place < ticks - first {
-        Some(first + place)
-    } else {
-        None
-    }
-}
-
-/// Whether a line waits for a container.
-fn is_dry(own: &WalkLine, ticks: u32) -> bool
-    ensures dry { result ≡ true →
-        (own.now.core.pushed < own.now.core.total) × (ticks ≤ own.now.carried) }
-    ensures wet { result ≡ false →
-        own.now.core.pushed < own.now.core.total → own.now.carried < ticks }
-{
-    !own.all_pushed() && own.carried() >= ticks
-}
-
-/// Why a line carries nothing.
-fn carry_stall(own: &WalkLine, line: u8, ticks: u32) -> Option<StallCause>
-    ensures cause { (leg : Leg) → HasLineOn leg line own.now → HasRoom leg line own.now →
-        result ≡ carry_cause leg.config.ticks leg.config.ring ticks line
-        (path_on leg line) (line_counts own.now) }
-    ensures can { result ≡ None → CanCarry own.now ticks }
-{
-    if own.ended() {
-        Some(StallCause::Done)
-    } else if is_dry(own, ticks) {
-        Some(StallCause::Empty { line })
-    } else if own.is_full() {
-        Some(StallCause::RxFull { line })
-    } else {
-        None
-    }
-}
-
-/// Makes a carry of line `m`. It takes the box of the container that it carries, and leaves another one.
-fn carry_on(own: &mut WalkLine, m: usize, sent: &mut Vec<Vec<Box<HeldContainer>>>)
-    requires runs { own.old.core.flushed ≤ own.old.core.delay }
-    requires room { own.old.given < own.old.popped + ring_of own.old }
-    requires places { length sent.old.items ≡ 32 }
-    requires lines { (k : ℕ) (frame : Vec (Box Container)) →
-        slice_get sent.old.items k ≡ Some frame → m < length frame.items }
-    ensures has { (leg : Leg) → HasLineOn leg m own.old →
-        IsSentOn leg m own.old.carried sent.old.items → HasLineOn leg m own.new }
-    ensures carried { own.new.carried ≡ own.old.carried + 1 }
-    ensures popped { own.new.popped ≡ own.old.popped }
-    ensures sent { IsCarriedAt (own.old.carried % 32) m
-        (sent_frames sent.old) (sent_frames sent.new) }
-{
-    if own.all_pushed() {
-        own.flush();
-    } else {
-        let slot = own.carried() as usize % SENDS;
-        own.push(&mut sent[slot][m]);
     }
 }

@@ -27,9 +27,12 @@ path_of ring inbox = record {
       inbox.come;
 }
 
--- what comes of a return packet
+-- a return packet as a return cell, and what comes of it
+abbrev pub packet_cell : Packet → BackCell
+packet_cell packet = Nibbles (packet_nibbles packet)
+
 abbrev pub come : Bool → Packet → BackCell
-come lost packet = come_by lost (Nibbles (packet_nibbles packet))
+come lost packet = come_by lost (packet_cell packet)
 
 abbrev pub listed : {X : Type 0} → Option X → List X
 listed None = []

@@ -1,10 +1,9 @@
 //! The return path of a walk: the return ring before the inbox of the source.
 
-ghost use Rattle.std.specs.Prelude.{◌≡◌, ◌+◌, ◌<◌, ◌≤◌, ◌↔◌, [], ◌++◌, length, IfOk, IsTrue};
-ghost use Rattle.walk_parts.specs.Return.{listed, path_of, and_moved};
+ghost use Rattle.std.specs.Prelude.{◌≡◌, ◌+◌, ◌≤◌, ◌↔◌, [], ◌++◌, length, drop, slice_get, option_map, IfOk, IsTrue};
+ghost use Rattle.walk_parts.specs.Return.{listed, packet_cell};
 
 use circular_buffer::HeapCircularBuffer;
-use group_source::GroupSource;
 use lcas_packet::Packet;
 use std::alloc::{AllocError, Global};
 use std::marker::Model;
@@ -64,17 +63,14 @@ impl ReturnRing {
         }
     }
 
-    /// Moves the first return packet to the inbox of a source, or its loss. Where there is none, nothing changes.
-    pub fn move_one(&mut self, source: &mut GroupSource)
-        requires room { length source.old.inbox.cells < source.old.inbox.room }
-        requires few { source.old.inbox.come < 4294967295 }
-        ensures moved { path_of self.new source.new.inbox
-            ≡ and_moved (path_of self.old source.old.inbox) }
-        ensures rest { source.new ≡ record source.old { inbox = source.new.inbox } }
+    /// Takes the first return packet from it, as the return cell that it comes as, where one is on its way.
+    pub fn pop(&mut self) -> Option<BackCell>
+        ensures cell { result ≡ option_map packet_cell (slice_get self.old 0) }
+        ensures rest { self.new ≡ drop 1 self.old }
     {
         let Some(packet) = self.packets.pop_front() else {
-            return;
+            return None;
         };
-        source.put(BackCell::Packet(packet.nibbles()));
+        Some(BackCell::Packet(packet.nibbles()))
     }
 }

@@ -1,59 +1,67 @@
 -- The first return packet is the source's next return cell.
-use Rattle.std.proofs.Common.{rules, ◌≡◌, [], sym, ◌∙◌, ap, subst}
+use Rattle.std.proofs.Common.{◌≡◌, List, drop, sym, ◌∙◌, ap, subst}
+use Rattle.session_model.specs.declared.packet.Packet.{Packet}
 use Rattle.session_model.specs.declared.walk.Event.TheVariants.{Back}
-use Rattle.walk_core.specs.declared.moved.Moved.TheVariants.{Yes, Stalled}
+use Rattle.walk_core.specs.declared.moved.Moved.TheVariants.{Stalled}
 use Rattle.session_model.specs.declared.walk.StallCause.TheVariants.{BackEmpty}
 use Rattle.session_model.specs.Leg.{leg_of}
-use Rattle.group_source.specs.Source.{Source}
 use Rattle.walk_parts.specs.Return.{path_of}
-use Rattle.walk_core.specs.Parts.{parts_of, sent_frames, counts_of, IsWalk}
+use Rattle.walk_core.specs.Parts.{Parts, counts_of, IsWalk}
 use Rattle.walk_core.specs.Moved.{Walked, moved_of, counts_after}
-use Rattle.walk_core.proofs.BackLaws.{back-stays, back-moved, back-counts, back-kept, inbox-room, backs-few}
+use Rattle.walk_core.proofs.BackLaws.{back-stays, back-yes, back-counts, back-kept, inbox-room, backs-few, no-packet}
 use Rattle.walk_core.proofs.walk.Walk.back.Goals as goal
 
-pub returns-then-is_empty-clause-counts : goal.returns-then-is_empty-clause-counts
-returns-then-is_empty-clause-counts c =
-    let none : c.self.inside.ring ≡ [] = search (rules, c.if-is_empty.ensures) in
-    subst (λ (w : Walked). w.counts ≡ counts_after (leg_of w.script) w.counts Back) c.self.view_is
-    (back-stays _ _ _ c.self.invariant.1.back none).0
+pub put-requires-clause-room : goal.put-requires-clause-room
+put-requires-clause-room c =
+    let f = c.self.inside in inbox-room (leg_of f.script) f.way f.ring f.last c.self.invariant.1
 
-pub returns-then-is_empty-clause-moved : goal.returns-then-is_empty-clause-moved
-returns-then-is_empty-clause-moved c =
-    let none : c.self.inside.ring ≡ [] = search (rules, c.if-is_empty.ensures) in
-    subst (λ (w : Walked). Stalled BackEmpty ≡ moved_of (leg_of w.script) w.counts Back) c.self.view_is
-    (back-stays _ _ _ c.self.invariant.1.back none).1
-
-pub move_one-requires-clause-room : goal.move_one-requires-clause-room
-move_one-requires-clause-room c = inbox-room _ _ _ _ _ c.self.invariant.1
-
-pub move_one-requires-clause-few : goal.move_one-requires-clause-few
-move_one-requires-clause-few c = backs-few _ _ _ _ _ c.self.invariant.1
+pub put-requires-clause-few : goal.put-requires-clause-few
+put-requires-clause-few c =
+    let f = c.self.inside in backs-few (leg_of f.script) f.way f.ring f.last c.self.invariant.1
 
 pub invariant_of-self : goal.invariant_of-self
 invariant_of-self c =
-    let some : c.self.inside.ring ≡ [] → ⊥ = search (rules, c.if-is_empty.ensures) in
     let f = c.self.inside in (
       c.self.invariant.0,
-      subst (λ (s : Source). IsWalk (leg_of f.script)
-          (parts_of s (sent_frames f.sent) f.lines.items f.rows f.sink c.move_one.new.self) s.landed f.got f.last)
-          (sym c.move_one.ensures.rest)
-          (back-kept _ _ _ _ _ c.self.invariant.1 some
-          (path_of c.move_one.new.self c.move_one.new.source.inbox) c.move_one.ensures.moved),
+      subst (λ (p : Parts). IsWalk (leg_of f.script) p c.pop.new.self f.last) (sym c.put.ensures)
+          (back-kept (leg_of f.script) f.way f.ring f.last c.self.invariant.1 c.pop.new.self c.in-Some.cell
+          (sym c.in-Some.is ∙ c.pop.ensures.cell) c.pop.ensures.rest),
     )
 
-pub returns-clause-counts : goal.returns-clause-counts
-returns-clause-counts c =
-    let some : c.self.inside.ring ≡ [] → ⊥ = search (rules, c.if-is_empty.ensures) in
+pub invariant_of-self-in-None : goal.invariant_of-self-in-None
+invariant_of-self-in-None c =
     let f = c.self.inside in
-    ap (λ (s : Source). counts_of
-    (parts_of s (sent_frames f.sent) f.lines.items f.rows f.sink c.move_one.new.self) s.landed)
-    c.move_one.ensures.rest
-    ∙ back-counts _ _ _ _ _ c.self.invariant.1 some
-    (path_of c.move_one.new.self c.move_one.new.source.inbox) c.move_one.ensures.moved
+    let none = no-packet f.ring (sym c.in-None.is ∙ c.pop.ensures.cell) in (
+      c.self.invariant.0,
+      subst (λ (r : List Packet). IsWalk (leg_of f.script) f.way r f.last)
+          (sym (c.pop.ensures.rest ∙ ap (drop 1) none ∙ sym none)) c.self.invariant.1,
+    )
+
+pub returns-in-Some-clause-counts : goal.returns-in-Some-clause-counts
+returns-in-Some-clause-counts c =
+    let f = c.self.inside in
+    ap (λ (p : Parts). counts_of p p.source.inbox.come) c.put.ensures
+    ∙ back-counts (leg_of f.script) f.way f.ring f.last c.self.invariant.1 c.pop.new.self c.in-Some.cell
+    (sym c.in-Some.is ∙ c.pop.ensures.cell) c.pop.ensures.rest
     ∙ ap (λ (w : Walked). counts_after (leg_of w.script) w.counts Back) c.self.view_is
 
-pub returns-clause-moved : goal.returns-clause-moved
-returns-clause-moved c =
-    let some : c.self.inside.ring ≡ [] → ⊥ = search (rules, c.if-is_empty.ensures) in
-    subst (λ (w : Walked). Yes ≡ moved_of (leg_of w.script) w.counts Back) c.self.view_is
-    (back-moved _ _ _ c.self.invariant.1.back some).1
+pub returns-in-Some-clause-moved : goal.returns-in-Some-clause-moved
+returns-in-Some-clause-moved c =
+    let f = c.self.inside in
+    back-yes (leg_of f.script) f.way f.ring f.last c.self.invariant.1 c.pop.new.self c.in-Some.cell
+    (sym c.in-Some.is ∙ c.pop.ensures.cell) c.pop.ensures.rest
+    ∙ ap (λ (w : Walked). moved_of (leg_of w.script) w.counts Back) c.self.view_is
+
+pub returns-in-None-clause-counts : goal.returns-in-None-clause-counts
+returns-in-None-clause-counts c =
+    let f = c.self.inside in
+    (back-stays (leg_of f.script) (counts_of f.way f.way.source.inbox.come) (path_of f.ring f.way.source.inbox)
+    c.self.invariant.1.back (no-packet f.ring (sym c.in-None.is ∙ c.pop.ensures.cell))).0
+    ∙ ap (λ (w : Walked). counts_after (leg_of w.script) w.counts Back) c.self.view_is
+
+pub returns-in-None-clause-moved : goal.returns-in-None-clause-moved
+returns-in-None-clause-moved c =
+    let f = c.self.inside in
+    subst (λ (w : Walked). Stalled BackEmpty ≡ moved_of (leg_of w.script) w.counts Back) c.self.view_is
+    (back-stays (leg_of f.script) (counts_of f.way f.way.source.inbox.come) (path_of f.ring f.way.source.inbox)
+    c.self.invariant.1.back (no-packet f.ring (sym c.in-None.is ∙ c.pop.ensures.cell))).1

@@ -24,7 +24,7 @@ loop-self-smaller g c =
     let valid = subst IsValid inv.script
     (subst (λ (w : Walked). IsValid w.script) c.self.view_is c.self.invariant.0) in
     let walked = subst (λ (x : Script). IsWalked (leg_of x) s) inv.script
-    (subst (λ (w : Walked). IsWalked (leg_of w.script) w.counts) c.self.view_is c.self.invariant.1.walked) in
+    (subst (λ (w : Walked). IsWalked (leg_of w.script) w.counts) c.self.view_is c.self.invariant.1.stands.walked) in
     let rows = ap (λ (w : Walked). w.counts.rows) c.self.view_is in
     let ticks = ap (λ (w : Walked). w.script.config.ticks) c.self.view_is
     ∙ ap (λ (x : Script). x.config.ticks) inv.script in
@@ -44,7 +44,7 @@ loop-self-preserved g c =
     let valid = subst IsValid inv.script
     (subst (λ (w : Walked). IsValid w.script) c.self.view_is c.self.invariant.0) in
     let walked = subst (λ (x : Script). IsWalked (leg_of x) s) inv.script
-    (subst (λ (w : Walked). IsWalked (leg_of w.script) w.counts) c.self.view_is c.self.invariant.1.walked) in
+    (subst (λ (w : Walked). IsWalked (leg_of w.script) w.counts) c.self.view_is c.self.invariant.1.stands.walked) in
     let rows = ap (λ (w : Walked). w.counts.rows) c.self.view_is in
     let ticks = ap (λ (w : Walked). w.script.config.ticks) c.self.view_is
     ∙ ap (λ (x : Script). x.config.ticks) inv.script in
@@ -85,9 +85,9 @@ returns-clause-all g c =
     let inv = c.loop-self.invariant in
     let taken = c.taken.ensures in
     let test = c.loop-self-test.false in
-    let shut : c.self.inside.script.config.ticks ≤ c.self.inside.sink.taken = omega (arith, test, taken) in
+    let shut : c.self.inside.script.config.ticks ≤ c.self.inside.way.sink.taken = omega (arith, test, taken) in
     ap (λ (w : Walked). w.counts.rows) (sym c.self.view_is)
-    ∙ all-taken (leg_of c.self.inside.script) _ c.self.invariant.1.sound c.self.invariant.1.walked shut
+    ∙ all-taken (leg_of c.self.inside.script) _ c.self.invariant.1.stands.sound c.self.invariant.1.stands.walked shut
     ∙ ap (λ (w : Walked). w.script.config.ticks) c.self.view_is ∙ ap (λ (x : Script). x.config.ticks) inv.script
 
 pub returns-clause-gives : goal.returns-clause-gives
@@ -95,9 +95,9 @@ returns-clause-gives g c =
     let inv = c.loop-self.invariant in
     let taken = c.taken.ensures in
     let test = c.loop-self-test.false in
-    let shut : c.self.inside.script.config.ticks ≤ c.self.inside.sink.taken = omega (arith, test, taken) in
+    let shut : c.self.inside.script.config.ticks ≤ c.self.inside.way.sink.taken = omega (arith, test, taken) in
     let all = ap (λ (w : Walked). w.counts.rows) (sym c.self.view_is)
-    ∙ all-taken (leg_of c.self.inside.script) _ c.self.invariant.1.sound c.self.invariant.1.walked shut
+    ∙ all-taken (leg_of c.self.inside.script) _ c.self.invariant.1.stands.sound c.self.invariant.1.stands.walked shut
     ∙ ap (λ (w : Walked). w.script.config.ticks) c.self.view_is ∙ ap (λ (x : Script). x.config.ticks) inv.script in
     subst (GivesRows g.F.FrameOut.stands_for c.args.out.now c.loop-self.out (leg_of c.args.self.now.script)
     c.args.self.now.counts.rows) all inv.gives

@@ -2,12 +2,25 @@
 use Rattle.std.proofs.Common.{◌≡◌, ◌∙◌, ap, subst}
 use Rattle.session_model.specs.Course.{Course}
 use Rattle.session_model.specs.Leg.{leg_of}
+use Rattle.session_model.specs.Scenario.{steps_in}
+use Rattle.session_model.specs.Source.{source_at}
+use Rattle.walk_law.specs.Landed.{landed_scenario, told_before}
 use Rattle.walk_law.specs.Step.{table_in}
 use Rattle.walk_core.specs.Moved.{Walked}
-use Rattle.walk_core.proofs.TickLaws.{table-after}
+use Rattle.walk_core.proofs.TickLaws.{source-after, table-after}
 use Rattle.walk_core.proofs.walk.Walk.table.Goals as goal
+
+pub returns-clause-source : goal.returns-clause-source
+returns-clause-source c =
+    let f = c.self.inside in
+    subst (λ (w : Walked). c.table.result.now.source ≡ source_at (landed_scenario (leg_of w.script) w.counts)
+    (told_before (leg_of w.script) w.counts.ticks) (steps_in w.counts.ticks)) c.self.view_is
+    (ap (λ (table : Course). table.source) c.table.ensures.table
+    ∙ source-after (leg_of f.script) f.way.source.inbox.come f.way c.self.invariant.1.stands)
 
 pub returns-clause-table : goal.returns-clause-table
 returns-clause-table c =
+    let f = c.self.inside in
     subst (λ (w : Walked). c.table.result.now.source.table ≡ table_in (leg_of w.script) w.counts.ticks) c.self.view_is
-    (ap (λ (table : Course). table.source.table) c.table.ensures.table ∙ table-after _ _ _ _ _ c.self.invariant.1)
+    (ap (λ (table : Course). table.source.table) c.table.ensures.table
+    ∙ table-after (leg_of f.script) f.way.source.inbox.come f.way c.self.invariant.1.stands)

@@ -1,96 +1,78 @@
 -- A row is taken, or the cells that were popped wait for more.
-use Rattle.std.proofs.Common.{◌≡◌, List, sym, ◌∙◌, ap, subst}
+use Rattle.std.proofs.Common.{◌+◌, ◌≤◌, length, sym, ◌∙◌, ap, subst}
 use Rattle.session_model.specs.declared.walk.Event.TheVariants.{Take}
-use Rattle.session_model.specs.declared.walk.StallCause.TheVariants.{Waiting}
-use Rattle.session_model.specs.declared.packet.Packet.{Packet}
 use Rattle.session_model.specs.Leg.{leg_of}
-use Rattle.walk_parts.specs.Return.{path_of}
-use Rattle.walk_core.specs.declared.moved.Moved.TheVariants.{Yes, Stalled}
+use Rattle.walk_parts.specs.Return.{listed}
 use Rattle.walk_core.specs.Moved.{Walked, moved_of, counts_after, GivesRows}
 use Rattle.walk_core.specs.Take.{take_cause}
-use Rattle.walk_core.proofs.TakenLaws.{can-pop, waits-counts, waits-moved, waits-kept, can-take, taken-moved}
-use Rattle.walk_core.proofs.TakenLaws.{said-room}
-use Rattle.walk_core.proofs.TakenLaws.{taken-counts, taken-kept, taken-gives}
+use Rattle.walk_core.specs.Way.{take_moved}
+use Rattle.walk_core.proofs.TakenLaws.{take-counts, waits-walk, taken-walk, said-is, said-room}
 use Rattle.walk_core.proofs.walk.Walk.take_next.Goals as goal
+
+pub take-requires : goal.take-requires
+take-requires g c =
+    (leg_of c.self.inside.script, c.self.inside.way.source.inbox.come, c.self.invariant.1.stands)
 
 pub invariant_of-self : goal.invariant_of-self
 invariant_of-self g c =
-    let none = sym c.requires ∙ ap (λ (w : Walked). take_cause w.script.config.ticks w.counts) (sym c.self.view_is) in (
+    let f = c.self.inside in
+    let none = sym c.requires ∙ ap (λ (w : Walked). take_cause w.script.config.ticks w.counts) (sym c.self.view_is) in
+    let takes = c.take.ensures.takes (leg_of f.script) f.way.source.inbox.come c.self.invariant.1.stands none in (
       c.self.invariant.0,
-      waits-kept _ _ _ _ _ c.self.invariant.1 none _ _ _ c.pop_lines.ensures.rows
-          c.pop_lines.ensures.lines
-          (c.pop_lines.ensures.pops (leg_of c.self.inside.script) (can-pop _ _ _ _ _ c.self.invariant.1 none)) c.in-Some.line
-          (sym c.in-Some.is),
+      waits-walk (leg_of f.script) f.way f.ring f.last c.self.invariant.1 none c.take.new.self c.take.result takes
+          c.take.ensures.rest c.in-Waiting.line c.in-Waiting.is,
     )
-
-pub returns-in-Some-clause-counts : goal.returns-in-Some-clause-counts
-returns-in-Some-clause-counts g c =
-    let none = sym c.requires ∙ ap (λ (w : Walked). take_cause w.script.config.ticks w.counts) (sym c.self.view_is) in
-    waits-counts _ _ _ _ _ c.self.invariant.1 none _ _ _ c.pop_lines.ensures.rows c.pop_lines.ensures.lines
-    (c.pop_lines.ensures.pops (leg_of c.self.inside.script) (can-pop _ _ _ _ _ c.self.invariant.1 none)) c.in-Some.line
-    (sym c.in-Some.is)
-    ∙ ap (λ (w : Walked). counts_after (leg_of w.script) w.counts Take) c.self.view_is
-
-pub returns-in-Some-clause-moved : goal.returns-in-Some-clause-moved
-returns-in-Some-clause-moved g c =
-    let none = sym c.requires ∙ ap (λ (w : Walked). take_cause w.script.config.ticks w.counts) (sym c.self.view_is) in
-    subst (λ (w : Walked). Stalled (Waiting c.in-Some.line) ≡ moved_of (leg_of w.script) w.counts Take) c.self.view_is
-    (waits-moved _ _ _ _ _ c.self.invariant.1 none _ _ _ c.pop_lines.ensures.rows c.pop_lines.ensures.lines
-    (c.pop_lines.ensures.pops (leg_of c.self.inside.script) (can-pop _ _ _ _ _ c.self.invariant.1 none)) c.in-Some.line
-    (sym c.in-Some.is))
 
 pub say-requires : goal.say-requires
 say-requires g c =
+    let f = c.self.inside in
     let none = sym c.requires ∙ ap (λ (w : Walked). take_cause w.script.config.ticks w.counts) (sym c.self.view_is) in
-    let popped = c.pop_lines.ensures.pops (leg_of c.self.inside.script) (can-pop _ _ _ _ _ c.self.invariant.1 none) in
-    let decided = sym c.in_default.is in
-    let can =
-    can-take _ _ _ _ _ c.self.invariant.1 none _ _ _ c.pop_lines.ensures.rows c.pop_lines.ensures.lines popped
-    decided in
-    said-room _ _ _ _ _ c.self.invariant.1 none _ _ _ c.pop_lines.ensures.rows c.pop_lines.ensures.lines popped decided
-    _ _ c.take_row-packet.result.0 (c.take_row-packet.ensures.takes _ can)
+    let takes = c.take.ensures.takes (leg_of f.script) f.way.source.inbox.come c.self.invariant.1.stands none in
+    let said = said-is (leg_of f.script) f.way f.ring f.last c.self.invariant.1 none c.take.new.self c.take.result takes
+    c.take.ensures.rest c.in-Taken.back c.in-Taken.is in
+    subst (λ p. length f.ring + length (listed p) ≤ 4) (sym said)
+    (said-room (leg_of f.script) f.way f.ring f.last c.self.invariant.1 none)
 
-pub invariant_of-self-2 : goal.invariant_of-self-2
-invariant_of-self-2 g c =
+pub invariant_of-self-in-Taken : goal.invariant_of-self-in-Taken
+invariant_of-self-in-Taken g c =
+    let f = c.self.inside in
     let none = sym c.requires ∙ ap (λ (w : Walked). take_cause w.script.config.ticks w.counts) (sym c.self.view_is) in
-    let popped = c.pop_lines.ensures.pops (leg_of c.self.inside.script) (can-pop _ _ _ _ _ c.self.invariant.1 none) in
-    let decided = sym c.in_default.is in
-    let can =
-    can-take _ _ _ _ _ c.self.invariant.1 none _ _ _ c.pop_lines.ensures.rows c.pop_lines.ensures.lines popped
-    decided in (
+    let takes = c.take.ensures.takes (leg_of f.script) f.way.source.inbox.come c.self.invariant.1.stands none in (
       c.self.invariant.0,
-      taken-kept _ _ _ _ _ c.self.invariant.1 none _ _ _ c.pop_lines.ensures.rows
-          c.pop_lines.ensures.lines popped decided
-          _ _ c.take_row-packet.result.0 (c.take_row-packet.ensures.takes _ can)
-          (path_of c.say.new.self c.self.inside.source.inbox)
-          (ap (λ (ring : List Packet). path_of ring c.self.inside.source.inbox) c.say.ensures) _
-          (c.take_row-packet.ensures.counted _ can),
+      taken-walk (leg_of f.script) f.way f.ring f.last c.self.invariant.1 none c.take.new.self c.take.result takes
+          c.take.ensures.rest c.in-Taken.back c.say.new.self c.in-Taken.is c.say.ensures,
     )
 
-pub returns : goal.returns
-returns g c =
+pub returns-in-Waiting : goal.returns-in-Waiting
+returns-in-Waiting g c =
+    let f = c.self.inside in
     let none = sym c.requires ∙ ap (λ (w : Walked). take_cause w.script.config.ticks w.counts) (sym c.self.view_is) in
-    let popped = c.pop_lines.ensures.pops (leg_of c.self.inside.script) (can-pop _ _ _ _ _ c.self.invariant.1 none) in
-    let decided = sym c.in_default.is in
-    let can =
-    can-take _ _ _ _ _ c.self.invariant.1 none _ _ _ c.pop_lines.ensures.rows c.pop_lines.ensures.lines popped
-    decided in
-    let row = c.take_row-packet.ensures.takes _ can in
+    let takes = c.take.ensures.takes (leg_of f.script) f.way.source.inbox.come c.self.invariant.1.stands none in
     record {
       script = ap (λ (w : Walked). w.script) c.self.view_is;
-      counts = taken-counts _ _ _ _ _ c.self.invariant.1 none _ _ _ c.pop_lines.ensures.rows c.pop_lines.ensures.lines
-          popped decided _ _ c.take_row-packet.result.0 row (path_of c.say.new.self c.self.inside.source.inbox)
-          (ap (λ (ring : List Packet). path_of ring c.self.inside.source.inbox) c.say.ensures) _
-          (c.take_row-packet.ensures.counted _ can)
+      counts = take-counts (leg_of f.script) f.way f.ring f.last c.self.invariant.1 none c.take.new.self c.take.result
+          takes c.take.ensures.rest
           ∙ ap (λ (w : Walked). counts_after (leg_of w.script) w.counts Take) c.self.view_is;
-      moved = subst (λ (w : Walked). Yes ≡ moved_of (leg_of w.script) w.counts Take) c.self.view_is
-          (taken-moved _ _ _ _ _ c.self.invariant.1 none _ _ _ c.pop_lines.ensures.rows c.pop_lines.ensures.lines
-          popped
-          decided);
-      gives = subst (λ (w : Walked). GivesRows g.F.FrameOut.stands_for c.args.out.now c.take_row-packet.new.out
-          (leg_of w.script) w.counts.rows c.take_row-packet.new.sink.taken) c.self.view_is
-          (taken-gives _ _ _ _ _ c.self.invariant.1 none _ _ _ c.pop_lines.ensures.rows c.pop_lines.ensures.lines
-          popped
-          decided _ _ c.take_row-packet.result.0 row g.F.FrameOut.stands_for c.args.out.now
-          c.take_row-packet.new.out (c.take_row-packet.ensures.gives _ can));
+      moved = ap take_moved (sym c.in-Waiting.is) ∙ takes.makes.moved
+          ∙ ap (λ (w : Walked). moved_of (leg_of w.script) w.counts Take) c.self.view_is;
+      gives = subst (λ (w : Walked). GivesRows g.F.FrameOut.stands_for c.args.out.now c.take.new.out
+          (leg_of w.script) w.counts.rows c.take.new.self.sink.taken) c.self.view_is
+          (c.take.ensures.gives (leg_of f.script) f.way.source.inbox.come c.self.invariant.1.stands none);
+    }
+
+pub returns-in-Taken : goal.returns-in-Taken
+returns-in-Taken g c =
+    let f = c.self.inside in
+    let none = sym c.requires ∙ ap (λ (w : Walked). take_cause w.script.config.ticks w.counts) (sym c.self.view_is) in
+    let takes = c.take.ensures.takes (leg_of f.script) f.way.source.inbox.come c.self.invariant.1.stands none in
+    record {
+      script = ap (λ (w : Walked). w.script) c.self.view_is;
+      counts = take-counts (leg_of f.script) f.way f.ring f.last c.self.invariant.1 none c.take.new.self c.take.result
+          takes c.take.ensures.rest
+          ∙ ap (λ (w : Walked). counts_after (leg_of w.script) w.counts Take) c.self.view_is;
+      moved = ap take_moved (sym c.in-Taken.is) ∙ takes.makes.moved
+          ∙ ap (λ (w : Walked). moved_of (leg_of w.script) w.counts Take) c.self.view_is;
+      gives = subst (λ (w : Walked). GivesRows g.F.FrameOut.stands_for c.args.out.now c.take.new.out
+          (leg_of w.script) w.counts.rows c.take.new.self.sink.taken) c.self.view_is
+          (c.take.ensures.gives (leg_of f.script) f.way.source.inbox.come c.self.invariant.1.stands none);
     }

@@ -2,7 +2,7 @@
 use Rattle.std.proofs.Common.{map, subst, sym, arith}
 use Rattle.walk_core.specs.Parts.{line_counts, frame_in, HasSent}
 use Rattle.walk_core.proofs.SendLaws.{sent-swapped}
-use Rattle.walk_core.proofs.walk.next_place.Goals as goal
+use Rattle.walk_core.proofs.rings.next_place.Goals as goal
 
 pub returns-then-are_carried-clause-has : goal.returns-then-are_carried-clause-has
 returns-then-are_carried-clause-has c leg size has =

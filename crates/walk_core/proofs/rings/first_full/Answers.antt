@@ -2,7 +2,7 @@
 use Rattle.std.proofs.Common.{sym, ◌∙◌, arith}
 use Rattle.group_source.proofs.ItemLaws.{at-index}
 use Rattle.walk_core.proofs.TickLaws.{full-here, full-next, full-none}
-use Rattle.walk_core.proofs.walk.first_full.Goals as goal
+use Rattle.walk_core.proofs.rings.first_full.Goals as goal
 
 pub returns-then-ticks-min-ge-SENDS : goal.returns-then-ticks-min-ge-SENDS
 returns-then-ticks-min-ge-SENDS c =

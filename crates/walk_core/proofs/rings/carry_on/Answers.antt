@@ -11,7 +11,7 @@ use Rattle.walk_core.specs.Parts.{calls_on, frame_in, sent_frames}
 use Rattle.walk_core.specs.Carry.{IsCarriedAt}
 use Rattle.walk_core.proofs.CarryLaws.{same-some, map-get, below, calls-push, calls-flush, all-carried, not-carried}
 use Rattle.walk_core.proofs.SendLaws.{unchanged-at, changed-at}
-use Rattle.walk_core.proofs.walk.carry_on.Goals as goal
+use Rattle.walk_core.proofs.rings.carry_on.Goals as goal
 
 pub returns-then-all_pushed-clause-has : goal.returns-then-all_pushed-clause-has
 returns-then-all_pushed-clause-has c leg has sent =
